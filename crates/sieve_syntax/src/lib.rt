@@ -1,13 +1,15 @@
-// A library with one function.
+//! Sieve scripts as data (RFC 5228, sections 2 and 8): tokens with the octets that they stand on, and the
+//! tree of commands and tests that the grammar makes of them.
+//!
+//! The types are shared by the scanner and parser (`sieve_text`), the checker (`sieve_check`) and whatever
+//! reads a checked script. In `specs/`, `Tree` has the same trees without where they lie in memory, their one
+//! spelling as tokens and their two depths; `View` leads from the trees of this crate to those.
 #![tactic(auto)]
 
-ghost use Rattle.std.specs.Prelude.{◌≡◌};
-ghost use Rattle.sieve_syntax.specs.Echo.{echo_of};
+mod text;
+mod token;
+mod tree;
 
-// The `ensures` clause is the contract: what `echo` returns is `echo_of` of its argument, a definition
-// in `specs/Echo.antt`, which a caller's clause can cite too.
-pub fn echo(x: usize) -> usize
-    ensures { result ≡ echo_of x }
-{
-    x
-}
+pub use text::{Text, Texts};
+pub use token::{Mark, Token, TokenKind};
+pub use tree::{Argument, Arguments, Command, Ending, Script, StringList, Test, Tests};
