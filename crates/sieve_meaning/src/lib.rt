@@ -1,0 +1,17 @@
+//! What Sieve scripts mean (RFC 5228, with RFC 3894 and RFC 6609): definitions that several crates speak of.
+//!
+//! There is next to no code here. `specs/` has, in the order of reading:
+//!
+//! - `Matching`: comparators and match types, as relations and as tests that compute the same;
+//! - `Case`: what a run can learn of a message and of the plan of classes;
+//! - `Program`: scripts as they are run, with each `if` and its branches in one piece;
+//! - `Reading`: from the tree of the grammar (`sieve_syntax`) to a program;
+//! - `Truth`, `Meaning`, `Outcome`: tests, runs, and the classes that a run captures;
+//! - `Weight`: how large the code of a script may be.
+#![tactic(auto)]
+
+mod matching;
+mod words;
+
+pub use matching::{Comparator, Item, MatchType};
+pub use words::{CommandWord, TestWord, command_word, is_word, test_word};
