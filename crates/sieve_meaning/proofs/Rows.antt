@@ -1,6 +1,5 @@
 -- The definitions on small scripts and patterns, whose answers are known: each line computes.
 use Rattle.std.proofs.Common.{◌≡◌, ℕ, List, [], ◌∷◌, true, false, Some, None, codes, refl}
-use Rattle.std.specs.FinSet as set
 use Rattle.std.specs.Str.{bytes_eq}
 use Rattle.sieve_syntax.specs.Tree.{test, no_tests, one_test, CommandTree, command, semicolon, block, CommandTrees, no_commands, command_then as tree_then}
 use Rattle.sieve_syntax.specs.declared.tree.StringList.TheVariants as string_lists
@@ -56,7 +55,7 @@ abbrev result : Facts → CommandTrees → Outcome
 result facts tree = outcome facts no_library None (program_of tree)
 
 -- a message whose subject has the key goes to the class
-files : result (message (codes "Subject") (codes "Your INVOICE")) (contains_script (codes "subject") (codes "invoice") (file_tree (codes "finance"))) ≡ record { classes = set.insert set.empty (codes "finance"); fault = None }
+files : result (message (codes "Subject") (codes "Your INVOICE")) (contains_script (codes "subject") (codes "invoice") (file_tree (codes "finance"))) ≡ record { classes = (codes "finance") ∷ []; fault = None }
 unfolding command_word test_word string_lists comparator_from suffixes contains outcome
 files = refl
 
@@ -66,15 +65,15 @@ unfolding command_word test_word string_lists comparator_from
 weighs = refl
 
 -- an absent header contains no key, not even the empty one; a present one does
-absent : result (message (codes "Subject") (codes "a")) (contains_script (codes "x-none") [] discard_tree) ≡ record { classes = set.insert set.empty unfiled; fault = None }
+absent : result (message (codes "Subject") (codes "a")) (contains_script (codes "x-none") [] discard_tree) ≡ record { classes = unfiled ∷ []; fault = None }
 unfolding command_word test_word string_lists comparator_from suffixes contains outcome
 absent = refl
 
-present : result (message (codes "X-None") []) (contains_script (codes "x-none") [] discard_tree) ≡ record { classes = set.empty; fault = None }
+present : result (message (codes "X-None") []) (contains_script (codes "x-none") [] discard_tree) ≡ record { classes = []; fault = None }
 unfolding command_word test_word string_lists comparator_from suffixes contains outcome
 present = refl
 
 -- a path that is not open is fault 1, and what was filed before is forgotten
-closed : result (message [] []) (tree_then (file_tree (codes "finance")) (tree_then (file_tree (codes "nowhere")) no_commands)) ≡ record { classes = set.insert set.empty unfiled; fault = Some 1 }
+closed : result (message [] []) (tree_then (file_tree (codes "finance")) (tree_then (file_tree (codes "nowhere")) no_commands)) ≡ record { classes = unfiled ∷ []; fault = Some 1 }
 unfolding command_word string_lists outcome
 closed = refl

@@ -1,6 +1,7 @@
 pub mod Words
 pub mod Matching
 pub mod Case
+pub mod Paths
 pub mod Program
 pub mod Reading
 pub mod Truth

@@ -2,16 +2,10 @@
 use Rattle.std.specs.Prelude.{ℕ, zero, suc, List, [], ◌∷◌, Bool, true, false, not, ◌&&◌, ◌||◌, if◌then◌else◌, Option, Some, None}
 use Rattle.std.specs.List.{list_any}
 use Rattle.std.specs.Str.{bytes_eq}
-use Rattle.std.specs.Ordering.{nat_cmp}
-use Rattle.std.specs.Cmp.Lexicographic.{slice_cmp}
-use Rattle.std.specs.FinSet as set
 use Rattle.sieve_meaning.specs.Case.{Facts}
+use Rattle.sieve_meaning.specs.Paths.{Paths, insert_path}
 use Rattle.sieve_meaning.specs.Truth.{truth}
 use Rattle.sieve_meaning.specs.Program.{Include, Command, require, keep, discard, stop, return, file_into, branch, include, Commands, no_command, command_then, Branches, no_branch, otherwise, if_then}
-
--- a finite set of paths, in byte order
-abbrev pub Paths : Type 0
-Paths = set.FinSet (slice_cmp nat_cmp)
 
 -- a script by its location and name
 pub record ScriptName : Type 0 where
@@ -47,7 +41,7 @@ and_then (Faults n f) go = Faults n f
 
 -- `fileinto`: only a copy leaves the implicit keep (RFC 3894, section 3); a path that is not open is fault 1
 abbrev pub filing : Facts → Bool → List ℕ → Filing → Ending
-filing facts copy path f = if facts.is_open path then GoesOn (record f { filed = set.insert f.filed path; cancelled = f.cancelled || not copy }) else Faults 1 f
+filing facts copy path f = if facts.is_open path then GoesOn (record f { filed = insert_path path f.filed; cancelled = f.cancelled || not copy }) else Faults 1 f
 
 -- what an `include` does
 abbrev pub Included : Type 0
@@ -124,7 +118,7 @@ main_names (Some name) = record { global = false; name = name } ∷ []
 
 -- nothing is filed and no flag is set; the main script was entered
 abbrev pub opening : Option (List ℕ) → Filing
-opening known_as = record { filed = set.empty; kept = false; cancelled = false; entered = main_names known_as }
+opening known_as = record { filed = []; kept = false; cancelled = false; entered = main_names known_as }
 
 -- the run of a main script; eight scripts may be active, the main one among them
 abbrev pub meaning : Facts → Library → (known_as : Option (List ℕ)) → Commands → Ending

@@ -1,9 +1,9 @@
 -- The classes that a run captures a message in.
-use Rattle.std.specs.Prelude.{ℕ, List, Bool, false, not, ◌||◌, Option, Some, None, codes, nat_lt, if◌then◌else◌}
-use Rattle.std.specs.FinSet as set
+use Rattle.std.specs.Prelude.{ℕ, List, [], ◌∷◌, Bool, false, not, ◌||◌, Option, Some, None, codes, nat_lt, if◌then◌else◌}
 use Rattle.sieve_meaning.specs.Case.{Facts}
+use Rattle.sieve_meaning.specs.Paths.{Paths, insert_path}
 use Rattle.sieve_meaning.specs.Program.{Commands}
-use Rattle.sieve_meaning.specs.Meaning.{Paths, Filing, Ending, GoesOn, Returns, Stops, Faults, Library, meaning}
+use Rattle.sieve_meaning.specs.Meaning.{Filing, Ending, GoesOn, Returns, Stops, Faults, Library, meaning}
 use Rattle.sieve_meaning.specs.Weight.{linked_weight}
 
 pub record Outcome : Type 0 where
@@ -17,8 +17,8 @@ unfiled = codes "unfiled"
 -- A fault leaves the default class alone. Else the classes are the filed ones, and the default one where the
 -- message is kept, explicitly or implicitly (RFC 5228, section 2.10.2).
 abbrev pub outcome_at : Option ℕ → (filed : Paths) → (kept cancelled : Bool) → Outcome
-outcome_at (Some n) filed kept cancelled = record { classes = set.insert set.empty unfiled; fault = Some n }
-outcome_at None filed kept cancelled = record { classes = if kept || not cancelled then set.insert filed unfiled else filed; fault = None }
+outcome_at (Some n) filed kept cancelled = record { classes = unfiled ∷ []; fault = Some n }
+outcome_at None filed kept cancelled = record { classes = if kept || not cancelled then insert_path unfiled filed else filed; fault = None }
 
 abbrev pub outcome_with : Option ℕ → Filing → Outcome
 outcome_with fault f = outcome_at fault f.filed f.kept f.cancelled
@@ -36,4 +36,4 @@ greatest_weight = 60000
 -- a main script that is too heavy is fault 5
 unfoldable pub outcome : Facts → Library → (known_as : Option (List ℕ)) → Commands → Outcome
 outcome facts lib known_as main =
-    if nat_lt greatest_weight (linked_weight lib known_as main) then outcome_at (Some 5) set.empty false false else outcome_of (meaning facts lib known_as main)
+    if nat_lt greatest_weight (linked_weight lib known_as main) then outcome_at (Some 5) [] false false else outcome_of (meaning facts lib known_as main)

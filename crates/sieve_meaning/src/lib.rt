@@ -4,6 +4,7 @@
 //!
 //! - `Matching`: comparators and match types, as relations and as tests that compute the same;
 //! - `Case`: what a run can learn of a message and of the plan of classes;
+//! - `Paths`: sets of classes;
 //! - `Program`: scripts as they are run, with each `if` and its branches in one piece;
 //! - `Reading`: from the tree of the grammar (`sieve_syntax`) to a program;
 //! - `Truth`, `Meaning`, `Outcome`: tests, runs, and the classes that a run captures;
@@ -11,7 +12,9 @@
 #![tactic(auto)]
 
 mod matching;
+mod paths;
 mod words;
 
 pub use matching::{Comparator, Item, MatchType};
+pub use paths::Paths;
 pub use words::{CommandWord, TestWord, command_word, is_word, test_word};
