@@ -1,0 +1,6 @@
+pub mod Segments
+pub mod Found
+pub mod Put
+pub mod Keeping
+pub mod Opened
+pub mod Added

@@ -1,0 +1,12 @@
+//! Classes of records and their disposal schedules: which classes there are, which of them are
+//! open, and when a record of a class falls due.
+#![tactic(auto)]
+
+mod faults;
+mod paths;
+mod plans;
+mod schedules;
+
+pub use faults::PlanFault;
+pub use plans::Plan;
+pub use schedules::{Action, Schedule, Unit};
