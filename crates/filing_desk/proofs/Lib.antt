@@ -1,1 +1,4 @@
 pub mod StepLemmas
+pub mod TruthLemmas
+pub mod RunLemmas
+pub mod WeightLemmas

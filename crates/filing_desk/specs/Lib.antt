@@ -1,3 +1,6 @@
 pub mod Answers
 pub mod Faults
 pub mod Steps
+pub mod Case
+pub mod Runs
+pub mod Weights

@@ -3,7 +3,9 @@
 //! In `specs/`, `Steps` says what each command may be answered and what it leaves.
 #![tactic(auto)]
 
+mod case;
 mod desk;
+mod evaluate;
 mod fault;
 
 pub use desk::{Desk, Outcome};

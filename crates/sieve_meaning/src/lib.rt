@@ -16,6 +16,7 @@
 mod laws;
 mod matching;
 mod paths;
+pub mod reading;
 mod words;
 
 pub use laws::{contains_is_decided, equality_is_decided, pattern_is_decided};

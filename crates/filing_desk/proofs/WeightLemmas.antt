@@ -1,0 +1,1 @@
+-- Weights added up.
