@@ -14,6 +14,7 @@ ghost use Rattle.sieve_meaning.specs.Matching.{key_matches as key_matches_by};
 
 mod octets;
 mod substring;
+mod two_way;
 mod wildcards;
 
 pub use octets::is;
