@@ -69,9 +69,9 @@ stands_from key value k h = record {
 -- what an answer on places says of a text around the key
 pub stands_casemap : (c : Comparator) (key value : List ℕ) (r : Bool) → c ≡ Casemap → IsTrue r ↔ StandsIn value key → IsTrue r ↔ Contains c key value
 stands_casemap c key value r is h = rw is (
-      λ t. let s = h.0 t in around_from (fold Casemap value) (fold Casemap key) s.0 (occurs_from key value s.0 s.1),
-      λ a. let p = place_from (fold Casemap value) (fold Casemap key) a in h.1 (p.0, stands_from key value p.0 p.1),
-    )
+  λ t. let s = h.0 t in around_from (fold Casemap value) (fold Casemap key) s.0 (occurs_from key value s.0 s.1),
+  λ a. let p = place_from (fold Casemap value) (fold Casemap key) a in h.1 (p.0, stands_from key value p.0 p.1),
+)
 
 -- the key stands at no place where its rare octet stands in neither case
 module _ (key value : List ℕ) (at rare upper lower : ℕ) (inside : rare < length key) (within : at + length key ≤ length value) (is_upper : upper ≡ to_ascii_uppercase (slice_index key rare)) (is_lower : lower ≡ to_ascii_lowercase (slice_index key rare)) where

@@ -3,10 +3,9 @@
 ghost use Rattle.std.specs.Prelude.{◌≡◌, ◌↔◌, IsTrue};
 ghost use Rattle.sieve_meaning.specs.Matching.{contains as contains_under, Contains};
 
-use memchr::memmem;
-
 use crate::Comparator;
 use crate::two_way::stands_in;
+use memchr::memmem;
 
 /// Whether a value is some text, a key and some text, as they are compared: the match type `:contains`
 /// (RFC 5228, section 2.7.1). Each value contains the empty key.

@@ -15,13 +15,11 @@ ghost use Rattle.memchr.specs.Critical.{IsSuffixAt, IsCutPlace};
 ghost use Rattle.memchr.specs.TwoWay.{IsNextCandidate};
 ghost use Rattle.sieve_match.specs.TwoWay.{read, StandsAt, StandsIn, Precedes, IsPlan};
 
-use std::cmp::Ordering;
-
-use memchr::arch::all::packedpair::Pair;
-use memchr::memchr2;
-
 use crate::Comparator;
 use crate::octets::fold;
+use memchr::arch::all::packedpair::Pair;
+use memchr::memchr2;
+use std::cmp::Ordering;
 
 /// Whether a key stands somewhere in a value, by octets as they are compared.
 pub(crate) fn stands_in(key: &[u8], value: &[u8]) -> bool
@@ -247,12 +245,16 @@ impl Plan {
         ensures next { IsNextCandidate (StandsAt value.now key.now) at (length value.now + 1 - length key.now) result }
         ensures stays { 0 < known → result ≡ Some at }
     {
-        if known > 0 {
+        if known > 0 || folded_at(value, at + self.rare) == folded_at(key, self.rare) {
             return Some(at);
         }
         let octet = key[self.rare];
         let ahead = &value[at + self.rare..value.len() - key.len() + self.rare + 1];
-        let skipped = memchr2(octet.to_ascii_uppercase(), octet.to_ascii_lowercase(), ahead)?;
+        let skipped = memchr2(
+            octet.to_ascii_uppercase(),
+            octet.to_ascii_lowercase(),
+            ahead,
+        )?;
         Some(at + skipped)
     }
 }

@@ -16,6 +16,6 @@ returns c =
     let x = read c.args.key.now in
     let m = length c.args.key.now in
     IsPlan-large x m _ c.rare_place-rare.ensures (subst (λ s. IsCut x m c.args.cut (Large s)) (sym c.max.ensures) (elim c.else-cut-key.branch [
-      else-cut-key-via-then-cut-key+else-repeats_before w ↦ IsCut-long x m c.args.cut c.args.period c.requires (λ all. false≢true (w.if-repeats_before.ensures.1 all))
+      | else-cut-key-via-then-cut-key+else-repeats_before w ↦ IsCut-long x m c.args.cut c.args.period c.requires (λ all. false≢true (w.if-repeats_before.ensures.1 all))
       | else-cut-key-via-else-cut-key w ↦ IsCut-wide x m c.args.cut c.args.period c.requires w.if-cut-key.false
     ])) refl

@@ -15,7 +15,7 @@ places-preserved-then-end-key c =
     let next = c.in-Some.ensures.next in (
       omega (arith, next.1, c.if-end-key.true, c.requires.plan.below),
       after_right c.args.key.now c.args.value.now c.args.self.now c.requires.plan c.requires.some c.places.at c.in-Some.next c.places.known c.max.result c.fits_to-end.result
-      old.1 old.2 old.3 next c.in-Some.ensures.stays c.max.ensures e.low e.high e.same c.if-end-key.true (e.differs c.if-end-key.true),
+          old.1 old.2 old.3 next c.in-Some.ensures.stays c.max.ensures e.low e.high e.same c.if-end-key.true (e.differs c.if-end-key.true),
       c.requires.some,
       λ k l. absurd (omega arith),
     )
@@ -27,7 +27,7 @@ returns-then-fits_between c =
     let next = c.in-Some.ensures.next in
     let full : length c.args.key.now ≤ c.fits_to-end.result = omega (arith, c.if-end-key.false) in (
       λ t. found c.args.key.now c.args.value.now c.args.self.now c.requires.plan c.requires.some c.places.at c.in-Some.next c.places.known c.max.result c.fits_to-end.result
-      old.1 old.2 old.3 next c.in-Some.ensures.stays c.max.ensures e.low e.high e.same full (c.if-fits_between.ensures.0 refl),
+          old.1 old.2 old.3 next c.in-Some.ensures.stays c.max.ensures e.low e.high e.same full (c.if-fits_between.ensures.0 refl),
       λ s. refl,
     )
 
@@ -39,10 +39,10 @@ places-preserved c =
     let full : length c.args.key.now ≤ c.fits_to-end.result = omega (arith, c.if-end-key.false) in (
       omega (arith, next.1, c.requires.plan.fits),
       after_left c.args.key.now c.args.value.now c.args.self.now c.requires.plan c.requires.some c.places.at c.in-Some.next c.places.known c.max.result c.fits_to-end.result
-      old.1 old.2 old.3 next c.in-Some.ensures.stays c.max.ensures e.low e.high e.same full (λ all. false≢true (c.if-fits_between.ensures.1 all)),
+          old.1 old.2 old.3 next c.in-Some.ensures.stays c.max.ensures e.low e.high e.same full (λ all. false≢true (c.if-fits_between.ensures.1 all)),
       kept_below (read c.args.key.now) (length c.args.key.now) c.args.self.now c.requires.plan c.requires.some,
       kept_fits c.args.key.now c.args.value.now c.args.self.now c.requires.plan c.requires.some c.places.at c.in-Some.next c.places.known c.max.result c.fits_to-end.result
-      old.1 old.2 old.3 next c.in-Some.ensures.stays c.max.ensures e.low e.high e.same full,
+          old.1 old.2 old.3 next c.in-Some.ensures.stays c.max.ensures e.low e.high e.same full,
     )
 
 pub returns : goal.returns
