@@ -14,6 +14,7 @@ ghost use Rattle.sieve_meaning.specs.Matching.{key_matches as key_matches_by};
 
 mod octets;
 mod substring;
+mod two_way;
 mod wildcards;
 
 pub use octets::is;
@@ -31,3 +32,6 @@ pub fn key_matches(match_type: MatchType, key: &[u8], value: &[u8], comparator: 
         MatchType::Matches => matches(key, value, comparator),
     }
 }
+
+#[cfg(test)]
+mod tests;
