@@ -6,15 +6,11 @@ use Rattle.sieve_syntax.specs.declared.token.TokenKind.{TokenKind}
 use Rattle.sieve_text.specs.declared.parse.stop.Misfit.{Misfit}
 use Rattle.sieve_text.specs.declared.parse.stop.Stop.{Stop}
 use Rattle.sieve_text.specs.declared.parse.stop.Stop.TheVariants.{NoMemory, Refused}
-use Rattle.sieve_text.specs.Reading.{◌>>=◌, Fails, Tries, Reads, kinds, many_with, many_at}
+use Rattle.sieve_text.specs.Reading.{◌>>=◌, Fails, Tries, Reads, kinds, many_with, many_at, behind}
 
 pub length_kinds : (ts : List Token) → length (kinds ts) ≡ length ts
 length_kinds [] = refl
 length_kinds (t ∷ ts) = ap (λ (n : ℕ). suc n) (length_kinds ts)
-
--- what was read before, in front of what is read now
-abbrev pub behind : {A : Type 0} → List A → Result (List A × List TokenKind) Misfit → Result (List A × List TokenKind) Misfit
-behind before r = r >>= λ x. Ok (before ++ x.0, x.1)
 
 behind_none : {A : Type 0} (r : Result (List A × List TokenKind) Misfit) → behind [] r ≡ r
 behind_none (Ok x) = refl

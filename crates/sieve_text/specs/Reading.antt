@@ -1,7 +1,7 @@
 -- The grammar of RFC 5228, section 8.2, read from left to right. Each reader gives what it read and the tokens
 -- behind that. The parser's functions are proved against these first; what its callers see speaks of the
 -- spelling of trees alone.
-use Rattle.std.specs.Prelude.{◌≡◌, ℕ, zero, suc, List, [], ◌∷◌, length, map, Option, Some, None, Result, Ok, Err, option_map}
+use Rattle.std.specs.Prelude.{◌≡◌, ℕ, zero, suc, List, [], ◌∷◌, ◌++◌, length, map, Option, Some, None, Result, Ok, Err, option_map}
 use Rattle.sieve_syntax.specs.declared.tree.StringList.{StringList}
 use Rattle.sieve_syntax.specs.declared.tree.StringList.TheVariants as string_lists
 use Rattle.sieve_syntax.specs.declared.tree.Argument.{Argument}
@@ -52,6 +52,10 @@ many_with more ts (Some a) = more a.1 >>= λ x. Ok (a.0 ∷ x.0, x.1)
 unfoldable pub many_at : {A : Type 0} → Tries A → ℕ → Reads (List A)
 many_at read zero ts = Ok ([], ts)
 many_at read (suc n) ts = read ts >>= many_with (many_at read n) ts
+
+-- what was read before, in front of what is read now
+abbrev pub behind : {A : Type 0} → List A → Result (List A × List TokenKind) Misfit → Result (List A × List TokenKind) Misfit
+behind before r = r >>= λ x. Ok (before ++ x.0, x.1)
 
 -- a thing behind a comma
 abbrev pub next_with : {A : Type 0} → Reads A → Tries A
