@@ -1,2 +1,4 @@
 pub mod Many
 pub mod Spelled
+pub mod Again
+pub mod Depths
