@@ -6,7 +6,8 @@ use Rattle.sieve_syntax.specs.declared.token.TokenKind.{TokenKind}
 use Rattle.sieve_text.specs.declared.parse.stop.Misfit.{Misfit}
 use Rattle.sieve_text.specs.declared.parse.stop.Stop.{Stop}
 use Rattle.sieve_text.specs.declared.parse.stop.Stop.TheVariants.{NoMemory, Refused}
-use Rattle.sieve_text.specs.Reading.{◌>>=◌, Fails, Tries, Reads, kinds, many_with, many_at, behind}
+use Rattle.sieve_text.specs.Grammar.{kinds}
+use Rattle.sieve_text.specs.Reading.{◌>>=◌, Fails, Tries, Reads, many_with, many_at, behind}
 
 pub length_kinds : (ts : List Token) → length (kinds ts) ≡ length ts
 length_kinds [] = refl

@@ -1,17 +1,20 @@
 -- The grammar of RFC 5228, section 8.2, read from left to right. Each reader gives what it read and the tokens
 -- behind that. The parser's functions are proved against these first; what its callers see speaks of the
 -- spelling of trees alone.
-use Rattle.std.specs.Prelude.{◌≡◌, ℕ, zero, suc, List, [], ◌∷◌, ◌++◌, length, map, Option, Some, None, Result, Ok, Err, option_map}
+use Rattle.std.specs.Prelude.{◌≡◌, ℕ, zero, suc, List, [], ◌∷◌, ◌++◌, length, Option, Some, None, Result, Ok, Err, option_map}
 use Rattle.sieve_syntax.specs.declared.tree.StringList.{StringList}
 use Rattle.sieve_syntax.specs.declared.tree.StringList.TheVariants as string_lists
 use Rattle.sieve_syntax.specs.declared.tree.Argument.{Argument}
 use Rattle.sieve_syntax.specs.declared.tree.Argument.TheVariants as arguments
 use Rattle.sieve_syntax.specs.declared.token.Mark.TheVariants.{Semicolon, OpenBrace, CloseBrace, OpenParen, CloseParen, OpenBracket, CloseBracket, Comma}
-use Rattle.sieve_syntax.specs.declared.token.Token.{Token}
 use Rattle.sieve_syntax.specs.declared.token.TokenKind.{TokenKind}
 use Rattle.sieve_syntax.specs.declared.token.TokenKind.TheVariants as tokens
 use Rattle.sieve_syntax.specs.Tree.{TestTree, test, InnerTests, no_tests, one_test, listed_tests, TestRow, CommandTree, command, EndingTree, semicolon, block, CommandTrees}
-use Rattle.sieve_syntax.specs.View.{row_of, commands_of}
+use Rattle.sieve_syntax.specs.declared.tree.Script.{Script}
+use Rattle.sieve_syntax.specs.View.{row_of, commands_of, tree_of}
+use Rattle.sieve_text.specs.declared.fault.TextRefusal.TheVariants as refusals
+use Rattle.sieve_text.specs.declared.fault.TextFault.{TextFault}
+use Rattle.sieve_text.specs.declared.fault.TextFault.TheVariants as faults
 use Rattle.sieve_text.specs.declared.parse.stop.Misfit.{Misfit}
 use Rattle.sieve_text.specs.declared.parse.stop.Misfit.TheVariants.{Syntax, Nesting}
 use Rattle.sieve_text.specs.declared.parse.stop.Stop.{Stop}
@@ -31,10 +34,6 @@ Fails (Refused misfit left) read = read ≡ Err misfit
 abbrev pub Gives : {X Y : Type 0} → (X → Y) → Result X Stop → Result Y Misfit → Type 0
 Gives view (Ok x) read = read ≡ Ok (view x)
 Gives view (Err e) read = Fails e read
-
--- what tokens say, without where they stand
-abbrev pub kinds : List Token → List TokenKind
-kinds = map (λ (t : Token). t.kind)
 
 -- a thing, and the tokens behind it
 abbrev pub Reads : Type 0 → Type 0
@@ -175,3 +174,11 @@ whole_of (cs, t ∷ ts) = Err Syntax
 -- all of the tokens
 unfoldable pub script_at : ℕ → ℕ → List TokenKind → Result CommandTrees Misfit
 script_at depth blocks ts = commands_with depth (inside_at depth blocks) ts >>= whole_of
+
+-- a script or a refusal is what is read, want of memory aside
+abbrev pub GivesScript : Result Script TextFault → Result CommandTrees Misfit → Type 0
+GivesScript (Ok s) read = read ≡ Ok (tree_of s)
+GivesScript (Err faults.NoMemory) read = Unit {0}
+GivesScript (Err (faults.Refused (refusals.Scan r) at)) read = ⊥
+GivesScript (Err (faults.Refused refusals.Syntax at)) read = read ≡ Err Syntax
+GivesScript (Err (faults.Refused refusals.Nesting at)) read = read ≡ Err Nesting

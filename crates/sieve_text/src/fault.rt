@@ -19,20 +19,24 @@ pub enum ScanFault {
     Refused(ScanRefusal, usize),
 }
 
-/// Why a text is no script: the scanner's refusal (10 to 16), `Syntax` (20), `Nesting` (21).
+/// Why a text is no script.
 #[derive(Clone, Copy, Debug, PartialEq, Eq)]
 pub enum TextRefusal {
-    /// The text has no tokens.
+    /// 10 to 16: the text has no tokens.
     Scan(ScanRefusal),
-    /// The tokens are outside the grammar of RFC 5228, section 8.2.
+    /// 20: the tokens are outside the grammar of RFC 5228, section 8.2.
     Syntax,
-    /// More than 32 tests or more than 32 blocks stand inside one another.
+    /// 21: more than 32 tests or more than 32 blocks stand inside one another.
     Nesting,
 }
 
-/// Want of memory (99), or a refusal with its offset in octets.
+/// Why `parse` gives no script.
 #[derive(Clone, Copy, Debug, PartialEq, Eq)]
 pub enum TextFault {
+    /// 99: an allocation was refused.
     NoMemory,
+    /// The refusal, and the offset in octets at which it stands: the scanner's for `Scan`; for `Syntax` that of the
+    /// first token after which nothing could make the text a script, or the text's length where it ends too early;
+    /// for `Nesting` that of the identifier of the 33rd test, or of the brace of the 33rd block.
     Refused(TextRefusal, usize),
 }

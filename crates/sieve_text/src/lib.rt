@@ -5,3 +5,4 @@ mod fault;
 mod parse;
 
 pub use fault::{ScanFault, ScanRefusal, TextFault, TextRefusal};
+pub use parse::one_tree;

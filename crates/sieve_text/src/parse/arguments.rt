@@ -1,7 +1,8 @@
 //! Strings and arguments.
 
 ghost use Rattle.std.specs.Prelude.{◌≡◌, ◌≤◌, ◌<◌, length, IfOk, IfSome, option_map};
-ghost use Rattle.sieve_text.specs.Reading.{Gives, kinds, string_at, behind_bracket, next_with, other_strings_at, string_list_at, argument_at, arguments_at};
+ghost use Rattle.sieve_text.specs.Grammar.{kinds};
+ghost use Rattle.sieve_text.specs.Reading.{Gives, string_at, behind_bracket, next_with, other_strings_at, string_list_at, argument_at, arguments_at};
 
 use crate::parse::stop::{Stop, syntax};
 use sieve_syntax::{Argument, Arguments, Mark, StringList, Text, Texts, Token, TokenKind};

@@ -2,11 +2,12 @@
 
 ghost use Rattle.std.specs.Prelude.{◌≡◌, ◌≤◌, ◌<◌, length, map, IfOk, IfSome, option_map, Ok};
 ghost use Rattle.sieve_syntax.specs.View.{command_of, ending_of, commands_of};
-ghost use Rattle.sieve_text.specs.Reading.{Gives, kinds, many_at, inside_at, command_with, commands_with, ending_with, behind_brace};
+ghost use Rattle.sieve_text.specs.Grammar.{kinds};
+ghost use Rattle.sieve_text.specs.Reading.{Gives, many_at, inside_at, command_with, commands_with, ending_with, behind_brace};
 
 use crate::parse::arguments::arguments;
 use crate::parse::stop::{Misfit, Stop, syntax};
-use crate::parse::tests::inner_tests;
+use crate::parse::test_lists::inner_tests;
 use sieve_syntax::{Command, Ending, Mark, Token, TokenKind};
 use std::alloc::Global;
 

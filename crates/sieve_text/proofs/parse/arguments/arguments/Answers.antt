@@ -1,6 +1,7 @@
 use Rattle.std.proofs.Common.{◌≡◌, ◌≤◌, ◌<◌, [], Ok, None, length, ap, subst, arith, refl}
 use Rattle.std.proofs.lemmas.Result.{err_from_is_err_and}
-use Rattle.sieve_text.specs.Reading.{kinds, argument_at, arguments_at}
+use Rattle.sieve_text.specs.Grammar.{kinds}
+use Rattle.sieve_text.specs.Reading.{argument_at, arguments_at}
 use Rattle.sieve_text.proofs.Many.{length_kinds, goes_on_first, goes_on_more, goes_on_ends, goes_on_fails}
 use Rattle.sieve_text.proofs.parse.arguments.arguments.Goals as goal
 

@@ -1,5 +1,6 @@
 use Rattle.std.proofs.Common.{◌≡◌, ◌≤◌, length}
-use Rattle.sieve_text.specs.Reading.{kinds, argument_at, arguments_at}
+use Rattle.sieve_text.specs.Grammar.{kinds}
+use Rattle.sieve_text.specs.Reading.{argument_at, arguments_at}
 use Rattle.sieve_text.proofs.Many.{GoesOn}
 use Rattle.sieve_text.proofs.parse.arguments.arguments.Given as goal
 

@@ -1,6 +1,7 @@
 use Rattle.std.proofs.Common.{◌≡◌, ℕ, ◌+◌, ◌*◌, ◌≤◌, length, map}
 use Rattle.sieve_syntax.specs.View.{command_of}
-use Rattle.sieve_text.specs.Reading.{kinds, many_at, command_with, inside_at}
+use Rattle.sieve_text.specs.Grammar.{kinds}
+use Rattle.sieve_text.specs.Reading.{many_at, command_with, inside_at}
 use Rattle.sieve_text.proofs.Many.{GoesOn}
 use Rattle.sieve_text.proofs.parse.commands.+command_reader.Given as goal
 

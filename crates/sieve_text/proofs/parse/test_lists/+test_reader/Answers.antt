@@ -2,9 +2,10 @@ use Rattle.std.proofs.Common.{◌≡◌, ◌≤◌, ◌<◌, ◌∷◌, ◌++◌
 use Rattle.std.proofs.lemmas.Result.{err_from_is_err_and}
 use Rattle.std.proofs.lemmas.List.{map_push}
 use Rattle.sieve_syntax.specs.View.{test_of}
-use Rattle.sieve_text.specs.Reading.{kinds, next_with, many_at, test_at, behind}
+use Rattle.sieve_text.specs.Grammar.{kinds}
+use Rattle.sieve_text.specs.Reading.{next_with, many_at, test_at, behind}
 use Rattle.sieve_text.proofs.Many.{length_kinds, goes_on_more, goes_on_ends, goes_on_fails}
-use Rattle.sieve_text.proofs.parse.tests.+test_reader.Goals as goal
+use Rattle.sieve_text.proofs.parse.test_lists.+test_reader.Goals as goal
 
 pub with_others-returns-in_err-next-clause-value : goal.with_others-returns-in_err-next-clause-value
 with_others-returns-in_err-next-clause-value t c =

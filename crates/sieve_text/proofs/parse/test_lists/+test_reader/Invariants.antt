@@ -1,8 +1,9 @@
 use Rattle.std.proofs.Common.{◌≡◌, ℕ, ◌+◌, ◌*◌, ◌≤◌, [], ◌∷◌, length, map}
 use Rattle.sieve_syntax.specs.View.{test_of}
-use Rattle.sieve_text.specs.Reading.{kinds, next_with, many_at, test_at, behind}
+use Rattle.sieve_text.specs.Grammar.{kinds}
+use Rattle.sieve_text.specs.Reading.{next_with, many_at, test_at, behind}
 use Rattle.sieve_text.proofs.Many.{GoesOn}
-use Rattle.sieve_text.proofs.parse.tests.+test_reader.Given as goal
+use Rattle.sieve_text.proofs.parse.test_lists.+test_reader.Given as goal
 
 abbrev pub decreases-read_test : goal.decreases-read_test
 decreases-read_test l = 5 * l.depth

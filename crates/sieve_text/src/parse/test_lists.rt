@@ -2,7 +2,8 @@
 
 ghost use Rattle.std.specs.Prelude.{◌≡◌, ◌≤◌, ◌<◌, [], ◌∷◌, length, map, IfOk, IfSome, option_map};
 ghost use Rattle.sieve_syntax.specs.View.{test_of, inner_of};
-ghost use Rattle.sieve_text.specs.Reading.{Gives, behind, kinds, behind_paren, next_with, many_at, test_at, test_list_with, inner_with};
+ghost use Rattle.sieve_text.specs.Grammar.{kinds};
+ghost use Rattle.sieve_text.specs.Reading.{Gives, behind, behind_paren, next_with, many_at, test_at, test_list_with, inner_with};
 
 use crate::parse::arguments::arguments;
 use crate::parse::stop::{Misfit, Stop, syntax};
