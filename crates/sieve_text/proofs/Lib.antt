@@ -1,0 +1,4 @@
+pub mod GapLemmas
+pub mod NumberLemmas
+mod Rows
+pub mod ScanLemmas
