@@ -2,4 +2,9 @@ pub mod Many
 pub mod Spelled
 pub mod Again
 pub mod Depths
-pub mod Laws
+pub mod TreeLaws
+pub mod GapLemmas
+pub mod NumberLemmas
+mod Rows
+pub mod ScanLemmas
+pub mod ScriptLaws

@@ -3,9 +3,9 @@ use Rattle.std.proofs.Common.{◌≡◌, ℕ, zero, suc, ◌+◌, ◌≤◌, ◌
 use Rattle.std.proofs.lemmas.List.{append-nil, nil_from_length}
 use Rattle.sieve_syntax.specs.declared.token.Token.{Token}
 use Rattle.sieve_syntax.specs.declared.token.TokenKind.{TokenKind}
-use Rattle.sieve_text.specs.declared.parse.stop.Misfit.{Misfit}
-use Rattle.sieve_text.specs.declared.parse.stop.Stop.{Stop}
-use Rattle.sieve_text.specs.declared.parse.stop.Stop.TheVariants.{NoMemory, Refused}
+use Rattle.sieve_text.specs.declared.parser.stop.Misfit.{Misfit}
+use Rattle.sieve_text.specs.declared.parser.stop.Stop.{Stop}
+use Rattle.sieve_text.specs.declared.parser.stop.Stop.TheVariants.{NoMemory, Refused}
 use Rattle.sieve_text.specs.Grammar.{kinds}
 use Rattle.sieve_text.specs.Reading.{◌>>=◌, Fails, Tries, Reads, many_with, many_at, behind}
 

@@ -15,10 +15,10 @@ use Rattle.sieve_syntax.specs.View.{row_of, commands_of, tree_of}
 use Rattle.sieve_text.specs.declared.fault.TextRefusal.TheVariants as refusals
 use Rattle.sieve_text.specs.declared.fault.TextFault.{TextFault}
 use Rattle.sieve_text.specs.declared.fault.TextFault.TheVariants as faults
-use Rattle.sieve_text.specs.declared.parse.stop.Misfit.{Misfit}
-use Rattle.sieve_text.specs.declared.parse.stop.Misfit.TheVariants.{Syntax, Nesting}
-use Rattle.sieve_text.specs.declared.parse.stop.Stop.{Stop}
-use Rattle.sieve_text.specs.declared.parse.stop.Stop.TheVariants.{NoMemory, Refused}
+use Rattle.sieve_text.specs.declared.parser.stop.Misfit.{Misfit}
+use Rattle.sieve_text.specs.declared.parser.stop.Misfit.TheVariants.{Syntax, Nesting}
+use Rattle.sieve_text.specs.declared.parser.stop.Stop.{Stop}
+use Rattle.sieve_text.specs.declared.parser.stop.Stop.TheVariants.{NoMemory, Refused}
 
 infixl 10 ◌>>=◌
 abbrev pub ◌>>=◌ : {A B : Type 0} → Result A Misfit → (A → Result B Misfit) → Result B Misfit
