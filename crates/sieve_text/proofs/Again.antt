@@ -152,9 +152,9 @@ mutual
       let read = test_at d in
       ap (test_list_with read) (append_assoc (test_tokens t) (row_tokens row) rest)
       ∙ answer_then (read (test_tokens t ++ more)) _ (test_fits t d) (row_fits row d) (t, more) (listed_tests t row, rest) (test_reads t d more (row_ended row rest))
-        (answer_map (many_at (next_with read) (length more) more) _ (row_fits row d) (trees_of row, tokens.Mark CloseParen ∷ rest) (listed_tests t row, rest)
-          (row_reads row d (length more) rest (omega (arith, length-append (row_tokens row) rest)))
-          (ap (λ (r : TestRow). Ok (listed_tests t r, rest)) (row_of-trees_of row)))
+      (answer_map (many_at (next_with read) (length more) more) _ (row_fits row d) (trees_of row, tokens.Mark CloseParen ∷ rest) (listed_tests t row, rest)
+      (row_reads row d (length more) rest (omega (arith, length-append (row_tokens row) rest)))
+      (ap (λ (r : TestRow). Ok (listed_tests t r, rest)) (row_of-trees_of row)))
 
   row_reads : (row : TestRow) (d n : ℕ) (rest : List TokenKind) → length (row_tokens row) ≤ n → many_at (next_with (test_at d)) n (row_tokens row ++ rest) ≡ answer (row_fits row d) (trees_of row, tokens.Mark CloseParen ∷ rest)
   row_reads last_test d n rest h = many_stop (next_with (test_at d)) n (tokens.Mark CloseParen ∷ rest) refl
@@ -181,7 +181,7 @@ commands_by : (cs : CommandTrees) (d b : ℕ) (rest : List TokenKind) → many_a
 commands_by cs d b rest h =
     let ts = commands_tokens cs ++ rest in
     answer_map (many_at (command_with d (inside_at d b)) (length ts) ts) _ (commands_fit cs d b) (commands_list cs, rest) (cs, rest) h
-      (ap (λ (t : CommandTrees). Ok (t, rest)) (commands_of-commands_list cs))
+    (ap (λ (t : CommandTrees). Ok (t, rest)) (commands_of-commands_list cs))
 
 mutual
   unfolding inside_at commands_list
@@ -193,7 +193,7 @@ mutual
       let assoc : (arguments_tokens args ++ (inner_tokens inner ++ ending_tokens finish)) ++ rest ≡ arguments_tokens args ++ more = append_assoc (arguments_tokens args) (inner_tokens inner ++ ending_tokens finish) rest ∙ ap (λ (w : List TokenKind). arguments_tokens args ++ w) (append_assoc (inner_tokens inner) (ending_tokens finish) rest) in
       let e : arguments_at ((arguments_tokens args ++ (inner_tokens inner ++ ending_tokens finish)) ++ rest) ≡ Ok (args, more) = ap arguments_at assoc ∙ arguments_again args more (no_argument_inner inner last (ending_ended finish rest)) in
       rw e (answer_then (inner_with (test_at d) more) _ (inner_fits inner d) (ending_fits finish d b) (inner, last) (Some (command n args inner finish, rest)) (inner_reads inner d last (ending_ended finish rest))
-        (answer_map (ending_with (inside_at d b) last) _ (ending_fits finish d b) (finish, rest) (Some (command n args inner finish, rest)) (ending_reads finish d b rest) refl))
+      (answer_map (ending_with (inside_at d b) last) _ (ending_fits finish d b) (finish, rest) (Some (command n args inner finish, rest)) (ending_reads finish d b rest) refl))
 
   ending_reads : (finish : EndingTree) (d b : ℕ) (rest : List TokenKind) → ending_with (inside_at d b) (ending_tokens finish ++ rest) ≡ answer (ending_fits finish d b) (finish, rest)
   ending_reads semicolon d b rest = refl

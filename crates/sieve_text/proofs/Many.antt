@@ -39,6 +39,7 @@ goes_on_more {A} read before rest after a whole h e l = from h.turns refl
   where
     turn : (n : ℕ) → behind before (many_at read (suc n) rest) ≡ behind (before ++ a ∷ []) (many_at read n after)
     turn n = rw e (behind_push before a (many_at read n after))
+
     from : (n : ℕ) → n ≡ h.turns → GoesOn read (before ++ a ∷ []) after whole
     from zero is = absurd (omega (arith, h.enough))
     from (suc n) is = record { turns = n; enough = omega (arith, h.enough); same = sym (turn n) ∙ (rw (← is) at h.same) }
@@ -58,6 +59,7 @@ goes_on_fails {A} (Refused misfit left) read before rest whole none h f = sym h.
   where
     clash : rest ≡ [] → ⊥
     clash e = let one : read [] ≡ Err misfit = rw e at f in let two : ◌≡◌ {A = Result (Option (A × List TokenKind)) Misfit} (Ok None) (Err misfit) = sym none ∙ one in cc
+
     from : (n : ℕ) → n ≡ h.turns → behind before (many_at read n rest) ≡ Err misfit
     from zero is = absurd (clash (nil_from_length rest (omega (arith, h.enough))))
     from (suc n) is = rw f refl

@@ -94,7 +94,7 @@ string_list_sound ts x e =
     let more : a.0.1 ≡ printed (λ s. tokens.Mark Comma ∷ tokens.StringValue s ∷ []) b.0.0 ++ b.0.1 = many_sound (λ (s : List ℕ). tokens.Mark Comma ∷ tokens.StringValue s ∷ []) (next_with string_at) (next_sound (λ (s : List ℕ). tokens.StringValue s ∷ []) string_at string_sound) (length a.0.1) a.0.1 b.0 b.1 in
     let last : b.0.1 ≡ tokens.Mark CloseBracket ∷ d.0 = bracket_sound b.0.1 d.0 d.1 in
     along string_list_tokens (tokens.Mark OpenBracket ∷ ts) (string_lists.Listed a.0.0 b.0.0, d.0) x d.2
-      (ap (λ (w : List TokenKind). tokens.Mark OpenBracket ∷ w) (first ∙ ap (λ (w : List TokenKind). tokens.StringValue a.0.0 ∷ w) (more ∙ ap (λ (w : List TokenKind). printed (λ s. tokens.Mark Comma ∷ tokens.StringValue s ∷ []) b.0.0 ++ w) last ∙ others_printed b.0.0 d.0)))
+    (ap (λ (w : List TokenKind). tokens.Mark OpenBracket ∷ w) (first ∙ ap (λ (w : List TokenKind). tokens.StringValue a.0.0 ∷ w) (more ∙ ap (λ (w : List TokenKind). printed (λ s. tokens.Mark Comma ∷ tokens.StringValue s ∷ []) b.0.0 ++ w) last ∙ others_printed b.0.0 d.0)))
 
 argument_sound : IsSoundTry argument_tokens argument_at
 unfolding argument_at
@@ -134,9 +134,9 @@ test_list_sound read h ts x e =
     let more : a.0.1 ≡ printed print b.0.0 ++ b.0.1 = many_sound print (next_with read) (next_sound test_tokens read h) (length a.0.1) a.0.1 b.0 b.1 in
     let last : b.0.1 ≡ tokens.Mark CloseParen ∷ d.0 = paren_sound b.0.1 d.0 d.1 in
     along inner_tokens (tokens.Mark OpenParen ∷ ts) (listed_tests a.0.0 (row_of b.0.0), d.0) x d.2
-      (ap (λ (w : List TokenKind). tokens.Mark OpenParen ∷ w)
-        (first ∙ ap (λ (w : List TokenKind). test_tokens a.0.0 ++ w) (more ∙ ap (λ (w : List TokenKind). printed print b.0.0 ++ w) last ∙ row_printed b.0.0 d.0)
-          ∙ sym (append_assoc (test_tokens a.0.0) (row_tokens (row_of b.0.0)) d.0)))
+    (ap (λ (w : List TokenKind). tokens.Mark OpenParen ∷ w)
+    (first ∙ ap (λ (w : List TokenKind). test_tokens a.0.0 ++ w) (more ∙ ap (λ (w : List TokenKind). printed print b.0.0 ++ w) last ∙ row_printed b.0.0 d.0)
+    ∙ sym (append_assoc (test_tokens a.0.0) (row_tokens (row_of b.0.0)) d.0)))
 
 inner_sound : (read : Reads TestTree) → IsSound test_tokens read → IsSound inner_tokens (inner_with read)
 inner_sound read h [] x e = along inner_tokens [] (no_tests, []) x e refl
@@ -157,8 +157,8 @@ test_with_sound read h (tokens.Identifier n ∷ ts) x e =
     let a = bind_ok (arguments_at ts) _ x e in
     let b = bind_ok (read a.0.1) _ x a.2 in
     along test_tokens (tokens.Identifier n ∷ ts) (test n a.0.0 b.0.0, b.0.1) x b.2
-      (ap (λ (w : List TokenKind). tokens.Identifier n ∷ w)
-        (arguments_sound ts a.0 a.1 ∙ ap (λ (w : List TokenKind). arguments_tokens a.0.0 ++ w) (h a.0.1 b.0 b.1) ∙ sym (append_assoc (arguments_tokens a.0.0) (inner_tokens b.0.0) b.0.1)))
+    (ap (λ (w : List TokenKind). tokens.Identifier n ∷ w)
+    (arguments_sound ts a.0 a.1 ∙ ap (λ (w : List TokenKind). arguments_tokens a.0.0 ++ w) (h a.0.1 b.0 b.1) ∙ sym (append_assoc (arguments_tokens a.0.0) (inner_tokens b.0.0) b.0.1)))
 test_with_sound read h (t ∷ ts) x e = absurd cc
 
 test_sound : (d : ℕ) → IsSound test_tokens (test_at d)
@@ -174,8 +174,8 @@ ending_sound read h (tokens.Mark OpenBrace ∷ ts) x e =
     let b = bind_ok (behind_brace a.0.1) _ x a.2 in
     let last : a.0.1 ≡ tokens.Mark CloseBrace ∷ b.0 = brace_sound a.0.1 b.0 b.1 in
     along ending_tokens (tokens.Mark OpenBrace ∷ ts) (block a.0.0, b.0) x b.2
-      (ap (λ (w : List TokenKind). tokens.Mark OpenBrace ∷ w)
-        (h ts a.0 a.1 ∙ ap (λ (w : List TokenKind). commands_tokens a.0.0 ++ w) last ∙ sym (append_assoc (commands_tokens a.0.0) (tokens.Mark CloseBrace ∷ []) b.0)))
+    (ap (λ (w : List TokenKind). tokens.Mark OpenBrace ∷ w)
+    (h ts a.0 a.1 ∙ ap (λ (w : List TokenKind). commands_tokens a.0.0 ++ w) last ∙ sym (append_assoc (commands_tokens a.0.0) (tokens.Mark CloseBrace ∷ []) b.0)))
 ending_sound read h (t ∷ ts) x e = absurd cc
 
 command_sound : (depth : ℕ) (read : Reads CommandTrees) → IsSound commands_tokens read → IsSoundTry command_tokens (command_with depth read)
@@ -187,9 +187,9 @@ command_sound depth read h (tokens.Identifier n ∷ ts) x e =
     let args = arguments_tokens a.0.0 in
     let inner = inner_tokens b.0.0 in
     along_some command_tokens (tokens.Identifier n ∷ ts) (command n a.0.0 b.0.0 d.0.0, d.0.1) x d.2
-      (ap (λ (w : List TokenKind). tokens.Identifier n ∷ w)
-        (arguments_sound ts a.0 a.1 ∙ ap (λ (w : List TokenKind). args ++ w) (inner_sound (test_at depth) (test_sound depth) a.0.1 b.0 b.1 ∙ ap (λ (w : List TokenKind). inner ++ w) (ending_sound read h b.0.1 d.0 d.1) ∙ sym (append_assoc inner (ending_tokens d.0.0) d.0.1))
-          ∙ sym (append_assoc args (inner ++ ending_tokens d.0.0) d.0.1)))
+    (ap (λ (w : List TokenKind). tokens.Identifier n ∷ w)
+    (arguments_sound ts a.0 a.1 ∙ ap (λ (w : List TokenKind). args ++ w) (inner_sound (test_at depth) (test_sound depth) a.0.1 b.0 b.1 ∙ ap (λ (w : List TokenKind). inner ++ w) (ending_sound read h b.0.1 d.0 d.1) ∙ sym (append_assoc inner (ending_tokens d.0.0) d.0.1))
+    ∙ sym (append_assoc args (inner ++ ending_tokens d.0.0) d.0.1)))
 command_sound depth read h (t ∷ ts) x e = absurd cc
 
 commands_printed : (cs : List CommandTree) → printed command_tokens cs ≡ commands_tokens (commands_of cs)
@@ -201,7 +201,7 @@ commands_sound : (depth : ℕ) (read : Reads CommandTrees) → IsSound commands_
 commands_sound depth read h ts x e =
     let a = bind_ok (many_at (command_with depth read) (length ts) ts) _ x e in
     along commands_tokens ts (commands_of a.0.0, a.0.1) x a.2
-      (many_sound command_tokens (command_with depth read) (command_sound depth read h) (length ts) ts a.0 a.1 ∙ ap (λ (w : List TokenKind). w ++ a.0.1) (commands_printed a.0.0))
+    (many_sound command_tokens (command_with depth read) (command_sound depth read h) (length ts) ts a.0 a.1 ∙ ap (λ (w : List TokenKind). w ++ a.0.1) (commands_printed a.0.0))
 
 inside_sound : (depth blocks : ℕ) → IsSound commands_tokens (inside_at depth blocks)
 unfolding inside_at

@@ -15,12 +15,13 @@ mod commands;
 mod laws;
 mod stop;
 mod test_lists;
-
-pub use laws::one_tree;
+#[cfg(test)]
+mod tests;
 
 use crate::fault::{TextFault, TextRefusal};
 use crate::scanner::scan;
 use commands::commands;
+pub use laws::one_tree;
 use sieve_syntax::{Command, Script, Token};
 use std::alloc::Global;
 use stop::{Misfit, Stop, syntax};
@@ -34,7 +35,11 @@ fn all_commands(alloc: Global, tokens: &[Token]) -> Result<Vec<Command>, Stop>
     ensures { Gives (λ v. commands_of (map command_of v.items)) result (script_at 32 32 (kinds tokens.now)) }
 {
     let (commands, rest) = commands(alloc, BLOCK_DEPTH, tokens)?;
-    if rest.is_empty() { Ok(commands) } else { Err(syntax(rest)) }
+    if rest.is_empty() {
+        Ok(commands)
+    } else {
+        Err(syntax(rest))
+    }
 }
 
 /// Where a refusal stands that leaves so many tokens to read, in a text of `end` octets.
@@ -50,8 +55,14 @@ fn parse_tokens(alloc: Global, tokens: &[Token], end: usize) -> Result<Script, T
     match all_commands(alloc, tokens) {
         Ok(commands) => Ok(Script { commands }),
         Err(Stop::NoMemory) => Err(TextFault::NoMemory),
-        Err(Stop::Refused(Misfit::Syntax, left)) => Err(TextFault::Refused(TextRefusal::Syntax, offset(tokens, left, end))),
-        Err(Stop::Refused(Misfit::Nesting, left)) => Err(TextFault::Refused(TextRefusal::Nesting, offset(tokens, left, end))),
+        Err(Stop::Refused(Misfit::Syntax, left)) => Err(TextFault::Refused(
+            TextRefusal::Syntax,
+            offset(tokens, left, end),
+        )),
+        Err(Stop::Refused(Misfit::Nesting, left)) => Err(TextFault::Refused(
+            TextRefusal::Nesting,
+            offset(tokens, left, end),
+        )),
     }
 }
 

@@ -14,7 +14,15 @@ fn read_string(alloc: Global, tokens: &[Token]) -> Result<(Text, &[Token]), Stop
     ensures shorter { IfOk result (λ x. length x.1.now < length tokens.now) }
 {
     match tokens.split_first() {
-        Some((Token { kind: TokenKind::StringValue(text), .. }, rest)) => Ok((text.copy(alloc)?, rest)),
+        Some(
+            (
+                Token {
+                    kind: TokenKind::StringValue(text),
+                    ..
+                },
+                rest,
+            ),
+        ) => Ok((text.copy(alloc)?, rest)),
         _ => Err(syntax(tokens)),
     }
 }
@@ -25,7 +33,15 @@ fn next_string(alloc: Global, tokens: &[Token]) -> Result<Option<(Text, &[Token]
     ensures shorter { IfOk result (λ o. IfSome o (λ x. length x.1.now < length tokens.now)) }
 {
     match tokens.split_first() {
-        Some((Token { kind: TokenKind::Mark(Mark::Comma), .. }, rest)) => Ok(Some(read_string(alloc, rest)?)),
+        Some(
+            (
+                Token {
+                    kind: TokenKind::Mark(Mark::Comma),
+                    ..
+                },
+                rest,
+            ),
+        ) => Ok(Some(read_string(alloc, rest)?)),
         _ => Ok(None),
     }
 }
@@ -36,7 +52,15 @@ fn behind_bracket(tokens: &[Token]) -> Result<&[Token], Stop>
     ensures shorter { IfOk result (λ x. length x.now < length tokens.now) }
 {
     match tokens.split_first() {
-        Some((Token { kind: TokenKind::Mark(Mark::CloseBracket), .. }, rest)) => Ok(rest),
+        Some(
+            (
+                Token {
+                    kind: TokenKind::Mark(Mark::CloseBracket),
+                    ..
+                },
+                rest,
+            ),
+        ) => Ok(rest),
         _ => Err(syntax(tokens)),
     }
 }

@@ -16,7 +16,11 @@ const TEST_DEPTH: u8 = 32;
 
 /// Commands for as long as there are some, with no more than `depth` blocks inside one another.
 #[cycle(command_reader)]
-pub fn commands(alloc: Global, depth: u8, tokens: &[Token]) -> Result<(Vec<Command>, &[Token]), Stop>
+pub fn commands(
+    alloc: Global,
+    depth: u8,
+    tokens: &[Token],
+) -> Result<(Vec<Command>, &[Token]), Stop>
     ensures value { Gives (λ x. (map command_of x.0.items, kinds x.1.now)) result (many_at (command_with 32 (inside_at 32 depth)) (length (kinds tokens.now)) (kinds tokens.now)) }
     ensures shorter { IfOk result (λ x. length x.1.now ≤ length tokens.now) }
 {
@@ -31,18 +35,39 @@ pub fn commands(alloc: Global, depth: u8, tokens: &[Token]) -> Result<(Vec<Comma
 
 /// A command, where the tokens begin with one, with no more than `depth` blocks inside one another.
 #[cycle(command_reader)]
-fn next_command(alloc: Global, depth: u8, tokens: &[Token]) -> Result<Option<(Command, &[Token])>, Stop>
+fn next_command(
+    alloc: Global,
+    depth: u8,
+    tokens: &[Token],
+) -> Result<Option<(Command, &[Token])>, Stop>
     ensures value { Gives (option_map (λ x. (command_of x.0, kinds x.1.now))) result (command_with 32 (inside_at 32 depth) (kinds tokens.now)) }
     ensures shorter { IfOk result (λ o. IfSome o (λ x. length x.1.now < length tokens.now)) }
 {
-    let Some((Token { kind: TokenKind::Identifier(name), .. }, rest)) = tokens.split_first() else {
+    let Some(
+        (
+            Token {
+                kind: TokenKind::Identifier(name),
+                ..
+            },
+            rest,
+        ),
+    ) = tokens.split_first()
+    else {
         return Ok(None);
     };
     let (arguments, rest) = arguments(alloc, rest)?;
     let (tests, rest) = inner_tests(alloc, TEST_DEPTH, rest)?;
     let (ending, rest) = read_ending(alloc, depth, rest)?;
     let name = name.copy(alloc)?;
-    Ok(Some((Command { name, arguments, tests, ending }, rest)))
+    Ok(Some((
+        Command {
+            name,
+            arguments,
+            tests,
+            ending,
+        },
+        rest,
+    )))
 }
 
 /// What a command ends with, with no more than `depth` blocks inside one another.
@@ -53,8 +78,24 @@ fn read_ending(alloc: Global, depth: u8, tokens: &[Token]) -> Result<(Ending, &[
     ensures shorter { IfOk result (λ x. length x.1.now < length tokens.now) }
 {
     match tokens.split_first() {
-        Some((Token { kind: TokenKind::Mark(Mark::Semicolon), .. }, rest)) => Ok((Ending::Semicolon, rest)),
-        Some((Token { kind: TokenKind::Mark(Mark::OpenBrace), .. }, rest)) => {
+        Some(
+            (
+                Token {
+                    kind: TokenKind::Mark(Mark::Semicolon),
+                    ..
+                },
+                rest,
+            ),
+        ) => Ok((Ending::Semicolon, rest)),
+        Some(
+            (
+                Token {
+                    kind: TokenKind::Mark(Mark::OpenBrace),
+                    ..
+                },
+                rest,
+            ),
+        ) => {
             if depth == 0 {
                 return Err(Stop::Refused(Misfit::Nesting, tokens.len()));
             }
@@ -72,7 +113,15 @@ fn behind_brace(tokens: &[Token]) -> Result<&[Token], Stop>
     ensures shorter { IfOk result (λ x. length x.now < length tokens.now) }
 {
     match tokens.split_first() {
-        Some((Token { kind: TokenKind::Mark(Mark::CloseBrace), .. }, rest)) => Ok(rest),
+        Some(
+            (
+                Token {
+                    kind: TokenKind::Mark(Mark::CloseBrace),
+                    ..
+                },
+                rest,
+            ),
+        ) => Ok(rest),
         _ => Err(syntax(tokens)),
     }
 }

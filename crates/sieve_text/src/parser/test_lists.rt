@@ -17,7 +17,16 @@ fn read_test(alloc: Global, depth: u8, tokens: &[Token]) -> Result<(Test, &[Toke
     ensures value { Gives (λ x. (test_of x.0, kinds x.1.now)) result (test_at depth (kinds tokens.now)) }
     ensures shorter { IfOk result (λ x. length x.1.now < length tokens.now) }
 {
-    let Some((Token { kind: TokenKind::Identifier(name), .. }, rest)) = tokens.split_first() else {
+    let Some(
+        (
+            Token {
+                kind: TokenKind::Identifier(name),
+                ..
+            },
+            rest,
+        ),
+    ) = tokens.split_first()
+    else {
         return Err(syntax(tokens));
     };
     if depth == 0 {
@@ -26,7 +35,14 @@ fn read_test(alloc: Global, depth: u8, tokens: &[Token]) -> Result<(Test, &[Toke
     let (arguments, rest) = arguments(alloc, rest)?;
     let (tests, rest) = inner_tests(alloc, depth - 1, rest)?;
     let name = name.copy(alloc)?;
-    Ok((Test { name, arguments, tests }, rest))
+    Ok((
+        Test {
+            name,
+            arguments,
+            tests,
+        },
+        rest,
+    ))
 }
 
 /// The tests of a command or of a test, with no more than `depth` inside one another.
@@ -36,11 +52,27 @@ pub fn inner_tests(alloc: Global, depth: u8, tokens: &[Token]) -> Result<(Tests,
     ensures shorter { IfOk result (λ x. length x.1.now ≤ length tokens.now) }
 {
     match tokens.split_first() {
-        Some((Token { kind: TokenKind::Identifier(_), .. }, _)) => {
+        Some(
+            (
+                Token {
+                    kind: TokenKind::Identifier(_),
+                    ..
+                },
+                _,
+            ),
+        ) => {
             let (only, rest) = read_test(alloc, depth, tokens)?;
             Ok((Tests::One(Box::new(alloc, only)?), rest))
         }
-        Some((Token { kind: TokenKind::Mark(Mark::OpenParen), .. }, rest)) => test_list(alloc, depth, rest),
+        Some(
+            (
+                Token {
+                    kind: TokenKind::Mark(Mark::OpenParen),
+                    ..
+                },
+                rest,
+            ),
+        ) => test_list(alloc, depth, rest),
         _ => Ok((Tests::None, tokens)),
     }
 }
@@ -59,7 +91,12 @@ fn test_list(alloc: Global, depth: u8, tokens: &[Token]) -> Result<(Tests, &[Tok
 
 /// The first test of a list, and those behind it.
 #[cycle(test_reader)]
-fn with_others(alloc: Global, depth: u8, first: Test, tokens: &[Token]) -> Result<(Vec<Test>, &[Token]), Stop>
+fn with_others(
+    alloc: Global,
+    depth: u8,
+    first: Test,
+    tokens: &[Token],
+) -> Result<(Vec<Test>, &[Token]), Stop>
     ensures value { Gives (λ x. (map test_of x.0.items, kinds x.1.now)) result (behind (test_of first ∷ []) (many_at (next_with (test_at depth)) (length (kinds tokens.now)) (kinds tokens.now))) }
     ensures shorter { IfOk result (λ x. length x.1.now ≤ length tokens.now) }
 {
@@ -79,7 +116,15 @@ fn next_test(alloc: Global, depth: u8, tokens: &[Token]) -> Result<Option<(Test,
     ensures shorter { IfOk result (λ o. IfSome o (λ x. length x.1.now < length tokens.now)) }
 {
     match tokens.split_first() {
-        Some((Token { kind: TokenKind::Mark(Mark::Comma), .. }, rest)) => Ok(Some(read_test(alloc, depth, rest)?)),
+        Some(
+            (
+                Token {
+                    kind: TokenKind::Mark(Mark::Comma),
+                    ..
+                },
+                rest,
+            ),
+        ) => Ok(Some(read_test(alloc, depth, rest)?)),
         _ => Ok(None),
     }
 }
@@ -90,7 +135,15 @@ fn behind_paren(tokens: &[Token]) -> Result<&[Token], Stop>
     ensures shorter { IfOk result (λ x. length x.now < length tokens.now) }
 {
     match tokens.split_first() {
-        Some((Token { kind: TokenKind::Mark(Mark::CloseParen), .. }, rest)) => Ok(rest),
+        Some(
+            (
+                Token {
+                    kind: TokenKind::Mark(Mark::CloseParen),
+                    ..
+                },
+                rest,
+            ),
+        ) => Ok(rest),
         _ => Err(syntax(tokens)),
     }
 }
