@@ -4,7 +4,7 @@ ghost use Rattle.std.specs.Prelude.{◌≡◌, ◌≤◌, ◌<◌, length, IfOk,
 ghost use Rattle.sieve_text.specs.Grammar.{kinds};
 ghost use Rattle.sieve_text.specs.Reading.{Gives, string_at, behind_bracket, next_with, other_strings_at, string_list_at, argument_at, arguments_at};
 
-use crate::parser::stop::{Stop, syntax};
+use crate::parser::stop::{Stop, split_kind, syntax};
 use sieve_syntax::{Argument, Arguments, Mark, StringList, Text, Texts, Token, TokenKind};
 use std::alloc::Global;
 
@@ -13,16 +13,8 @@ fn read_string(alloc: Global, tokens: &[Token]) -> Result<(Text, &[Token]), Stop
     ensures value { Gives (λ x. (x.0, kinds x.1.now)) result (string_at (kinds tokens.now)) }
     ensures shorter { IfOk result (λ x. length x.1.now < length tokens.now) }
 {
-    match tokens.split_first() {
-        Some(
-            (
-                Token {
-                    kind: TokenKind::StringValue(text),
-                    ..
-                },
-                rest,
-            ),
-        ) => Ok((text.copy(alloc)?, rest)),
+    match split_kind(tokens) {
+        Some((TokenKind::StringValue(text), rest)) => Ok((text.copy(alloc)?, rest)),
         _ => Err(syntax(tokens)),
     }
 }
@@ -32,16 +24,8 @@ fn next_string(alloc: Global, tokens: &[Token]) -> Result<Option<(Text, &[Token]
     ensures value { Gives (option_map (λ x. (x.0, kinds x.1.now))) result (next_with string_at (kinds tokens.now)) }
     ensures shorter { IfOk result (λ o. IfSome o (λ x. length x.1.now < length tokens.now)) }
 {
-    match tokens.split_first() {
-        Some(
-            (
-                Token {
-                    kind: TokenKind::Mark(Mark::Comma),
-                    ..
-                },
-                rest,
-            ),
-        ) => Ok(Some(read_string(alloc, rest)?)),
+    match split_kind(tokens) {
+        Some((TokenKind::Mark(Mark::Comma), rest)) => Ok(Some(read_string(alloc, rest)?)),
         _ => Ok(None),
     }
 }
@@ -51,16 +35,8 @@ fn behind_bracket(tokens: &[Token]) -> Result<&[Token], Stop>
     ensures value { Gives (λ x. kinds x.now) result (behind_bracket (kinds tokens.now)) }
     ensures shorter { IfOk result (λ x. length x.now < length tokens.now) }
 {
-    match tokens.split_first() {
-        Some(
-            (
-                Token {
-                    kind: TokenKind::Mark(Mark::CloseBracket),
-                    ..
-                },
-                rest,
-            ),
-        ) => Ok(rest),
+    match split_kind(tokens) {
+        Some((TokenKind::Mark(Mark::CloseBracket), rest)) => Ok(rest),
         _ => Err(syntax(tokens)),
     }
 }
@@ -97,10 +73,10 @@ fn next_argument(alloc: Global, tokens: &[Token]) -> Result<Option<(Argument, &[
     ensures value { Gives (option_map (λ x. (x.0, kinds x.1.now))) result (argument_at (kinds tokens.now)) }
     ensures shorter { IfOk result (λ o. IfSome o (λ x. length x.1.now < length tokens.now)) }
 {
-    let Some((token, rest)) = tokens.split_first() else {
+    let Some((kind, rest)) = split_kind(tokens) else {
         return Ok(None);
     };
-    match &token.kind {
+    match kind {
         TokenKind::Tag(name) => Ok(Some((Argument::Tag(name.copy(alloc)?), rest))),
         TokenKind::Number(number) => Ok(Some((Argument::Number(*number), rest))),
         TokenKind::StringValue(text) => {

@@ -6,7 +6,7 @@ ghost use Rattle.sieve_text.specs.Grammar.{kinds};
 ghost use Rattle.sieve_text.specs.Reading.{Gives, many_at, inside_at, command_with, commands_with, ending_with, behind_brace};
 
 use crate::parser::arguments::arguments;
-use crate::parser::stop::{Misfit, Stop, syntax};
+use crate::parser::stop::{Misfit, Stop, split_kind, syntax};
 use crate::parser::test_lists::inner_tests;
 use sieve_syntax::{Command, Ending, Mark, Token, TokenKind};
 use std::alloc::Global;
@@ -43,16 +43,7 @@ fn next_command(
     ensures value { Gives (option_map (λ x. (command_of x.0, kinds x.1.now))) result (command_with 32 (inside_at 32 depth) (kinds tokens.now)) }
     ensures shorter { IfOk result (λ o. IfSome o (λ x. length x.1.now < length tokens.now)) }
 {
-    let Some(
-        (
-            Token {
-                kind: TokenKind::Identifier(name),
-                ..
-            },
-            rest,
-        ),
-    ) = tokens.split_first()
-    else {
+    let Some((TokenKind::Identifier(name), rest)) = split_kind(tokens) else {
         return Ok(None);
     };
     let (arguments, rest) = arguments(alloc, rest)?;
@@ -77,25 +68,9 @@ fn read_ending(alloc: Global, depth: u8, tokens: &[Token]) -> Result<(Ending, &[
     ensures value { Gives (λ x. (ending_of x.0, kinds x.1.now)) result (ending_with (inside_at 32 depth) (kinds tokens.now)) }
     ensures shorter { IfOk result (λ x. length x.1.now < length tokens.now) }
 {
-    match tokens.split_first() {
-        Some(
-            (
-                Token {
-                    kind: TokenKind::Mark(Mark::Semicolon),
-                    ..
-                },
-                rest,
-            ),
-        ) => Ok((Ending::Semicolon, rest)),
-        Some(
-            (
-                Token {
-                    kind: TokenKind::Mark(Mark::OpenBrace),
-                    ..
-                },
-                rest,
-            ),
-        ) => {
+    match split_kind(tokens) {
+        Some((TokenKind::Mark(Mark::Semicolon), rest)) => Ok((Ending::Semicolon, rest)),
+        Some((TokenKind::Mark(Mark::OpenBrace), rest)) => {
             if depth == 0 {
                 return Err(Stop::Refused(Misfit::Nesting, tokens.len()));
             }
@@ -112,16 +87,8 @@ fn behind_brace(tokens: &[Token]) -> Result<&[Token], Stop>
     ensures value { Gives (λ x. kinds x.now) result (behind_brace (kinds tokens.now)) }
     ensures shorter { IfOk result (λ x. length x.now < length tokens.now) }
 {
-    match tokens.split_first() {
-        Some(
-            (
-                Token {
-                    kind: TokenKind::Mark(Mark::CloseBrace),
-                    ..
-                },
-                rest,
-            ),
-        ) => Ok(rest),
+    match split_kind(tokens) {
+        Some((TokenKind::Mark(Mark::CloseBrace), rest)) => Ok(rest),
         _ => Err(syntax(tokens)),
     }
 }

@@ -1,10 +1,11 @@
 //! Why reading stops before a tree is whole.
 
-ghost use Rattle.std.specs.Prelude.{◌≡◌, length};
+ghost use Rattle.std.specs.Prelude.{◌≡◌, ◌<◌, [], ◌∷◌, length, MatchOption, IfSome};
+ghost use Rattle.sieve_text.specs.Grammar.{kinds};
 ghost use Rattle.sieve_text.specs.declared.parser.stop.Misfit.TheVariants.{Syntax};
 ghost use Rattle.sieve_text.specs.declared.parser.stop.Stop.TheVariants.{Refused};
 
-use sieve_syntax::Token;
+use sieve_syntax::{Token, TokenKind};
 use std::alloc::{AllocError, AllocFailed};
 
 /// Why tokens are not read.
@@ -50,4 +51,13 @@ pub fn syntax(tokens: &[Token]) -> Stop
     ensures { result ≡ Refused Syntax (length tokens.now) }
 {
     Stop::Refused(Misfit::Syntax, tokens.len())
+}
+
+/// What the first of these tokens is, and the tokens behind it.
+pub fn split_kind(tokens: &[Token]) -> Option<(&TokenKind, &[Token])>
+    ensures cases { MatchOption result (kinds tokens.now ≡ []) (λ x. kinds tokens.now ≡ x.0.now ∷ kinds x.1.now) }
+    ensures shorter { IfSome result (λ x. length x.1.now < length tokens.now) }
+{
+    let (token, rest) = tokens.split_first()?;
+    Some((&token.kind, rest))
 }

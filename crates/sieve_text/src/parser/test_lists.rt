@@ -6,7 +6,7 @@ ghost use Rattle.sieve_text.specs.Grammar.{kinds};
 ghost use Rattle.sieve_text.specs.Reading.{Gives, behind, behind_paren, next_with, many_at, test_at, test_list_with, inner_with};
 
 use crate::parser::arguments::arguments;
-use crate::parser::stop::{Misfit, Stop, syntax};
+use crate::parser::stop::{Misfit, Stop, split_kind, syntax};
 use sieve_syntax::{Mark, Test, Tests, Token, TokenKind};
 use std::alloc::Global;
 
@@ -17,16 +17,7 @@ fn read_test(alloc: Global, depth: u8, tokens: &[Token]) -> Result<(Test, &[Toke
     ensures value { Gives (λ x. (test_of x.0, kinds x.1.now)) result (test_at depth (kinds tokens.now)) }
     ensures shorter { IfOk result (λ x. length x.1.now < length tokens.now) }
 {
-    let Some(
-        (
-            Token {
-                kind: TokenKind::Identifier(name),
-                ..
-            },
-            rest,
-        ),
-    ) = tokens.split_first()
-    else {
+    let Some((TokenKind::Identifier(name), rest)) = split_kind(tokens) else {
         return Err(syntax(tokens));
     };
     if depth == 0 {
@@ -51,28 +42,12 @@ pub fn inner_tests(alloc: Global, depth: u8, tokens: &[Token]) -> Result<(Tests,
     ensures value { Gives (λ x. (inner_of x.0, kinds x.1.now)) result (inner_with (test_at depth) (kinds tokens.now)) }
     ensures shorter { IfOk result (λ x. length x.1.now ≤ length tokens.now) }
 {
-    match tokens.split_first() {
-        Some(
-            (
-                Token {
-                    kind: TokenKind::Identifier(_),
-                    ..
-                },
-                _,
-            ),
-        ) => {
+    match split_kind(tokens) {
+        Some((TokenKind::Identifier(_), _)) => {
             let (only, rest) = read_test(alloc, depth, tokens)?;
             Ok((Tests::One(Box::new(alloc, only)?), rest))
         }
-        Some(
-            (
-                Token {
-                    kind: TokenKind::Mark(Mark::OpenParen),
-                    ..
-                },
-                rest,
-            ),
-        ) => test_list(alloc, depth, rest),
+        Some((TokenKind::Mark(Mark::OpenParen), rest)) => test_list(alloc, depth, rest),
         _ => Ok((Tests::None, tokens)),
     }
 }
@@ -115,16 +90,8 @@ fn next_test(alloc: Global, depth: u8, tokens: &[Token]) -> Result<Option<(Test,
     ensures value { Gives (option_map (λ x. (test_of x.0, kinds x.1.now))) result (next_with (test_at depth) (kinds tokens.now)) }
     ensures shorter { IfOk result (λ o. IfSome o (λ x. length x.1.now < length tokens.now)) }
 {
-    match tokens.split_first() {
-        Some(
-            (
-                Token {
-                    kind: TokenKind::Mark(Mark::Comma),
-                    ..
-                },
-                rest,
-            ),
-        ) => Ok(Some(read_test(alloc, depth, rest)?)),
+    match split_kind(tokens) {
+        Some((TokenKind::Mark(Mark::Comma), rest)) => Ok(Some(read_test(alloc, depth, rest)?)),
         _ => Ok(None),
     }
 }
@@ -134,16 +101,8 @@ fn behind_paren(tokens: &[Token]) -> Result<&[Token], Stop>
     ensures value { Gives (λ x. kinds x.now) result (behind_paren (kinds tokens.now)) }
     ensures shorter { IfOk result (λ x. length x.now < length tokens.now) }
 {
-    match tokens.split_first() {
-        Some(
-            (
-                Token {
-                    kind: TokenKind::Mark(Mark::CloseParen),
-                    ..
-                },
-                rest,
-            ),
-        ) => Ok(rest),
+    match split_kind(tokens) {
+        Some((TokenKind::Mark(Mark::CloseParen), rest)) => Ok(rest),
         _ => Err(syntax(tokens)),
     }
 }
