@@ -4,3 +4,4 @@ pub mod Put
 pub mod Keeping
 pub mod Opened
 pub mod Added
+pub mod Judged
