@@ -5,3 +5,7 @@ pub mod Keeping
 pub mod Opened
 pub mod Added
 pub mod Judged
+pub mod Steps
+pub mod Classes
+pub mod Numbers
+pub mod Periods

@@ -2,10 +2,13 @@
 //! open, and when a record of a class falls due.
 #![tactic(auto)]
 
+mod document;
+mod entries;
 mod faults;
 mod paths;
 mod plans;
 mod schedules;
+mod texts;
 
 pub use faults::PlanFault;
 pub use plans::Plan;
