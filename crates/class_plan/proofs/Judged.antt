@@ -1,9 +1,9 @@
 -- The first fault that holds is the one with the smallest number.
-use Rattle.std.proofs.Common.{◌≡◌, ℕ, zero, suc, ◌+◌, ◌<◌, Bool, true, false, if◌then◌else◌, ◌⊎◌, inl, inr, Option, Some, None, refl, sym, ap, ◌∙◌, arith, below_more}
+use Rattle.std.proofs.Common.{◌≡◌, ℕ, zero, suc, ◌+◌, ◌<◌, Bool, true, false, if◌then◌else◌, ◌⊎◌, inl, inr, Option, Some, None, Result, Ok, Err, refl, sym, ap, subst, ◌∙◌, arith, below_more}
 use borrow.Author.Count.{below_none}
 use Rattle.class_plan.specs.declared.faults.PlanFault.{PlanFault}
 use Rattle.class_plan.specs.declared.faults.PlanFault.TheVariants.{NotToml, BadShape, BadPath, ParentMissing, PathTwice, BadSchedule, TooManyClasses, PathDropped, NoMemory}
-use Rattle.class_plan.specs.Faults.{number_of, first_fault, IsSmallest, HoldsNone}
+use Rattle.class_plan.specs.Faults.{number_of, first_fault, answer, judged, IsSmallest, HoldsNone}
 
 -- the faults in the order of their numbers
 abbrev at : ℕ → PlanFault
@@ -92,3 +92,20 @@ first-says h =
     step h 5 (h BadSchedule) _ refl refl f4 (λ f5.
     step h 6 (h TooManyClasses) _ refl refl f5 (λ f6.
     step h 7 (h PathDropped) _ refl refl f6 (λ f7. last_free h f7))))))))
+
+-- an answer that is no fault is the one that was handed in, and no fault holds
+made_of : {A : Type 0} (o : Option PlanFault) (a b : A) → Ok b ≡ answer o a → (b ≡ a) × (None ≡ o)
+made_of None a b e = ((cc), refl)
+made_of (Some f) a b e = absurd (cc)
+
+fault_of : {A : Type 0} (o : Option PlanFault) (a : A) (f : PlanFault) → Err f ≡ answer o a → Some f ≡ o
+fault_of None a f e = absurd (cc)
+fault_of (Some g) a f e = let s : f ≡ g = cc in ap (λ x. Some x) s
+
+pub judged-made : {A : Type 0} (h : PlanFault → Bool) (a b : A) → Ok b ≡ judged h a → (b ≡ a) × HoldsNone h
+judged-made h a b e =
+    let m = made_of (first_fault h) a b e in
+    (m.0, subst (Says h) (sym m.1) (first-says h))
+
+pub judged-smallest : {A : Type 0} (h : PlanFault → Bool) (a : A) (f : PlanFault) → Err f ≡ judged h a → IsSmallest h f
+judged-smallest h a f e = subst (Says h) (sym (fault_of (first_fault h) a f e)) (first-says h)

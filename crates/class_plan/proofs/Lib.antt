@@ -9,3 +9,6 @@ pub mod Steps
 pub mod Classes
 pub mod Numbers
 pub mod Periods
+pub mod Twice
+pub mod Judging
+pub mod Made

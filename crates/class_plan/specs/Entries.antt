@@ -1,7 +1,7 @@
 -- Classes as they are listed, in a file or by a caller, and the plan that they make.
 use Rattle.std.specs.Prelude.{◌≡◌, ℕ, ◌+◌, nat_lt, Bool, true, false, not, ◌||◌, if◌then◌else◌, List, [], ◌∷◌, map, length, Option, Some, None, is_some, unwrap_or, Result}
 use Rattle.std.specs.Str.{bytes_eq}
-use Rattle.std.specs.List.{list_any}
+use Rattle.std.specs.List.{All, list_any}
 use Rattle.class_plan.specs.declared.faults.PlanFault.{PlanFault}
 use Rattle.class_plan.specs.declared.faults.PlanFault.TheVariants.{NotToml, BadShape, BadPath, ParentMissing, PathTwice, BadSchedule, TooManyClasses, PathDropped, NoMemory}
 use Rattle.class_plan.specs.declared.schedules.Schedule.{Schedule}
@@ -11,6 +11,7 @@ use Rattle.class_plan.specs.declared.entries.Stated.TheVariants.{Nothing, Faulty
 use Rattle.class_plan.specs.declared.entries.Listed.{Listed}
 use Rattle.class_plan.specs.Faults.{judged}
 use Rattle.class_plan.specs.Paths.{is_path, has_parent_in, unfiled}
+use Rattle.class_plan.specs.Schedules.{IsInRangeIfAny}
 use Rattle.class_plan.specs.Plans.{Row, Listing, has, put, open_row}
 
 -- a class as it is listed
@@ -29,6 +30,10 @@ pub record Contents : Type 0 where
   pub root : Option Schedule
   pub entries : List Entry
 
+-- the contents that listed classes show
+abbrev pub contents : Option Schedule → List Listed → Contents
+contents root listed = record { root = root; entries = map shown listed }
+
 abbrev pub is_faulty : Stated → Bool
 is_faulty Faulty = true
 is_faulty _ = false
@@ -45,6 +50,15 @@ stated_if (Some (Some s)) = Own s
 
 abbrev pub row_of : Entry → Row
 row_of e = record { path = e.path; is_open = e.is_open; schedule = own_of e.stated }
+
+-- what a listed class keeps before it is judged: its schedule is in range, and `unfiled` is open
+pub record IsListableEntry (e : Entry) : Type 0 where
+  pub range : IsInRangeIfAny (own_of e.stated)
+  pub unfiled_open : bytes_eq e.path unfiled ≡ true → e.is_open ≡ true
+
+pub record IsListable (f : Contents) : Type 0 where
+  pub root : IsInRangeIfAny f.root
+  pub entries : All IsListableEntry f.entries
 
 -- the classes that are listed, each put at its place
 abbrev pub rows_from : List Row → List Entry → List Row

@@ -5,6 +5,8 @@
 mod document;
 mod entries;
 mod faults;
+mod files;
+mod judge;
 mod paths;
 mod plans;
 mod schedules;

@@ -16,7 +16,7 @@ use std::collections::{BTreeMap, BTreeSet};
 use std::marker::Model;
 
 /// The most classes of a plan.
-const MOST_CLASSES: usize = 4096;
+pub(crate) const MOST_CLASSES: usize = 4096;
 
 /// The class that is always there and open.
 pub(crate) const UNFILED: &[u8] = b"unfiled";
@@ -32,9 +32,9 @@ pub(crate) struct Class {
 /// one of them; there are at most 4,096; and each count is in its unit's range.
 #[derive(Drop)]
 pub struct Plan {
-    alloc: Global,
-    root: Schedule,
-    classes: BTreeMap<Vec<u8>, Class>,
+    pub(crate) alloc: Global,
+    pub(crate) root: Schedule,
+    pub(crate) classes: BTreeMap<Vec<u8>, Class>,
 }
 
 impl Model for Plan {
