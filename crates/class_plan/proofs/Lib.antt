@@ -12,3 +12,5 @@ pub mod Periods
 pub mod Twice
 pub mod Judging
 pub mod Made
+pub mod Documents
+pub mod Listable

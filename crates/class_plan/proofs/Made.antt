@@ -105,4 +105,5 @@ made-plan f listable none order =
       classes = All-from_recursion (IsClass rs) rs classes;
       unfiled_open = open_unfiled (rows_from [] es) (has (rows_from [] es) unfiled) refl (open_rows [] es entries (λ h. absurd (let e : false ≡ true = h in (cc))));
       few = omega arith;
-      in_order = order }
+      in_order = order;
+    }

@@ -39,7 +39,10 @@ fn own_schedule(stated: Stated) -> Option<Schedule>
 }
 
 /// The listed classes as a map, and whether a path came twice.
-fn insert_all(alloc: Global, listed: &[Listed<'_>]) -> Result<(BTreeMap<Vec<u8>, Class>, bool), AllocError>
+fn insert_all(
+    alloc: Global,
+    listed: &[Listed<'_>],
+) -> Result<(BTreeMap<Vec<u8>, Class>, bool), AllocError>
     ensures rows { IfOk result (λ p. rows_in p.0 ≡ rows_from [] (map shown listed.now)) }
     ensures twice { IfOk result (λ p. p.1 ≡ comes_again [] (map shown listed.now)) }
 {
@@ -58,7 +61,10 @@ fn insert_all(alloc: Global, listed: &[Listed<'_>]) -> Result<(BTreeMap<Vec<u8>,
 }
 
 /// The classes with `unfiled` among them.
-fn add_unfiled(alloc: Global, mut classes: BTreeMap<Vec<u8>, Class>) -> Result<BTreeMap<Vec<u8>, Class>, AllocError>
+fn add_unfiled(
+    alloc: Global,
+    mut classes: BTreeMap<Vec<u8>, Class>,
+) -> Result<BTreeMap<Vec<u8>, Class>, AllocError>
     ensures { IfOk result (λ m. rows_in m ≡ with_unfiled (rows_in classes)) }
 {
     if class_at(&classes, UNFILED).is_none() {
@@ -116,7 +122,11 @@ fn has_bad_schedule(listed: &[Listed<'_>]) -> bool
 }
 
 /// The root's schedule, or the fault with the smallest number that holds.
-fn judge(root: Option<Schedule>, gathered: &Gathered, listed: &[Listed<'_>]) -> Result<Schedule, PlanFault>
+fn judge(
+    root: Option<Schedule>,
+    gathered: &Gathered,
+    listed: &[Listed<'_>],
+) -> Result<Schedule, PlanFault>
     requires rows { rows_in gathered.now.classes ≡ with_unfiled (rows_from [] (map shown listed.now)) }
     requires twice { gathered.now.is_twice ≡ comes_again [] (map shown listed.now) }
     ensures judged { result ≡ judged (contents_faults (contents root listed.now)) (unwrap_or root Permanent) }
@@ -146,7 +156,11 @@ fn judge(root: Option<Schedule>, gathered: &Gathered, listed: &[Listed<'_>]) -> 
 /// The plan of a root's schedule, `None` where it is not well made, and listed classes.
 ///
 /// Refused by the smallest of 52 to 56 that holds, or by 99.
-pub(crate) fn plan_from(alloc: Global, root: Option<Schedule>, listed: &[Listed<'_>]) -> Result<Plan, PlanFault>
+pub(crate) fn plan_from(
+    alloc: Global,
+    root: Option<Schedule>,
+    listed: &[Listed<'_>],
+) -> Result<Plan, PlanFault>
     requires { IsListable (contents root listed.now) }
     ensures plan { IfOk result (λ p. plan_of (contents root listed.now) ≡ Ok p) }
     ensures refused { IfErr result (λ f. f ≢ NoMemory → plan_of (contents root listed.now) ≡ Err f) }

@@ -29,7 +29,8 @@ loop-class-preserved c =
     let joins : c.if-is_twice.is_twice ≡ (c.loop-class.is_twice || is_some c.in_ok-old.old) = elim c.if-is_twice.branch [ then-is_twice w ↦ search rules | else-is_twice w ↦ search rules ] in
     record {
       rows = rows-step (map shown c.args.listed.now) _ _ (shown x) _ _ cut more c.loop-class.invariant.rows;
-      twice = again-step (map shown c.args.listed.now) _ _ (shown x) _ _ _ _ _ cut more old joins c.loop-class.invariant.twice }
+      twice = again-step (map shown c.args.listed.now) _ _ (shown x) _ _ _ _ _ cut more old joins c.loop-class.invariant.twice;
+    }
 
 pub returns-clause-twice : goal.returns-clause-twice
 returns-clause-twice c =
