@@ -14,3 +14,5 @@ pub mod Judging
 pub mod Made
 pub mod Documents
 pub mod Listable
+pub mod Kept
+pub mod Cloned

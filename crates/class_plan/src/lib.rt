@@ -2,6 +2,7 @@
 //! open, and when a record of a class falls due.
 #![tactic(auto)]
 
+mod changes;
 mod document;
 mod entries;
 mod faults;
@@ -9,6 +10,7 @@ mod files;
 mod judge;
 mod paths;
 mod plans;
+mod readers;
 mod schedules;
 mod texts;
 
