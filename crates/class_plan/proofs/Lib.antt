@@ -16,3 +16,5 @@ pub mod Documents
 pub mod Listable
 pub mod Kept
 pub mod Cloned
+pub mod Ranges
+pub mod Days

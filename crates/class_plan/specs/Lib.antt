@@ -7,3 +7,4 @@ pub mod Fields
 pub mod Changes
 pub mod Entries
 pub mod Document
+pub mod Dates

@@ -3,6 +3,7 @@
 #![tactic(auto)]
 
 mod changes;
+mod dates;
 mod document;
 mod entries;
 mod faults;
@@ -14,6 +15,8 @@ mod readers;
 mod schedules;
 mod texts;
 
+pub use dates::{date_of, day_number, day_of, due_date};
 pub use faults::PlanFault;
+pub use jiff::civil::Date;
 pub use plans::Plan;
 pub use schedules::{Action, Schedule, Unit};
