@@ -4,3 +4,17 @@ pub mod Put
 pub mod Keeping
 pub mod Opened
 pub mod Added
+pub mod Judged
+pub mod Steps
+pub mod Classes
+pub mod Numbers
+pub mod Periods
+pub mod Twice
+pub mod Judging
+pub mod Made
+pub mod Documents
+pub mod Listable
+pub mod Kept
+pub mod Cloned
+pub mod Ranges
+pub mod Days

@@ -1,7 +1,7 @@
 -- Plans of classes, what they say of a path, and what each of them keeps.
 use Rattle.std.specs.Prelude.{◌≡◌, ℕ, ◌≤◌, Bool, true, false, if◌then◌else◌, List, [], ◌∷◌, map, filter, length, Option, Some, None, is_some, option_map, option_and_then, unwrap_or}
 use Rattle.std.specs.Str.{bytes_eq}
-use Rattle.std.specs.List.{All}
+use Rattle.std.specs.List.{All, list_all}
 use Rattle.std.specs.List.Sorted.{IsStrictlySortedBy}
 use Rattle.std.specs.Ordering.{nat_cmp, match_ordering}
 use Rattle.std.specs.Cmp.Lexicographic.{slice_cmp}
@@ -49,6 +49,24 @@ open_at rows q = unwrap_or (option_map (λ r. r.is_open) (found q rows)) false
 
 abbrev pub is_open_in : Listing → List ℕ → Bool
 is_open_in p q = open_at p.rows q
+
+-- the schedule of its own that the class with that path has
+abbrev pub own_at : List Row → List ℕ → Option Schedule
+own_at rows q = option_and_then (λ r. r.schedule) (found q rows)
+
+-- the first schedule that classes at some paths have, or else the root's
+abbrev pub first_own : Listing → List (List ℕ) → Schedule
+first_own p [] = p.root
+first_own p (q ∷ qs) = unwrap_or (own_at p.rows q) (first_own p qs)
+
+-- the schedule of a class: its own, or else that of its nearest ancestor that has one, or else the
+-- root's; None of a path that is no class
+abbrev pub schedule_at : Listing → List ℕ → Option Schedule
+schedule_at p q = if has p.rows q then Some (first_own p (q ∷ ancestors q)) else None
+
+-- each class of the old plan is one of the new
+abbrev pub keeps : Listing → Listing → Bool
+keeps old new = list_all (λ r. has new.rows r.path) old.rows
 
 -- the paths of the open classes, in byte order
 abbrev pub paths_of : List Row → List (List ℕ)

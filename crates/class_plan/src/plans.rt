@@ -1,10 +1,11 @@
 //! A plan: the root's schedule and the classes, each with a path, open or closed, and with a
 //! schedule of its own or none.
-ghost use Rattle.std.specs.Prelude.{◌≡◌, ◌≢◌, ◌≤◌, Bool, true, false, is_some, Option, Some, None, option_map, Ok, Err, IfOk, IfErr, OnOk, OnErr, map, length};
+ghost use Rattle.std.specs.Prelude.{◌≡◌, ◌≢◌, ◌≤◌, Bool, true, false, is_some, Option, Some, None, option_map, Ok, Err, IfOk, IfErr, OnOk, OnErr, MatchResult, map};
 ghost use Rattle.class_plan.specs.Paths.{has_parent_in};
 ghost use Rattle.class_plan.specs.Plans.{found, has, is_open_in, open_paths_of, first_plan};
 ghost use Rattle.class_plan.specs.Fields.{rows_in};
-ghost use Rattle.class_plan.specs.Changes.{added};
+ghost use Rattle.class_plan.specs.Changes.{added, speaks_against};
+ghost use Rattle.class_plan.specs.Faults.{first_fault, HoldsNone, IsSmallest};
 ghost use Rattle.class_plan.specs.declared.faults.PlanFault.TheVariants.{NoMemory};
 
 use crate::faults::PlanFault;
@@ -15,7 +16,7 @@ use std::collections::{BTreeMap, BTreeSet};
 use std::marker::Model;
 
 /// The most classes of a plan.
-const MOST_CLASSES: usize = 4096;
+pub(crate) const MOST_CLASSES: usize = 4096;
 
 /// The class that is always there and open.
 pub(crate) const UNFILED: &[u8] = b"unfiled";
@@ -31,9 +32,9 @@ pub(crate) struct Class {
 /// one of them; there are at most 4,096; and each count is in its unit's range.
 #[derive(Drop)]
 pub struct Plan {
-    alloc: Global,
-    root: Schedule,
-    classes: BTreeMap<Vec<u8>, Class>,
+    pub(crate) alloc: Global,
+    pub(crate) root: Schedule,
+    pub(crate) classes: BTreeMap<Vec<u8>, Class>,
 }
 
 impl Model for Plan {
@@ -88,6 +89,25 @@ impl Plan {
         })
     }
 
+    /// What speaks against one more class at the path.
+    fn fault_at(&self, path: &[u8]) -> Option<PlanFault>
+        ensures { result ≡ first_fault (speaks_against self.now path.now) }
+    {
+        if !fits_path(path) {
+            return Some(PlanFault::BadPath);
+        }
+        if !has_parent(&self.classes, path) {
+            return Some(PlanFault::ParentMissing);
+        }
+        if class_at(&self.classes, path).is_some() {
+            return Some(PlanFault::PathTwice);
+        }
+        if self.classes.len() >= MOST_CLASSES {
+            return Some(PlanFault::TooManyClasses);
+        }
+        None
+    }
+
     /// Adds an open class without a schedule of its own.
     ///
     /// Refused by the smallest of 52 (the path is not well made), 53 (its parent is no class), 54
@@ -96,19 +116,11 @@ impl Plan {
     pub fn add(&mut self, path: &[u8]) -> Result<(), PlanFault>
         ensures ok { OnOk result (added self.old path.now ≡ Ok self.new) }
         ensures refused { IfErr result (λ f. f ≢ NoMemory → added self.old path.now ≡ Err f) }
+        ensures smallest { MatchResult result (λ _. HoldsNone (speaks_against self.old path.now)) (λ f. f ≢ NoMemory → IsSmallest (speaks_against self.old path.now) f) }
         ensures unchanged { OnErr result (self.new ≡ self.old) }
     {
-        if !fits_path(path) {
-            return Err(PlanFault::BadPath);
-        }
-        if !has_parent(&self.classes, path) {
-            return Err(PlanFault::ParentMissing);
-        }
-        if class_at(&self.classes, path).is_some() {
-            return Err(PlanFault::PathTwice);
-        }
-        if self.classes.len() >= MOST_CLASSES {
-            return Err(PlanFault::TooManyClasses);
+        if let Some(fault) = self.fault_at(path) {
+            return Err(fault);
         }
         let key = Vec::from_slice(self.alloc, path)?;
         let class = Class {
