@@ -1,3 +1,4 @@
 pub mod LineLemmas
 pub mod FieldLemmas
 pub mod Rows
+pub mod PlaceLemmas

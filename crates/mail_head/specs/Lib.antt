@@ -1,2 +1,4 @@
 pub mod Lines
 pub mod Fields
+pub mod Pieces
+pub mod Places

@@ -9,7 +9,9 @@
 
 mod fields;
 mod lines;
+mod owned;
 mod reading;
 
 pub use fields::Field;
+pub use owned::PieceHead;
 pub use reading::{Head, read_head};
