@@ -1,6 +1,6 @@
 -- The places of fields in the octets of a header.
-use Rattle.std.proofs.Common.{◌≡◌, ℕ, ◌+◌, ◌-◌, ◌<◌, ◌≤◌, List, [], ◌∷◌, ◌++◌, length, take, drop, map, refl, sym, ap, ◌∙◌, arith, Option, Some, None, get_or}
-use Rattle.std.proofs.lemmas.List.{append-nil, append_assoc, length-append, length-map, length-drop, drop-drop, drop-take, take-take, map-append}
+use Rattle.std.proofs.Common.{◌≡◌, ℕ, ◌+◌, ◌-◌, ◌<◌, ◌≤◌, List, [], ◌∷◌, ◌++◌, length, take, drop, map, refl, sym, ap, ◌∙◌, arith, Some, None}
+use Rattle.std.proofs.lemmas.List.{length-append, length-map, length-drop, drop-drop, drop-take, take-take, map-append}
 use Rattle.std.proofs.lemmas.List.Elements.{All-push}
 use Rattle.std.specs.Prelude.{slice_range}
 use Rattle.std.specs.List.{All}

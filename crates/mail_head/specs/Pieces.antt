@@ -1,5 +1,5 @@
 -- A message that comes in pieces, and what a reader keeps of it.
-use Rattle.std.specs.Prelude.{ℕ, Bool, false, List, length}
+use Rattle.std.specs.Prelude.{ℕ, ◌-◌, Bool, false, List, length, take, nat_lt, not, slice_index, ◌==◌, ◌&&◌, ◌||◌}
 use Rattle.std.specs.List.{concat}
 use Rattle.mail_head.specs.Lines.{header_of}
 
@@ -22,3 +22,11 @@ pub record Owned : Type 0 where
   pub fields : List (List ℕ × List ℕ)
   pub size : ℕ
   pub octets : List ℕ
+
+-- no octet of a text stands in a line that has not ended
+abbrev pub at_line_start : List ℕ → Bool
+at_line_start bs = not (nat_lt 0 (length bs)) || (slice_index bs (length bs - 1) == 10)
+
+-- a text whose last line is one CR so far
+abbrev pub ends_in_lone_cr : List ℕ → Bool
+ends_in_lone_cr bs = (nat_lt 0 (length bs) && (slice_index bs (length bs - 1) == 13)) && at_line_start (take (length bs - 1) bs)

@@ -34,7 +34,7 @@ impl Model for PieceHead {
 
 impl PieceHead {
     /// The header in `octets`, whose places the empty `places` has room for.
-    pub fn from_octets(octets: Vec<u8>, places: Vec<FieldPlace>, size: u64) -> PieceHead
+    pub(crate) fn from_octets(octets: Vec<u8>, places: Vec<FieldPlace>, size: u64) -> PieceHead
         requires empty { places.items ≡ [] }
         requires room { length (fields_of octets.items) ≤ vec_capacity places }
         ensures fields { result.fields ≡ fields_of octets.items }
