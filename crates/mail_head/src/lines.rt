@@ -14,7 +14,9 @@ pub fn is_blank_octet(octet: u8) -> bool
 
 /// The line without its end: an LF, and one CR directly before it.
 pub fn line_text(line: &[u8]) -> &[u8]
-    ensures { result.now ≡ without_end line.now }
+    ensures value { result.now ≡ without_end line.now }
+    ensures front { result.now ≡ take (length result.now) line.now }
+    ensures within { length result.now ≤ length line.now }
 {
     match line {
         [text @ .., b'\r', b'\n'] => text,
