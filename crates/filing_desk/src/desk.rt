@@ -1,70 +1,81 @@
 //! The desk and its calls.
 
-ghost use Rattle.std.specs.Prelude.{◌≡◌, ℕ, List, ◌<◌, length};
+ghost use Rattle.std.specs.Prelude.{◌≡◌, ℕ, List, ◌<◌, ◌≤◌, length, None, IfOk, IfErr};
+ghost use Rattle.class_plan.specs.Plans.{first_plan};
+ghost use Rattle.sieve_meaning.specs.Reading.{program_of};
+ghost use Rattle.sieve_syntax.specs.View.{tree_of};
+ghost use Rattle.filing_desk.specs.Judging.{IsJudged, RefusesScript, IsOutcome};
 ghost use Rattle.filing_desk.specs.Steps.{add_class, file, Step, added, filed};
 ghost use Rattle.filing_desk.specs.Faults.{refused_by};
 
+use crate::case::read_case;
+use crate::evaluate::{Ending, Filing, run, script_weight};
 use crate::fault::DeskFault;
+use class_plan::Plan;
+use sieve_check::{Checked, check};
 use sieve_meaning::Paths;
-use std::alloc::Global;
+use sieve_text::{ScanRefusal, TextRefusal, parse};
+use std::alloc::{AllocError, Global};
 use std::marker::Model;
 
-/// What a run captures: the classes in byte order, and the number of its fault, if it ended in one.
+/// The greatest length of a message, in octets.
+pub const GREATEST_MESSAGE: usize = 8_388_608;
+
+/// The greatest weight of a script that is run.
+const GREATEST_WEIGHT: u64 = 60_000;
+
+/// The default class.
+const UNFILED: &[u8] = b"unfiled";
+
+/// What a run captures: the classes in byte order, each once, and the number of its fault, if it ended in one.
 #[derive(Drop)]
 pub struct Outcome {
     pub classes: Paths,
     pub fault: Option<u8>,
 }
 
-/// The plan of classes of a session.
+/// What a session talks to: it keeps the plan of classes, and files messages by scripts. Contracts see it as its
+/// plan.
 #[derive(Drop)]
 pub struct Desk {
     alloc: Global,
+    plan: Plan,
 }
 
 impl Model for Desk {
-    ghost use Rattle.std.specs.Prelude.{ℕ, List, []};
+    ghost use Rattle.class_plan.specs.Plans.{Listing};
 
-    ghost Value = { List (List ℕ) };
+    ghost Value = { Listing };
 
-    ghost view = { λ d. [] };
+    ghost view = { λ d. d.plan };
 }
 
-impl Desk {
-    /// A new desk.
-    pub fn new(alloc: Global) -> Result<Desk, DeskFault> {
-        Ok(Desk { alloc })
-    }
+/// The default class alone, with a fault.
+fn faulty(alloc: Global, fault: u8) -> Result<Outcome, AllocError>
+    ensures { IfOk result (λ o. outcome_view o ≡ outcome_at (Some fault) [] false false) }
+{
+    let mut classes = Paths::new(alloc);
+    classes.insert(alloc, UNFILED)?;
+    Ok(Outcome {
+        classes,
+        fault: Some(fault),
+    })
+}
 
-    /// Adds a class that is open and has no schedule of its own.
-    #[tactic(auto, unfolding(crate::specs::Steps::Step))]
-    pub fn add_class(&mut self, path: &[u8]) -> Result<(), DeskFault>
-        ensures { Step self.old (add_class path.now) (added result) self.new }
-    {
-        Err(DeskFault::NoMemory)
+/// The classes of a run that ended without a fault (RFC 5228, section 2.10.2).
+fn captured_classes(alloc: Global, filing: Filing) -> Result<Outcome, AllocError>
+    ensures { IfOk result (λ o. outcome_view o ≡ outcome_at None filing.filed filing.kept filing.cancelled) }
+{
+    let Filing {
+        filed: mut classes,
+        kept,
+        cancelled,
+    } = filing;
+    if kept || !cancelled {
+        classes.insert(alloc, UNFILED)?;
     }
-
-    /// What a script captures a message in; stores nothing.
-    #[tactic(auto, unfolding(crate::specs::Steps::Step))]
-    pub fn file(&self, script: &[u8], message: &[u8]) -> Result<Outcome, DeskFault>
-        ensures { Step self.now (file script.now message.now) (filed result) self.now }
-    {
-        Err(DeskFault::NoMemory)
-    }
-
-    /// What `file` answers to a message over its limit of 8,388,608 octets, which need not be at hand.
-    #[tactic(auto, unfolding(crate::specs::Steps::Step))]
-    pub fn file_too_long(&self, script: &[u8]) -> DeskFault
-        ensures { (message : List ℕ) → 8388608 < length message → Step self.now (file script.now message) (refused_by result) self.now }
-    {
-        DeskFault::NoMemory
-    }
-
-    /// What `file` answers to a script over its limit of 262,144 octets, which need not be at hand.
-    #[tactic(auto, unfolding(crate::specs::Steps::Step))]
-    pub fn file_script_too_long(&self) -> DeskFault
-        ensures { (script message : List ℕ) → 262144 < length script → Step self.now (file script message) (refused_by result) self.now }
-    {
-        DeskFault::NoMemory
-    }
+    Ok(Outcome {
+        classes,
+        fault: None,
+    })
 }
