@@ -1,1 +1,3 @@
+pub mod TreeViews
+pub mod Twice
 mod Rows

@@ -22,15 +22,15 @@ string_first (arguments.Strings (string_lists.Listed s ss) ∷ more) = None
 string_first (arguments.Number n ∷ more) = None
 string_first (arguments.Tag name ∷ more) = None
 
+abbrev pub comparator_pieces : Bool → TagWord → Option (List ℕ) → List PieceWord → List PieceWord
+comparator_pieces false w next behind = tagged (Some w) None ∷ behind
+comparator_pieces true w None behind = tagged (Some w) None ∷ behind
+comparator_pieces true w (Some s) behind = tagged (Some w) (Some s) ∷ drop 1 behind
+
 -- a tag of the table that names a comparator takes the string directly behind it, if one stands there
 abbrev pub tag_pieces : Option TagWord → Option (List ℕ) → List PieceWord → List PieceWord
 tag_pieces None next behind = tagged None None ∷ behind
-tag_pieces (Some w) next behind = taken w.names_comparator w next behind
-  where
-    taken : Bool → TagWord → Option (List ℕ) → List PieceWord → List PieceWord
-    taken false w next behind = tagged (Some w) None ∷ behind
-    taken true w None behind = tagged (Some w) None ∷ behind
-    taken true w (Some s) behind = tagged (Some w) (Some s) ∷ drop 1 behind
+tag_pieces (Some w) next behind = comparator_pieces w.names_comparator w next behind
 
 abbrev pub pieces : List TagWord → List Argument → List PieceWord
 pieces tags [] = []

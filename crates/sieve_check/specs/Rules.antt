@@ -1,6 +1,6 @@
 -- Which rules a command of a script breaks, by the numbers of the refusals, and the refusal of a script.
 -- Each rule is a definition of its own.
-use Rattle.std.specs.Prelude.{ℕ, Bool, true, false, ◌&&◌, ◌||◌, not, min, ◌==◌, List, [], ◌∷◌, ◌++◌, drop, Option, Some, None, is_none, if◌then◌else◌, nat_lt, count_by}
+use Rattle.std.specs.Prelude.{ℕ, Bool, true, false, ◌&&◌, ◌||◌, not, min, ◌==◌, List, [], ◌∷◌, ◌++◌, drop, Option, Some, None, is_none, if◌then◌else◌}
 use Rattle.std.specs.List.{list_any, flat_map, prefix_len}
 use Rattle.std.specs.Cmp.Lexicographic.{pointwise}
 use Rattle.sieve_syntax.specs.declared.tree.StringList.TheVariants as string_lists
@@ -154,8 +154,13 @@ has_kind k (tagged None c) = false
 has_kind k (tagged (Some w) c) = same_kind k w.kind
 has_kind k (positional a) = false
 
+-- another piece of this kind stands behind the first one
+abbrev pub stands_twice : TagKind → List PieceWord → Bool
+stands_twice k [] = false
+stands_twice k (p ∷ ps) = if has_kind k p then list_any (has_kind k) ps else stands_twice k ps
+
 abbrev pub has_tag_twice : WordForm → List PieceWord → Bool
-has_tag_twice form ps = list_any (λ w. nat_lt 1 (count_by (has_kind w.kind) ps)) form.tags
+has_tag_twice form ps = list_any (λ w. stands_twice w.kind ps) form.tags
 
 -- 37: positional arguments of another number or kind than the table's (RFC 5228, section 2.6.1); a tag that names
 -- a comparator without a string outside brackets directly behind it (section 2.7.3); or none of the tags of which
@@ -203,16 +208,24 @@ abbrev pub has_wrong_ending : Bool → Bool → Bool
 has_wrong_ending wanted there = if wanted then not there else there
 
 -- 41: other tests than the table's (RFC 5228, sections 2.5 and 2.9). One test in brackets is a list of tests.
+abbrev pub tests_there : InnerTests → TestsForm
+tests_there no_tests = NoTest
+tests_there (one_test t) = OneTest
+tests_there (listed_tests t row) = TestList
+
+abbrev pub same_tests : TestsForm → TestsForm → Bool
+same_tests NoTest NoTest = true
+same_tests NoTest OneTest = false
+same_tests NoTest TestList = false
+same_tests OneTest NoTest = false
+same_tests OneTest OneTest = true
+same_tests OneTest TestList = false
+same_tests TestList NoTest = false
+same_tests TestList OneTest = false
+same_tests TestList TestList = true
+
 abbrev pub has_wrong_tests : TestsForm → InnerTests → Bool
-has_wrong_tests NoTest no_tests = false
-has_wrong_tests NoTest (one_test t) = true
-has_wrong_tests NoTest (listed_tests t row) = true
-has_wrong_tests OneTest no_tests = true
-has_wrong_tests OneTest (one_test t) = false
-has_wrong_tests OneTest (listed_tests t row) = true
-has_wrong_tests TestList no_tests = true
-has_wrong_tests TestList (one_test t) = true
-has_wrong_tests TestList (listed_tests t row) = false
+has_wrong_tests wanted inner = not (same_tests wanted (tests_there inner))
 
 -- ---- the numbers of the rules that are broken
 

@@ -3,6 +3,9 @@
 
 mod fault;
 mod lookup;
+mod named;
+mod pieces;
+mod rules;
 mod table;
 
 pub use fault::CheckFault;

@@ -4,7 +4,7 @@
 //! that both agree.
 
 ghost use Rattle.std.specs.Prelude.{◌≡◌, map};
-ghost use Rattle.sieve_check.specs.Tables.{capability_table, command_table, test_table};
+ghost use Rattle.sieve_check.specs.Tables.{capability_table, comparator_table, command_table, test_table};
 ghost use Rattle.sieve_check.specs.Views.{capability_view, command_view, test_view};
 
 /// What a script may name in a `require` (RFC 5228, section 3.2).
@@ -262,6 +262,15 @@ pub fn capabilities() -> &'static [CapabilityRow]
     ensures { map capability_view result.now ≡ capability_table }
 {
     &CAPABILITIES
+}
+
+static COMPARATORS: [&[u8]; 2] = [b"i;octet", b"i;ascii-casemap"];
+
+/// The comparators, exact octets (RFC 5228, section 2.7.3).
+pub fn comparators() -> &'static [&'static [u8]]
+    ensures { map (λ t. t.now) result.now ≡ comparator_table }
+{
+    &COMPARATORS
 }
 
 /// The commands.
