@@ -6,3 +6,4 @@ pub mod Pieces
 pub mod Rules
 pub mod Tables
 pub mod Views
+pub mod Walk

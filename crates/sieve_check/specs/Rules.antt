@@ -66,11 +66,14 @@ abbrev pub is_block : EndingTree → Bool
 is_block semicolon = false
 is_block (block cs) = true
 
--- The commands in text order: a command stands before those of its block. The truth says whether the command
--- directly before, in the same block, is an `if` or `elsif`.
+-- The truth says whether the command directly before, in the same block, is an `if` or `elsif`.
+abbrev pub head_of : Bool → CommandTree → Placed
+head_of follows (command name args inner finish) = record { word = command_named name; args = args; inner = inner; has_block = is_block finish; follows_branch = follows }
+
+-- the commands in text order: a command stands before those of its block
 abbrev mutual
   pub command_in_order : Bool → CommandTree → List Placed
-  command_in_order follows (command name args inner finish) = record { word = command_named name; args = args; inner = inner; has_block = is_block finish; follows_branch = follows } ∷ ending_in_order finish
+  command_in_order follows (command name args inner finish) = head_of follows (command name args inner finish) ∷ ending_in_order finish
 
   pub ending_in_order : EndingTree → List Placed
   ending_in_order semicolon = []

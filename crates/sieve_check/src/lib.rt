@@ -1,7 +1,9 @@
 //! Which scripts are well made.
 #![tactic(auto)]
 
+mod context;
 mod fault;
+mod judge;
 mod lookup;
 mod named;
 mod pieces;

@@ -1,9 +1,13 @@
 //! The capabilities that the `require`s of a script have named.
 
 ghost use Rattle.std.specs.Prelude.{◌≡◌};
-ghost use Rattle.sieve_check.specs.Context.{nothing_named, has_of, named_with};
+ghost use Rattle.sieve_check.specs.Context.{nothing_named, has_of, named_with, named_and, named_after};
+ghost use Rattle.sieve_check.specs.Lookup.{capability_named};
+ghost use Rattle.sieve_check.specs.Rules.{argument_strings, strings_in};
 
+use crate::lookup::find_capability;
 use crate::table::Capability;
+use sieve_syntax::{Argument, Arguments, Text};
 
 /// Which capabilities are named so far.
 #[derive(Clone, Copy)]
@@ -53,6 +57,48 @@ impl Named {
             Capability::Include => named.include = true,
             Capability::OctetComparator => named.octet_comparator = true,
             Capability::CasemapComparator => named.casemap_comparator = true,
+        }
+        named
+    }
+
+    /// These, and the capability that the text names.
+    fn and(self, text: &Text) -> Named
+        ensures { result ≡ named_and self (capability_named text.now) }
+    {
+        match find_capability(text.as_slice()) {
+            Some(row) => self.with(row.capability),
+            None => self,
+        }
+    }
+
+    /// These, and the capabilities that the texts name.
+    fn after_texts(self, texts: &[Text]) -> Named
+        ensures { result ≡ named_after self texts.now }
+    {
+        let mut named = self;
+        for text in texts {
+            named = named.and(text);
+        }
+        named
+    }
+
+    /// These, and the capabilities that the argument names.
+    fn after_argument(self, argument: &Argument) -> Named
+        ensures { result ≡ named_after self (argument_strings argument.now) }
+    {
+        match argument {
+            Argument::Strings(list) => self.and(list.first()).after_texts(list.others()),
+            _ => self,
+        }
+    }
+
+    /// These, and the capabilities that a `require` with these arguments names.
+    pub fn after(self, arguments: &Arguments) -> Named
+        ensures { result ≡ named_after self (strings_in arguments.now) }
+    {
+        let mut named = self;
+        for argument in arguments.as_slice() {
+            named = named.after_argument(argument);
         }
         named
     }
