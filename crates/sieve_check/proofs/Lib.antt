@@ -1,0 +1,6 @@
+pub mod Judging
+pub mod Least
+pub mod Strings
+pub mod TreeViews
+pub mod Twice
+mod Rows
