@@ -2,3 +2,4 @@ pub mod StepLemmas
 pub mod TruthLemmas
 pub mod RunLemmas
 pub mod WeightLemmas
+pub mod OutcomeLemmas

@@ -1,5 +1,5 @@
 -- Runs of a script that can include none, as the evaluator goes over its commands.
-use Rattle.std.specs.Prelude.{◌≡◌, ℕ, List, [], ◌∷◌, Bool, true, false, not, codes, if◌then◌else◌}
+use Rattle.std.specs.Prelude.{◌≡◌, ℕ, List, [], ◌∷◌, Bool, true, false, not, codes, if◌then◌else◌, Option, Some, None}
 use Rattle.sieve_syntax.specs.Tree.{CommandTree, command, CommandTrees, no_commands, command_then, EndingTree, semicolon, block}
 use Rattle.sieve_syntax.specs.declared.tree.Argument.{Argument}
 use Rattle.sieve_meaning.specs.Case.{Facts}
@@ -29,6 +29,13 @@ ending_at endings.GoesOn f = meaning.GoesOn (filing_of f)
 ending_at endings.Returns f = meaning.Returns (filing_of f)
 ending_at endings.Stops f = meaning.Stops (filing_of f)
 ending_at (endings.Faults n) f = meaning.Faults n (filing_of f)
+
+-- the number of a fault that a run ended in
+abbrev pub fault_of : Ending → Option ℕ
+fault_of endings.GoesOn = None
+fault_of endings.Returns = None
+fault_of endings.Stops = None
+fault_of (endings.Faults n) = Some n
 
 -- Commands are run. An `elsif` or `else` at their front is open where no test of the branches before it was
 -- true, and is passed over otherwise.

@@ -8,5 +8,5 @@ mod desk;
 mod evaluate;
 mod fault;
 
-pub use desk::{Desk, Outcome};
+pub use desk::{Desk, GREATEST_MESSAGE, Outcome};
 pub use fault::{DeskFault, Refusal};

@@ -5,7 +5,7 @@ ghost use Rattle.sieve_syntax.specs.View.{command_of, commands_of, ending_of};
 ghost use Rattle.filing_desk.specs.Case.{facts_of};
 ghost use Rattle.sieve_meaning.specs.Case.{Facts};
 ghost use Rattle.filing_desk.specs.declared.evaluate.commands.Filing.{Filing};
-ghost use Rattle.filing_desk.specs.Runs.{ending_at, filing_of, runs_from, commands_in, filing_into, including, part_of, IsNoIf, PlainlyEnds, BranchLeads, Leads};
+ghost use Rattle.filing_desk.specs.Runs.{fault_of, ending_at, filing_of, runs_from, commands_in, filing_into, including, part_of, IsNoIf, PlainlyEnds, BranchLeads, Leads};
 
 use crate::case::Case;
 use crate::evaluate::tests::is_only_true;
@@ -32,6 +32,18 @@ pub enum Ending {
     Stops,
     /// A fault with its number.
     Faults(u8),
+}
+
+impl Ending {
+    /// The number of the fault, if there is one.
+    pub fn fault(self) -> Option<u8>
+        ensures { result ≡ fault_of self }
+    {
+        match self {
+            Ending::Faults(fault) => Some(fault),
+            Ending::GoesOn | Ending::Returns | Ending::Stops => None,
+        }
+    }
 }
 
 /// `fileinto`: adds the path, and cancels the implicit keep unless a copy is filed.
