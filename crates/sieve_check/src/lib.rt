@@ -9,5 +9,6 @@ mod named;
 mod pieces;
 mod rules;
 mod table;
+mod walk;
 
 pub use fault::CheckFault;
