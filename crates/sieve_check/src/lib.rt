@@ -1,6 +1,7 @@
 //! Which scripts are well made.
 #![tactic(auto)]
 
+mod checked;
 mod context;
 mod fault;
 mod judge;
@@ -11,4 +12,5 @@ mod rules;
 mod table;
 mod walk;
 
+pub use checked::{Checked, check};
 pub use fault::CheckFault;
