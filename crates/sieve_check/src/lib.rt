@@ -1,6 +1,7 @@
 //! Which scripts are well made.
 #![tactic(auto)]
 
+mod checked;
 mod context;
 mod fault;
 mod judge;
@@ -9,5 +10,7 @@ mod named;
 mod pieces;
 mod rules;
 mod table;
+mod walk;
 
+pub use checked::{Checked, check};
 pub use fault::CheckFault;
