@@ -11,5 +11,5 @@ mod scanner;
 mod tests;
 
 pub use fault::{ScanFault, ScanRefusal};
-pub use laws::{one_scan, one_verdict};
+pub use laws::{one_scan, one_verdict, some_verdict};
 pub use scanner::scan;
