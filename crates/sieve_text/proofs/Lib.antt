@@ -4,7 +4,9 @@ pub mod Again
 pub mod Depths
 pub mod TreeLaws
 pub mod GapLemmas
+pub mod KindLemmas
 pub mod NumberLemmas
 mod Rows
 pub mod ScanLemmas
 pub mod ScriptLaws
+pub mod WithinLemmas
