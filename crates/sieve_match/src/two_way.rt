@@ -250,11 +250,8 @@ impl Plan {
         }
         let octet = key[self.rare];
         let ahead = &value[at + self.rare..value.len() - key.len() + self.rare + 1];
-        let skipped = memchr2(
-            octet.to_ascii_uppercase(),
-            octet.to_ascii_lowercase(),
-            ahead,
-        )?;
+        let (upper, lower) = (octet.to_ascii_uppercase(), octet.to_ascii_lowercase());
+        let skipped = memchr2(upper, lower, ahead)?;
         Some(at + skipped)
     }
 }

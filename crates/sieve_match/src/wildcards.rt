@@ -47,14 +47,8 @@ fn first_step<'a>(comparator: Comparator, pattern: &'a [u8], text: &'a [u8]) -> 
     ensures count { result.1 ≤ comparisons (items_of pattern.now) }
 {
     match next_item(pattern) {
-        None => (
-            if text.is_empty() {
-                Step::Ends
-            } else {
-                Step::Stuck
-            },
-            0,
-        ),
+        None if text.is_empty() => (Step::Ends, 0),
+        None => (Step::Stuck, 0),
         Some((Item::Any, after)) => (Step::Star(after), 0),
         Some((Item::One, after)) => match text.split_first() {
             Some((_, behind)) => (Step::Goes(after, behind), 0),
