@@ -26,7 +26,11 @@ pub struct Case<'a> {
 }
 
 /// The case of a message; each value is decoded once.
-pub fn read_case<'a>(alloc: Global, message: &'a [u8], plan: &'a Plan) -> Result<Case<'a>, AllocError>
+pub fn read_case<'a>(
+    alloc: Global,
+    message: &'a [u8],
+    plan: &'a Plan,
+) -> Result<Case<'a>, AllocError>
     ensures { IfOk result (λ c. facts_of c ≡ case_of message.now (is_open_in plan.now)) }
 {
     let head = read_head(alloc, message)?;

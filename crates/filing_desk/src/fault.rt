@@ -104,15 +104,27 @@ impl DeskFault {
         ensures { result ≡ refusal_of self.now }
     {
         match self {
-            DeskFault::NoMemory => Refusal { number: 99, offset: None },
+            DeskFault::NoMemory => Refusal {
+                number: 99,
+                offset: None,
+            },
             DeskFault::Text(refusal, at) => {
                 let number = refusal.number();
                 let offset = if has_place(number) { Some(*at) } else { None };
                 Refusal { number, offset }
             }
-            DeskFault::Check(fault) => Refusal { number: fault.number(), offset: None },
-            DeskFault::Plan(fault) => Refusal { number: fault.number(), offset: None },
-            DeskFault::MessageTooLong => Refusal { number: 95, offset: None },
+            DeskFault::Check(fault) => Refusal {
+                number: fault.number(),
+                offset: None,
+            },
+            DeskFault::Plan(fault) => Refusal {
+                number: fault.number(),
+                offset: None,
+            },
+            DeskFault::MessageTooLong => Refusal {
+                number: 95,
+                offset: None,
+            },
         }
     }
 }

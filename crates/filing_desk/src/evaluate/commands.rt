@@ -47,7 +47,12 @@ impl Ending {
 }
 
 /// `fileinto`: adds the path, and cancels the implicit keep unless a copy is filed.
-fn file_into(alloc: Global, case: &Case<'_>, arguments: &[Argument], filing: &mut Filing) -> Result<Ending, AllocError>
+fn file_into(
+    alloc: Global,
+    case: &Case<'_>,
+    arguments: &[Argument],
+    filing: &mut Filing,
+) -> Result<Ending, AllocError>
     ensures { IfOk result (λ e. ending_at e filing.new ≡ filing_into (facts_of case.now) arguments.now (filing_of filing.old)) }
 {
     let path = match next_string_list(arguments) {
@@ -76,7 +81,13 @@ fn include(arguments: &[Argument]) -> Ending
 }
 
 /// A command that is no branch, and has no block.
-fn run_plain(alloc: Global, case: &Case<'_>, word: CommandWord, arguments: &[Argument], filing: &mut Filing) -> Result<Ending, AllocError>
+fn run_plain(
+    alloc: Global,
+    case: &Case<'_>,
+    word: CommandWord,
+    arguments: &[Argument],
+    filing: &mut Filing,
+) -> Result<Ending, AllocError>
     ensures { IsNoIf word → IfOk result (λ e. PlainlyEnds (facts_of case.now) word arguments.now (filing_of filing.old) (ending_at e filing.new)) }
 {
     match word {
@@ -92,13 +103,22 @@ fn run_plain(alloc: Global, case: &Case<'_>, word: CommandWord, arguments: &[Arg
         }
         CommandWord::FileInto => file_into(alloc, case, arguments, filing),
         CommandWord::Include => Ok(include(arguments)),
-        CommandWord::Require | CommandWord::If | CommandWord::ElsIf | CommandWord::Else | CommandWord::Other => Ok(Ending::GoesOn),
+        CommandWord::Require
+        | CommandWord::If
+        | CommandWord::ElsIf
+        | CommandWord::Else
+        | CommandWord::Other => Ok(Ending::GoesOn),
     }
 }
 
 /// Runs the block that a command ends with.
 #[cycle(running)]
-fn run_block(alloc: Global, case: &Case<'_>, ending: &CommandEnding, filing: &mut Filing) -> Result<Ending, AllocError>
+fn run_block(
+    alloc: Global,
+    case: &Case<'_>,
+    ending: &CommandEnding,
+    filing: &mut Filing,
+) -> Result<Ending, AllocError>
     ensures { IfOk result (λ e. ending_at e filing.new ≡ runs_from (facts_of case.now) false (commands_in (ending_of ending.now)) (filing_of filing.old)) }
 {
     match ending {
@@ -109,7 +129,12 @@ fn run_block(alloc: Global, case: &Case<'_>, ending: &CommandEnding, filing: &mu
 
 /// Runs an `if`, or an `elsif` that is open; says whether the branches behind it are open.
 #[cycle(running)]
-fn run_branch(alloc: Global, case: &Case<'_>, command: &Command, filing: &mut Filing) -> Result<(Ending, bool), AllocError>
+fn run_branch(
+    alloc: Global,
+    case: &Case<'_>,
+    command: &Command,
+    filing: &mut Filing,
+) -> Result<(Ending, bool), AllocError>
     ensures { IfOk result (λ r. BranchLeads (facts_of case.now) (command_of command.now) (filing_of filing.old) (ending_at r.0 filing.new) r.1) }
 {
     if !is_only_true(case, &command.tests) {
@@ -136,13 +161,7 @@ fn part_in(word: CommandWord, is_open: bool) -> Part
 {
     match word {
         CommandWord::If => Part::Branch,
-        CommandWord::ElsIf => {
-            if is_open {
-                Part::Branch
-            } else {
-                Part::Plain
-            }
-        }
+        CommandWord::ElsIf => { if is_open { Part::Branch } else { Part::Plain } }
         CommandWord::Else => {
             if is_open {
                 Part::Otherwise
@@ -156,7 +175,13 @@ fn part_in(word: CommandWord, is_open: bool) -> Part
 
 /// Runs one command; says whether the branches behind it are open.
 #[cycle(running)]
-fn run_command(alloc: Global, case: &Case<'_>, command: &Command, is_open: bool, filing: &mut Filing) -> Result<(Ending, bool), AllocError>
+fn run_command(
+    alloc: Global,
+    case: &Case<'_>,
+    command: &Command,
+    is_open: bool,
+    filing: &mut Filing,
+) -> Result<(Ending, bool), AllocError>
     ensures { IfOk result (λ r. Leads (facts_of case.now) is_open (command_of command.now) (filing_of filing.old) (ending_at r.0 filing.new) r.1) }
 {
     let word = command_word(command.name.as_slice());
@@ -178,7 +203,12 @@ fn run_command(alloc: Global, case: &Case<'_>, command: &Command, is_open: bool,
 
 /// Runs commands in order while each goes on.
 #[cycle(running)]
-pub fn run(alloc: Global, case: &Case<'_>, commands: &Vec<Command>, filing: &mut Filing) -> Result<Ending, AllocError>
+pub fn run(
+    alloc: Global,
+    case: &Case<'_>,
+    commands: &Vec<Command>,
+    filing: &mut Filing,
+) -> Result<Ending, AllocError>
     ensures { IfOk result (λ e. ending_at e filing.new ≡ runs_from (facts_of case.now) false (commands_of (map command_of commands.now.items)) (filing_of filing.old)) }
 {
     let mut is_open = false;

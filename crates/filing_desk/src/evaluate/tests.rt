@@ -20,11 +20,18 @@ use sieve_syntax::{Argument, StringList, Test, Tests, Text};
 fn is_any_name(field: &NamedValue<'_>, names: &[Text]) -> bool
     ensures { result ≡ list_any (λ name. is_named name (shown field.now)) names.now }
 {
-    names.iter().any(|name| is_word(field.name, name.as_slice()))
+    names
+        .iter()
+        .any(|name| is_word(field.name, name.as_slice()))
 }
 
 /// Whether a field's value matches one of some keys.
-fn is_any_match(field: &NamedValue<'_>, keys: &[Text], how: MatchType, comparator: Comparator) -> bool
+fn is_any_match(
+    field: &NamedValue<'_>,
+    keys: &[Text],
+    how: MatchType,
+    comparator: Comparator,
+) -> bool
     ensures { result ≡ list_any (λ key. key_matches_by how comparator key (shown field.now).value) keys.now }
 {
     keys.iter().any(|key| key_matches(how, key.as_slice(), field.value.as_slice(), comparator))
@@ -38,20 +45,34 @@ fn has_listed_name(field: &NamedValue<'_>, names: &StringList) -> bool
 }
 
 /// Whether a field's value matches one of the listed keys.
-fn has_listed_key(field: &NamedValue<'_>, keys: &StringList, how: MatchType, comparator: Comparator) -> bool
+fn has_listed_key(
+    field: &NamedValue<'_>,
+    keys: &StringList,
+    how: MatchType,
+    comparator: Comparator,
+) -> bool
     ensures { result ≡ list_any (λ key. key_matches_by how comparator key (shown field.now).value) (strings_of keys.now) }
 {
-    key_matches(how, keys.first().as_slice(), field.value.as_slice(), comparator)
-        || is_any_match(field, keys.others(), how, comparator)
+    key_matches(
+        how,
+        keys.first().as_slice(),
+        field.value.as_slice(),
+        comparator,
+    ) || is_any_match(field, keys.others(), how, comparator)
 }
 
 /// Whether some field has one of the names, and its value matches one of the keys.
-fn is_any_field(fields: &[NamedValue<'_>], names: &StringList, keys: &StringList, how: MatchType, comparator: Comparator) -> bool
+fn is_any_field(
+    fields: &[NamedValue<'_>],
+    names: &StringList,
+    keys: &StringList,
+    how: MatchType,
+    comparator: Comparator,
+) -> bool
     ensures { result ≡ list_any (λ f. list_any (λ name. is_named name (shown f)) (strings_of names.now) && list_any (λ key. key_matches_by how comparator key (shown f).value) (strings_of keys.now)) fields.now }
 {
-    fields
-        .iter()
-        .any(|field| has_listed_name(field, names) && has_listed_key(field, keys, how, comparator))
+    fields.iter().any(|field| has_listed_name(field, names)
+        && has_listed_key(field, keys, how, comparator))
 }
 
 /// `header`: whether some field has one of the names, and its value matches one of the keys.
@@ -64,7 +85,13 @@ fn is_header_true(case: &Case<'_>, arguments: &[Argument]) -> bool
     let Some((keys, _)) = next_string_list(rest) else {
         return false;
     };
-    is_any_field(case.fields.as_slice(), names, keys, match_type(arguments), comparator(arguments))
+    is_any_field(
+        case.fields.as_slice(),
+        names,
+        keys,
+        match_type(arguments),
+        comparator(arguments),
+    )
 }
 
 /// Whether a field with a name is there.

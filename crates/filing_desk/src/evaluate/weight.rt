@@ -17,7 +17,10 @@ fn exists_weight(arguments: &[Argument]) -> u64
 {
     match next_string_list(arguments) {
         None => 4,
-        Some((names, _)) => (names.others().len() as u64).saturating_add(1).saturating_mul(2).saturating_add(4),
+        Some((names, _)) => (names.others().len() as u64)
+            .saturating_add(1)
+            .saturating_mul(2)
+            .saturating_add(4),
     }
 }
 
@@ -31,8 +34,12 @@ fn header_weight(arguments: &[Argument]) -> u64
     let Some((keys, _)) = next_string_list(rest) else {
         return 4;
     };
-    let names = (names.others().len() as u64).saturating_add(1).saturating_mul(2);
-    let keys = (keys.others().len() as u64).saturating_add(1).saturating_mul(3);
+    let names = (names.others().len() as u64)
+        .saturating_add(1)
+        .saturating_mul(2);
+    let keys = (keys.others().len() as u64)
+        .saturating_add(1)
+        .saturating_mul(3);
     names.saturating_add(4).saturating_add(keys)
 }
 
@@ -125,7 +132,12 @@ fn command_weight(command: &Command, follows: bool) -> u64
     ensures { result ≡ most (command_weight_of (command_of command.now) follows) }
 {
     let word = command_word(command.name.as_slice());
-    own(word, follows, only_weight(&command.tests), block_weight(&command.ending))
+    own(
+        word,
+        follows,
+        only_weight(&command.tests),
+        block_weight(&command.ending),
+    )
 }
 
 /// The weight of commands.
