@@ -1,0 +1,9 @@
+-- Laws of steps that a session needs.
+use Rattle.std.proofs.Common.{◌≡◌, None, refl}
+use Rattle.filing_desk.specs.Answers.{refused}
+use Rattle.filing_desk.specs.Steps.{State, Command, Step}
+
+-- want of memory may stand in place of any answer, and changes nothing
+pub out_of_memory : (s : State) (c : Command) → Step s c (refused 99 None) s
+unfolding Step
+out_of_memory s c = (refl, refl)

@@ -1,0 +1,10 @@
+//! The desk: what a session talks to. It keeps the plan of classes, and files messages by scripts.
+//!
+//! In `specs/`, `Steps` says what each command may be answered and what it leaves.
+#![tactic(auto)]
+
+mod desk;
+mod fault;
+
+pub use desk::{Desk, Outcome};
+pub use fault::{DeskFault, Refusal};
