@@ -7,3 +7,4 @@ pub mod Payloads
 pub mod Replies
 pub mod Session
 pub mod Heard
+pub mod Memory
