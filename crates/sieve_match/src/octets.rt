@@ -1,6 +1,6 @@
 //! Octets as they are compared (RFC 4790, sections 9.2 and 9.3), and `:is`.
 
-ghost use Rattle.std.specs.Prelude.{◌≡◌, ◌↔◌, ◌==◌, IsTrue};
+ghost use Rattle.std.specs.Prelude.{◌≡◌, ◌↔◌, IsTrue};
 ghost use Rattle.sieve_meaning.specs.Matching.{folded, equals, IsEqualUnder};
 
 use crate::Comparator;
@@ -16,13 +16,6 @@ pub(crate) fn fold(comparator: Comparator, octet: u8) -> u8
             _ => octet,
         },
     }
-}
-
-/// Whether two octets are equal as they are compared.
-pub(crate) fn same(comparator: Comparator, left: u8, right: u8) -> bool
-    ensures { result ≡ (folded comparator left == folded comparator right) }
-{
-    fold(comparator, left) == fold(comparator, right)
 }
 
 /// Whether a key and a value are equal as they are compared: the match type `:is` (RFC 5228, section 2.7.1).

@@ -1,5 +1,5 @@
 //! A search for a key under `i;ascii-casemap`, in time linear in key and value and with no memory: Two-Way
-//! (M. Crochemore and D. Perrin, «Two-way string-matching», Journal of the ACM 38, 1991) over octets as they are
+//! (M. Crochemore and D. Perrin, "Two-way string-matching", Journal of the ACM 38, 1991) over octets as they are
 //! compared.
 //!
 //! A key is cut at a place where each repeat across the cut is a period of the whole key. The part right of the cut

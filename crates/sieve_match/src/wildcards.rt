@@ -3,12 +3,12 @@
 //! The search goes back to the last `*` only: where the items behind it cover some front of what is left, an earlier
 //! `*` has no better place. So each item is compared at most once for each place of the value.
 
-ghost use Rattle.std.specs.Prelude.{◌≡◌, ◌≤◌, ◌+◌, ◌*◌, ◌↔◌, ◌∷◌, [], length, IsTrue, MatchOption};
-ghost use Rattle.sieve_meaning.specs.Matching.{items_of, covers, Matches};
+ghost use Rattle.std.specs.Prelude.{◌≡◌, ◌≤◌, ◌+◌, ◌*◌, ◌↔◌, ◌∷◌, ◌==◌, [], length, IsTrue, MatchOption};
+ghost use Rattle.sieve_meaning.specs.Matching.{folded, items_of, covers, Matches};
 ghost use Rattle.sieve_match.specs.Steps.{turn_of, turn_view, comparisons};
 
 use crate::Comparator;
-use crate::octets::same;
+use crate::octets::fold;
 use sieve_meaning::Item;
 
 /// What the first item of a pattern does at the front of a text.
@@ -41,7 +41,17 @@ fn next_item(pattern: &[u8]) -> Option<(Item, &[u8])>
     }
 }
 
-/// What the first item does, and how many octets were compared: each comparison is made by `same`, here.
+/// Whether an octet of a pattern is equal to one of a value, as they are compared, and one for the comparison: each
+/// comparison of `matches_counted` is made here.
+#[inline(always)]
+fn compare(comparator: Comparator, item: u8, octet: u8) -> (bool, u128)
+    ensures answer { result.0 ≡ (folded comparator item == folded comparator octet) }
+    ensures count { result.1 ≡ 1 }
+{
+    (fold(comparator, item) == fold(comparator, octet), 1)
+}
+
+/// What the first item does, and how many octets were compared.
 fn first_step<'a>(comparator: Comparator, pattern: &'a [u8], text: &'a [u8]) -> (Step<'a>, u128)
     ensures value { turn_view result.0 ≡ turn_of comparator (items_of pattern.now) text.now }
     ensures count { result.1 ≤ comparisons (items_of pattern.now) }
@@ -55,13 +65,10 @@ fn first_step<'a>(comparator: Comparator, pattern: &'a [u8], text: &'a [u8]) -> 
             None => (Step::Stuck, 0),
         },
         Some((Item::Octet(item), after)) => match text.split_first() {
-            Some((&octet, behind)) => {
-                if same(comparator, item, octet) {
-                    (Step::Goes(after, behind), 1)
-                } else {
-                    (Step::Stuck, 1)
-                }
-            }
+            Some((&octet, behind)) => match compare(comparator, item, octet) {
+                (true, compared) => (Step::Goes(after, behind), compared),
+                (false, compared) => (Step::Stuck, compared),
+            },
             None => (Step::Stuck, 0),
         },
     }
