@@ -1,6 +1,7 @@
 -- Unfolding, one line after another.
-use Rattle.std.proofs.Common.{◌≡◌, ◌≢◌, ℕ, zero, suc, ◌-◌, ◌<◌, Bool, true, false, cond, eqb, List, [], ◌∷◌, ◌++◌, length, take, drop, refl, sym, ap, get_or, append_assoc, Some, None, ◌∙◌, arith, ne_eqb, eqb-true, eq-eqb}
-use Rattle.std.specs.Prelude.{nat_lt, ◌&&◌}
+use Rattle.std.proofs.Common.{◌≡◌, ◌≢◌, ℕ, zero, suc, ◌-◌, ◌<◌, Bool, true, false, cond, eqb, List, [], ◌∷◌, ◌++◌, length, take, drop, refl, sym, ap, get_or, append_assoc, Option, Some, None, ◌∙◌, arith, ne_eqb, eqb-true, eq-eqb}
+use Rattle.std.specs.Option.{is_some}
+use Rattle.std.specs.Prelude.{nat_lt, not, ◌&&◌}
 use Rattle.memchr.specs.Find.{IsFirstByte, is_byte}
 use Rattle.mail_words.specs.Unfolding.{without_cr, unfolded}
 
@@ -70,3 +71,9 @@ unfolded_last bs none = unfolded_none bs (λ j below same. none j (omega arith) 
 pub unfolded-more : (before : List ℕ) (bs text end after : List ℕ) (k : ℕ) (all : List ℕ) → IsFirstByte (is_byte 10) bs (Some k) → text ≡ without_cr (take k bs) → after ≡ drop 1 (drop k bs) → before ++ unfolded bs ≡ all → (before ++ text) ++ unfolded after ≡ all
 unfolded-more before bs text end after k all found et ea h =
     rw (et, ea, append_assoc, ← unfolded_line bs k found) h
+
+-- a body of one line
+pub unfolded_plain : (bs : List ℕ) (r : Option ℕ) (t : Bool) → IsFirstByte (is_byte 10) bs r → is_some r ≡ not t → t ≡ true → unfolded bs ≡ bs
+unfolded_plain bs None t none h e = unfolded_last bs none
+unfolded_plain bs (Some k) true found h e = absurd cc
+unfolded_plain bs (Some k) false found h e = absurd cc

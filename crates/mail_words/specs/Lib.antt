@@ -1,2 +1,5 @@
 pub mod Unfolding
+pub mod Words
+pub mod Charsets
+pub mod Decoding
 pub mod Value

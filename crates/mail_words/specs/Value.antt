@@ -1,6 +1,39 @@
--- The value of a field: its body unfolded and trimmed.
-use Rattle.std.specs.Prelude.{ℕ, List}
-use Rattle.mail_words.specs.Unfolding.{unfolded, trimmed}
+-- The value of a field: its body unfolded and trimmed, and its encoded words replaced (RFC 2047, section 6.2).
+use Rattle.std.specs.Prelude.{ℕ, zero, suc, Bool, true, false, List, [], ◌∷◌, ◌++◌, length, Option, Some, None, ◌&&◌, if◌then◌else◌}
+use Rattle.std.specs.List.{list_all}
+use Rattle.mail_words.specs.Unfolding.{is_blank, unfolded, trimmed}
+use Rattle.mail_words.specs.Words.{Word, spelling, first_word}
+use Rattle.mail_words.specs.Decoding.{text_of}
 
+-- a text cut at its standing words: each with the gap before it, and what stands behind the last one
+abbrev pub Cut : Type 0
+Cut = List (List ℕ × Word) × List ℕ
+
+abbrev pub cut_at : List ℕ → Option (List ℕ × Word × List ℕ) → (List ℕ → Cut) → Cut
+cut_at bs None more = ([], bs)
+cut_at bs (Some found) more = let rest = more found.2 in ((found.0, found.1) ∷ rest.0, rest.1)
+
+-- the cut of a text, computed from the front; the number is one that is as great as the text is long
+unfoldable pub cut_words : ℕ → List ℕ → Cut
+cut_words zero bs = ([], bs)
+cut_words (suc n) bs = cut_at bs (first_word true bs) (cut_words n)
+
+-- a word as it is shown, with the gap before it: a good one as its text, and after a good one without a gap of blanks
+-- alone; another one as it stands
+abbrev pub shown_word : Bool → List ℕ → Word → Option (List ℕ) → (Bool → List ℕ) → List ℕ
+shown_word after_good gap w (Some text) more = (if after_good && list_all is_blank gap then [] else gap) ++ (text ++ more true)
+shown_word after_good gap w None more = gap ++ (spelling w ++ more false)
+
+unfoldable pub shown : Bool → List (List ℕ × Word) → List ℕ → List ℕ
+shown after_good [] last = last
+shown after_good (part ∷ parts) last = shown_word after_good part.0 part.1 (text_of part.1) (λ good. shown good parts last)
+
+abbrev pub shown_cut : Cut → List ℕ
+shown_cut cut = shown false cut.0 cut.1
+
+abbrev pub words_shown : List ℕ → List ℕ
+words_shown text = shown_cut (cut_words (length text) text)
+
+-- the value of a field with this body
 unfoldable pub value_of_body : List ℕ → List ℕ
-value_of_body raw = trimmed (unfolded raw)
+value_of_body raw = words_shown (trimmed (unfolded raw))

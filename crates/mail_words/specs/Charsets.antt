@@ -1,0 +1,30 @@
+-- The charsets of encoded words, and what octets mean in them.
+use Rattle.std.specs.Prelude.{ℕ, List, [], ◌∷◌, ◌++◌, map, Bool, Option, Some, None, nat_lt, ◌||◌, codes, if◌then◌else◌}
+use Rattle.std.specs.List.{list_any, list_all}
+use Rattle.std.specs.Char.{to_ascii_lowercase}
+use Rattle.std.specs.Str.{bytes_eq, is_utf8, encode_utf8_all}
+use Rattle.mail_words.specs.declared.charset.Charset.{Charset}
+use Rattle.mail_words.specs.declared.charset.Charset.TheVariants.{Ascii, Latin1, Utf8}
+
+-- names are equal whatever the case of their letters (RFC 2047, section 2)
+abbrev pub is_named : List ℕ → List ℕ → Bool
+is_named name other = bytes_eq (map to_ascii_lowercase name) other
+
+-- the parts of ISO 8859 of which only the first 128 places are taken, which are those of US-ASCII
+abbrev pub ascii_parts : List (List ℕ)
+ascii_parts = codes "2" ∷ codes "3" ∷ codes "4" ∷ codes "5" ∷ codes "6" ∷ codes "7" ∷ codes "8" ∷ codes "9" ∷ codes "10" ∷ codes "11" ∷ codes "12" ∷ codes "13" ∷ codes "14" ∷ codes "15" ∷ codes "16" ∷ []
+
+-- the charset of a name, where it is one of those that are read
+unfoldable pub charset_named : List ℕ → Option Charset
+charset_named name =
+    if is_named name (codes "utf-8") then Some Utf8
+    else if is_named name (codes "iso-8859-1") then Some Latin1
+    else if is_named name (codes "us-ascii") || list_any (λ part. is_named name (codes "iso-8859-" ++ part)) ascii_parts then Some Ascii
+    else None
+
+-- the text of octets in a charset, in UTF-8, where each octet has a meaning: US-ASCII and UTF-8 stay as they are, and in
+-- ISO 8859-1 each octet is the character of its number
+unfoldable pub text_in : Charset → List ℕ → Option (List ℕ)
+text_in Ascii octets = if list_all (λ b. nat_lt b 128) octets then Some octets else None
+text_in Utf8 octets = if is_utf8 octets then Some octets else None
+text_in Latin1 octets = Some (encode_utf8_all octets)
