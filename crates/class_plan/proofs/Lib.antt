@@ -18,3 +18,4 @@ pub mod Kept
 pub mod Cloned
 pub mod Ranges
 pub mod Days
+pub mod Printed
