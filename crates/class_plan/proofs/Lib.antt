@@ -19,3 +19,5 @@ pub mod Cloned
 pub mod Ranges
 pub mod Days
 pub mod Printed
+pub mod Parted
+pub mod Reparted

@@ -55,7 +55,10 @@ fn listed_part(part: &(Vec<u8>, bool, Option<Schedule>)) -> Listed<'_>
 }
 
 /// The classes that parts list.
-fn list_parts(alloc: Global, parts: &[(Vec<u8>, bool, Option<Schedule>)]) -> Result<Vec<Listed<'_>>, AllocError>
+fn list_parts(
+    alloc: Global,
+    parts: &[(Vec<u8>, bool, Option<Schedule>)],
+) -> Result<Vec<Listed<'_>>, AllocError>
     ensures { IfOk result (λ v. map shown v.items ≡ map part_entry parts.now) }
 {
     let mut listed = Vec::with_capacity(alloc, parts.len())?;
@@ -86,7 +89,11 @@ impl Plan {
     /// Refused by the smallest number that holds: 51 (`unfiled` is closed), 52 (a path is not well
     /// made), 53 (a parent is no class), 54 (a path comes twice), 55 (a count is out of range), 56
     /// (more than 4,096 classes, `unfiled` among them); or by 99.
-    pub fn from_parts(alloc: Global, root: Schedule, classes: Vec<(Vec<u8>, bool, Option<Schedule>)>) -> Result<Plan, PlanFault>
+    pub fn from_parts(
+        alloc: Global,
+        root: Schedule,
+        classes: Vec<(Vec<u8>, bool, Option<Schedule>)>,
+    ) -> Result<Plan, PlanFault>
         ensures plan { IfOk result (λ p. plan_of_parts (parts_contents root classes.items) ≡ Ok p) }
         ensures refused { IfErr result (λ f. f ≢ NoMemory → plan_of_parts (parts_contents root classes.items) ≡ Err f) }
         ensures smallest { MatchResult result (λ _. HoldsNone (parts_faults (parts_contents root classes.items))) (λ f. f ≢ NoMemory → IsSmallest (parts_faults (parts_contents root classes.items)) f) }
