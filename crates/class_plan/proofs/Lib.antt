@@ -21,3 +21,4 @@ pub mod Days
 pub mod Printed
 pub mod Parted
 pub mod Reparted
+pub mod Due

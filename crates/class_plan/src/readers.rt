@@ -5,7 +5,7 @@ ghost use Rattle.class_plan.specs.Paths.{ancestors};
 ghost use Rattle.class_plan.specs.Schedules.{IsInRange};
 ghost use Rattle.class_plan.specs.Plans.{own_at, first_own, schedule_at, IsPlan};
 ghost use Rattle.class_plan.specs.Fields.{rows_in};
-ghost use Rattle.class_plan.specs.Dates.{IsCaptureDay, IsDueOf};
+ghost use Rattle.class_plan.specs.Dates.{IsCaptureDay, IsDueOf, IsLater};
 
 use crate::dates::due_date;
 use crate::paths::SLASH;
@@ -59,7 +59,8 @@ impl Plan {
     /// The caller gives a day of 1970 to 2199.
     pub fn due_of(&self, path: &[u8], day: Date) -> Option<Date>
         requires { IsCaptureDay day }
-        ensures { IsDueOf self.now path.now day result }
+        ensures due { IsDueOf self.now path.now day result }
+        ensures later { IfSome result (λ e. IsLater day e) }
     {
         match self.schedule_of(path) {
             Some(schedule) => due_date(day, schedule),
