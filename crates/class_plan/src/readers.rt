@@ -46,10 +46,11 @@ impl Plan {
         ensures schedule { result ≡ schedule_at self.now path.now }
         ensures range { IfSome result (λ s. IsInRange s) }
     {
-        let class = class_at(&self.classes, path)?;
+        let Plan { root, classes, .. } = self;
+        let class = class_at(classes, path)?;
         Some(match class.schedule {
             Some(schedule) => schedule,
-            None => inherited_schedule(self.root, &self.classes, path),
+            None => inherited_schedule(*root, classes, path),
         })
     }
 
