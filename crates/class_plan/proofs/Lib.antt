@@ -18,3 +18,7 @@ pub mod Kept
 pub mod Cloned
 pub mod Ranges
 pub mod Days
+pub mod Printed
+pub mod Parted
+pub mod Reparted
+pub mod Due

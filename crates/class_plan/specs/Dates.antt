@@ -1,10 +1,11 @@
 -- Due dates, in terms of year, month, day and day number (days since 1970-01-01).
-use Rattle.std.specs.Prelude.{◌≡◌, ℕ, ◌+◌, ◌*◌, ◌-◌, ◌/◌, ◌%◌, min, ℤ, pos, ◌+ℤ◌, Option, Some, None, unsigned_abs}
+use Rattle.std.specs.Prelude.{◌≡◌, ℕ, ◌+◌, ◌*◌, ◌-◌, ◌/◌, ◌%◌, ◌<◌, ◌⊎◌, min, ℤ, pos, ◌+ℤ◌, ◌<ℤ◌, List, Option, Some, None, MatchOption, unsigned_abs}
 use Rattle.jiff.specs.Words.{days_in_month, epoch_day, IsBetween}
 use Rattle.jiff_core.specs.declared.civil.date.Date.{Date}
 use Rattle.class_plan.specs.declared.schedules.Unit.TheVariants.{Days, Months, Years}
 use Rattle.class_plan.specs.declared.schedules.Schedule.{Schedule}
 use Rattle.class_plan.specs.declared.schedules.Schedule.TheVariants.{Permanent, After}
+use Rattle.class_plan.specs.Plans.{Listing, schedule_at}
 
 -- a capture day: one of the years 1970 to 2199
 abbrev pub IsCaptureDay : Date → Type 0
@@ -35,3 +36,22 @@ IsDue d (After n u a) None = ⊥
 IsDue d (After n Days a) (Some e) = epoch_day e ≡ epoch_day d +ℤ pos n
 IsDue d (After n Months a) (Some e) = IsMonthsAfter d n e
 IsDue d (After n Years a) (Some e) = IsYearsAfter d n e
+
+-- the first date comes before the second, by year, then by month, then by day
+abbrev pub IsEarlier : Date → Date → Type 0
+IsEarlier a b = (a.year <ℤ b.year) ⊎ ((a.year ≡ b.year) × ((a.month < b.month) ⊎ ((a.month ≡ b.month) × (a.day < b.day))))
+
+-- both are no date, or the same year, month and day
+abbrev pub IsSameDay : Option Date → Option Date → Type 0
+IsSameDay None None = Unit {0}
+IsSameDay (Some a) (Some b) = (a.year ≡ b.year) × (a.month ≡ b.month) × (a.day ≡ b.day)
+IsSameDay None (Some b) = ⊥
+IsSameDay (Some a) None = ⊥
+
+-- a date after a capture day, whose day number is one of 1970 to 9999
+abbrev pub IsLater : Date → Date → Type 0
+IsLater d e = IsEarlier d e × (epoch_day d <ℤ epoch_day e) × IsBetween (pos 0) (pos 2932896) (epoch_day e)
+
+-- the due date of a path: that of its schedule, and none where the path is no class
+abbrev pub IsDueOf : Listing → List ℕ → Date → Option Date → Type 0
+IsDueOf p q d r = MatchOption (schedule_at p q) (r ≡ None) (λ s. IsDue d s r)

@@ -8,3 +8,4 @@ pub mod Changes
 pub mod Entries
 pub mod Document
 pub mod Dates
+pub mod Parts

@@ -1,7 +1,8 @@
 -- Schedules as texts: `permanent`, or a count, a unit and an action with single spaces between them.
-use Rattle.std.specs.Prelude.{◌≡◌, ℕ, ◌+◌, ◌-◌, ◌*◌, nat_le, ◌<◌, ◌==◌, Bool, true, false, ◌&&◌, if◌then◌else◌, List, [], ◌∷◌, codes, Option, Some, None, option_and_then}
+use Rattle.std.specs.Prelude.{◌≡◌, ℕ, ◌+◌, ◌-◌, ◌*◌, nat_le, ◌<◌, ◌==◌, Bool, true, false, ◌&&◌, if◌then◌else◌, List, [], ◌∷◌, ◌++◌, codes, Option, Some, None, option_and_then}
 use Rattle.std.specs.Str.{bytes_eq}
 use Rattle.std.specs.List.{before_first, after_first}
+use Rattle.std.specs.Fmt.{decimal}
 use Rattle.class_plan.specs.declared.schedules.Unit.{Unit as TimeUnit}
 use Rattle.class_plan.specs.declared.schedules.Unit.TheVariants.{Days, Months, Years}
 use Rattle.class_plan.specs.declared.schedules.Action.{Action}
@@ -45,6 +46,21 @@ period_of a b c = do
 -- the schedule of a text
 unfoldable pub schedule_of_bytes : List ℕ → Option Schedule
 schedule_of_bytes t = if bytes_eq t (codes "permanent") then Some Permanent else (let rest = after_first is_space t in period_of (before_first is_space t) (before_first is_space rest) (after_first is_space rest))
+
+abbrev pub unit_word : TimeUnit → List ℕ
+unit_word Days = codes "days"
+unit_word Months = codes "months"
+unit_word Years = codes "years"
+
+abbrev pub action_word : Action → List ℕ
+action_word Review = codes "review"
+action_word Transfer = codes "transfer"
+action_word Destroy = codes "destroy"
+
+-- the text of a schedule
+abbrev pub text_of : Schedule → List ℕ
+text_of Permanent = codes "permanent"
+text_of (After n u x) = decimal n ++ 32 ∷ (unit_word u ++ 32 ∷ action_word x)
 
 -- no number, or one above all ranges
 abbrev pub IsLargeOrNone : Option ℕ → Type 0

@@ -1,8 +1,9 @@
 //! Capture days and due dates, by the proleptic Gregorian calendar of the crate `jiff`.
-ghost use Rattle.std.specs.Prelude.{◌≡◌, ℕ, pos, ◌/◌, ◌≤◌, ◌<◌, ◌+ℤ◌, MatchOption};
+ghost use Rattle.std.specs.Prelude.{◌≡◌, ℕ, pos, ◌/◌, ◌≤◌, ◌<◌, ◌+ℤ◌, ◌<ℤ◌, Option, MatchOption, IfSome};
 ghost use Rattle.jiff.specs.Words.{epoch_day, IsBetween};
+ghost use Rattle.jiff_core.specs.declared.civil.date.Date.{Date};
 ghost use Rattle.class_plan.specs.Schedules.{IsInRange};
-ghost use Rattle.class_plan.specs.Dates.{IsCaptureDay, IsDue, IsMonthsAfter};
+ghost use Rattle.class_plan.specs.Dates.{IsCaptureDay, IsDue, IsEarlier, IsLater, IsMonthsAfter, IsSameDay};
 
 use crate::schedules::{Schedule, Unit};
 use jiff::ToSpan;
@@ -53,13 +54,15 @@ pub fn day_of(moment: u64) -> Option<Date>
 
 /// The date on which a record that was captured on a day falls due: that many days later, or that
 /// many months or years later with the day cut to the last of a shorter month. `None` for a
-/// permanent schedule.
+/// permanent schedule. The due date comes after the capture day.
 ///
 /// The caller gives a day of 1970 to 2199 and a count in its unit's range.
 pub fn due_date(day: Date, schedule: Schedule) -> Option<Date>
     requires day { IsCaptureDay day }
     requires range { IsInRange schedule }
-    ensures { IsDue day schedule result }
+    ensures due { IsDue day schedule result }
+    ensures only { (r : Option Date) → IsDue day schedule r → IsSameDay r result }
+    ensures later { IfSome result (λ e. IsLater day e) }
 {
     match schedule {
         Schedule::Permanent => None,
@@ -72,8 +75,11 @@ pub fn due_date(day: Date, schedule: Schedule) -> Option<Date>
 }
 
 /// The day number of a date, in days since 1970-01-01.
+///
+/// An earlier date, by year, month and day, has a smaller number.
 pub fn day_number(day: Date) -> i64
-    ensures { result ≡ epoch_day day }
+    ensures number { result ≡ epoch_day day }
+    ensures ordered { (e : Date) → (IsEarlier day e → result <ℤ epoch_day e) × (result <ℤ epoch_day e → IsEarlier day e) }
 {
     date(1970, 1, 1).duration_until(day).as_hours() / 24
 }

@@ -7,7 +7,7 @@ ghost use Rattle.class_plan.specs.Entries.{shown, stated_if};
 ghost use Rattle.class_plan.specs.Document.{has_only, is_class_key, is_file_key, optional, class_of, entry_of, entries_of, listed_of, contents_of, shown_lists};
 
 use crate::entries::{Listed, Lists, Stated};
-use crate::texts::read_schedule;
+use crate::texts::schedule_of_text;
 use std::alloc::{AllocError, Global};
 use toml::{Table, Value};
 
@@ -90,7 +90,7 @@ fn stated_by(text: Option<&str>) -> Stated
     ensures { result ≡ stated_if (option_map schedule_of_bytes (option_copied text.entry)) }
 {
     match text {
-        Some(text) => match read_schedule(text) {
+        Some(text) => match schedule_of_text(text.as_bytes()) {
             Some(schedule) => Stated::Own(schedule),
             None => Stated::Faulty,
         },
@@ -176,7 +176,7 @@ pub(crate) fn lists_from(alloc: Global, table: &Table) -> Result<Option<Lists<'_
         return Ok(None);
     };
     Ok(Some(Lists {
-        root: read_schedule(root),
+        root: schedule_of_text(root.as_bytes()),
         classes,
     }))
 }

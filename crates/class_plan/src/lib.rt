@@ -9,10 +9,13 @@ mod entries;
 mod faults;
 mod files;
 mod judge;
+mod parts;
 mod paths;
 mod plans;
 mod readers;
 mod schedules;
+#[cfg(test)]
+mod tests;
 mod texts;
 
 pub use dates::{date_of, day_number, day_of, due_date};
@@ -20,3 +23,4 @@ pub use faults::PlanFault;
 pub use jiff::civil::Date;
 pub use plans::Plan;
 pub use schedules::{Action, Schedule, Unit};
+pub use texts::{schedule_of_text, schedule_text};

@@ -5,10 +5,13 @@ ghost use Rattle.class_plan.specs.Paths.{ancestors};
 ghost use Rattle.class_plan.specs.Schedules.{IsInRange};
 ghost use Rattle.class_plan.specs.Plans.{own_at, first_own, schedule_at, IsPlan};
 ghost use Rattle.class_plan.specs.Fields.{rows_in};
+ghost use Rattle.class_plan.specs.Dates.{IsCaptureDay, IsDueOf, IsLater};
 
+use crate::dates::due_date;
 use crate::paths::SLASH;
 use crate::plans::{Class, Plan, class_at};
 use crate::schedules::Schedule;
+use jiff::civil::Date;
 use std::collections::BTreeMap;
 
 /// The schedule of its own that the class at a path has.
@@ -43,11 +46,27 @@ impl Plan {
         ensures schedule { result ≡ schedule_at self.now path.now }
         ensures range { IfSome result (λ s. IsInRange s) }
     {
-        let class = class_at(&self.classes, path)?;
+        let Plan { root, classes, .. } = self;
+        let class = class_at(classes, path)?;
         Some(match class.schedule {
             Some(schedule) => schedule,
-            None => inherited_schedule(self.root, &self.classes, path),
+            None => inherited_schedule(*root, classes, path),
         })
+    }
+
+    /// The date on which a record that was captured in a class on a day falls due, by the class's
+    /// schedule. `None` where that is permanent, and where the path is no class.
+    ///
+    /// The caller gives a day of 1970 to 2199.
+    pub fn due_of(&self, path: &[u8], day: Date) -> Option<Date>
+        requires { IsCaptureDay day }
+        ensures due { IsDueOf self.now path.now day result }
+        ensures later { IfSome result (λ e. IsLater day e) }
+    {
+        match self.schedule_of(path) {
+            Some(schedule) => due_date(day, schedule),
+            None => None,
+        }
     }
 
     /// The root's schedule, which classes have where neither they nor an ancestor has one.

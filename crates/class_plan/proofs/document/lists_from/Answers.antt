@@ -29,4 +29,4 @@ returns c =
     let a : true ≡ has_only is_file_key (table_view c.args.table.now) = search rules in
     let b : Some c.in-Some.root.now ≡ option_and_then as_str (get_member (codes "root") (table_view c.args.table.now)) = search rules in
     let d : Some (map shown c.in-Some-2.classes.items) ≡ listed_of (get_member (codes "class") (table_view c.args.table.now)) = search rules in
-    rw c.read_schedule.ensures (file-made _ _ _ a b d)
+    rw (c.schedule_of_text.ensures.schedule, c.as_bytes.ensures.value) (file-made _ _ _ a b d)

@@ -1,0 +1,3 @@
+//! Examples from outside: worked rows, and another program's answers.
+mod dates;
+mod plans;
