@@ -22,6 +22,7 @@ mod checked;
 mod context;
 mod fault;
 mod judge;
+mod laws;
 mod lookup;
 mod named;
 mod pieces;
@@ -31,6 +32,7 @@ mod walk;
 
 pub use checked::{Checked, check};
 pub use fault::CheckFault;
+pub use laws::{name_law, shape_law};
 
 #[cfg(test)]
 mod tests;
