@@ -5,6 +5,7 @@ use Rattle.std.specs.List.{list_any}
 use Rattle.std.specs.Str.{bytes_eq, str_to_ascii_lowercase}
 use Rattle.std.specs.Cmp.Lexicographic.{pointwise}
 use Rattle.std.proofs.lemmas.Slice.Eq.{bytes_eq-Decides}
+use Rattle.sieve_syntax.specs.declared.tree.StringList.{StringList}
 use Rattle.sieve_syntax.specs.declared.tree.StringList.TheVariants as string_lists
 use Rattle.sieve_syntax.specs.declared.tree.Argument.{Argument}
 use Rattle.sieve_syntax.specs.declared.tree.Argument.TheVariants as arguments
@@ -12,14 +13,16 @@ use Rattle.sieve_syntax.specs.Tree.{TestTree, test, InnerTests, no_tests, one_te
 use Rattle.sieve_check.specs.declared.table.Capability.{Capability}
 use Rattle.sieve_check.specs.declared.table.Positional.{Positional}
 use Rattle.sieve_check.specs.declared.table.Positional.TheVariants as places
+use Rattle.sieve_check.specs.declared.table.TagKind.TheVariants as kinds
+use Rattle.sieve_check.specs.declared.table.Role.TheVariants as roles
 use Rattle.sieve_check.specs.declared.table.TestsForm.{TestsForm}
 use Rattle.sieve_check.specs.declared.table.TestsForm.TheVariants.{NoTest, OneTest, TestList}
-use Rattle.sieve_check.specs.Tables.{WordForm, CommandWord, TestWord, command_table, test_table, fileinto_form}
+use Rattle.sieve_check.specs.Tables.{WordForm, CommandWord, TestWord, command_table, test_table, plain, command_word, test_word, fileinto_form, header_form, size_form}
 use Rattle.sieve_check.specs.Lookup.{same_name, row_where, command_named, test_named}
 use Rattle.sieve_check.specs.Pieces.{PieceWord, pieces, positional_arguments}
 use Rattle.sieve_check.specs.Rules
 use Rattle.sieve_check.specs.Rules.{Placed, Rule, broken, least, lesser, earlier, broken_in_form, broken_in_test, broken_in_place, broken_by_test, broken_by_inner, broken_by_row, broken_by, refusal_from, refusal_of, command_in_order, ending_in_order, in_order, is_block, is_branch, role_of, command_name, takes, has_wrong_tests, has_wrong_ending, lacks_branch, named_by, has_begun, place_rules, form_rules}
-use Rattle.sieve_check.specs.Shapes.{Takes, TakesEach, HasTests, HasEnding, HasForm, HasTestRow, TestShape, InnerShape, RowShape, HasCommandRow, CommandShape, EndingShape, CommandsShape, ShapeLaw, NameLaw, IfLaw, FileintoLaw}
+use Rattle.sieve_check.specs.Shapes.{Takes, TakesEach, HasTests, HasEnding, HasForm, HasTestRow, TestShape, InnerShape, RowShape, HasCommandRow, CommandShape, EndingShape, CommandsShape, ShapeLaw, NameLaw, IfLaw, FileintoLaw, HeaderLaw, SizeLaw}
 
 -- ---- nothing is broken
 
@@ -196,3 +199,79 @@ same_row name rs a b e = ap (λ (l : List ℕ). row_where (λ r. bytes_eq l (str
 
 pub name_law : NameLaw
 name_law a b h = (same_row (λ (r : CommandWord). r.name) command_table a b (lower_is a b h), same_row (λ (r : TestWord). r.name) test_table a b (lower_is a b h))
+
+-- ---- rows by name
+
+the_same : {A : Type 0} (a b : A) → ◌≡◌ {A = Option A} (Some a) (Some b) → a ≡ b
+the_same a b e = cc
+
+if_row : command_named (codes "if") ≡ Some (command_word (codes "if") roles.If (plain [] OneTest) true)
+unfolding same_name
+if_row = refl
+
+fileinto_row : command_named (codes "fileinto") ≡ Some (command_word (codes "fileinto") roles.Other fileinto_form false)
+unfolding same_name
+fileinto_row = refl
+
+header_row : test_named (codes "header") ≡ Some (test_word (codes "header") header_form)
+unfolding same_name
+header_row = refl
+
+size_row : test_named (codes "size") ≡ Some (test_word (codes "size") size_form)
+unfolding same_name
+size_row = refl
+
+command_is : (name row : List ℕ) (w v : CommandWord) → same_name name row ≡ true → command_named name ≡ Some w → command_named row ≡ Some v → w ≡ v
+command_is name row w v h e f = the_same w v (sym e ∙ (name_law name row h).0 ∙ f)
+
+test_is : (name row : List ℕ) (w v : TestWord) → same_name name row ≡ true → test_named name ≡ Some w → test_named row ≡ Some v → w ≡ v
+test_is name row w v h e f = the_same w v (sym e ∙ (name_law name row h).1 ∙ f)
+
+no_arguments : (args : List Argument) → Rules.has_wrong_tag (pieces [] args) ≡ false → TakesEach [] (positional_arguments (pieces [] args)) → args ≡ []
+no_arguments [] h k = refl
+no_arguments (arguments.Strings l ∷ more) h k = absurd k
+no_arguments (arguments.Number n ∷ more) h k = absurd k
+no_arguments (arguments.Tag name ∷ more) h k = absurd cc
+
+one_string : (xs : List Argument) → TakesEach (places.OneString ∷ []) xs → (s : List ℕ) × (xs ≡ arguments.Strings (string_lists.One s) ∷ [])
+one_string [] h = absurd h
+one_string (a ∷ []) h = (h.0.0, ap (λ (b : Argument). b ∷ []) h.0.1)
+one_string (a ∷ b ∷ more) h = absurd h.1
+
+one_number : (xs : List Argument) → TakesEach (places.OneNumber ∷ []) xs → (n : ℕ) × (xs ≡ arguments.Number n ∷ [])
+one_number [] h = absurd h
+one_number (a ∷ []) h = (h.0.0, ap (λ (b : Argument). b ∷ []) h.0.1)
+one_number (a ∷ b ∷ more) h = absurd h.1
+
+two_lists : (xs : List Argument) → TakesEach (places.StringList ∷ places.StringList ∷ []) xs → (names : StringList) × (keys : StringList) × (xs ≡ arguments.Strings names ∷ arguments.Strings keys ∷ [])
+two_lists [] h = absurd h
+two_lists (a ∷ []) h = absurd h.1
+two_lists (a ∷ b ∷ []) h = (h.0.0, h.1.0.0, both_are a b (arguments.Strings h.0.0) (arguments.Strings h.1.0.0) h.0.1 h.1.0.1)
+  where
+    both_are : (a b c d : Argument) → a ≡ c → b ≡ d → ◌≡◌ {A = List Argument} (a ∷ b ∷ []) (c ∷ d ∷ [])
+    both_are a b c d e f = cc
+two_lists (a ∷ b ∷ c ∷ more) h = absurd h.1.1
+
+pub if_law : IfLaw
+if_law follows name args inner finish h r =
+    let e = command_is name (codes "if") r.word (command_word (codes "if") roles.If (plain [] OneTest) true) h r.named if_row in
+    let f = subst (λ (w : CommandWord). HasForm w.form args inner) e r.form in
+    (no_arguments args f.tags f.positional, f.tests, subst (λ (w : CommandWord). HasEnding w.has_block finish) e r.ending)
+
+pub fileinto_law : FileintoLaw
+fileinto_law follows name args inner finish h r =
+    let e = command_is name (codes "fileinto") r.word (command_word (codes "fileinto") roles.Other fileinto_form false) h r.named fileinto_row in
+    let f = subst (λ (w : CommandWord). HasForm w.form args inner) e r.form in
+    (one_string (positional_arguments (pieces fileinto_form.tags args)) f.positional, f.tests, subst (λ (w : CommandWord). HasEnding w.has_block finish) e r.ending)
+
+pub header_law : HeaderLaw
+header_law name args inner h r =
+    let e = test_is name (codes "header") r.word (test_word (codes "header") header_form) h r.named header_row in
+    let f = subst (λ (w : TestWord). HasForm w.form args inner) e r.form in
+    (two_lists (positional_arguments (pieces header_form.tags args)) f.positional, f.tests)
+
+pub size_law : SizeLaw
+size_law name args inner h r =
+    let e = test_is name (codes "size") r.word (test_word (codes "size") size_form) h r.named size_row in
+    let f = subst (λ (w : TestWord). HasForm w.form args inner) e r.form in
+    (one_number (positional_arguments (pieces size_form.tags args)) f.positional, holds (list_any (Rules.has_kind kinds.SizeLimit) (pieces size_form.tags args)) f.needed, f.tests)

@@ -6,14 +6,15 @@ use Rattle.sieve_syntax.specs.declared.tree.StringList.TheVariants as string_lis
 use Rattle.sieve_syntax.specs.declared.tree.Argument.{Argument}
 use Rattle.sieve_syntax.specs.declared.tree.Argument.TheVariants as arguments
 use Rattle.sieve_syntax.specs.Tree.{TestTree, test, InnerTests, no_tests, one_test, listed_tests, TestRow, last_test, next_test, CommandTree, command, EndingTree, semicolon, block, CommandTrees, no_commands, command_then}
+use Rattle.sieve_check.specs.declared.table.TagKind.TheVariants as kinds
 use Rattle.sieve_check.specs.declared.table.Positional.{Positional}
 use Rattle.sieve_check.specs.declared.table.Positional.TheVariants as places
 use Rattle.sieve_check.specs.declared.table.TestsForm.{TestsForm}
 use Rattle.sieve_check.specs.declared.table.TestsForm.TheVariants.{NoTest, OneTest, TestList}
-use Rattle.sieve_check.specs.Tables.{WordForm, CommandWord, TestWord, fileinto_form}
+use Rattle.sieve_check.specs.Tables.{WordForm, CommandWord, TestWord, fileinto_form, header_form, size_form}
 use Rattle.sieve_check.specs.Lookup.{same_name, command_named, test_named}
 use Rattle.sieve_check.specs.Pieces.{pieces, positional_arguments}
-use Rattle.sieve_check.specs.Rules.{has_wrong_tag, has_tag_twice, lacks_string, lacks_tag, is_unknown_comparator, lacks_branch, is_branch, role_of, command_name, refusal_of}
+use Rattle.sieve_check.specs.Rules.{has_wrong_tag, has_tag_twice, has_kind, lacks_string, lacks_tag, is_unknown_comparator, lacks_branch, is_branch, role_of, command_name, refusal_of}
 
 abbrev pub Takes : Positional → Argument → Type 0
 Takes places.OneString a = (s : List ℕ) × (a ≡ arguments.Strings (string_lists.One s))
@@ -103,3 +104,11 @@ IfLaw = (follows : Bool) (name : List ℕ) (args : List Argument) (inner : Inner
 -- a `fileinto` has one string outside brackets behind its tags, no test, and no block
 abbrev pub FileintoLaw : Type 0
 FileintoLaw = (follows : Bool) (name : List ℕ) (args : List Argument) (inner : InnerTests) (finish : EndingTree) → same_name name (codes "fileinto") ≡ true → HasCommandRow follows name args inner finish → ((s : List ℕ) × (positional_arguments (pieces fileinto_form.tags args) ≡ arguments.Strings (string_lists.One s) ∷ [])) × (inner ≡ no_tests) × (finish ≡ semicolon)
+
+-- a `header` has two strings or lists of strings behind its tags, and no test
+abbrev pub HeaderLaw : Type 0
+HeaderLaw = (name : List ℕ) (args : List Argument) (inner : InnerTests) → same_name name (codes "header") ≡ true → HasTestRow name args inner → ((names : StringList) × (keys : StringList) × (positional_arguments (pieces header_form.tags args) ≡ arguments.Strings names ∷ arguments.Strings keys ∷ [])) × (inner ≡ no_tests)
+
+-- a `size` has one number behind `:over` or `:under`, and no test
+abbrev pub SizeLaw : Type 0
+SizeLaw = (name : List ℕ) (args : List Argument) (inner : InnerTests) → same_name name (codes "size") ≡ true → HasTestRow name args inner → ((n : ℕ) × (positional_arguments (pieces size_form.tags args) ≡ arguments.Number n ∷ [])) × (list_any (has_kind kinds.SizeLimit) (pieces size_form.tags args) ≡ true) × (inner ≡ no_tests)

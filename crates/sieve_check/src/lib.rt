@@ -32,7 +32,7 @@ mod walk;
 
 pub use checked::{Checked, check};
 pub use fault::CheckFault;
-pub use laws::{name_law, shape_law};
+pub use laws::{fileinto_law, header_law, if_law, name_law, shape_law, size_law};
 
 #[cfg(test)]
 mod tests;
