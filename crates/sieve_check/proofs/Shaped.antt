@@ -1,6 +1,6 @@
 -- Scripts without refusal have the shape of the tables.
-use Rattle.std.proofs.Common.{◌≡◌, ℕ, Bool, true, false, List, [], ◌∷◌, ◌++◌, map, Option, Some, None, refl, sym, ap, subst, ◌∙◌, cond}
-use Rattle.std.specs.Prelude.{◌||◌, ◌&&◌, not, codes, if◌then◌else◌}
+use Rattle.std.proofs.Common.{◌≡◌, ℕ, Bool, true, false, List, [], ◌∷◌, ◌++◌, Option, Some, None, refl, sym, ap, subst, ◌∙◌}
+use Rattle.std.specs.Prelude.{◌||◌, ◌&&◌, not, codes}
 use Rattle.std.specs.List.{list_any}
 use Rattle.std.specs.Str.{bytes_eq, str_to_ascii_lowercase}
 use Rattle.std.specs.Cmp.Lexicographic.{pointwise}
@@ -19,10 +19,10 @@ use Rattle.sieve_check.specs.declared.table.TestsForm.{TestsForm}
 use Rattle.sieve_check.specs.declared.table.TestsForm.TheVariants.{NoTest, OneTest, TestList}
 use Rattle.sieve_check.specs.Tables.{WordForm, CommandWord, TestWord, command_table, test_table, plain, command_word, test_word, fileinto_form, header_form, size_form}
 use Rattle.sieve_check.specs.Lookup.{same_name, row_where, command_named, test_named}
-use Rattle.sieve_check.specs.Pieces.{PieceWord, pieces, positional_arguments}
+use Rattle.sieve_check.specs.Pieces.{pieces, positional_arguments}
 use Rattle.sieve_check.specs.Rules
 use Rattle.sieve_check.specs.Rules.{Placed, Rule, broken, least, lesser, earlier, broken_in_form, broken_in_test, broken_in_place, broken_by_test, broken_by_inner, broken_by_row, broken_by, refusal_from, refusal_of, command_in_order, ending_in_order, in_order, is_block, is_branch, role_of, command_name, takes, has_wrong_tests, has_wrong_ending, lacks_branch, named_by, has_begun, place_rules, form_rules}
-use Rattle.sieve_check.specs.Shapes.{Takes, TakesEach, HasTests, HasEnding, HasForm, HasTestRow, TestShape, InnerShape, RowShape, HasCommandRow, CommandShape, EndingShape, CommandsShape, ShapeLaw, NameLaw, IfLaw, FileintoLaw, HeaderLaw, SizeLaw}
+use Rattle.sieve_check.specs.Shapes.{Takes, TakesEach, HasTests, HasEnding, HasForm, HasTestRow, TestShape, InnerShape, RowShape, CommandShape, EndingShape, CommandsShape, ShapeLaw, NameLaw, IfLaw, FileintoLaw, HeaderLaw, SizeLaw}
 
 -- ---- nothing is broken
 

@@ -1,5 +1,5 @@
 -- The shape that each command and each test of a script without refusal has.
-use Rattle.std.specs.Prelude.{◌≡◌, ℕ, Bool, true, false, List, [], ◌∷◌, Option, Some, None, codes}
+use Rattle.std.specs.Prelude.{◌≡◌, ℕ, Bool, true, false, List, [], ◌∷◌, Some, None, codes}
 use Rattle.std.specs.List.{list_any}
 use Rattle.sieve_syntax.specs.declared.tree.StringList.{StringList}
 use Rattle.sieve_syntax.specs.declared.tree.StringList.TheVariants as string_lists
