@@ -1,5 +1,5 @@
 -- The least number that tests break, one test after another.
-use Rattle.std.proofs.Common.{◌≡◌, ℕ, ◌+◌, ◌<◌, ◌≤◌, Bool, List, [], ◌∷◌, ◌++◌, length, drop, get_or, map, Option, Some, None, refl, sym, ap, ◌∙◌, arith, rules}
+use Rattle.std.proofs.Common.{◌≡◌, ℕ, ◌+◌, ◌<◌, Bool, List, [], ◌∷◌, ◌++◌, length, drop, get_or, map, Option, Some, refl, sym, ap, ◌∙◌, arith}
 use Rattle.std.specs.List.{flat_map}
 use Rattle.sieve_syntax.specs.declared.tree.Argument.{Argument}
 use Rattle.sieve_syntax.specs.declared.tree.Test.{Test}
@@ -7,7 +7,7 @@ use Rattle.sieve_syntax.specs.Tree.{TestTree, test, InnerTests}
 use Rattle.sieve_syntax.specs.View.{test_of, row_of, listed_of}
 use Rattle.sieve_check.specs.declared.table.Capability.{Capability}
 use Rattle.sieve_check.specs.Lookup.{test_named}
-use Rattle.sieve_check.specs.Pieces.{PieceWord, pieces}
+use Rattle.sieve_check.specs.Pieces.{pieces}
 use Rattle.sieve_check.specs.Rules.{Placed, broken, lesser, least, form_rules, place_rules, broken_in_place, broken_in_form, broken_in_test, broken_by_test, broken_by_inner, broken_by_row}
 use Rattle.sieve_check.specs.Tables.{WordForm, CommandWord, TestWord}
 use Rattle.sieve_check.specs.Walk.{first_broken}

@@ -2,7 +2,6 @@
 use Rattle.std.proofs.Common.{◌≡◌, ℕ, eqb, Bool, true, false, List, [], ◌∷◌, ◌++◌, Option, Some, None, Result, Ok, Err, refl, sym, ap, ◌∙◌}
 use Rattle.std.specs.Prelude.{◌||◌, ◌&&◌, not}
 use Rattle.std.specs.List.{list_any}
-use Rattle.sieve_syntax.specs.declared.tree.Argument.{Argument}
 use Rattle.sieve_syntax.specs.Tree.{CommandTrees}
 use Rattle.sieve_check.specs.declared.context.Context.{Context}
 use Rattle.sieve_check.specs.declared.named.Named.{Named}
@@ -81,8 +80,8 @@ begun_more before c p false h = or_true (has_begun before)
 knows_more : (before : List Placed) (c : Context) (p : Placed) → Knows before c → Knows (before ++ p ∷ []) (context_after c p)
 knows_more before c p h = record {
   named = λ k. named_more before c p (is_require (role_of p.word)) k (h.named k) ∙ sym (any_append (λ q. requires q k) before (p ∷ []));
-  begun = begun_more before c p (is_require (role_of p.word)) h.begun ∙ sym (any_append (λ q. not (is_require (role_of q.word))) before (p ∷ []))
-  }
+  begun = begun_more before c p (is_require (role_of p.word)) h.begun ∙ sym (any_append (λ q. not (is_require (role_of q.word))) before (p ∷ []));
+}
 
 same_function : {A B : Type 0} {f g : A → B} → ((x : A) → f x ≡ g x) → f ≡ g
 same_function h = λ i x. h x i

@@ -1,7 +1,6 @@
 -- The least of numbers.
-use Rattle.std.proofs.Common.{◌≡◌, ℕ, ◌≤◌, min, Bool, true, false, List, [], ◌∷◌, ◌++◌, Option, Some, None, refl, ap, ◌∙◌, sym, arith}
-use Rattle.sieve_check.specs.Pieces.{PieceWord}
-use Rattle.sieve_check.specs.Rules.{Rule, broken, lesser, least, form_rules, place_rules, Placed}
+use Rattle.std.proofs.Common.{◌≡◌, ℕ, ◌≤◌, min, true, false, List, [], ◌∷◌, ◌++◌, Option, Some, None, refl, ap, ◌∙◌, sym, arith}
+use Rattle.sieve_check.specs.Rules.{Rule, broken, lesser, least}
 use Rattle.sieve_check.specs.Walk.{first_broken}
 
 pub lesser_none : (a : Option ℕ) → lesser a None ≡ a

@@ -1,6 +1,7 @@
 pub mod Judging
 pub mod Known
 pub mod Least
+pub mod Shaped
 pub mod Strings
 pub mod TreeViews
 pub mod Twice

@@ -1,5 +1,5 @@
 -- How the trees of the code unfold.
-use Rattle.std.proofs.Common.{◌≡◌, map, Vec, Global, refl, rules}
+use Rattle.std.proofs.Common.{◌≡◌, map, Vec, Global}
 use Rattle.sieve_syntax.specs.Tree.{TestTree, test, InnerTests, CommandTree, command, EndingTree, semicolon, block}
 use Rattle.sieve_syntax.specs.View.{test_of, inner_of, listed_of, tests_step, test_step, command_of, ending_of, commands_of, ending_step, command_step}
 use Rattle.sieve_syntax.specs.declared.tree.Test.{Test, out-Test}

@@ -1,8 +1,8 @@
 -- Going over commands, a part after another, and what it says of the refusal.
-use Rattle.std.proofs.Common.{◌≡◌, ℕ, ◌+◌, ◌<◌, Bool, true, false, List, [], ◌∷◌, ◌++◌, length, drop, get_or, map, Option, Some, None, Result, Ok, Err, refl, sym, ap, ◌∙◌, arith, rules}
+use Rattle.std.proofs.Common.{◌≡◌, ℕ, ◌+◌, ◌<◌, Bool, List, [], ◌∷◌, ◌++◌, length, drop, get_or, map, Option, Some, None, Result, Ok, Err, refl, sym, ap, ◌∙◌}
 use Rattle.sieve_syntax.specs.declared.tree.Argument.{Argument}
 use Rattle.sieve_syntax.specs.declared.tree.Command.{Command}
-use Rattle.sieve_syntax.specs.Tree.{CommandTree, command, CommandTrees, EndingTree, InnerTests}
+use Rattle.sieve_syntax.specs.Tree.{command, EndingTree, InnerTests}
 use Rattle.sieve_syntax.specs.View.{command_of, commands_of}
 use Rattle.sieve_check.specs.declared.context.Context.{Context}
 use Rattle.sieve_check.specs.Lookup.{command_named}

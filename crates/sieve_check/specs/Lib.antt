@@ -4,6 +4,7 @@ pub mod Lookup
 pub mod PieceViews
 pub mod Pieces
 pub mod Rules
+pub mod Shapes
 pub mod Tables
 pub mod Views
 pub mod Walk

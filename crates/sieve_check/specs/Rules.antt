@@ -17,7 +17,7 @@ use Rattle.sieve_check.specs.declared.table.TestsForm.{TestsForm}
 use Rattle.sieve_check.specs.declared.table.TestsForm.TheVariants.{NoTest, OneTest, TestList}
 use Rattle.sieve_check.specs.declared.table.Role.{Role}
 use Rattle.sieve_check.specs.declared.table.Role.TheVariants as roles
-use Rattle.sieve_check.specs.Tables.{TagWord, WordForm, CommandWord, TestWord, comparator_table}
+use Rattle.sieve_check.specs.Tables.{WordForm, CommandWord, TestWord, comparator_table}
 use Rattle.sieve_check.specs.Lookup.{same_text, command_named, test_named, capability_named, names}
 use Rattle.sieve_check.specs.Pieces.{PieceWord, tagged, positional, pieces, is_tagged, positional_arguments}
 

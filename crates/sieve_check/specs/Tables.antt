@@ -1,7 +1,7 @@
 -- What may stand in a script: the capabilities, and a row for each command and each test. The rows are those of
 -- RFC 5228 (sections 3 to 5), RFC 3894 (`:copy`) and RFC 6609 (`include` and `return`, section 3), as far as this
 -- profile takes them.
-use Rattle.std.specs.Prelude.{ℕ, Bool, true, false, List, [], ◌∷◌, ◌++◌, Option, Some, None, codes}
+use Rattle.std.specs.Prelude.{ℕ, Bool, true, false, List, [], ◌∷◌, Option, Some, None, codes}
 use Rattle.sieve_check.specs.declared.table.Capability.{Capability}
 use Rattle.sieve_check.specs.declared.table.Capability.TheVariants.{Fileinto, Copy, Include, OctetComparator, CasemapComparator}
 use Rattle.sieve_check.specs.declared.table.TagKind.{TagKind}

@@ -1,5 +1,5 @@
 -- What the rows of the code stand for.
-use Rattle.std.specs.Prelude.{List, map}
+use Rattle.std.specs.Prelude.{map}
 use Rattle.sieve_check.specs.Tables.{CapabilityWord, TagWord, WordForm, CommandWord, TestWord}
 use Rattle.sieve_check.specs.declared.table.CapabilityRow.{CapabilityRow}
 use Rattle.sieve_check.specs.declared.table.TagRow.{TagRow}

@@ -1,12 +1,10 @@
 -- How the checker goes over a script: what it knows of the commands before a command is a context.
 use Rattle.std.specs.Prelude.{ℕ, Bool, true, false, List, [], ◌∷◌, Option, Some, None, Result, Ok, Err, if◌then◌else◌}
-use Rattle.sieve_syntax.specs.Tree.{CommandTrees}
 use Rattle.sieve_syntax.specs.declared.tree.Argument.{Argument}
 use Rattle.sieve_check.specs.Context.{nothing_named, has_of, named_after}
 use Rattle.sieve_check.specs.Faults.{number_of}
-use Rattle.sieve_check.specs.Rules.{Placed, role_of, is_require, strings_in, Rule, broken_in_place, least, in_order}
+use Rattle.sieve_check.specs.Rules.{Placed, role_of, is_require, strings_in, Rule, broken_in_place, least}
 use Rattle.sieve_check.specs.declared.fault.CheckFault.{CheckFault}
-use Rattle.sieve_check.specs.declared.named.Named.{Named}
 use Rattle.sieve_check.specs.declared.context.Context.{Context}
 
 -- the number of the first rule that is broken

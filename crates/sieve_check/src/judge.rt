@@ -104,7 +104,12 @@ fn has_wrong_ending(row: &CommandRow, ending: &Ending) -> bool
 }
 
 /// The first rule that is broken by where a command stands, by what it requires or by how it ends.
-fn place_fault(context: Context, row: &CommandRow, command: &Command, follows_branch: bool) -> Option<CheckFault>
+fn place_fault(
+    context: Context,
+    row: &CommandRow,
+    command: &Command,
+    follows_branch: bool,
+) -> Option<CheckFault>
     ensures { option_map number_of result ≡ first_broken (place_rules context.begun (command_view row.now) (head_of follows_branch (command_of command.now))) }
 {
     if row.role.is_require() && names_unknown(&command.arguments) {
@@ -121,10 +126,18 @@ fn place_fault(context: Context, row: &CommandRow, command: &Command, follows_br
 }
 
 /// The least rule that a command of this row breaks, its tests among it, and the commands of its block not.
-pub fn command_fault(context: Context, row: &CommandRow, command: &Command, follows_branch: bool) -> Option<CheckFault>
+pub fn command_fault(
+    context: Context,
+    row: &CommandRow,
+    command: &Command,
+    follows_branch: bool,
+) -> Option<CheckFault>
     ensures { option_map number_of result ≡ least (broken_in_place (has_of context.named) context.begun (Some (command_view row.now)) (head_of follows_branch (command_of command.now))) }
 {
     let place = place_fault(context, row, command, follows_branch);
     let form = form_fault(context.named, &row.form, &command.arguments, &command.tests);
-    lesser(place, lesser(form, tests_fault(&command.tests, context.named)))
+    lesser(
+        place,
+        lesser(form, tests_fault(&command.tests, context.named)),
+    )
 }

@@ -1,10 +1,28 @@
-//! Which scripts are well made.
+//! Which scripts are well made: `check` accepts a script that keeps the rules of RFC 5228 on commands, tests, tags,
+//! arguments and `require`, with `:copy` (RFC 3894) and `include` and `return` (RFC 6609), and refuses any other by
+//! the number of a rule that it breaks.
+//!
+//! What commands, tests and tags there are stands in one table, in `table.rt`; the definitions have the same table in
+//! `specs/Tables.antt`, and `specs/Rules.antt` has a definition for each rule and the refusal of a script. The modules
+//! from the bottom: `table` and `lookup` (the row of a name), `pieces` (arguments, each tag with its string), `rules`
+//! (one function for each rule on what stands behind a name), `named` and `context` (what the commands before say),
+//! `judge` (the least rule that a command breaks), `walk` (the first faulty command), `checked`.
+//!
+//! # Adding a command, a test or a tag
+//!
+//! Add its row to `COMMANDS` or `TESTS` in `table.rt` and the same row to `command_table` or `test_table` in
+//! `specs/Tables.antt`; a tag is a row among the `tags` of its command or test. A tag of a new kind needs a variant of
+//! `TagKind` with its place in `kind_place` (`specs/Rules.antt`). A new capability needs a variant of `Capability`, its
+//! rows in `CAPABILITIES` and `capability_table`, its place in `capability_place`, and its field in `Named` with the
+//! definitions on that in `specs/Context.antt`. No function of `rules`, `judge` or `walk` and no proof about them names
+//! a command, so nothing else changes, unless the command brings a rule of its own.
 #![tactic(auto)]
 
 mod checked;
 mod context;
 mod fault;
 mod judge;
+mod laws;
 mod lookup;
 mod named;
 mod pieces;
@@ -14,3 +32,7 @@ mod walk;
 
 pub use checked::{Checked, check};
 pub use fault::CheckFault;
+pub use laws::{fileinto_law, header_law, if_law, name_law, shape_law, size_law};
+
+#[cfg(test)]
+mod tests;

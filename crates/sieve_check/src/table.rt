@@ -113,60 +113,123 @@ pub struct TestRow {
 }
 
 static CAPABILITIES: [CapabilityRow; 5] = [
-    CapabilityRow { text: b"fileinto", capability: Capability::Fileinto },
-    CapabilityRow { text: b"copy", capability: Capability::Copy },
-    CapabilityRow { text: b"include", capability: Capability::Include },
-    CapabilityRow { text: b"comparator-i;octet", capability: Capability::OctetComparator },
-    CapabilityRow { text: b"comparator-i;ascii-casemap", capability: Capability::CasemapComparator },
+    CapabilityRow {
+        text: b"fileinto",
+        capability: Capability::Fileinto,
+    },
+    CapabilityRow {
+        text: b"copy",
+        capability: Capability::Copy,
+    },
+    CapabilityRow {
+        text: b"include",
+        capability: Capability::Include,
+    },
+    CapabilityRow {
+        text: b"comparator-i;octet",
+        capability: Capability::OctetComparator,
+    },
+    CapabilityRow {
+        text: b"comparator-i;ascii-casemap",
+        capability: Capability::CasemapComparator,
+    },
 ];
 
 static COMMANDS: [CommandRow; 10] = [
     CommandRow {
         name: b"require",
         role: Role::Require,
-        form: Form { needs: None, tags: &[], needs_tag: None, positional: &[Positional::StringList], tests: TestsForm::NoTest },
+        form: Form {
+            needs: None,
+            tags: &[],
+            needs_tag: None,
+            positional: &[Positional::StringList],
+            tests: TestsForm::NoTest,
+        },
         has_block: false,
     },
     CommandRow {
         name: b"if",
         role: Role::If,
-        form: Form { needs: None, tags: &[], needs_tag: None, positional: &[], tests: TestsForm::OneTest },
+        form: Form {
+            needs: None,
+            tags: &[],
+            needs_tag: None,
+            positional: &[],
+            tests: TestsForm::OneTest,
+        },
         has_block: true,
     },
     CommandRow {
         name: b"elsif",
         role: Role::Elsif,
-        form: Form { needs: None, tags: &[], needs_tag: None, positional: &[], tests: TestsForm::OneTest },
+        form: Form {
+            needs: None,
+            tags: &[],
+            needs_tag: None,
+            positional: &[],
+            tests: TestsForm::OneTest,
+        },
         has_block: true,
     },
     CommandRow {
         name: b"else",
         role: Role::Else,
-        form: Form { needs: None, tags: &[], needs_tag: None, positional: &[], tests: TestsForm::NoTest },
+        form: Form {
+            needs: None,
+            tags: &[],
+            needs_tag: None,
+            positional: &[],
+            tests: TestsForm::NoTest,
+        },
         has_block: true,
     },
     CommandRow {
         name: b"stop",
         role: Role::Other,
-        form: Form { needs: None, tags: &[], needs_tag: None, positional: &[], tests: TestsForm::NoTest },
+        form: Form {
+            needs: None,
+            tags: &[],
+            needs_tag: None,
+            positional: &[],
+            tests: TestsForm::NoTest,
+        },
         has_block: false,
     },
     CommandRow {
         name: b"keep",
         role: Role::Other,
-        form: Form { needs: None, tags: &[], needs_tag: None, positional: &[], tests: TestsForm::NoTest },
+        form: Form {
+            needs: None,
+            tags: &[],
+            needs_tag: None,
+            positional: &[],
+            tests: TestsForm::NoTest,
+        },
         has_block: false,
     },
     CommandRow {
         name: b"discard",
         role: Role::Other,
-        form: Form { needs: None, tags: &[], needs_tag: None, positional: &[], tests: TestsForm::NoTest },
+        form: Form {
+            needs: None,
+            tags: &[],
+            needs_tag: None,
+            positional: &[],
+            tests: TestsForm::NoTest,
+        },
         has_block: false,
     },
     CommandRow {
         name: b"return",
         role: Role::Other,
-        form: Form { needs: Some(Capability::Include), tags: &[], needs_tag: None, positional: &[], tests: TestsForm::NoTest },
+        form: Form {
+            needs: Some(Capability::Include),
+            tags: &[],
+            needs_tag: None,
+            positional: &[],
+            tests: TestsForm::NoTest,
+        },
         has_block: false,
     },
     CommandRow {
@@ -174,9 +237,12 @@ static COMMANDS: [CommandRow; 10] = [
         role: Role::Other,
         form: Form {
             needs: Some(Capability::Fileinto),
-            tags: &[
-                TagRow { name: b"copy", kind: TagKind::Copy, needs: Some(Capability::Copy), names_comparator: false },
-            ],
+            tags: &[TagRow {
+                name: b"copy",
+                kind: TagKind::Copy,
+                needs: Some(Capability::Copy),
+                names_comparator: false,
+            }],
             needs_tag: None,
             positional: &[Positional::OneString],
             tests: TestsForm::NoTest,
@@ -189,10 +255,30 @@ static COMMANDS: [CommandRow; 10] = [
         form: Form {
             needs: Some(Capability::Include),
             tags: &[
-                TagRow { name: b"personal", kind: TagKind::Location, needs: None, names_comparator: false },
-                TagRow { name: b"global", kind: TagKind::Location, needs: None, names_comparator: false },
-                TagRow { name: b"once", kind: TagKind::Once, needs: None, names_comparator: false },
-                TagRow { name: b"optional", kind: TagKind::Optional, needs: None, names_comparator: false },
+                TagRow {
+                    name: b"personal",
+                    kind: TagKind::Location,
+                    needs: None,
+                    names_comparator: false,
+                },
+                TagRow {
+                    name: b"global",
+                    kind: TagKind::Location,
+                    needs: None,
+                    names_comparator: false,
+                },
+                TagRow {
+                    name: b"once",
+                    kind: TagKind::Once,
+                    needs: None,
+                    names_comparator: false,
+                },
+                TagRow {
+                    name: b"optional",
+                    kind: TagKind::Optional,
+                    needs: None,
+                    names_comparator: false,
+                },
             ],
             needs_tag: None,
             positional: &[Positional::OneString],
@@ -208,10 +294,30 @@ static TESTS: [TestRow; 8] = [
         form: Form {
             needs: None,
             tags: &[
-                TagRow { name: b"comparator", kind: TagKind::Comparator, needs: None, names_comparator: true },
-                TagRow { name: b"is", kind: TagKind::MatchType, needs: None, names_comparator: false },
-                TagRow { name: b"contains", kind: TagKind::MatchType, needs: None, names_comparator: false },
-                TagRow { name: b"matches", kind: TagKind::MatchType, needs: None, names_comparator: false },
+                TagRow {
+                    name: b"comparator",
+                    kind: TagKind::Comparator,
+                    needs: None,
+                    names_comparator: true,
+                },
+                TagRow {
+                    name: b"is",
+                    kind: TagKind::MatchType,
+                    needs: None,
+                    names_comparator: false,
+                },
+                TagRow {
+                    name: b"contains",
+                    kind: TagKind::MatchType,
+                    needs: None,
+                    names_comparator: false,
+                },
+                TagRow {
+                    name: b"matches",
+                    kind: TagKind::MatchType,
+                    needs: None,
+                    names_comparator: false,
+                },
             ],
             needs_tag: None,
             positional: &[Positional::StringList, Positional::StringList],
@@ -220,15 +326,31 @@ static TESTS: [TestRow; 8] = [
     },
     TestRow {
         name: b"exists",
-        form: Form { needs: None, tags: &[], needs_tag: None, positional: &[Positional::StringList], tests: TestsForm::NoTest },
+        form: Form {
+            needs: None,
+            tags: &[],
+            needs_tag: None,
+            positional: &[Positional::StringList],
+            tests: TestsForm::NoTest,
+        },
     },
     TestRow {
         name: b"size",
         form: Form {
             needs: None,
             tags: &[
-                TagRow { name: b"over", kind: TagKind::SizeLimit, needs: None, names_comparator: false },
-                TagRow { name: b"under", kind: TagKind::SizeLimit, needs: None, names_comparator: false },
+                TagRow {
+                    name: b"over",
+                    kind: TagKind::SizeLimit,
+                    needs: None,
+                    names_comparator: false,
+                },
+                TagRow {
+                    name: b"under",
+                    kind: TagKind::SizeLimit,
+                    needs: None,
+                    names_comparator: false,
+                },
             ],
             needs_tag: Some(TagKind::SizeLimit),
             positional: &[Positional::OneNumber],
@@ -237,23 +359,53 @@ static TESTS: [TestRow; 8] = [
     },
     TestRow {
         name: b"not",
-        form: Form { needs: None, tags: &[], needs_tag: None, positional: &[], tests: TestsForm::OneTest },
+        form: Form {
+            needs: None,
+            tags: &[],
+            needs_tag: None,
+            positional: &[],
+            tests: TestsForm::OneTest,
+        },
     },
     TestRow {
         name: b"allof",
-        form: Form { needs: None, tags: &[], needs_tag: None, positional: &[], tests: TestsForm::TestList },
+        form: Form {
+            needs: None,
+            tags: &[],
+            needs_tag: None,
+            positional: &[],
+            tests: TestsForm::TestList,
+        },
     },
     TestRow {
         name: b"anyof",
-        form: Form { needs: None, tags: &[], needs_tag: None, positional: &[], tests: TestsForm::TestList },
+        form: Form {
+            needs: None,
+            tags: &[],
+            needs_tag: None,
+            positional: &[],
+            tests: TestsForm::TestList,
+        },
     },
     TestRow {
         name: b"true",
-        form: Form { needs: None, tags: &[], needs_tag: None, positional: &[], tests: TestsForm::NoTest },
+        form: Form {
+            needs: None,
+            tags: &[],
+            needs_tag: None,
+            positional: &[],
+            tests: TestsForm::NoTest,
+        },
     },
     TestRow {
         name: b"false",
-        form: Form { needs: None, tags: &[], needs_tag: None, positional: &[], tests: TestsForm::NoTest },
+        form: Form {
+            needs: None,
+            tags: &[],
+            needs_tag: None,
+            positional: &[],
+            tests: TestsForm::NoTest,
+        },
     },
 ];
 

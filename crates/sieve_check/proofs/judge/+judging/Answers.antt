@@ -1,4 +1,4 @@
-use Rattle.std.proofs.Common.{◌≡◌, ℕ, Option, Some, sym, ap, ◌∙◌, map, arith}
+use Rattle.std.proofs.Common.{◌≡◌, ℕ, Option, sym, ap, ◌∙◌, map, arith}
 use Rattle.std.proofs.lemmas.List.{drop_all}
 use Rattle.sieve_syntax.specs.declared.tree.Test.{out-Test}
 use Rattle.sieve_check.specs.Lookup.{test_named}
@@ -8,7 +8,7 @@ use Rattle.std.specs.Option.{option_map}
 use Rattle.sieve_syntax.specs.View.{test_of, inner_of}
 use Rattle.sieve_check.specs.Context.{has_of}
 use Rattle.sieve_check.specs.Faults.{number_of}
-use Rattle.sieve_check.specs.Rules.{lesser, least, form_rules, broken_by_test, broken_by_inner}
+use Rattle.sieve_check.specs.Rules.{lesser, least, form_rules, broken_by_inner}
 use Rattle.sieve_check.specs.Views.{form_view, test_view}
 use Rattle.sieve_check.proofs.Judging.{test_least, listed_is_each, judge_turn, judge_done}
 use Rattle.sieve_check.proofs.TreeViews.{inner_of_listed, test_of_out}

@@ -1,7 +1,6 @@
-use Rattle.std.proofs.Common.{◌≡◌, Bool, Option, Some, sym, ap, ◌∙◌}
 use Rattle.std.specs.Option.{option_map}
 use Rattle.sieve_syntax.specs.Tree.{command}
-use Rattle.sieve_syntax.specs.View.{inner_of, command_of, ending_of}
+use Rattle.sieve_syntax.specs.View.{inner_of, ending_of}
 use Rattle.sieve_syntax.specs.declared.tree.Command.{out-Command}
 use Rattle.sieve_check.specs.Context.{has_of}
 use Rattle.sieve_check.specs.Faults.{number_of}

@@ -1,8 +1,7 @@
-use Rattle.std.proofs.Common.{rules, ◌≡◌}
+use Rattle.std.proofs.Common.{rules}
 use Rattle.std.proofs.lemmas.Iterator.Search.{any_from_yields_List}
 use Rattle.std.proofs.lemmas.Iterator.Consumers.{YieldsList-from_first}
 use Rattle.sieve_check.specs.PieceViews.{piece_view, pieces_left}
-use Rattle.sieve_check.specs.Context.{has_of}
 use Rattle.sieve_check.specs.Rules.{has_kind}
 use Rattle.sieve_check.specs.Pieces.{pieces}
 use Rattle.sieve_check.specs.Views.{form_view}

@@ -1,16 +1,14 @@
-use Rattle.std.proofs.Common.{rules, refl, ◌≡◌, Option, Some, None, Result, Ok, Err, ℕ, Bool, sym, ap, ◌∙◌, map, arith}
+use Rattle.std.proofs.Common.{refl, Bool, ap, ◌∙◌, arith}
 use Rattle.std.proofs.lemmas.List.{drop_all}
 use Rattle.std.proofs.lemmas.Result.{err_from_is_err_and}
-use Rattle.sieve_syntax.specs.Tree.{command}
-use Rattle.sieve_syntax.specs.View.{inner_of, command_of, ending_of, commands_of}
+use Rattle.sieve_syntax.specs.View.{inner_of, ending_of}
 use Rattle.sieve_syntax.specs.declared.tree.Command.{out-Command}
 use Rattle.sieve_check.specs.declared.context.Context.{Context}
-use Rattle.sieve_check.specs.Context.{has_of}
 use Rattle.sieve_check.specs.Faults.{number_of}
 use Rattle.sieve_check.specs.Lookup.{command_named}
-use Rattle.sieve_check.specs.Rules.{in_order, ending_in_order, is_require}
+use Rattle.sieve_check.specs.Rules.{ending_in_order}
 use Rattle.sieve_check.specs.Views.{command_view}
-use Rattle.sieve_check.specs.Walk.{walk, after_command, context_view, passed_view}
+use Rattle.sieve_check.specs.Walk.{walk, after_command}
 use Rattle.sieve_check.proofs.Walks.{walk_unknown, walk_faulty, walk_fine, walk_turn, walk_stops}
 use Rattle.sieve_check.proofs.TreeViews.{command_of_out, ending_of_semicolon}
 use Rattle.sieve_check.proofs.walk.+walking.Goals as goal

@@ -1,8 +1,7 @@
-use Rattle.std.proofs.Common.{◌≡◌, Result, Ok, Err, ℕ, sym, ap, ◌∙◌, false, arith}
+use Rattle.std.proofs.Common.{ap, ◌∙◌, false, arith}
 use Rattle.std.proofs.lemmas.List.{drop_all}
 use Rattle.std.proofs.lemmas.Result.{err_from_is_err_and}
 use Rattle.sieve_syntax.specs.View.{tree_of}
-use Rattle.sieve_check.specs.declared.context.Context.{Context}
 use Rattle.sieve_check.specs.Faults.{number_of}
 use Rattle.sieve_check.specs.Rules.{in_order}
 use Rattle.sieve_check.specs.Walk.{start, walk}

@@ -1,4 +1,4 @@
-use Rattle.std.proofs.Common.{◌≡◌, ◌<◌, length, arith}
+use Rattle.std.proofs.Common.{arith}
 use Rattle.sieve_check.specs.Rules.{strings_in}
 use Rattle.sieve_check.proofs.Strings.{named_turn}
 use Rattle.sieve_check.proofs.named.Named.after.Goals as goal

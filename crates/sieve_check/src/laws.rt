@@ -1,0 +1,34 @@
+//! Laws on scripts without refusal, for whoever reads one. These functions do nothing: their contracts are the laws.
+
+ghost use Rattle.sieve_check.specs.Shapes.{ShapeLaw, NameLaw, IfLaw, FileintoLaw, HeaderLaw, SizeLaw};
+
+/// Each command and each test of a script without refusal has the shape of its row in the tables.
+pub fn shape_law()
+    ensures { ShapeLaw }
+{}
+
+/// Names that are the same without ASCII case have the same row.
+pub fn name_law()
+    ensures { NameLaw }
+{}
+
+/// An `if` of that shape has no argument, one test outside brackets, and a block (RFC 5228, section 3.1).
+pub fn if_law()
+    ensures { IfLaw }
+{}
+
+/// A `fileinto` of that shape has one string outside brackets behind its tags, no test, and no block (RFC 5228,
+/// section 4.1).
+pub fn fileinto_law()
+    ensures { FileintoLaw }
+{}
+
+/// A `header` of that shape has two strings or lists of strings behind its tags (RFC 5228, section 5.7).
+pub fn header_law()
+    ensures { HeaderLaw }
+{}
+
+/// A `size` of that shape has `:over` or `:under`, and one number (RFC 5228, section 5.9).
+pub fn size_law()
+    ensures { SizeLaw }
+{}
