@@ -15,6 +15,8 @@ mod payload;
 mod reply;
 mod session;
 mod stream;
+#[cfg(test)]
+mod tests;
 mod words;
 
 pub use session::{COMMANDS, ServeFault, serve};

@@ -1,0 +1,190 @@
+//! Standard input and standard output as a session's source and sink. Nothing is claimed of their octets.
+
+ghost use Rattle.std.specs.Prelude.{◌≡◌, ◌≤◌, length, IfOk};
+
+use filing_session::{Sink, Source, Trouble};
+use std::io::{self, Read, Write};
+
+/// How many octets are read at once.
+const READ: usize = 8192;
+
+/// How many octets are held until their line ends.
+const HELD: usize = 1024;
+
+/// What trouble an error is.
+fn trouble_of(error: &io::Error) -> Trouble {
+    match error.kind() {
+        io::ErrorKind::Interrupted => Trouble::Interrupted,
+        _ => Trouble::Failed,
+    }
+}
+
+/// A reader that is read ahead, so that a session may ask for one octet at a time.
+#[derive(Drop)]
+pub struct Input<R> {
+    inner: R,
+    ahead: [u8; READ],
+    start: usize,
+    end: usize,
+    troubles: u64,
+    ends: u64,
+}
+
+impl<R> Input<R> {
+    /// A source over a reader.
+    pub fn new(inner: R) -> Input<R> {
+        Input {
+            inner,
+            ahead: [0; READ],
+            start: 0,
+            end: 0,
+            troubles: 0,
+            ends: 0,
+        }
+    }
+}
+
+impl<R: Read> Source for Input<R> {
+    ghost use Rattle.std.specs.Prelude.{ℕ, List, []};
+
+    ghost tells = { ⊥ };
+
+    ghost left = { λ _. [] };
+
+    ghost troubles = { λ s. s.troubles };
+
+    ghost ends = { λ s. s.ends };
+
+    fn read(&mut self, room: &mut [u8]) -> Result<usize, Trouble> {
+        if room.is_empty() {
+            return Ok(0);
+        }
+        let rest = self.ahead.get(self.start..self.end).unwrap_or(&[]);
+        if !rest.is_empty() {
+            let count = rest.len().min(room.len());
+            room[..count].copy_from_slice(&rest[..count]);
+            self.start = self.start.saturating_add(count);
+            return Ok(count);
+        }
+        match self.inner.read(&mut self.ahead) {
+            Ok(0) => {
+                self.ends = self.ends.saturating_add(1);
+                Ok(0)
+            }
+            Ok(got) => {
+                let count = got.min(room.len());
+                room[..count].copy_from_slice(&self.ahead[..count]);
+                self.start = count;
+                self.end = got;
+                Ok(count)
+            }
+            Err(error) => {
+                self.troubles = self.troubles.saturating_add(1);
+                Err(trouble_of(&error))
+            }
+        }
+    }
+}
+
+/// A writer that is given whole lines where they are short enough, as soon as they end: so whoever waits for a reply
+/// has it before more input is asked for.
+#[derive(Drop)]
+pub struct Output<W> {
+    inner: W,
+    held: [u8; HELD],
+    start: usize,
+    end: usize,
+    troubles: u64,
+}
+
+impl<W> Output<W> {
+    /// A sink over a writer.
+    pub fn new(inner: W) -> Output<W> {
+        Output {
+            inner,
+            held: [0; HELD],
+            start: 0,
+            end: 0,
+            troubles: 0,
+        }
+    }
+}
+
+impl<W: Write> Output<W> {
+    /// Holds octets as far as there is room, and answers how many.
+    fn hold(&mut self, octets: &[u8]) -> usize
+        ensures within { result ≤ length octets.now }
+        ensures troubles { self.new.troubles ≡ self.old.troubles }
+    {
+        let Some(room) = self.held.get_mut(self.end..) else {
+            return 0;
+        };
+        let count = octets.len().min(room.len());
+        room[..count].copy_from_slice(&octets[..count]);
+        self.end = self.end.saturating_add(count);
+        count
+    }
+
+    /// Writes what is held; false where a write took no octet.
+    fn send_held(&mut self) -> io::Result<bool>
+        ensures { self.new.troubles ≡ self.old.troubles }
+    {
+        while self.start < self.end {
+            let Some(held) = self.held.get(self.start..self.end) else {
+                break;
+            };
+            let count = self.inner.write(held)?;
+            if count == 0 {
+                return Ok(false);
+            }
+            self.start = self.start.saturating_add(count);
+        }
+        self.start = 0;
+        self.end = 0;
+        Ok(true)
+    }
+
+    /// Writes octets behind those that are held.
+    fn write_through(&mut self, octets: &[u8]) -> io::Result<usize>
+        ensures within { IfOk result (λ n. n ≤ length octets.now) }
+        ensures troubles { self.new.troubles ≡ self.old.troubles }
+    {
+        if !self.send_held()? {
+            return Ok(0);
+        }
+        self.inner.write(octets)
+    }
+}
+
+impl<W: Write> Sink for Output<W> {
+    ghost use Rattle.std.specs.Prelude.{ℕ, List, []};
+
+    ghost tells = { ⊥ };
+
+    ghost written = { λ _. [] };
+
+    ghost troubles = { λ s. s.troubles };
+
+    fn write(&mut self, octets: &[u8]) -> Result<usize, Trouble> {
+        if octets.is_empty() {
+            return Ok(0);
+        }
+        if !octets.contains(&b'\n') {
+            let count = self.hold(octets);
+            if count > 0 {
+                return Ok(count);
+            }
+        }
+        match self.write_through(octets) {
+            Ok(0) => {
+                self.troubles = self.troubles.saturating_add(1);
+                Ok(0)
+            }
+            Ok(count) => Ok(count),
+            Err(error) => {
+                self.troubles = self.troubles.saturating_add(1);
+                Err(trouble_of(&error))
+            }
+        }
+    }
+}
