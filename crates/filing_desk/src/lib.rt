@@ -3,8 +3,10 @@
 //! In `specs/`, `Steps` says what each command may be answered and what it leaves.
 #![tactic(auto)]
 
+mod case;
 mod desk;
+mod evaluate;
 mod fault;
 
-pub use desk::{Desk, Outcome};
+pub use desk::{Desk, GREATEST_MESSAGE, Outcome};
 pub use fault::{DeskFault, Refusal};

@@ -1,1 +1,2 @@
+pub mod MatchingLemmas
 mod Rows

@@ -9,12 +9,17 @@
 //! - `Reading`: from the tree of the grammar (`sieve_syntax`) to a program;
 //! - `Truth`, `Meaning`, `Outcome`: tests, runs, and the classes that a run captures;
 //! - `Weight`: how large the code of a script may be.
+//!
+//! `laws` has what is proved of these definitions.
 #![tactic(auto)]
 
+mod laws;
 mod matching;
 mod paths;
+pub mod reading;
 mod words;
 
+pub use laws::{contains_is_decided, equality_is_decided, pattern_is_decided};
 pub use matching::{Comparator, Item, MatchType};
 pub use paths::Paths;
 pub use words::{CommandWord, TestWord, command_word, is_word, test_word};
