@@ -61,7 +61,7 @@ impl<'a> MemorySource<'a> {
     pub fn as_slice(&self) -> &[u8]
         ensures { result.now ≡ left_of self.now }
     {
-        self.rest
+        &self.rest[..]
     }
 }
 
