@@ -1,0 +1,12 @@
+pub mod Many
+pub mod Spelled
+pub mod Again
+pub mod Depths
+pub mod TreeLaws
+pub mod GapLemmas
+pub mod KindLemmas
+pub mod NumberLemmas
+mod Rows
+pub mod ScanLemmas
+pub mod ScriptLaws
+pub mod WithinLemmas

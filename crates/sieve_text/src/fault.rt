@@ -1,0 +1,124 @@
+//! Why a script is refused.
+
+ghost use Rattle.std.specs.Prelude.{◌≡◌};
+ghost use Rattle.sieve_text.specs.Grammar.{text_number};
+ghost use Rattle.sieve_text.specs.Tokens.{scan_number};
+
+use std::alloc::{AllocError, AllocFailed};
+
+/// Why a text has no tokens.
+#[derive(Clone, Copy, Debug, PartialEq, Eq)]
+pub enum ScanRefusal {
+    /// 10: the script is no UTF-8 (RFC 5228, section 2.1).
+    NotUtf8,
+    /// 11: no token begins here, or an octet 0 or a CR without LF stands here.
+    NoToken,
+    /// 12: a quoted or multi-line string goes on to the script's end (section 2.4.2).
+    StringNotClosed,
+    /// 13: a bracketed comment goes on to the script's end (section 2.3).
+    CommentNotClosed,
+    /// 14: a number with its factor is above 2^63 - 1 (section 2.4.1).
+    NumberTooLarge,
+    /// 15: the script has more than 262,144 octets.
+    ScriptTooLong,
+    /// 16: the value of a string has more than 65,535 octets.
+    StringTooLong,
+}
+
+impl ScanRefusal {
+    /// The number by which the refusal is told: 10 to 16.
+    pub fn number(self) -> u8
+        ensures { result ≡ scan_number self }
+    {
+        match self {
+            ScanRefusal::NotUtf8 => 10,
+            ScanRefusal::NoToken => 11,
+            ScanRefusal::StringNotClosed => 12,
+            ScanRefusal::CommentNotClosed => 13,
+            ScanRefusal::NumberTooLarge => 14,
+            ScanRefusal::ScriptTooLong => 15,
+            ScanRefusal::StringTooLong => 16,
+        }
+    }
+}
+
+/// Why `scan` gives no tokens.
+#[derive(Clone, Copy, Debug, PartialEq, Eq)]
+pub enum ScanFault {
+    /// 99: an allocation was refused.
+    NoMemory,
+    /// The refusal, and the offset in octets at which it stands: for `NoToken` that of the octet, for the others that
+    /// of the first octet of the token or comment. `NotUtf8` and `ScriptTooLong` stand at 0.
+    Refused(ScanRefusal, usize),
+}
+
+impl From<AllocError> for ScanFault {
+    ghost use Rattle.std.specs.Prelude.{◌≡◌};
+    ghost use Rattle.sieve_text.specs.declared.fault.ScanFault.TheVariants.{NoMemory};
+
+    ghost from_gives = { λ _ e. e ≡ NoMemory };
+
+    fn from(_error: AllocError) -> ScanFault {
+        ScanFault::NoMemory
+    }
+}
+
+impl<T: Drop> From<AllocFailed<T>> for ScanFault {
+    ghost use Rattle.std.specs.Prelude.{◌≡◌};
+    ghost use Rattle.sieve_text.specs.declared.fault.ScanFault.TheVariants.{NoMemory};
+
+    ghost from_gives = { λ _ e. e ≡ NoMemory };
+
+    fn from(_error: AllocFailed<T>) -> ScanFault {
+        ScanFault::NoMemory
+    }
+}
+
+/// Why a text is no script.
+#[derive(Clone, Copy, Debug, PartialEq, Eq)]
+pub enum TextRefusal {
+    /// 10 to 16: the text has no tokens.
+    Scan(ScanRefusal),
+    /// 20: the tokens are outside the grammar of RFC 5228, section 8.2.
+    Syntax,
+    /// 21: more than 32 tests or more than 32 blocks stand inside one another.
+    Nesting,
+}
+
+impl TextRefusal {
+    /// The number by which the refusal is told: 10 to 16, 20 or 21.
+    pub fn number(self) -> u8
+        ensures { result ≡ text_number self }
+    {
+        match self {
+            TextRefusal::Scan(refusal) => refusal.number(),
+            TextRefusal::Syntax => 20,
+            TextRefusal::Nesting => 21,
+        }
+    }
+}
+
+/// Why `parse` gives no script.
+#[derive(Clone, Copy, Debug, PartialEq, Eq)]
+pub enum TextFault {
+    /// 99: an allocation was refused.
+    NoMemory,
+    /// The refusal, and the offset in octets at which it stands: the scanner's for `Scan`; for `Syntax` that of the
+    /// first token after which nothing could make the text a script, or the text's length where it ends too early;
+    /// for `Nesting` that of the identifier of the 33rd test, or of the opening brace of the 33rd block.
+    Refused(TextRefusal, usize),
+}
+
+impl From<ScanFault> for TextFault {
+    ghost use Rattle.std.specs.Prelude.{◌≡◌};
+    ghost use Rattle.sieve_text.specs.Grammar.{text_fault_of};
+
+    ghost from_gives = { λ e f. f ≡ text_fault_of e };
+
+    fn from(fault: ScanFault) -> TextFault {
+        match fault {
+            ScanFault::NoMemory => TextFault::NoMemory,
+            ScanFault::Refused(refusal, at) => TextFault::Refused(TextRefusal::Scan(refusal), at),
+        }
+    }
+}

@@ -1,0 +1,159 @@
+//! Tokens from octets (RFC 5228, section 8.1).
+//!
+//! A script is judged as a whole first. Then its tokens are read from the front, each behind a gap of white space and
+//! comments. Each octet is looked at a bounded number of times.
+
+mod gap;
+mod multi_line;
+mod number;
+mod octets;
+mod quoted;
+
+ghost use Rattle.std.specs.Prelude.{◌≡◌, ◌≤◌, ◌<◌, ◌+◌, ◌^◌, ◌∷◌, length, drop, suc, IfOk, IfErr, IfSome, OnOk};
+ghost use Rattle.sieve_text.specs.Tokens.{mark_of, kind_at, tag_at, identifier_at, token_at, Gives, IsSound, IsScan, FaultsBy};
+
+use crate::fault::{ScanFault, ScanRefusal};
+use sieve_syntax::{Mark, Text, Token, TokenKind};
+use std::alloc::Global;
+use std::str;
+
+/// The octets of the longest script.
+const MOST_OCTETS: usize = 262_144;
+
+fn mark(b: u8) -> Option<Mark>
+    ensures { result ≡ mark_of b }
+{
+    match b {
+        b';' => Some(Mark::Semicolon),
+        b'{' => Some(Mark::OpenBrace),
+        b'}' => Some(Mark::CloseBrace),
+        b'(' => Some(Mark::OpenParen),
+        b')' => Some(Mark::CloseParen),
+        b'[' => Some(Mark::OpenBracket),
+        b']' => Some(Mark::CloseBracket),
+        b',' => Some(Mark::Comma),
+        _ => None,
+    }
+}
+
+/// An identifier, and how many octets it has.
+fn identifier(alloc: Global, rest: &[u8]) -> Result<(TokenKind, usize), ScanFault>
+    ensures value { Gives (λ x. x) result (identifier_at rest.now) }
+    ensures within { IfOk result (λ x. x.1 ≤ length rest.now) }
+{
+    let n = octets::word_length(rest);
+    let name = Vec::from_slice(alloc, &rest[..n])?;
+    Ok((TokenKind::Identifier(Text::from_vec(name)), n))
+}
+
+/// A tag behind its colon, which stands at this offset.
+#[tactic(auto, unfolding(crate::specs::Tokens::tag_at))]
+fn tag(alloc: Global, behind: &[u8], at: usize) -> Result<(TokenKind, usize), ScanFault>
+    ensures value { Gives (λ x. x) result (tag_at behind.now) }
+    ensures within { IfOk result (λ x. x.1 ≤ suc (length behind.now)) }
+    ensures some { IfOk result (λ x. 0 < x.1) }
+{
+    match behind {
+        [b, ..] if octets::starts_word(*b) => {
+            let n = octets::word_length(behind);
+            let name = Vec::from_slice(alloc, &behind[..n])?;
+            Ok((TokenKind::Tag(Text::from_vec(name)), n + 1))
+        }
+        _ => Err(ScanFault::Refused(ScanRefusal::NoToken, at)),
+    }
+}
+
+/// The token that begins here, at this offset, and how many octets it has.
+#[tactic(auto, unfolding(crate::specs::Tokens::kind_at))]
+fn kind(alloc: Global, rest: &[u8], at: usize) -> Result<(TokenKind, usize), ScanFault>
+    requires { at + length rest.now < 2 ^ 64 }
+    ensures value { Gives (λ x. x) result (kind_at rest.now) }
+    ensures within { IfOk result (λ x. x.1 ≤ length rest.now) }
+    ensures some { IfOk result (λ x. 0 < x.1) }
+{
+    let Some((&b, behind)) = rest.split_first() else {
+        return Err(ScanFault::Refused(ScanRefusal::NoToken, at));
+    };
+    if multi_line::begins(rest) {
+        let (_, behind) = rest.split_at(5);
+        multi_line::token(alloc, behind, at)
+    } else if octets::starts_word(b) {
+        identifier(alloc, rest)
+    } else if b.is_ascii_digit() {
+        number::token(rest, at)
+    } else if b == b':' {
+        tag(alloc, behind, at)
+    } else if b == b'"' {
+        quoted::token(alloc, behind, at)
+    } else if gap::opens_bracketed(rest) {
+        Err(ScanFault::Refused(ScanRefusal::CommentNotClosed, at))
+    } else {
+        match mark(b) {
+            Some(mark) => Ok((TokenKind::Mark(mark), 1)),
+            None => Err(ScanFault::Refused(ScanRefusal::NoToken, at)),
+        }
+    }
+}
+
+/// The next token from an offset on, if there is one.
+#[tactic(auto, unfolding(crate::specs::Tokens::token_at))]
+fn token(alloc: Global, script: &[u8], at: usize) -> Result<Option<Token>, ScanFault>
+    requires { at ≤ length script.now }
+    ensures value { Gives (λ x. x) result (token_at script.now at) }
+    ensures within { IfOk result (λ x. IfSome x (λ t. (at < t.end) × (t.end ≤ length script.now))) }
+{
+    let (_, behind) = script.split_at(at);
+    let start = at + gap::gap_length(behind);
+    if start == script.len() {
+        return Ok(None);
+    }
+    let (_, rest) = script.split_at(start);
+    let (kind, length) = kind(alloc, rest, start)?;
+    Ok(Some(Token {
+        kind,
+        start,
+        end: start + length,
+    }))
+}
+
+/// Judges a script as a whole: its length, then that it is UTF-8, then that each octet may stand in a text.
+fn judge(script: &[u8]) -> Result<(), ScanFault>
+    ensures sound { OnOk result (IsSound script.now) }
+    ensures fault { IfErr result (λ e. FaultsBy script.now e) }
+{
+    if script.len() > MOST_OCTETS {
+        return Err(ScanFault::Refused(ScanRefusal::ScriptTooLong, 0));
+    }
+    if str::from_utf8(script).is_err() {
+        return Err(ScanFault::Refused(ScanRefusal::NotUtf8, 0));
+    }
+    let at = octets::stray_length(script);
+    if at < script.len() {
+        return Err(ScanFault::Refused(ScanRefusal::NoToken, at));
+    }
+    Ok(())
+}
+
+/// The tokens of a script (RFC 5228, section 8.1), in order, each with the octets that it stands on.
+///
+/// Tokens are identifiers, tags, numbers of at most 2^63 - 1, strings of at most 65,535 octets and marks; each is the
+/// longest that fits. Comments and white space stand between them. A bare LF counts as a line end, and in a string it
+/// is read as CR LF.
+///
+/// A script that has no tokens is refused by the first of these that holds: it has more than 262,144 octets (15); it is
+/// no UTF-8 (10); it has an octet 0, or a CR without LF (11); and else by its first faulty place: a string (12) or
+/// bracketed comment (13) that is not closed, a number above 2^63 - 1 (14), a string that is closed and too long (16),
+/// or an octet where no token begins (11). Want of memory (99) may stand in place of any answer.
+pub fn scan(alloc: Global, script: &[u8]) -> Result<Vec<Token>, ScanFault>
+    ensures tokens { IfOk result (λ v. IsScan script.now v.items) }
+    ensures fault { IfErr result (λ e. FaultsBy script.now e) }
+{
+    judge(script)?;
+    let mut tokens = Vec::new(alloc);
+    let mut at = 0;
+    while let Some(next) = token(alloc, script, at)? {
+        at = next.end;
+        tokens.push(next)?;
+    }
+    Ok(tokens)
+}

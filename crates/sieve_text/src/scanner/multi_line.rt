@@ -1,0 +1,141 @@
+//! Multi-line strings (RFC 5228, section 2.4.2).
+
+ghost use Rattle.std.specs.Prelude.{◌≡◌, ◌≤◌, ◌<◌, ◌+◌, ◌^◌, length, true, false, IfOk};
+ghost use Rattle.sieve_text.specs.Strings.{begins_text, opening_end_at, is_last_line, lines_len, lines_value};
+ghost use Rattle.sieve_text.specs.Tokens.{lines_at, multi_line_at, Gives};
+
+use crate::fault::{ScanFault, ScanRefusal};
+use crate::scanner::{octets, quoted};
+use sieve_syntax::{Text, TokenKind};
+use std::alloc::{AllocError, Global};
+
+/// Whether `text:` stands here, in letters of either case.
+pub fn begins(rest: &[u8]) -> bool
+    ensures value { result ≡ begins_text rest.now }
+    ensures within { result ≡ true → 5 ≤ length rest.now }
+{
+    match rest {
+        [t, e, x, u, colon, ..] => {
+            t.eq_ignore_ascii_case(&b't')
+                && e.eq_ignore_ascii_case(&b'e')
+                && x.eq_ignore_ascii_case(&b'x')
+                && u.eq_ignore_ascii_case(&b't')
+                && *colon == b':'
+        }
+        _ => false,
+    }
+}
+
+/// How many octets an optional hash comment and the line end take, which stand at this offset, `start` being that of
+/// the string.
+fn opening_end(rest: &[u8], start: usize, at: usize) -> Result<usize, ScanFault>
+    ensures value { Gives (λ x. x) result (opening_end_at rest.now) }
+    ensures within { IfOk result (λ n. n ≤ length rest.now) }
+{
+    if rest.is_empty() {
+        return Err(ScanFault::Refused(ScanRefusal::StringNotClosed, start));
+    }
+    if octets::starts_with(rest, b'#') {
+        let n = octets::line_length(rest);
+        if n == rest.len() {
+            return Err(ScanFault::Refused(ScanRefusal::StringNotClosed, start));
+        }
+        return Ok(n + 1);
+    }
+    match octets::line_end_length(rest) {
+        0 => Err(ScanFault::Refused(ScanRefusal::NoToken, at)),
+        n => Ok(n),
+    }
+}
+
+/// Whether a dot stands here, and a line end or the text's end behind it.
+fn ends_lines(rest: &[u8]) -> bool
+    ensures { result ≡ is_last_line rest.now }
+{
+    match rest.split_first() {
+        Some((b'.', behind)) => behind.is_empty() || octets::line_end_length(behind) > 0,
+        _ => false,
+    }
+}
+
+/// How many octets stand before the line that is a single dot, or all there are.
+#[tactic(auto, unfolding(crate::specs::Strings::lines_len))]
+fn lines_length(lines: &[u8]) -> usize
+    ensures value { result ≡ lines_len true lines.now }
+    ensures within { result ≤ length lines.now }
+{
+    let mut rest = lines;
+    let mut at_start = true;
+    let mut n = 0;
+    'octets: while let Some((&b, behind)) = rest.split_first() {
+        if at_start && ends_lines(rest) {
+            return n;
+        }
+        at_start = b == b'\n';
+        rest = behind;
+        n += 1;
+    }
+    n
+}
+
+/// What the lines stand for: a leading dot is dropped where another dot follows it, and a bare LF becomes CR LF.
+#[tactic(auto, unfolding(crate::specs::Strings::unstuffed, crate::specs::Strings::with_crlf))]
+fn value(alloc: Global, lines: &[u8]) -> Result<Text, AllocError>
+    ensures { IfOk result (λ t. t ≡ lines_value lines.now) }
+{
+    let mut octets = Vec::with_capacity(alloc, lines.len())?;
+    let mut rest = lines;
+    let mut at_start = true;
+    let mut after_cr = false;
+    'octets: while let Some((&b, behind)) = rest.split_first() {
+        if at_start && b == b'.' && octets::starts_with(behind, b'.') {
+            at_start = false;
+        } else {
+            if b == b'\n' && !after_cr {
+                octets.push(b'\r')?;
+            }
+            octets.push(b)?;
+            at_start = b == b'\n';
+            after_cr = b == b'\r';
+        }
+        rest = behind;
+    }
+    Ok(Text::from_vec(octets))
+}
+
+/// The lines of a string that begins at an offset, `before` octets before them.
+#[tactic(auto, unfolding(crate::specs::Tokens::lines_at))]
+fn lines_token(
+    alloc: Global,
+    lines: &[u8],
+    before: usize,
+    at: usize,
+) -> Result<(TokenKind, usize), ScanFault>
+    requires { before + length lines.now < 2 ^ 64 }
+    ensures value { Gives (λ x. x) result (lines_at before lines.now) }
+    ensures within { IfOk result (λ x. (before < x.1) × (x.1 ≤ before + length lines.now)) }
+{
+    let n = lines_length(lines);
+    if n == lines.len() {
+        return Err(ScanFault::Refused(ScanRefusal::StringNotClosed, at));
+    }
+    let text = value(alloc, &lines[..n])?;
+    let (_, behind) = lines.split_at(n + 1);
+    let end = octets::line_end_length(behind);
+    quoted::string(text, before + (n + (1 + end)), at)
+}
+
+/// A multi-line string behind its `text:`, which stands at this offset.
+#[tactic(auto, unfolding(crate::specs::Tokens::multi_line_at))]
+pub fn token(alloc: Global, behind: &[u8], at: usize) -> Result<(TokenKind, usize), ScanFault>
+    requires { at + (5 + length behind.now) < 2 ^ 64 }
+    ensures value { Gives (λ x. x) result (multi_line_at behind.now) }
+    ensures within { IfOk result (λ x. x.1 ≤ 5 + length behind.now) }
+    ensures some { IfOk result (λ x. 0 < x.1) }
+{
+    let blanks = octets::blank_length(behind);
+    let (_, rest) = behind.split_at(blanks);
+    let n = opening_end(rest, at, at + (5 + blanks))?;
+    let (_, lines) = behind.split_at(blanks + n);
+    lines_token(alloc, lines, 5 + (blanks + n), at)
+}

@@ -1,0 +1,69 @@
+//! Numbers (RFC 5228, section 2.4.1).
+
+ghost use Rattle.std.specs.Prelude.{◌≡◌, ◌≤◌, ◌<◌, ◌^◌, length, IfOk, SomeIff};
+ghost use Rattle.std.specs.List.{prefix_len};
+ghost use Rattle.std.specs.Char.{is_ascii_digit};
+ghost use Rattle.std.specs.Str.Parse.{digits_value};
+ghost use Rattle.sieve_text.specs.Tokens.{factor_at, number_at, Gives};
+
+use crate::fault::{ScanFault, ScanRefusal};
+use sieve_syntax::TokenKind;
+
+/// 2^63 - 1.
+const LARGEST: u64 = 9_223_372_036_854_775_807;
+
+/// The factor of the quantifier that stands first, K, M or G in either case, and its one octet; 1 and 0 where none does.
+fn factor(rest: &[u8]) -> (u64, usize)
+    ensures value { result ≡ factor_at rest.now }
+    ensures positive { 0 < result.0 }
+    ensures within { result.1 ≤ length rest.now }
+{
+    match rest {
+        [b'K' | b'k', ..] => (1 << 10, 1),
+        [b'M' | b'm', ..] => (1 << 20, 1),
+        [b'G' | b'g', ..] => (1 << 30, 1),
+        _ => (1, 0),
+    }
+}
+
+fn digits_length(rest: &[u8]) -> usize
+    ensures value { result ≡ prefix_len is_ascii_digit rest.now }
+    ensures within { result ≤ length rest.now }
+{
+    rest.iter().take_while(|b| b.is_ascii_digit()).count()
+}
+
+/// The value of decimal digits, where it is at most 2^63 - 1.
+fn decimal(digits: &[u8]) -> Option<u64>
+    requires { prefix_len is_ascii_digit digits.now ≡ length digits.now }
+    ensures { SomeIff result (digits_value 10 digits.now < 2 ^ 63) (digits_value 10 digits.now) }
+{
+    let mut value = 0;
+    for &b in digits {
+        let digit = u64::from(b - b'0');
+        if value > (LARGEST - digit) / 10 {
+            return None;
+        }
+        value = value * 10 + digit;
+    }
+    Some(value)
+}
+
+/// A number, which begins at this offset, and how many octets it has.
+#[tactic(auto, unfolding(crate::specs::Tokens::number_at))]
+pub fn token(rest: &[u8], at: usize) -> Result<(TokenKind, usize), ScanFault>
+    ensures value { Gives (λ x. x) result (number_at rest.now) }
+    ensures within { IfOk result (λ x. x.1 ≤ length rest.now) }
+    ensures some { IfOk result (λ x. prefix_len is_ascii_digit rest.now ≤ x.1) }
+{
+    let n = digits_length(rest);
+    let (digits, behind) = rest.split_at(n);
+    let (factor, quantifier) = factor(behind);
+    let Some(value) = decimal(digits) else {
+        return Err(ScanFault::Refused(ScanRefusal::NumberTooLarge, at));
+    };
+    match value.checked_mul(factor) {
+        Some(value) if value <= LARGEST => Ok((TokenKind::Number(value), n + quantifier)),
+        _ => Err(ScanFault::Refused(ScanRefusal::NumberTooLarge, at)),
+    }
+}

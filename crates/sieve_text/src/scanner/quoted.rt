@@ -1,0 +1,81 @@
+//! Quoted strings (RFC 5228, section 2.4.2).
+
+ghost use Rattle.std.specs.Prelude.{◌≡◌, ◌≤◌, ◌<◌, ◌+◌, length, false, suc, IfOk};
+ghost use Rattle.sieve_text.specs.Strings.{quoted_len, quoted_value};
+ghost use Rattle.sieve_text.specs.Tokens.{quoted_at, string_kind, Gives};
+
+use crate::fault::{ScanFault, ScanRefusal};
+use sieve_syntax::{Text, TokenKind};
+use std::alloc::{AllocError, Global};
+
+/// The most octets of a string's value.
+const MOST_OCTETS: usize = 65_535;
+
+/// How many octets stand before the closing quotation mark, or all there are.
+#[tactic(auto, unfolding(crate::specs::Strings::quoted_len))]
+fn body_length(rest: &[u8]) -> usize
+    ensures value { result ≡ quoted_len false rest.now }
+    ensures within { result ≤ length rest.now }
+{
+    let mut escaped = false;
+    for (i, &b) in rest.iter().enumerate() {
+        if escaped {
+            escaped = false;
+        } else if b == b'"' {
+            return i;
+        } else {
+            escaped = b == b'\\';
+        }
+    }
+    rest.len()
+}
+
+/// What the octets between the quotation marks stand for: a backslash is dropped, the octet after it stays, and a bare
+/// LF becomes CR LF.
+#[tactic(auto, unfolding(crate::specs::Strings::unescaped, crate::specs::Strings::with_crlf))]
+fn value(alloc: Global, body: &[u8]) -> Result<Text, AllocError>
+    ensures { IfOk result (λ t. t ≡ quoted_value body.now) }
+{
+    let mut octets = Vec::with_capacity(alloc, body.len())?;
+    let mut escaped = false;
+    let mut after_cr = false;
+    for &b in body {
+        if b == b'\\' && !escaped {
+            escaped = true;
+        } else {
+            if b == b'\n' && !after_cr {
+                octets.push(b'\r')?;
+            }
+            octets.push(b)?;
+            escaped = false;
+            after_cr = b == b'\r';
+        }
+    }
+    Ok(Text::from_vec(octets))
+}
+
+/// The string with this value, whose token begins at this offset and has this length in octets.
+pub fn string(value: Text, length: usize, at: usize) -> Result<(TokenKind, usize), ScanFault>
+    ensures value { Gives (λ x. x) result (string_kind value length) }
+    ensures same_length { IfOk result (λ x. x.1 ≡ length) }
+{
+    if value.as_slice().len() > MOST_OCTETS {
+        return Err(ScanFault::Refused(ScanRefusal::StringTooLong, at));
+    }
+    Ok((TokenKind::StringValue(value), length))
+}
+
+/// A string behind its opening quotation mark, which stands at this offset.
+#[tactic(auto, unfolding(crate::specs::Tokens::quoted_at))]
+pub fn token(alloc: Global, behind: &[u8], at: usize) -> Result<(TokenKind, usize), ScanFault>
+    ensures value { Gives (λ x. x) result (quoted_at behind.now) }
+    ensures within { IfOk result (λ x. x.1 ≤ suc (length behind.now)) }
+    ensures some { IfOk result (λ x. 0 < x.1) }
+{
+    let n = body_length(behind);
+    if n == behind.len() {
+        return Err(ScanFault::Refused(ScanRefusal::StringNotClosed, at));
+    }
+    let text = value(alloc, &behind[..n])?;
+    string(text, n + 2, at)
+}
