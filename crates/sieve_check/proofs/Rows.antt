@@ -212,6 +212,11 @@ first_command_first : refusal_of (command_then (command (codes "keep") ([]) no_t
 unfolding refusal_of refusal_from same_name same_text
 first_command_first = refl
 
+-- redirect; keep {}
+first_command_again : refusal_of (command_then (command (codes "redirect") [] no_tests semicolon) (command_then (command (codes "keep") [] no_tests (block no_commands)) no_commands)) ≡ Some 32
+unfolding refusal_of refusal_from same_name same_text
+first_command_again = refl
+
 -- keep { redirect; }
 outer_first : refusal_of (command_then (command (codes "keep") ([]) no_tests (block (command_then (command (codes "redirect") ([]) no_tests semicolon) no_commands))) no_commands) ≡ Some 40
 unfolding refusal_of refusal_from same_name same_text

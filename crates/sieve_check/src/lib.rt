@@ -10,12 +10,12 @@
 //!
 //! # Adding a command, a test or a tag
 //!
-//! Add its row to `COMMANDS` or `TESTS` in `table.rt` and the same row to `command_table` or `test_table` in
+//! Add its row to `COMMANDS` or `TESTS` in `table.rt`, and the same row to `command_table` or `test_table` in
 //! `specs/Tables.antt`; a tag is a row among the `tags` of its command or test. A tag of a new kind needs a variant of
 //! `TagKind` with its place in `kind_place` (`specs/Rules.antt`). A new capability needs a variant of `Capability`, its
-//! rows in `CAPABILITIES` and `capability_table`, its place in `capability_place`, and its field in `Named` with the
-//! definitions on that in `specs/Context.antt`. No function of `rules`, `judge` or `walk` and no proof about them names
-//! a command, so nothing else changes, unless the command brings a rule of its own.
+//! rows in `CAPABILITIES` and `capability_table`, its place in `capability_place`, its field in `Named` with the cases
+//! of that in `specs/Context.antt`, and the cases of `has_with` in `proofs/Known.antt`. No other function, definition
+//! or proof of the rules names a command, so nothing else changes, unless the command brings a rule of its own.
 #![tactic(auto)]
 
 mod checked;
