@@ -1,16 +1,16 @@
 -- A class and the file, by what each part reads.
-use Rattle.std.proofs.Common.{◌≡◌, ℕ, Bool, true, false, not, ◌&&◌, ◌<◌, ◌≤◌, ◌+◌, List, [], ◌∷◌, ◌++◌, map, length, drop, get_or, codes, Option, Some, None, option_map, option_and_then, unwrap_or, refl, ap, ◌∙◌, sym, append_assoc, append-nil, arith, cond}
+use Rattle.std.proofs.Common.{◌≡◌, ℕ, Bool, true, false, not, ◌&&◌, ◌<◌, ◌≤◌, ◌+◌, List, [], ◌∷◌, ◌++◌, length, drop, get_or, codes, Option, Some, None, option_map, option_and_then, unwrap_or, refl, ap, ◌∙◌, sym, append_assoc, append-nil, cond}
 use Rattle.std.proofs.lemmas.List.{drop_all}
 use Rattle.std.specs.Str.{bytes_eq}
-use Rattle.toml.specs.Data.{Data, Members, get_member, as_str, as_bool, as_array, as_table}
+use Rattle.toml.specs.Data.{Data, Members, get_member, as_str, as_bool, as_table}
 use Rattle.toml.specs.View.{view, items_view}
 use Rattle.toml.specs.declared.value.Value.{Value}
 use Rattle.toml.proofs.Views.{items_view-drop}
 use Rattle.class_plan.specs.declared.entries.Stated.{Stated}
 use Rattle.class_plan.specs.Paths.{unfiled}
 use Rattle.class_plan.specs.Texts.{schedule_of_bytes}
-use Rattle.class_plan.specs.Entries.{Entry, Contents, stated_if}
-use Rattle.class_plan.specs.Document.{has_only, is_class_key, is_file_key, optional, class_of, class_of_parts, entry_of, entries_of, listed_of, contents_of, checked}
+use Rattle.class_plan.specs.Entries.{Entry, stated_if}
+use Rattle.class_plan.specs.Document.{has_only, is_class_key, is_file_key, optional, class_of, entry_of, entries_of, listed_of, contents_of, checked}
 
 pub no_class-keys : (ms : Members) → false ≡ has_only is_class_key ms → None ≡ class_of ms
 unfolding class_of

@@ -1,7 +1,6 @@
 -- A copied map shows the same classes.
 use Rattle.std.proofs.Common.{◌≡◌, ℕ, List, [], ◌∷◌, refl, ap, ◌∙◌}
 use Rattle.std.specs.List.{AllZip}
-use Rattle.class_plan.specs.Plans.{Row}
 use Rattle.class_plan.specs.Fields.{Held, row, rows}
 
 pub same_items : (xs ys : List ℕ) → AllZip (λ x y. y ≡ x) xs ys → ys ≡ xs

@@ -1,5 +1,5 @@
 -- The plan of a text, by what the reader of TOML says and by the contents of the table.
-use Rattle.std.proofs.Common.{◌≡◌, ℕ, Bool, true, false, List, Option, Some, None, Result, Ok, Err, refl, ap, sym, ◌∙◌}
+use Rattle.std.proofs.Common.{◌≡◌, ℕ, List, Some, None, Ok, Err, ap, sym}
 use Rattle.std.proofs.lemmas.Bool.{false_from_ne_true}
 use Rattle.std.proofs.lemmas.Str.{is_utf8-from_IsUtf8, IsUtf8-from_is_utf8}
 use Rattle.std.specs.Str.{IsUtf8, is_utf8}
@@ -7,7 +7,7 @@ use Rattle.toml.specs.Data.{Members}
 use Rattle.toml.specs.Parse.{parse_document}
 use Rattle.class_plan.specs.declared.faults.PlanFault.{PlanFault}
 use Rattle.class_plan.specs.declared.faults.PlanFault.TheVariants.{NotToml, BadShape}
-use Rattle.class_plan.specs.Faults.{judged, IsSmallest, HoldsNone}
+use Rattle.class_plan.specs.Faults.{IsSmallest, HoldsNone}
 use Rattle.class_plan.specs.Plans.{Listing}
 use Rattle.class_plan.specs.Entries.{Contents, plan_of}
 use Rattle.class_plan.specs.Document.{contents_of, document_of, text_faults, plan_of_text}

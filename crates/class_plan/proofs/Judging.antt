@@ -1,11 +1,10 @@
 -- The tests of a judgement, over what is listed, and what each of its ends answers.
-use Rattle.std.proofs.Common.{◌≡◌, ℕ, nat_lt, Bool, true, false, not, ◌||◌, cond, List, [], ◌∷◌, map, length, Option, Some, None, is_some, Result, Ok, Err, refl, ap, sym, ◌∙◌, arith, ◌<◌, ◌≤◌, if◌then◌else◌}
+use Rattle.std.proofs.Common.{◌≡◌, ℕ, nat_lt, Bool, true, false, not, ◌||◌, List, [], ◌∷◌, map, length, Ok, Err, refl, ap, ◌∙◌, arith, ◌<◌, ◌≤◌}
 use Rattle.std.proofs.lemmas.Bool.Decides.{nat_tests}
 use Rattle.std.specs.List.{list_any}
 use Rattle.class_plan.specs.declared.faults.PlanFault.{PlanFault}
 use Rattle.class_plan.specs.declared.faults.PlanFault.TheVariants.{NotToml, BadShape, BadPath, ParentMissing, PathTwice, BadSchedule, TooManyClasses, PathDropped}
 use Rattle.class_plan.specs.declared.entries.Listed.{Listed}
-use Rattle.class_plan.specs.declared.schedules.Schedule.{Schedule}
 use Rattle.class_plan.specs.Faults.{judged}
 use Rattle.class_plan.specs.Paths.{is_path, has_parent_in, first_passes, ancestors}
 use Rattle.class_plan.specs.Plans.{Row, has}

@@ -1,15 +1,14 @@
 -- What each plan keeps, over its map, and where a class is added.
-use Rattle.std.proofs.Common.{◌≡◌, ℕ, suc, ◌<◌, ◌≤◌, Bool, true, false, ◌||◌, cond, List, [], ◌∷◌, length, Option, Some, None, Vec, Global, Ordering, Less, nat_cmp, refl, ap, sym, ◌∙◌, arith}
+use Rattle.std.proofs.Common.{◌≡◌, ℕ, ◌<◌, Bool, true, false, ◌||◌, cond, List, [], ◌∷◌, length, Vec, Global, Ordering, Less, nat_cmp, refl, ◌∙◌, arith}
 use Rattle.std.proofs.lemmas.List.Elements.{All-from_recursion, recursion_from_All, All-weaker}
-use Rattle.std.specs.List.{All, AllByRecursion}
+use Rattle.std.specs.List.{AllByRecursion}
 use Rattle.std.specs.List.Sorted.{IsStrictlySortedBy}
 use Rattle.std.specs.Cmp.Lexicographic.{slice_cmp}
 use Rattle.std.specs.Str.{bytes_eq}
 use Rattle.std.specs.Map.{keys_of}
-use Rattle.class_plan.specs.declared.plans.Class.{Class}
 use Rattle.class_plan.specs.Paths.{is_path, has_parent_in, first_passes, ancestors, unfiled}
 use Rattle.class_plan.specs.Plans.{Row, Listing, has, put, open_at, open_row, paths_of, first_plan, IsClass, IsPlan}
-use Rattle.class_plan.specs.Fields.{Held, row, rows}
+use Rattle.class_plan.specs.Fields.{Held, rows}
 use Rattle.class_plan.proofs.Put.{has-put, open-put, all-put, length-put}
 
 abbrev pub key_cmp : Vec ℕ Global → Vec ℕ Global → Ordering

@@ -22,3 +22,5 @@ pub mod Printed
 pub mod Parted
 pub mod Reparted
 pub mod Due
+pub mod Nearest
+pub mod Rows

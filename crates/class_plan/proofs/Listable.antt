@@ -1,5 +1,5 @@
 -- What a file lists has its schedules in range, and `unfiled` open.
-use Rattle.std.proofs.Common.{◌≡◌, ℕ, ◌≤◌, nat_le, Bool, true, false, not, ◌&&◌, cond, if◌then◌else◌, List, [], ◌∷◌, codes, Option, Some, None, option_map, option_and_then, unwrap_or, refl, ap, sym, subst, ◌∙◌, arith}
+use Rattle.std.proofs.Common.{◌≡◌, ℕ, ◌≤◌, nat_le, Bool, true, false, not, ◌&&◌, if◌then◌else◌, List, [], ◌∷◌, codes, Option, Some, None, option_map, option_and_then, unwrap_or, refl, sym, subst, ◌∙◌, arith}
 use Rattle.std.proofs.lemmas.Bool.Decides.{nat_tests}
 use Rattle.std.proofs.lemmas.List.Elements.{All-from_recursion}
 use Rattle.std.specs.Str.{bytes_eq}
@@ -11,9 +11,9 @@ use Rattle.class_plan.specs.declared.schedules.Schedule.{Schedule}
 use Rattle.class_plan.specs.declared.schedules.Schedule.TheVariants.{Permanent, After}
 use Rattle.class_plan.specs.Paths.{unfiled}
 use Rattle.class_plan.specs.Schedules.{most, IsInRange, IsInRangeIfAny}
-use Rattle.class_plan.specs.Texts.{count_of, unit_of, action_of, period_of, is_space, schedule_of_bytes}
+use Rattle.class_plan.specs.Texts.{count_of, unit_of, action_of, period_of, schedule_of_bytes}
 use Rattle.class_plan.specs.Entries.{Entry, Contents, stated_if, own_of, IsListable, IsListableEntry}
-use Rattle.class_plan.specs.Document.{has_only, is_file_key, is_class_key, optional, checked, class_of, class_of_parts, entry_of, entries_of, listed_of, contents_of, contents_of_parts}
+use Rattle.class_plan.specs.Document.{has_only, is_file_key, is_class_key, optional, class_of, class_of_parts, entry_of, entries_of, listed_of, contents_of, contents_of_parts}
 
 range_if : (b : Bool) (n : ℕ) (u : TimeUnit) (x : Action) (s : Schedule) → (b ≡ true → (1 ≤ n) × (n ≤ most u)) → Some s ≡ (if b then Some (After n u x) else None) → IsInRange s
 range_if true n u x s h e = let is : After n u x ≡ s = cc in subst IsInRange is (h refl)

@@ -1,21 +1,20 @@
 -- What is listed makes a plan where nothing speaks against it.
-use Rattle.std.proofs.Common.{◌≡◌, ℕ, ◌≤◌, ◌<◌, nat_lt, Bool, true, false, not, ◌||◌, cond, List, [], ◌∷◌, length, Option, Some, None, is_some, unwrap_or, Ordering, nat_cmp, refl, ap, sym, ◌∙◌, arith, if◌then◌else◌}
+use Rattle.std.proofs.Common.{◌≡◌, ℕ, ◌≤◌, nat_lt, Bool, true, false, not, ◌||◌, cond, List, [], ◌∷◌, Option, Some, None, unwrap_or, nat_cmp, refl, ap, sym, ◌∙◌, arith, if◌then◌else◌}
 use Rattle.std.proofs.lemmas.Bool.Decides.{nat_tests}
 use Rattle.std.proofs.lemmas.List.Elements.{All-from_recursion, recursion_from_All}
 use Rattle.std.proofs.lemmas.Slice.Eq.{bytes_eq-Decides}
 use Rattle.std.specs.Str.{bytes_eq}
-use Rattle.std.specs.List.{All, AllByRecursion, list_any}
+use Rattle.std.specs.List.{AllByRecursion, list_any}
 use Rattle.std.specs.List.Sorted.{IsStrictlySortedBy}
 use Rattle.std.specs.Cmp.Lexicographic.{slice_cmp}
-use Rattle.class_plan.specs.declared.faults.PlanFault.{PlanFault}
-use Rattle.class_plan.specs.declared.faults.PlanFault.TheVariants.{BadPath, ParentMissing, PathTwice, BadSchedule, TooManyClasses}
+use Rattle.class_plan.specs.declared.faults.PlanFault.TheVariants.{BadPath, ParentMissing, PathTwice, TooManyClasses}
 use Rattle.class_plan.specs.declared.schedules.Schedule.{Schedule}
 use Rattle.class_plan.specs.declared.schedules.Schedule.TheVariants.{Permanent}
 use Rattle.class_plan.specs.Faults.{HoldsNone}
-use Rattle.class_plan.specs.Paths.{is_path, has_parent_in, first_passes, ancestors, unfiled}
+use Rattle.class_plan.specs.Paths.{is_path, has_parent_in, ancestors, unfiled}
 use Rattle.class_plan.specs.Schedules.{IsInRange, IsInRangeIfAny}
-use Rattle.class_plan.specs.Plans.{Row, Listing, has, put, open_at, open_row, paths_of, IsClass, IsPlan}
-use Rattle.class_plan.specs.Entries.{Entry, Contents, row_of, rows_from, with_unfiled, is_known, comes_again, class_count_of, contents_faults, listing_of, IsListable, IsListableEntry}
+use Rattle.class_plan.specs.Plans.{Row, has, put, open_at, open_row, paths_of, IsClass, IsPlan}
+use Rattle.class_plan.specs.Entries.{Entry, Contents, row_of, rows_from, with_unfiled, is_known, class_count_of, contents_faults, listing_of, IsListable, IsListableEntry}
 use Rattle.class_plan.proofs.Put.{has-put, open-put, all-put}
 use Rattle.class_plan.proofs.Twice.{has-listing, length-listing}
 use Rattle.class_plan.proofs.Judging.{first-same}

@@ -1,9 +1,9 @@
 -- Counts, digit by digit.
-use Rattle.std.proofs.Common.{◌≡◌, ℕ, zero, suc, ◌+◌, ◌-◌, ◌*◌, ◌<◌, ◌≤◌, ◌≢◌, nat_le, Bool, true, false, ◌&&◌, List, [], ◌∷◌, length, drop, get_or, Option, Some, None, refl, sym, ◌∙◌, arith}
+use Rattle.std.proofs.Common.{◌≡◌, ℕ, ◌+◌, ◌-◌, ◌*◌, ◌<◌, ◌≢◌, nat_le, true, false, ◌&&◌, List, [], ◌∷◌, length, drop, get_or, None, arith}
 use Rattle.std.proofs.lemmas.List.{drop_more}
 use Rattle.std.proofs.lemmas.Bool.Decides.{nat_tests}
 use Rattle.std.proofs.lemmas.Bool.{cases_Bool}
-use Rattle.std.proofs.Common.{inl, inr, cond}
+use Rattle.std.proofs.Common.{inl, inr}
 use Rattle.class_plan.specs.Texts.{count_of, count_from, IsLargeOrNone}
 
 pub number-more : (cs : List ℕ) (i n : ℕ) → i < length cs → (nat_le 48 (get_or cs i 0) && nat_le (get_or cs i 0) 57) ≡ true → count_from n (drop i cs) ≡ count_from (n * 10 + (get_or cs i 0 - 48)) (drop (i + 1) cs)

@@ -1,5 +1,5 @@
 -- Parts that are judged: whether `unfiled` is closed, and schedules in range.
-use Rattle.std.proofs.Common.{◌≡◌, ◌≢◌, ℕ, ◌≤◌, nat_le, Bool, true, false, not, ◌&&◌, ◌||◌, cond, if◌then◌else◌, List, [], ◌∷◌, map, Option, Some, None, option_map, Result, Ok, Err, refl, ap, sym, subst, ◌∙◌, arith}
+use Rattle.std.proofs.Common.{◌≡◌, ◌≢◌, ℕ, ◌≤◌, nat_le, Bool, true, false, not, ◌&&◌, ◌||◌, if◌then◌else◌, List, [], ◌∷◌, map, Option, Some, None, option_map, Ok, Err, refl, ap, sym, arith}
 use Rattle.std.proofs.lemmas.Bool.Decides.{nat_tests}
 use Rattle.std.proofs.lemmas.List.Elements.{All-from_recursion}
 use Rattle.std.specs.Str.{bytes_eq}
@@ -9,11 +9,11 @@ use Rattle.class_plan.specs.declared.faults.PlanFault.TheVariants.{NotToml, BadS
 use Rattle.class_plan.specs.declared.schedules.Schedule.{Schedule}
 use Rattle.class_plan.specs.declared.schedules.Schedule.TheVariants.{Permanent, After}
 use Rattle.class_plan.specs.declared.entries.Listed.{Listed}
-use Rattle.class_plan.specs.Faults.{judged, IsSmallest, HoldsNone}
+use Rattle.class_plan.specs.Faults.{IsSmallest, HoldsNone}
 use Rattle.class_plan.specs.Paths.{unfiled}
 use Rattle.class_plan.specs.Schedules.{most, IsInRange, IsInRangeIfAny}
 use Rattle.class_plan.specs.Plans.{Listing}
-use Rattle.class_plan.specs.Entries.{Entry, Contents, shown, stated_if, own_of, plan_of, IsListable, IsListableEntry}
+use Rattle.class_plan.specs.Entries.{Contents, shown, stated_if, own_of, plan_of, IsListable, IsListableEntry}
 use Rattle.class_plan.specs.Parts.{Part, in_range, ranged, part_entry, parts_contents, is_closed_unfiled, parts_faults, plan_of_parts}
 use Rattle.class_plan.proofs.Judged.{judged-made, judged-smallest}
 

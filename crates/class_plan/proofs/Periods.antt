@@ -1,5 +1,5 @@
 -- A schedule from the parts of its text.
-use Rattle.std.proofs.Common.{◌≡◌, ℕ, ◌+◌, ◌<◌, ◌≤◌, nat_le, Bool, true, false, ◌&&◌, List, [], ◌∷◌, length, drop, codes, Option, Some, None, refl, sym, ap, ◌∙◌, arith, cond}
+use Rattle.std.proofs.Common.{◌≡◌, ℕ, ◌+◌, ◌<◌, ◌≤◌, true, false, List, [], length, drop, codes, Option, Some, None, refl, sym, ap, ◌∙◌, arith}
 use Rattle.std.proofs.lemmas.List.{drop_all}
 use Rattle.std.proofs.lemmas.Bool.Decides.{nat_tests}
 use Rattle.std.specs.Str.{bytes_eq}
@@ -7,7 +7,6 @@ use Rattle.std.specs.List.{before_first, after_first, position_or_len}
 use Rattle.class_plan.specs.declared.schedules.Unit.{Unit as TimeUnit}
 use Rattle.class_plan.specs.declared.schedules.Unit.TheVariants.{Days, Months, Years}
 use Rattle.class_plan.specs.declared.schedules.Action.{Action}
-use Rattle.class_plan.specs.declared.schedules.Schedule.{Schedule}
 use Rattle.class_plan.specs.declared.schedules.Schedule.TheVariants.{Permanent, After}
 use Rattle.class_plan.specs.Texts.{count_of, unit_of, action_of, period_of, is_space, schedule_of_bytes, IsLargeOrNone}
 use Rattle.class_plan.specs.Schedules.{most}

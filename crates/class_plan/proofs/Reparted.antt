@@ -1,5 +1,5 @@
 -- The parts of a plan give that plan.
-use Rattle.std.proofs.Common.{◌≡◌, ℕ, ◌≤◌, nat_le, nat_lt, Bool, true, false, not, ◌&&◌, ◌||◌, cond, if◌then◌else◌, List, [], ◌∷◌, ◌++◌, map, length, Option, Some, None, is_some, option_map, unwrap_or, Result, Ok, Err, Ordering, Less, Equal, Greater, nat_cmp, is_eq, refl, ap, sym, subst, ◌∙◌, arith, append_assoc, inl, inr}
+use Rattle.std.proofs.Common.{◌≡◌, ℕ, ◌≤◌, nat_le, nat_lt, Bool, true, false, not, ◌&&◌, ◌||◌, cond, if◌then◌else◌, List, [], ◌∷◌, ◌++◌, map, length, Option, Some, None, is_some, option_map, unwrap_or, Ok, Less, Greater, is_eq, refl, ap, sym, subst, ◌∙◌, arith, append_assoc, inl, inr}
 use Rattle.std.proofs.lemmas.Bool.{cases_Bool}
 use Rattle.std.proofs.lemmas.Bool.Decides.{nat_tests}
 use Rattle.std.proofs.lemmas.Cmp.{nat_list_cmp_total}
@@ -10,17 +10,15 @@ use Rattle.std.proofs.lemmas.Slice.Eq.{bytes_eq-Decides}
 use Rattle.std.specs.Str.{bytes_eq}
 use Rattle.std.specs.List.{AllByRecursion, list_any}
 use Rattle.std.specs.List.Sorted.{IsStrictlySortedBy}
-use Rattle.std.specs.Ordering.{ordering_reverse, match_ordering}
+use Rattle.std.specs.Ordering.{ordering_reverse}
 use Rattle.class_plan.specs.declared.schedules.Schedule.{Schedule}
 use Rattle.class_plan.specs.declared.schedules.Schedule.TheVariants.{Permanent, After}
-use Rattle.class_plan.specs.Faults.{judged}
 use Rattle.class_plan.specs.Paths.{is_path, has_parent_in, ancestors, unfiled}
 use Rattle.class_plan.specs.Schedules.{most, IsInRange, IsInRangeIfAny}
 use Rattle.class_plan.specs.Plans.{Row, Listing, found, has, put, open_at, paths_of, IsClass, IsPlan}
-use Rattle.class_plan.specs.Entries.{Entry, Contents, row_of, rows_from, with_unfiled, is_known, is_faulty, own_of, stated_if, comes_again, class_count_of, contents_faults, listing_of, plan_of}
-use Rattle.class_plan.specs.Parts.{Part, in_range, ranged, part_entry, part_row, parts_contents, is_closed_unfiled, parts_faults, plan_of_parts}
+use Rattle.class_plan.specs.Entries.{Entry, row_of, rows_from, with_unfiled, is_known, is_faulty, own_of, stated_if, comes_again, class_count_of, contents_faults, listing_of}
+use Rattle.class_plan.specs.Parts.{Part, in_range, ranged, part_entry, part_row, parts_contents, is_closed_unfiled, plan_of_parts}
 use Rattle.class_plan.proofs.Opened.{path_cmp}
-use Rattle.class_plan.proofs.Put.{same-path}
 use Rattle.class_plan.proofs.Twice.{again, again-none, has-listing, length-listing}
 use Rattle.class_plan.proofs.Judging.{first-same, end-well}
 use Rattle.class_plan.proofs.Parted.{parts-open}

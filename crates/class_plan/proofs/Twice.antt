@@ -1,9 +1,8 @@
 -- Paths that come twice, and which paths and how many the rows of listed classes have.
-use Rattle.std.proofs.Common.{◌≡◌, ℕ, suc, ◌+◌, Bool, true, false, not, ◌||◌, cond, List, [], ◌∷◌, length, Option, Some, None, is_some, Ordering, Less, Equal, Greater, nat_cmp, is_eq, refl, ap, sym, ◌∙◌, arith, if◌then◌else◌}
+use Rattle.std.proofs.Common.{◌≡◌, ℕ, suc, ◌+◌, Bool, true, false, ◌||◌, cond, List, [], ◌∷◌, length, Some, is_some, Ordering, Less, Equal, Greater, nat_cmp, is_eq, refl, ap, sym, ◌∙◌, arith, if◌then◌else◌}
 use Rattle.std.proofs.lemmas.Map.Text.{is_eq-slice_cmp}
 use Rattle.std.proofs.lemmas.Slice.Eq.{bytes_eq-Decides}
 use Rattle.std.specs.Str.{bytes_eq}
-use Rattle.std.specs.List.{list_any}
 use Rattle.std.specs.Cmp.Lexicographic.{slice_cmp}
 use Rattle.std.specs.Ordering.{match_ordering}
 use Rattle.class_plan.specs.Paths.{unfiled}
@@ -84,8 +83,8 @@ length-put-new r (x ∷ xs) h =
 length-rows_from : (rs : List Row) (es : List Entry) → again rs es ≡ false → length (rows_from rs es) ≡ length rs + length es
 length-rows_from rs [] h = omega arith
 length-rows_from rs (e ∷ es) h =
-    let more = length-rows_from (put (row_of e) rs) es (or_right _ _ h) in
-    let one = length-put-new (row_of e) rs (or_left _ _ h) in
+    let more : length (rows_from (put (row_of e) rs) es) ≡ length (put (row_of e) rs) + length es = length-rows_from (put (row_of e) rs) es (or_right _ _ h) in
+    let one : length (put (row_of e) rs) ≡ suc (length rs) = length-put-new (row_of e) rs (or_left _ _ h) in
     omega arith
 
 pub has-rows : (q : List ℕ) (es : List Entry) → has (rows_from [] es) q ≡ is_listed q es

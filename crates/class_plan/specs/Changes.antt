@@ -1,10 +1,10 @@
 -- Changes of a plan.
-use Rattle.std.specs.Prelude.{ℕ, nat_le, Bool, true, false, not, List, length, Result}
+use Rattle.std.specs.Prelude.{ℕ, nat_le, Bool, false, not, List, length, Result}
 use Rattle.class_plan.specs.declared.faults.PlanFault.{PlanFault}
-use Rattle.class_plan.specs.declared.faults.PlanFault.TheVariants.{NotToml, BadShape, BadPath, ParentMissing, PathTwice, BadSchedule, TooManyClasses, PathDropped, NoMemory}
+use Rattle.class_plan.specs.declared.faults.PlanFault.TheVariants.{BadPath, ParentMissing, PathTwice, TooManyClasses}
 use Rattle.class_plan.specs.Faults.{judged}
 use Rattle.class_plan.specs.Paths.{is_path, has_parent_in}
-use Rattle.class_plan.specs.Plans.{Row, Listing, has, put, open_row}
+use Rattle.class_plan.specs.Plans.{Listing, has, put, open_row}
 
 -- what speaks against one more open class at a path
 abbrev pub speaks_against : Listing → List ℕ → PlanFault → Bool

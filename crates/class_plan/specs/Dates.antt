@@ -1,5 +1,5 @@
 -- Due dates, in terms of year, month, day and day number (days since 1970-01-01).
-use Rattle.std.specs.Prelude.{◌≡◌, ℕ, ◌+◌, ◌*◌, ◌-◌, ◌/◌, ◌%◌, ◌<◌, ◌⊎◌, min, ℤ, pos, ◌+ℤ◌, ◌<ℤ◌, List, Option, Some, None, MatchOption, unsigned_abs}
+use Rattle.std.specs.Prelude.{◌≡◌, ℕ, ◌+◌, ◌*◌, ◌-◌, ◌/◌, ◌%◌, ◌<◌, ◌⊎◌, min, pos, ◌+ℤ◌, ◌<ℤ◌, List, Option, Some, None, MatchOption, unsigned_abs}
 use Rattle.jiff.specs.Words.{days_in_month, epoch_day, IsBetween}
 use Rattle.jiff_core.specs.declared.civil.date.Date.{Date}
 use Rattle.class_plan.specs.declared.schedules.Unit.TheVariants.{Days, Months, Years}

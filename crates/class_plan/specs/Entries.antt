@@ -3,7 +3,7 @@ use Rattle.std.specs.Prelude.{◌≡◌, ℕ, ◌+◌, nat_lt, Bool, true, false
 use Rattle.std.specs.Str.{bytes_eq}
 use Rattle.std.specs.List.{All, list_any}
 use Rattle.class_plan.specs.declared.faults.PlanFault.{PlanFault}
-use Rattle.class_plan.specs.declared.faults.PlanFault.TheVariants.{NotToml, BadShape, BadPath, ParentMissing, PathTwice, BadSchedule, TooManyClasses, PathDropped, NoMemory}
+use Rattle.class_plan.specs.declared.faults.PlanFault.TheVariants.{BadPath, ParentMissing, PathTwice, BadSchedule, TooManyClasses}
 use Rattle.class_plan.specs.declared.schedules.Schedule.{Schedule}
 use Rattle.class_plan.specs.declared.schedules.Schedule.TheVariants.{Permanent}
 use Rattle.class_plan.specs.declared.entries.Stated.{Stated}

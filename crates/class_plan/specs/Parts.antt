@@ -1,11 +1,11 @@
 -- Plans from parts: the root's schedule, and for each class its path, whether it is open, and its
 -- own schedule, if it has one.
-use Rattle.std.specs.Prelude.{◌≡◌, ℕ, nat_le, Bool, true, false, not, ◌&&◌, if◌then◌else◌, List, map, Option, Some, None, option_map, Vec, Result}
+use Rattle.std.specs.Prelude.{ℕ, nat_le, Bool, true, not, ◌&&◌, if◌then◌else◌, List, map, Option, Some, None, option_map, Vec, Result}
 use Rattle.std.specs.Str.{bytes_eq}
 use Rattle.std.specs.List.{list_any}
 use Rattle.std.specs.declared.alloc.Global.{Global}
 use Rattle.class_plan.specs.declared.faults.PlanFault.{PlanFault}
-use Rattle.class_plan.specs.declared.faults.PlanFault.TheVariants.{NotToml, BadShape, BadPath, ParentMissing, PathTwice, BadSchedule, TooManyClasses, PathDropped, NoMemory}
+use Rattle.class_plan.specs.declared.faults.PlanFault.TheVariants.{BadShape}
 use Rattle.class_plan.specs.declared.schedules.Schedule.{Schedule}
 use Rattle.class_plan.specs.declared.schedules.Schedule.TheVariants.{Permanent, After}
 use Rattle.class_plan.specs.Faults.{judged}

@@ -1,5 +1,5 @@
 -- Paths of classes: 1 to 8 segments of 1 to 40 octets of a-z, 0-9 and "-", joined by "/".
-use Rattle.std.specs.Prelude.{◌≡◌, ℕ, zero, suc, ◌==◌, nat_le, Bool, true, false, ◌&&◌, ◌||◌, if◌then◌else◌, List, [], ◌∷◌, ◌++◌, take, length, slice_index, codes}
+use Rattle.std.specs.Prelude.{ℕ, zero, suc, ◌==◌, nat_le, Bool, true, ◌&&◌, ◌||◌, if◌then◌else◌, List, [], ◌∷◌, ◌++◌, take, length, slice_index, codes}
 use Rattle.std.specs.List.{list_all}
 
 -- a-z, 0-9 and "-"

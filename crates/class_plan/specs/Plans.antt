@@ -1,5 +1,5 @@
 -- Plans of classes, what they say of a path, and what each of them keeps.
-use Rattle.std.specs.Prelude.{◌≡◌, ℕ, ◌≤◌, Bool, true, false, if◌then◌else◌, List, [], ◌∷◌, map, filter, length, Option, Some, None, is_some, option_map, option_and_then, unwrap_or}
+use Rattle.std.specs.Prelude.{◌≡◌, ℕ, suc, ◌<◌, ◌≤◌, ◌⊎◌, take, slice_index, Bool, true, false, if◌then◌else◌, List, [], ◌∷◌, map, filter, length, Option, Some, None, is_some, option_map, option_and_then, unwrap_or}
 use Rattle.std.specs.Str.{bytes_eq}
 use Rattle.std.specs.List.{All, list_all}
 use Rattle.std.specs.List.Sorted.{IsStrictlySortedBy}
@@ -63,6 +63,28 @@ first_own p (q ∷ qs) = unwrap_or (own_at p.rows q) (first_own p qs)
 -- root's; None of a path that is no class
 abbrev pub schedule_at : Listing → List ℕ → Option Schedule
 schedule_at p q = if has p.rows q then Some (first_own p (q ∷ ancestors q)) else None
+
+-- no class whose path is a prefix of k octets or more that a "/" follows in q has a schedule of its
+-- own
+abbrev pub HasNoneFrom : Listing → List ℕ → ℕ → Type 0
+HasNoneFrom p q k = (j : ℕ) → k ≤ j → j < length q → slice_index q j ≡ 47 → own_at p.rows (take j q) ≡ None
+
+-- s is the schedule of the nearest class that has one of those whose paths are prefixes that a "/"
+-- follows in q
+pub record IsFromAncestor (p : Listing) (q : List ℕ) (s : Schedule) : Type 0 where
+  pub place : ℕ
+  pub within : place < length q
+  pub slash : slice_index q place ≡ 47
+  pub own : own_at p.rows (take place q) ≡ Some s
+  pub nearest : HasNoneFrom p q (suc place)
+
+-- s is that of the nearest ancestor that has one, or the root's where none has one
+abbrev pub IsFromAbove : Listing → List ℕ → Schedule → Type 0
+IsFromAbove p q s = IsFromAncestor p q s ⊎ (HasNoneFrom p q 0 × (s ≡ p.root))
+
+-- s is the class's own, or that from above where it has none
+abbrev pub IsScheduleOf : Listing → List ℕ → Schedule → Type 0
+IsScheduleOf p q s = (own_at p.rows q ≡ Some s) ⊎ ((own_at p.rows q ≡ None) × IsFromAbove p q s)
 
 -- each class of the old plan is one of the new
 abbrev pub keeps : Listing → Listing → Bool

@@ -3,7 +3,7 @@ ghost use Rattle.std.specs.Prelude.{◌≡◌, ◌<◌, length, IfSome};
 ghost use Rattle.std.specs.List.{HoldsAt};
 ghost use Rattle.class_plan.specs.Paths.{ancestors};
 ghost use Rattle.class_plan.specs.Schedules.{IsInRange};
-ghost use Rattle.class_plan.specs.Plans.{own_at, first_own, schedule_at, IsPlan};
+ghost use Rattle.class_plan.specs.Plans.{own_at, first_own, schedule_at, IsPlan, IsScheduleOf};
 ghost use Rattle.class_plan.specs.Fields.{rows_in};
 ghost use Rattle.class_plan.specs.Dates.{IsCaptureDay, IsDueOf, IsLater};
 
@@ -44,6 +44,7 @@ impl Plan {
     /// stands before a `/` in it, so `a` is none of `ab`.
     pub fn schedule_of(&self, path: &[u8]) -> Option<Schedule>
         ensures schedule { result ≡ schedule_at self.now path.now }
+        ensures nearest { IfSome result (λ s. IsScheduleOf self.now path.now s) }
         ensures range { IfSome result (λ s. IsInRange s) }
     {
         let Plan { root, classes, .. } = self;

@@ -1,4 +1,4 @@
-use Rattle.std.proofs.Common.{◌≡◌, not, sym, ap, ◌∙◌, rules, true, false, is_some}
+use Rattle.std.proofs.Common.{◌≡◌, not, sym, ap, ◌∙◌, rules, true, false}
 use Rattle.std.proofs.lemmas.Map.Iter.{rest_more, rest_all}
 use Rattle.std.specs.Map.Iter.{deref}
 use Rattle.std.specs.BTreeMap.{keys}

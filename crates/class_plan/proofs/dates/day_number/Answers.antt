@@ -1,6 +1,5 @@
-use Rattle.std.proofs.Common.{◌≡◌, ℤ, pos, ◌+ℤ◌, ◌-ℤ◌, ◌*ℤ◌, ◌≤ℤ◌, arith, rules, w64, ◌∙◌, FitsSigned}
-use Rattle.std.proofs.lemmas.Int.{to_z-of_z, ints}
-use Rattle.jiff.specs.Words.{epoch_day, IsEpochDay, signed_nanos}
+use Rattle.std.proofs.Common.{◌≡◌, pos, ◌*ℤ◌, arith, ◌∙◌}
+use Rattle.jiff.specs.Words.{epoch_day, signed_nanos}
 use Rattle.jiff.proofs.SpanFacts.{signed_arith}
 use Rattle.jiff_core.proofs.DateLemmas.{epoch_day_range}
 use Rattle.class_plan.proofs.Days.{epoch_day-zero}

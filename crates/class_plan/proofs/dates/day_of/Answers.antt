@@ -1,5 +1,5 @@
-use Rattle.std.proofs.Common.{◌≡◌, ℤ, pos, ◌+ℤ◌, ◌/◌, ◌<◌, arith, rules, w64, ◌∙◌}
-use Rattle.std.proofs.lemmas.Int.{to_z_pos, ints}
+use Rattle.std.proofs.Common.{pos, ◌+ℤ◌, ◌/◌, arith, w64, ◌∙◌}
+use Rattle.std.proofs.lemmas.Int.{to_z_pos}
 use Rattle.jiff.specs.Words.{epoch_day, IsEpochDay}
 use Rattle.jiff.proofs.SpanFacts.{signed_arith}
 use Rattle.class_plan.proofs.Days.{days-added, epoch_day-zero}

@@ -1,7 +1,6 @@
-use Rattle.std.proofs.Common.{◌≡◌, ℤ, pos, ◌+ℤ◌, arith, rules, w64}
-use Rattle.std.proofs.lemmas.Int.{to_z_pos, ints}
+use Rattle.std.proofs.Common.{pos, ◌+ℤ◌, arith, w64}
+use Rattle.std.proofs.lemmas.Int.{to_z_pos}
 use Rattle.jiff.specs.Words.{epoch_day, IsEpochDay}
-use Rattle.jiff.proofs.SpanFacts.{signed_arith}
 use Rattle.class_plan.proofs.Days.{days-added, days-in}
 use Rattle.class_plan.proofs.dates.days_after.Goals as goal
 

@@ -1,4 +1,4 @@
-use Rattle.std.proofs.Common.{◌≡◌, Some, None, rules, refl, sym, ap, ◌∙◌}
+use Rattle.std.proofs.Common.{Some, rules}
 use Rattle.class_plan.specs.Dates.{IsDue}
 use Rattle.class_plan.proofs.Due.{due-only, due-later}
 use Rattle.class_plan.proofs.dates.due_date.Goals as goal

@@ -1,5 +1,5 @@
-use Rattle.std.proofs.Common.{◌≡◌, ℤ, pos, ◌+ℤ◌, ◌/◌, ◌%◌, ◌≤◌, ◌<◌, ◌+◌, ◌-◌, ◌*◌, min, arith, ◌∙◌, sym, ap, refl, unsigned_abs, FitsSigned, rules, w8, w16}
-use Rattle.std.proofs.lemmas.Int.{to_z-of_z, to_z_pos, ints}
+use Rattle.std.proofs.Common.{◌≡◌, ◌/◌, ◌%◌, ◌+◌, min, arith, ◌∙◌, sym, ap, refl, FitsSigned, rules, w8, w16}
+use Rattle.std.proofs.lemmas.Int.{to_z-of_z, to_z_pos}
 use Rattle.jiff.specs.Words.{days_in_month, month_length}
 use Rattle.jiff.proofs.SpanFacts.{signed_arith}
 use Rattle.class_plan.specs.Dates.{months_of}

@@ -1,9 +1,9 @@
-use Rattle.std.proofs.Common.{◌≡◌, ◌<◌, ◌≤◌, length, map, Some, None, get_or, rules, arith, sym, ap, ◌∙◌, option_map, ◌∷◌, []}
+use Rattle.std.proofs.Common.{◌≡◌, ◌<◌, ◌≤◌, length, Some, None, get_or, rules, ◌∷◌, []}
 use Rattle.std.proofs.lemmas.List.{map-append}
-use Rattle.toml.specs.View.{view, items_view}
+use Rattle.toml.specs.View.{view}
 use Rattle.class_plan.specs.Document.{entry_of}
 use Rattle.class_plan.specs.Entries.{shown}
-use Rattle.class_plan.proofs.Classes.{entries-more, entries-bad, entries-all, entries-none}
+use Rattle.class_plan.proofs.Classes.{entries-more, entries-bad, entries-all}
 use Rattle.class_plan.proofs.document.all_listed.Goals as goal
 
 pub returns-in-None : goal.returns-in-None

@@ -1,4 +1,4 @@
-use Rattle.std.proofs.Common.{◌≡◌, ◌++◌, ◌≤◌, ◌+◌, length, map, option_map, drop, vec_len, vec_capacity}
+use Rattle.std.proofs.Common.{◌≡◌, ◌++◌, map, option_map, drop}
 use Rattle.toml.specs.View.{items_view}
 use Rattle.class_plan.specs.Document.{entries_of}
 use Rattle.class_plan.specs.Entries.{shown}

@@ -1,4 +1,4 @@
-use Rattle.std.proofs.Common.{◌≡◌, ℕ, List, Bor, Some, None, true, false, option_map, option_and_then, unwrap_or, codes, sym, ap, ◌∙◌, rules}
+use Rattle.std.proofs.Common.{◌≡◌, Some, None, true, false, option_map, option_and_then, unwrap_or, codes, sym, ◌∙◌, rules}
 use Rattle.std.specs.Str.{bytes_eq}
 use Rattle.toml.specs.Data.{get_member, as_str, as_bool}
 use Rattle.toml.specs.View.{table_view}

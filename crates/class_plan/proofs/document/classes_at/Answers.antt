@@ -1,9 +1,8 @@
-use Rattle.std.proofs.Common.{◌≡◌, Some, None, rules, sym, ap, ◌∙◌, option_map, codes}
-use Rattle.toml.specs.Data.{get_member, as_array}
-use Rattle.toml.specs.View.{view, table_view, array_view}
+use Rattle.std.proofs.Common.{◌≡◌, Some, None, rules, codes}
+use Rattle.toml.specs.Data.{as_array}
+use Rattle.toml.specs.View.{view, array_view}
 use Rattle.toml.proofs.Views.{table_get}
-use Rattle.class_plan.specs.Document.{listed_of, entries_of}
-use Rattle.class_plan.proofs.Classes.{listed-array}
+use Rattle.class_plan.specs.Document.{listed_of}
 use Rattle.class_plan.proofs.document.classes_at.Goals as goal
 
 pub returns-in-Some-as_array : goal.returns-in-Some-as_array

@@ -1,4 +1,4 @@
-use Rattle.std.proofs.Common.{◌≡◌, Some, None, true, false, map, rules, sym, ap, ◌∙◌, option_map, option_and_then, codes}
+use Rattle.std.proofs.Common.{◌≡◌, Some, None, true, false, map, rules, option_and_then, codes}
 use Rattle.toml.specs.Data.{get_member, as_str}
 use Rattle.toml.specs.View.{table_view}
 use Rattle.class_plan.specs.Document.{has_only, is_file_key, listed_of}

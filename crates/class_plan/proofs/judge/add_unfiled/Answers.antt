@@ -1,4 +1,4 @@
-use Rattle.std.proofs.Common.{◌≡◌, rules, refl, sym, ap, ◌∙◌, not, Bool, true, false, Some, None, is_some, List}
+use Rattle.std.proofs.Common.{◌≡◌, refl, sym, ap, ◌∙◌, not, true, false, None, is_some, List}
 use Rattle.class_plan.specs.Fields.{rows, rows_in}
 use Rattle.class_plan.specs.Entries.{with_unfiled}
 use Rattle.class_plan.specs.Paths.{unfiled}

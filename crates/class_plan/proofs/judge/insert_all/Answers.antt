@@ -1,4 +1,4 @@
-use Rattle.std.proofs.Common.{◌≡◌, ◌<◌, ◌+◌, ◌||◌, [], ◌∷◌, map, drop, length, get_or, is_some, false, refl, sym, ap, ◌∙◌, rules}
+use Rattle.std.proofs.Common.{◌≡◌, ◌<◌, ◌+◌, ◌||◌, [], ◌∷◌, map, drop, length, get_or, is_some, false, sym, ap, ◌∙◌, rules}
 use Rattle.std.proofs.lemmas.List.{drop_more, drop_all}
 use Rattle.class_plan.specs.declared.entries.Listed.{Listed}
 use Rattle.class_plan.specs.declared.entries.Stated.TheVariants.{Nothing}

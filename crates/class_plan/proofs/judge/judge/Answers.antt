@@ -1,10 +1,9 @@
-use Rattle.std.proofs.Common.{◌≡◌, ◌<◌, ◌≤◌, ◌||◌, nat_lt, not, true, false, map, length, is_some, unwrap_or, Some, None, rules, refl, sym, ap, ◌∙◌}
+use Rattle.std.proofs.Common.{◌≡◌, ◌<◌, ◌≤◌, ◌||◌, not, map, length, is_some, unwrap_or, refl, sym, ap, ◌∙◌}
 use Rattle.std.proofs.lemmas.List.{length-map}
 use Rattle.std.specs.List.{list_any}
-use Rattle.class_plan.specs.declared.faults.PlanFault.TheVariants.{BadPath, ParentMissing, PathTwice, BadSchedule, TooManyClasses}
 use Rattle.class_plan.specs.declared.schedules.Schedule.TheVariants.{Permanent}
 use Rattle.class_plan.specs.Fields.{row, rows_in}
-use Rattle.class_plan.specs.Entries.{shown, is_faulty, contents, contents_faults, class_count_of}
+use Rattle.class_plan.specs.Entries.{shown, is_faulty, contents, contents_faults}
 use Rattle.class_plan.proofs.Judging.{test-path, test-schedule, test-parent, test-many, test-few, end-path, end-parent, end-twice, end-schedule, end-many, end-well}
 use Rattle.class_plan.proofs.Keeping.{sorted-rows}
 use Rattle.class_plan.proofs.judge.judge.Goals as goal

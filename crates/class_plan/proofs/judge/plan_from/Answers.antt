@@ -1,6 +1,4 @@
-use Rattle.std.proofs.Common.{◌≡◌, Ok, sym, ap, ◌∙◌}
-use Rattle.std.specs.List.Sorted.{IsStrictlySortedBy}
-use Rattle.class_plan.specs.Plans.{IsPlan, Listing}
+use Rattle.std.proofs.Common.{◌≡◌}
 use Rattle.class_plan.specs.Fields.{rows_in}
 use Rattle.class_plan.specs.Entries.{contents, contents_faults, listing_of}
 use Rattle.class_plan.proofs.Judged.{judged-made}

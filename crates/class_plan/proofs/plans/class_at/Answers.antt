@@ -1,4 +1,4 @@
-use Rattle.std.proofs.Common.{◌≡◌, ap, option_map, is_some, ◌∙◌, refl}
+use Rattle.std.proofs.Common.{ap, option_map, is_some, ◌∙◌, refl}
 use Rattle.class_plan.proofs.Found.{found-lookup, found-is}
 use Rattle.class_plan.proofs.plans.class_at.Goals as goal
 

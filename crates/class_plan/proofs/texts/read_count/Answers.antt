@@ -1,8 +1,5 @@
-use Rattle.std.proofs.Common.{◌≡◌, ◌<◌, ◌≢◌, nat_le, ◌&&◌, true, false, length, get_or, drop, rules, arith, sym, ◌∙◌, None}
-use Rattle.std.proofs.lemmas.Grind.{common_steps}
-use Rattle.std.proofs.lemmas.Bool.Decides.{nat_tests}
-use Rattle.class_plan.specs.Texts.{IsLargeOrNone, count_of}
-use Rattle.class_plan.proofs.Numbers.{number-more, number-bad, number-large, number-start}
+use Rattle.std.proofs.Common.{◌≡◌, ◌<◌, nat_le, ◌&&◌, false, length, get_or, drop, rules, arith, sym, ◌∙◌}
+use Rattle.class_plan.proofs.Numbers.{number-bad, number-large}
 use Rattle.class_plan.proofs.texts.read_count.Goals as goal
 use Rattle.class_plan.proofs.texts.read_count.Goals.{then-not-is_ascii_digit-via-then-not-is_ascii_digit, then-not-is_ascii_digit-via-else-not-is_ascii_digit+then-count-gt-GREATEST_COUNT}
 

@@ -1,4 +1,4 @@
-use Rattle.std.proofs.Common.{◌≡◌, ◌≤◌, length, drop}
+use Rattle.std.proofs.Common.{◌≡◌, ◌≤◌, drop}
 use Rattle.class_plan.specs.Texts.{count_of, count_from}
 use Rattle.class_plan.proofs.texts.read_count.Given as goal
 

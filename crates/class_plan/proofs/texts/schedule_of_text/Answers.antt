@@ -1,6 +1,4 @@
-use Rattle.std.proofs.Common.{◌≡◌, ◌≤◌, ◌<◌, ℕ, List, [], Some, None, true, false, rules, arith, sym, ap, ◌∙◌, lit<, refl}
-use Rattle.std.specs.List.{before_first, after_first}
-use Rattle.class_plan.specs.Texts.{is_space, count_of, unit_of, action_of}
+use Rattle.std.proofs.Common.{◌≤◌, ◌<◌, [], arith, sym, ◌∙◌, refl}
 use Rattle.class_plan.specs.Schedules.{most}
 use Rattle.class_plan.proofs.Periods.{text-permanent, text-parts, after-none, period-no_unit, period-no_action, period-made, period-below, period-above, period-large}
 use Rattle.class_plan.proofs.texts.schedule_of_text.Goals as goal

@@ -1,6 +1,5 @@
-use Rattle.std.proofs.Common.{◌≡◌, Some, ap, sym, ◌∙◌}
+use Rattle.std.proofs.Common.{ap, sym, ◌∙◌}
 use Rattle.std.proofs.lemmas.Result.{IfOk-weaker}
-use Rattle.class_plan.specs.declared.schedules.Schedule.TheVariants.{Permanent, After}
 use Rattle.class_plan.specs.Texts.{schedule_of_bytes, text_of}
 use Rattle.class_plan.proofs.Printed.{text-reads}
 use Rattle.class_plan.proofs.texts.schedule_text.Goals as goal

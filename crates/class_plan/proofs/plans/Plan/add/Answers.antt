@@ -1,7 +1,7 @@
-use Rattle.std.proofs.Common.{◌≡◌, List, ℕ, sym, ap, ◌∙◌, rules, true, None, Ok, refl}
+use Rattle.std.proofs.Common.{◌≡◌, sym, ap, ◌∙◌, true, None, Ok, refl}
 use Rattle.class_plan.specs.Plans.{Listing, put, open_row}
 use Rattle.class_plan.specs.Faults.{first_fault}
-use Rattle.class_plan.specs.Changes.{added, speaks_against, with_class}
+use Rattle.class_plan.specs.Changes.{speaks_against, with_class}
 use Rattle.class_plan.specs.Fields.{rows, rows_in}
 use Rattle.class_plan.proofs.Found.{rows-insert, row-same}
 use Rattle.class_plan.proofs.Keeping.{added-plan, sorted-rows}

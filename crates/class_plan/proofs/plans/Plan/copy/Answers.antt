@@ -1,6 +1,5 @@
-use Rattle.std.proofs.Common.{◌≡◌, ap, ◌∙◌, sym, refl}
-use Rattle.class_plan.specs.Fields.{row, rows, rows_in}
-use Rattle.class_plan.specs.Plans.{Listing, Row, IsPlan}
+use Rattle.std.proofs.Common.{ap}
+use Rattle.class_plan.specs.Plans.{Listing}
 use Rattle.class_plan.proofs.Cloned.{same_items, rows-clone}
 use Rattle.class_plan.proofs.plans.Plan.copy.Goals as goal
 

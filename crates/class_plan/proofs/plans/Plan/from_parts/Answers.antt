@@ -1,10 +1,10 @@
-use Rattle.std.proofs.Common.{◌≡◌, ◌≢◌, List, map, true, false, Option, Some, None, Result, Ok, Err, refl, sym, ap, ◌∙◌}
+use Rattle.std.proofs.Common.{◌≡◌, ◌≢◌, map, true, false, Result, Ok, Err, sym, ap, ◌∙◌}
 use Rattle.std.proofs.lemmas.Result.{IfOk-weaker, IfErr-weaker, MatchResult-from_both}
 use Rattle.std.specs.List.{list_any}
 use Rattle.class_plan.specs.declared.faults.PlanFault.{PlanFault}
 use Rattle.class_plan.specs.declared.faults.PlanFault.TheVariants.{BadShape, NoMemory}
 use Rattle.class_plan.specs.Plans.{Listing}
-use Rattle.class_plan.specs.Entries.{Entry, Contents, shown, contents, plan_of, IsListable}
+use Rattle.class_plan.specs.Entries.{shown}
 use Rattle.class_plan.specs.Parts.{part_entry, parts_contents, is_closed_unfiled, plan_of_parts}
 use Rattle.class_plan.proofs.Parted.{parts-closed, parts-open, parts-smallest, parts-made, closed-shown, parts-listable, is-memory}
 use Rattle.class_plan.proofs.Reparted.{parts-same}

@@ -1,9 +1,7 @@
-use Rattle.std.proofs.Common.{◌≡◌, rules, refl, sym, ap, ◌∙◌, Some, None, Ok, Err, true, false, option_map}
+use Rattle.std.proofs.Common.{◌≡◌, sym, ap, ◌∙◌, Some, None, Err, option_map}
 use Rattle.std.proofs.lemmas.Result.{IfOk-weaker, IfErr-weaker, MatchResult-from_both}
 use Rattle.toml.specs.View.{table_view}
-use Rattle.class_plan.specs.Entries.{contents}
-use Rattle.class_plan.specs.Document.{contents_of, shown_lists, document_of, plan_of_text}
-use Rattle.class_plan.specs.declared.faults.PlanFault.TheVariants.{NotToml, BadShape}
+use Rattle.class_plan.specs.Document.{contents_of, shown_lists}
 use Rattle.class_plan.proofs.Documents.{document-not_utf8, document-text, text-none, text-shape, text-contents, text-smallest, text-made}
 use Rattle.class_plan.proofs.Listable.{contents-listable}
 use Rattle.class_plan.proofs.plans.Plan.from_toml.Goals as goal

@@ -1,8 +1,7 @@
-use Rattle.std.proofs.Common.{◌≡◌, [], ◌∷◌, None, true, refl, ap, sym, ◌∙◌}
-use Rattle.class_plan.specs.Plans.{IsPlan, Listing, put, open_row, first_plan}
+use Rattle.std.proofs.Common.{◌≡◌, [], ◌∷◌, None, true, refl, ap, ◌∙◌}
+use Rattle.class_plan.specs.Plans.{put, open_row}
 use Rattle.class_plan.specs.Paths.{unfiled}
 use Rattle.class_plan.specs.Fields.{row, rows, rows_in}
-use Rattle.class_plan.specs.declared.schedules.Schedule.TheVariants.{Permanent}
 use Rattle.class_plan.proofs.Found.{rows-insert, row-same}
 use Rattle.class_plan.proofs.Keeping.{first-plan}
 use Rattle.class_plan.proofs.plans.Plan.new.Goals as goal

@@ -1,0 +1,125 @@
+-- The definitions on worked rows.
+use Rattle.std.proofs.Common.{◌≡◌, true, false, [], ◌∷◌, codes, Some, None, Ok, Err, refl}
+use Rattle.class_plan.specs.declared.faults.PlanFault.TheVariants.{BadPath, ParentMissing, PathTwice}
+use Rattle.class_plan.specs.declared.schedules.Unit.TheVariants.{Days, Years}
+use Rattle.class_plan.specs.declared.schedules.Action.TheVariants.{Review, Destroy}
+use Rattle.class_plan.specs.declared.schedules.Schedule.TheVariants.{Permanent, After}
+use Rattle.class_plan.specs.declared.entries.Stated.TheVariants.{Nothing, Faulty}
+use Rattle.class_plan.specs.Paths.{is_path, ancestors, unfiled}
+use Rattle.class_plan.specs.Texts.{period_of, schedule_of_bytes}
+use Rattle.class_plan.specs.Plans.{Listing, open_row, first_plan, schedule_at, open_paths_of, keeps}
+use Rattle.class_plan.specs.Changes.{added}
+use Rattle.class_plan.specs.Entries.{Contents, plan_of}
+
+-- paths
+path_one : is_path (codes "tax/audit-7") ≡ true
+unfolding is_path
+path_one = refl
+
+path_empty : is_path [] ≡ false
+unfolding is_path
+path_empty = refl
+
+path_capital : is_path (codes "A") ≡ false
+unfolding is_path
+path_capital = refl
+
+path_gap : is_path (codes "a//b") ≡ false
+unfolding is_path
+path_gap = refl
+
+path_nine : is_path (codes "1/2/3/4/5/6/7/8/9") ≡ false
+unfolding is_path
+path_nine = refl
+
+ancestors_three : ancestors (codes "a/b/c") ≡ codes "a/b" ∷ codes "a" ∷ []
+ancestors_three = refl
+
+ancestors_none : ancestors (codes "ab") ≡ []
+ancestors_none = refl
+
+-- schedules
+text_days : schedule_of_bytes (codes "10 days destroy") ≡ Some (After 10 Days Destroy)
+unfolding schedule_of_bytes period_of
+text_days = refl
+
+text_zero : schedule_of_bytes (codes "0 days review") ≡ None
+unfolding schedule_of_bytes period_of
+text_zero = refl
+
+text_leading_zero : schedule_of_bytes (codes "01 days review") ≡ None
+unfolding schedule_of_bytes period_of
+text_leading_zero = refl
+
+text_above : schedule_of_bytes (codes "366001 days review") ≡ None
+unfolding schedule_of_bytes period_of
+text_above = refl
+
+text_weeks : schedule_of_bytes (codes "8 weeks review") ≡ None
+unfolding schedule_of_bytes period_of
+text_weeks = refl
+
+-- a plan: `a` under two years, `a/b` under nothing of its own, `a/b/c` under ten days, and `ab`
+worked : Listing
+worked = record {
+  root = Permanent;
+  rows = record { path = codes "a"; is_open = true; schedule = Some (After 2 Years Review) }
+      ∷ record { path = codes "a/b"; is_open = false; schedule = None }
+      ∷ record { path = codes "a/b/c"; is_open = true; schedule = Some (After 10 Days Destroy) }
+      ∷ open_row (codes "ab")
+      ∷ open_row unfiled
+      ∷ [];
+}
+
+inherited : schedule_at worked (codes "a/b") ≡ Some (After 2 Years Review)
+unfolding worked
+inherited = refl
+
+own : schedule_at worked (codes "a/b/c") ≡ Some (After 10 Days Destroy)
+unfolding worked
+own = refl
+
+not_inherited : schedule_at worked (codes "ab") ≡ Some Permanent
+unfolding worked
+not_inherited = refl
+
+no_class : schedule_at worked (codes "b") ≡ None
+unfolding worked
+no_class = refl
+
+opened : open_paths_of worked ≡ codes "a" ∷ codes "a/b/c" ∷ codes "ab" ∷ unfiled ∷ []
+unfolding worked
+opened = refl
+
+dropped : keeps worked first_plan ≡ false
+unfolding worked
+dropped = refl
+
+-- the smallest of two faults is answered
+add_orphan : added worked (codes "x/Y") ≡ Err BadPath
+unfolding worked is_path
+add_orphan = refl
+
+add_again : added worked (codes "a/b") ≡ Err PathTwice
+unfolding worked is_path
+add_again = refl
+
+add_below_missing : added worked (codes "x/y") ≡ Err ParentMissing
+unfolding worked is_path
+add_below_missing = refl
+
+-- a file that lists `b` twice under a root that is no schedule
+listed_twice : Contents
+listed_twice = record { root = None; entries = record { path = codes "b"; is_open = true; stated = Nothing } ∷ record { path = codes "b"; is_open = true; stated = Faulty } ∷ [] }
+
+twice_first : plan_of listed_twice ≡ Err PathTwice
+unfolding listed_twice is_path
+twice_first = refl
+
+-- a child before its parent, beside `unfiled`, which is not listed
+listed_child_first : Contents
+listed_child_first = record { root = Some Permanent; entries = record { path = codes "z/b"; is_open = true; stated = Nothing } ∷ record { path = codes "z"; is_open = true; stated = Nothing } ∷ [] }
+
+child_first : plan_of listed_child_first ≡ Ok (record { root = Permanent; rows = open_row unfiled ∷ open_row (codes "z") ∷ open_row (codes "z/b") ∷ [] })
+unfolding listed_child_first is_path
+child_first = refl
