@@ -30,6 +30,7 @@ refusal_of faults.NoMemory = record { number = 99; offset = None }
 refusal_of (faults.Text r at) = record { number = text_number r; offset = if has_place (text_number r) then Some at else None }
 refusal_of (faults.Check f) = record { number = check.number_of f; offset = None }
 refusal_of (faults.Plan f) = record { number = plan.number_of f; offset = None }
+refusal_of faults.PlanTooLong = record { number = 58; offset = None }
 refusal_of faults.MessageTooLong = record { number = 95; offset = None }
 
 abbrev pub refused_by : DeskFault → Answer

@@ -1,5 +1,5 @@
 -- What each command may be answered, and what it leaves.
-use Rattle.std.specs.Prelude.{◌≡◌, ℕ, ◌≤◌, ◌<◌, ◌⊎◌, List, length, Option, Some, None, is_some, Result, Ok, Err}
+use Rattle.std.specs.Prelude.{◌≡◌, ℕ, true, false, ◌≤◌, ◌<◌, ◌⊎◌, List, length, Option, Some, None, is_some, Result, Ok, Err}
 use Rattle.sieve_syntax.specs.Tree.{CommandTrees}
 use Rattle.sieve_text.specs.declared.fault.TextRefusal.{TextRefusal}
 use Rattle.sieve_text.specs.declared.fault.TextFault.TheVariants as texts
@@ -8,7 +8,9 @@ use Rattle.sieve_check.specs.Rules as rules
 use Rattle.class_plan.specs.declared.faults.PlanFault.{PlanFault}
 use Rattle.class_plan.specs.Faults as plan
 use Rattle.class_plan.specs.Plans.{Listing, is_open_in}
+use Rattle.class_plan.specs.Plans as plans
 use Rattle.class_plan.specs.Changes as changes
+use Rattle.class_plan.specs.Document as documents
 use Rattle.sieve_meaning.specs.Reading.{program_of}
 use Rattle.sieve_meaning.specs.Meaning.{no_library}
 use Rattle.sieve_meaning.specs.Outcome as meaning
@@ -25,6 +27,8 @@ State = Listing
 pub data Command : Type 0 where
   add_class : (path : List ℕ) → Command
   file : (script message : List ℕ) → Command
+  -- takes over the plan of a text
+  set_plan : (text : List ℕ) → Command
 
 -- the greatest length of a message, in octets
 abbrev pub greatest_message : ℕ
@@ -78,9 +82,39 @@ pub record IsNoClass (s : State) (path : List ℕ) (number : ℕ) : Type 0 where
 abbrev pub RefusesClass : State → (path : List ℕ) (number : ℕ) → Type 0
 RefusesClass s path number = (number ≡ 99) ⊎ IsNoClass s path number
 
-abbrev pub added : Result (Unit {0}) DeskFault → Answer
-added (Ok u) = done
-added (Err f) = refused_by f
+-- the greatest length of a plan's text, in octets
+abbrev pub greatest_plan : ℕ
+greatest_plan = 1048576
+
+-- the text is that of a plan which keeps each path of the plan so far
+pub record IsRevision (s : State) (text : List ℕ) (new : State) : Type 0 where
+  pub short : length text ≤ greatest_plan
+  pub is_plan : documents.plan_of_text text ≡ Ok new
+  pub keeps_paths : plans.keeps s new ≡ true
+
+-- the text is no plan, for this reason
+pub record IsNoPlan (text : List ℕ) (number : ℕ) : Type 0 where
+  pub short : length text ≤ greatest_plan
+  pub fault : PlanFault
+  pub refuses : documents.plan_of_text text ≡ Err fault
+  pub is_number : number ≡ plan.number_of fault
+
+-- the text is that of a plan which drops a path
+pub record DropsPath (s : State) (text : List ℕ) (number : ℕ) : Type 0 where
+  pub short : length text ≤ greatest_plan
+  pub new : State
+  pub is_plan : documents.plan_of_text text ≡ Ok new
+  pub drops : plans.keeps s new ≡ false
+  pub is_number : number ≡ 57
+
+-- a plan is refused with this number: want of memory, or the first of its length, its text and its paths that fails
+abbrev pub RefusesPlan : State → (text : List ℕ) (number : ℕ) → Type 0
+RefusesPlan s text number = (number ≡ 99) ⊎ (((greatest_plan < length text) × (number ≡ 58)) ⊎ (IsNoPlan text number ⊎ DropsPath s text number))
+
+-- the answer to a call that has nothing to tell but that it was done
+abbrev pub settled : Result (Unit {0}) DeskFault → Answer
+settled (Ok u) = done
+settled (Err f) = refused_by f
 
 abbrev pub filed : Result Outcome DeskFault → Answer
 filed (Ok o) = captured (record { classes = o.classes; fault = o.fault })
@@ -94,3 +128,6 @@ Step s (add_class path) (captured o) new = ⊥
 Step s (file script message) (captured o) new = (new ≡ s) × IsFiled s script message o
 Step s (file script message) (refused n at) new = (new ≡ s) × (is_some at ≡ has_place n) × RefusesFiling script message n
 Step s (file script message) done new = ⊥
+Step s (set_plan text) done new = IsRevision s text new
+Step s (set_plan text) (refused n at) new = (new ≡ s) × (is_some at ≡ has_place n) × RefusesPlan s text n
+Step s (set_plan text) (captured o) new = ⊥

@@ -8,13 +8,13 @@ ghost use Rattle.sieve_meaning.specs.Meaning.{no_library};
 ghost use Rattle.sieve_meaning.specs.Outcome.{outcome_at, outcome};
 ghost use Rattle.filing_desk.specs.Case.{facts_of};
 ghost use Rattle.filing_desk.specs.Judging.{RefusesScript, IsFaultOf, outcome_view};
-ghost use Rattle.filing_desk.specs.Steps.{add_class, file, Step, added, filed, IsGood};
+ghost use Rattle.filing_desk.specs.Steps.{add_class, file, set_plan, Step, settled, filed, IsGood, RefusesPlan};
 ghost use Rattle.filing_desk.specs.Faults.{refused_by};
 
 use crate::case::{Case, read_case};
 use crate::evaluate::{Filing, run, script_weight};
 use crate::fault::DeskFault;
-use class_plan::Plan;
+use class_plan::{Plan, PlanFault};
 use sieve_check::{Checked, check};
 use sieve_meaning::Paths;
 use sieve_syntax::Script;
@@ -24,6 +24,9 @@ use std::marker::Model;
 
 /// The greatest length of a message, in octets.
 pub const GREATEST_MESSAGE: usize = 8_388_608;
+
+/// The greatest length of a plan's text, in octets.
+const GREATEST_PLAN: usize = 1_048_576;
 
 /// The greatest weight of a script that is run.
 const GREATEST_WEIGHT: u64 = 60_000;
@@ -131,10 +134,35 @@ impl Desk {
     /// before.
     #[tactic(auto, unfolding(crate::specs::Steps::Step))]
     pub fn add_class(&mut self, path: &[u8]) -> Result<(), DeskFault>
-        ensures { Step self.old (add_class path.now) (added result) self.new }
+        ensures { Step self.old (add_class path.now) (settled result) self.new }
     {
         self.plan.add(path)?;
         Ok(())
+    }
+
+    /// Takes over the plan of a text (a TOML document). It is refused by its length (58), by the smallest of 50 to 56
+    /// that holds of its text, or where it drops a path of the plan so far (57); 99 is want of memory. The plan is then
+    /// as before.
+    #[tactic(auto, unfolding(crate::specs::Steps::Step))]
+    pub fn set_plan(&mut self, text: &[u8]) -> Result<(), DeskFault>
+        ensures { Step self.old (set_plan text.now) (settled result) self.new }
+    {
+        if text.len() > GREATEST_PLAN {
+            return Err(DeskFault::PlanTooLong);
+        }
+        let plan = Plan::from_toml(self.alloc, text)?;
+        match self.plan.revise(plan) {
+            Ok(()) => Ok(()),
+            Err(_) => Err(DeskFault::Plan(PlanFault::PathDropped)),
+        }
+    }
+
+    /// What `set_plan` answers to a text over its limit of 1,048,576 octets, which need not be at hand.
+    #[tactic(auto, unfolding(crate::specs::Steps::Step))]
+    pub fn set_plan_too_long(&self) -> DeskFault
+        ensures { (text : List ℕ) → 1048576 < length text → Step self.now (set_plan text) (refused_by result) self.now }
+    {
+        DeskFault::PlanTooLong
     }
 
     /// What a script captures a message in: a dry run that stores nothing. A script is refused by its text (10 to 16,

@@ -26,6 +26,8 @@ pub enum DeskFault {
     Check(CheckFault),
     /// 50 to 57: the plan refuses.
     Plan(PlanFault),
+    /// 58: the text of a plan has more than 1,048,576 octets.
+    PlanTooLong,
     /// 95: the message has more than 8,388,608 octets.
     MessageTooLong,
 }
@@ -119,6 +121,10 @@ impl DeskFault {
             },
             DeskFault::Plan(fault) => Refusal {
                 number: fault.number(),
+                offset: None,
+            },
+            DeskFault::PlanTooLong => Refusal {
+                number: 58,
                 offset: None,
             },
             DeskFault::MessageTooLong => Refusal {

@@ -3,8 +3,8 @@ use Rattle.std.proofs.Common.{◌≡◌, ℕ, ◌+◌, ◌-◌, ◌≤◌, ◌<�
 use Rattle.std.specs.Prelude.{nat_le}
 use Rattle.std.proofs.lemmas.List.{length-drop, drop-drop}
 use Rattle.std.proofs.lemmas.Bool.Decides.{nat_tests}
-use Rattle.filing_desk.specs.Steps.{file}
-use Rattle.filing_session.specs.Session.{Got, Stop, Call, with_payloads}
+use Rattle.filing_desk.specs.Steps.{Command, file}
+use Rattle.filing_session.specs.Session.{Got, Stop, Call, with_payload, with_payloads}
 use Rattle.filing_session.specs.declared.session.Ending.TheVariants as ending
 
 fits_both : (script message size : ℕ) → script ≤ size → message ≤ size - script → nat_le (script + message) size ≡ true
@@ -12,6 +12,12 @@ fits_both script message size a b = grind (arith, nat_tests)
 
 fits_one : (script message size : ℕ) → size - script < message → nat_le (script + message) size ≡ false
 fits_one script message size a = grind (arith, nat_tests)
+
+fits_whole : (size length : ℕ) → size ≤ length → nat_le size length ≡ true
+fits_whole size length a = grind (arith, nat_tests)
+
+fits_not : (size length : ℕ) → length < size → nat_le size length ≡ false
+fits_not size length a = grind (arith, nat_tests)
 
 size_behind : (script : ℕ) (old mid : List ℕ) → mid ≡ drop script old → length mid ≡ length old - script
 size_behind script old mid e = ap length e ∙ length-drop script old
@@ -34,3 +40,10 @@ second_cut script message old mid e cut =
     let size = size_behind script old mid e in
     let no : nat_le (script + message) (length old) ≡ false = fits_one script message (length old) (omega (arith, size)) in
     rw no refl
+
+-- one payload alone
+pub one_read : (size : ℕ) (command : List ℕ → Command) (old new : List ℕ) → size ≤ length old → new ≡ drop size old → with_payload size command old ≡ Got (Call (command (take size old))) new
+one_read size command old new fits left = rw (fits_whole size (length old) fits) (ap (λ rest. Got (Call (command (take size old))) rest) (sym left))
+
+pub one_cut : (size : ℕ) (command : List ℕ → Command) (old : List ℕ) → length old < size → with_payload size command old ≡ Stop ending.CutShort
+one_cut size command old cut = rw (fits_not size (length old) cut) refl

@@ -13,6 +13,8 @@ pub data Asked : Type 0 where
   AddClass : (path : List ℕ) → Asked
   -- to file a message by a script, payloads of these lengths
   File : (script message : ℕ) → Asked
+  -- to take over a plan, a payload of this length
+  SetPlan : (text : ℕ) → Asked
   -- to end
   Quit : Asked
   -- nothing: its first word is no command's
@@ -53,6 +55,15 @@ file_of (script ∷ []) = BadWord
 file_of (script ∷ message ∷ []) = file_of_lengths (length_of script) (length_of message)
 file_of (script ∷ message ∷ word ∷ words) = BadWord
 
+abbrev pub plan_of_length : Option ℕ → Asked
+plan_of_length (Some text) = SetPlan text
+plan_of_length None = BadWord
+
+abbrev pub plan_of : List (List ℕ) → Asked
+plan_of [] = BadWord
+plan_of (text ∷ []) = plan_of_length (length_of text)
+plan_of (text ∷ word ∷ words) = BadWord
+
 abbrev pub quit_of : List (List ℕ) → Asked
 quit_of [] = Quit
 quit_of (word ∷ words) = BadWord
@@ -62,6 +73,7 @@ asked_by [] = Unknown
 asked_by (name ∷ words) =
     if bytes_eq name (codes "CLASS") then class_of words
     else if bytes_eq name (codes "FILE") then file_of words
+    else if bytes_eq name (codes "PLAN") then plan_of words
     else if bytes_eq name (codes "QUIT") then quit_of words
     else Unknown
 
@@ -72,6 +84,7 @@ asked line = asked_by (words_of line)
 abbrev pub asked_as : Request → Asked
 asked_as (ask.AddClass path) = AddClass path.now
 asked_as (ask.File script message) = File script message
+asked_as (ask.SetPlan text) = SetPlan text
 asked_as ask.Quit = Quit
 asked_as ask.Unknown = Unknown
 asked_as ask.BadWord = BadWord

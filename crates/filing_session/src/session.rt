@@ -2,11 +2,11 @@
 
 ghost use Rattle.std.specs.Prelude.{◌≡◌, ◌≢◌, ℕ, List, ◌≤◌, ◌++◌, IfOk, OnOk, OnErr, Ok, Err, None, IsErrOf};
 ghost use Rattle.filing_desk.specs.Answers.{refused as refused_answer};
-ghost use Rattle.filing_desk.specs.Steps.{add_class as class_command, file as file_command, Step};
+ghost use Rattle.filing_desk.specs.Steps.{add_class as class_command, file as file_command, set_plan as plan_command, Step};
 ghost use Rattle.filing_session.specs.Heard.{Answers, EndsOnlyAtEnd};
 ghost use Rattle.filing_session.specs.Payloads.{IsOf};
 ghost use Rattle.filing_session.specs.Replies.{answer_of};
-ghost use Rattle.filing_session.specs.Session.{session_of, heard, heard_line, with_payloads, ending_octets, IsServed, IsBroken, EndsByInput};
+ghost use Rattle.filing_session.specs.Session.{session_of, heard, heard_line, with_payload, with_payloads, ending_octets, IsServed, IsBroken, EndsByInput};
 ghost use Rattle.filing_session.specs.Streams.{IsBehind, Rises};
 ghost use Rattle.filing_session.specs.Words.{asked_as};
 
@@ -27,6 +27,9 @@ const SCRIPT_OCTETS: usize = 262_144;
 
 /// How many octets a message has at most; a longer one is refused (95).
 const MESSAGE_OCTETS: usize = 8_388_608;
+
+/// How many octets the text of a plan has at most; a longer one is refused (58).
+const PLAN_OCTETS: usize = 1_048_576;
 
 /// Why a session was given up.
 #[derive(Clone, Copy, Debug, Drop, PartialEq, Eq, Error)]
@@ -125,6 +128,41 @@ fn read_and_file<S: Source>(
     Ok(Said::Reply(file(desk, &script, &message)))
 }
 
+/// Takes over a plan.
+fn set_plan(desk: &mut Desk, text: &Payload) -> Reply
+    ensures { (t : List ℕ) → IsOf 1048576 text.now t → Step desk.old (plan_command t) (answer_of result) desk.new }
+{
+    match text {
+        Payload::Whole(octets) => match desk.set_plan(octets.as_slice()) {
+            Ok(()) => Reply::Done,
+            Err(fault) => Reply::Refused(fault.refusal()),
+        },
+        Payload::TooLong => Reply::Refused(desk.set_plan_too_long().refusal()),
+        Payload::NoMemory => refused(99),
+    }
+}
+
+/// Reads the payload of `PLAN`, and takes it over.
+fn read_and_set_plan<S: Source>(
+    alloc: Global,
+    source: &mut S,
+    desk: &mut Desk,
+    text: usize,
+) -> Result<Said, ReadFault>
+    ensures said { S.tells → IfOk result (λ a. Answers desk.old (with_payload text plan_command (S.left source.old)) a desk.new (S.left source.new)) }
+    ensures same { OnErr result (desk.new ≡ desk.old) }
+    ensures ended { IfOk result (λ a. EndsOnlyAtEnd a (S.ends source.old) (S.ends source.new)) }
+    ensures ends { S.ends source.old ≤ S.ends source.new }
+    ensures troubles { S.troubles source.old ≤ S.troubles source.new }
+    ensures fault { OnErr result (Rises (S.troubles source.old) (S.troubles source.new)) }
+{
+    let Some(text) = read_payload(alloc, source, text, PLAN_OCTETS)? else {
+        return Ok(Said::End(Ending::CutShort));
+    };
+    let reply = set_plan(desk, &text);
+    Ok(Said::Reply(reply))
+}
+
 /// Does what a line asks; its payloads are read here.
 fn answer<S: Source>(
     alloc: Global,
@@ -148,6 +186,7 @@ fn answer<S: Source>(
             script as usize,
             message as usize,
         ),
+        Request::SetPlan { text } => read_and_set_plan(alloc, source, desk, text as usize),
         Request::Quit => Ok(Said::End(Ending::Quit)),
         Request::Unknown => Ok(Said::Reply(refused(70))),
         Request::BadWord => Ok(Said::Reply(refused(71))),

@@ -3,7 +3,7 @@
 ghost use Rattle.std.specs.Prelude.{◌≡◌, ◌∷◌, [], IfSome, IfNone};
 ghost use Rattle.std.specs.Char.{is_ascii_digit};
 ghost use Rattle.std.specs.List.{list_all};
-ghost use Rattle.filing_session.specs.Words.{words_of, is_decimal, length_of, class_of, file_of, quit_of, asked, asked_as};
+ghost use Rattle.filing_session.specs.Words.{words_of, is_decimal, length_of, class_of, file_of, plan_of, quit_of, asked, asked_as};
 ghost use Rattle.filing_session.specs.WordsLeft.{words_left};
 
 use std::str;
@@ -15,6 +15,8 @@ pub enum Request<'a> {
     AddClass(&'a [u8]),
     /// To file a message by a script, payloads of these lengths in octets.
     File { script: u32, message: u32 },
+    /// To take over a plan, a payload of this length in octets.
+    SetPlan { text: u32 },
     /// To end the session.
     Quit,
     /// Nothing: the first word is no command's (70).
@@ -106,6 +108,19 @@ fn read_file<'a>(mut words: Words<'a>) -> Request<'a>
     }
 }
 
+/// What `PLAN` asks with the words after it.
+fn read_plan<'a>(mut words: Words<'a>) -> Request<'a>
+    ensures { asked_as result ≡ plan_of (words_left words.entry) }
+{
+    let (Some(text), None) = (words.next(), words.next()) else {
+        return Request::BadWord;
+    };
+    match read_length(text) {
+        Some(text) => Request::SetPlan { text },
+        None => Request::BadWord,
+    }
+}
+
 /// What `QUIT` asks with the words after it.
 fn read_quit<'a>(mut words: Words<'a>) -> Request<'a>
     ensures { asked_as result ≡ quit_of (words_left words.entry) }
@@ -129,6 +144,8 @@ pub fn read_request(line: &[u8]) -> Request<'_>
         read_class(words)
     } else if name == b"FILE".as_slice() {
         read_file(words)
+    } else if name == b"PLAN".as_slice() {
+        read_plan(words)
     } else if name == b"QUIT".as_slice() {
         read_quit(words)
     } else {
