@@ -1,5 +1,9 @@
+pub mod CutLemmas
+pub mod GapGrammar
 pub mod GapLemmas
+pub mod KindGrammar
 pub mod KindLemmas
+pub mod Longest
 pub mod NumberLemmas
 mod Rows
 pub mod ScanLemmas
