@@ -1,6 +1,7 @@
 //! Why a script is refused.
 
 ghost use Rattle.std.specs.Prelude.{◌≡◌};
+ghost use Rattle.sieve_text.specs.Grammar.{text_number};
 ghost use Rattle.sieve_text.specs.Tokens.{scan_number};
 
 use std::alloc::{AllocError, AllocFailed};
@@ -70,5 +71,54 @@ impl<T: Drop> From<AllocFailed<T>> for ScanFault {
 
     fn from(_error: AllocFailed<T>) -> ScanFault {
         ScanFault::NoMemory
+    }
+}
+
+/// Why a text is no script.
+#[derive(Clone, Copy, Debug, PartialEq, Eq)]
+pub enum TextRefusal {
+    /// 10 to 16: the text has no tokens.
+    Scan(ScanRefusal),
+    /// 20: the tokens are outside the grammar of RFC 5228, section 8.2.
+    Syntax,
+    /// 21: more than 32 tests or more than 32 blocks stand inside one another.
+    Nesting,
+}
+
+impl TextRefusal {
+    /// The number by which the refusal is told: 10 to 16, 20 or 21.
+    pub fn number(self) -> u8
+        ensures { result ≡ text_number self }
+    {
+        match self {
+            TextRefusal::Scan(refusal) => refusal.number(),
+            TextRefusal::Syntax => 20,
+            TextRefusal::Nesting => 21,
+        }
+    }
+}
+
+/// Why `parse` gives no script.
+#[derive(Clone, Copy, Debug, PartialEq, Eq)]
+pub enum TextFault {
+    /// 99: an allocation was refused.
+    NoMemory,
+    /// The refusal, and the offset in octets at which it stands: the scanner's for `Scan`; for `Syntax` that of the
+    /// first token after which nothing could make the text a script, or the text's length where it ends too early;
+    /// for `Nesting` that of the identifier of the 33rd test, or of the opening brace of the 33rd block.
+    Refused(TextRefusal, usize),
+}
+
+impl From<ScanFault> for TextFault {
+    ghost use Rattle.std.specs.Prelude.{◌≡◌};
+    ghost use Rattle.sieve_text.specs.Grammar.{text_fault_of};
+
+    ghost from_gives = { λ e f. f ≡ text_fault_of e };
+
+    fn from(fault: ScanFault) -> TextFault {
+        match fault {
+            ScanFault::NoMemory => TextFault::NoMemory,
+            ScanFault::Refused(refusal, at) => TextFault::Refused(TextRefusal::Scan(refusal), at),
+        }
     }
 }

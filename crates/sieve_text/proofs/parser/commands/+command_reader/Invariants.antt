@@ -1,0 +1,21 @@
+use Rattle.std.proofs.Common.{◌≡◌, ℕ, ◌+◌, ◌*◌, ◌≤◌, length, map}
+use Rattle.sieve_syntax.specs.View.{command_of}
+use Rattle.sieve_text.specs.Grammar.{kinds}
+use Rattle.sieve_text.specs.Reading.{many_at, command_with, inside_at}
+use Rattle.sieve_text.proofs.Many.{GoesOn}
+use Rattle.sieve_text.proofs.parser.commands.+command_reader.Given as goal
+
+abbrev pub decreases-read_ending : goal.decreases-read_ending
+decreases-read_ending l = 3 * l.depth
+
+abbrev pub decreases-next_command : goal.decreases-next_command
+decreases-next_command l = 3 * l.depth + 1
+
+abbrev pub decreases-commands : goal.decreases-commands
+decreases-commands l = 3 * l.depth + 2
+
+abbrev pub invariant-commands-loop-commands : goal.invariant-commands-loop-commands
+invariant-commands-loop-commands l = GoesOn (command_with 32 (inside_at 32 l.depth)) (map command_of l.commands.items) (kinds l.rest) (many_at (command_with 32 (inside_at 32 l.depth)) (length (kinds l.fn.tokens)) (kinds l.fn.tokens)) × (length l.rest ≤ length l.fn.tokens)
+
+abbrev pub decreases-commands-loop-commands : goal.decreases-commands-loop-commands
+decreases-commands-loop-commands l = length l.rest

@@ -1,0 +1,27 @@
+use Rattle.std.proofs.Common.{◌≡◌, ℕ, ◌+◌, ◌*◌, ◌≤◌, [], ◌∷◌, length, map}
+use Rattle.sieve_syntax.specs.View.{test_of}
+use Rattle.sieve_text.specs.Grammar.{kinds}
+use Rattle.sieve_text.specs.Reading.{next_with, many_at, test_at, behind}
+use Rattle.sieve_text.proofs.Many.{GoesOn}
+use Rattle.sieve_text.proofs.parser.test_lists.+test_reader.Given as goal
+
+abbrev pub decreases-read_test : goal.decreases-read_test
+decreases-read_test l = 5 * l.depth
+
+abbrev pub decreases-next_test : goal.decreases-next_test
+decreases-next_test l = 5 * l.depth + 1
+
+abbrev pub decreases-with_others : goal.decreases-with_others
+decreases-with_others l = 5 * l.depth + 2
+
+abbrev pub decreases-test_list : goal.decreases-test_list
+decreases-test_list l = 5 * l.depth + 3
+
+abbrev pub decreases-inner_tests : goal.decreases-inner_tests
+decreases-inner_tests l = 5 * l.depth + 4
+
+abbrev pub invariant-with_others-loop-tests : goal.invariant-with_others-loop-tests
+invariant-with_others-loop-tests l = GoesOn (next_with (test_at l.depth)) (map test_of l.tests.items) (kinds l.rest) (behind (test_of l.fn.first ∷ []) (many_at (next_with (test_at l.depth)) (length (kinds l.fn.tokens)) (kinds l.fn.tokens))) × (length l.rest ≤ length l.fn.tokens)
+
+abbrev pub decreases-with_others-loop-tests : goal.decreases-with_others-loop-tests
+decreases-with_others-loop-tests l = length l.rest
