@@ -1,12 +1,16 @@
-pub mod Many
-pub mod Spelled
 pub mod Again
+pub mod CutLemmas
 pub mod Depths
-pub mod TreeLaws
+pub mod GapGrammar
 pub mod GapLemmas
+pub mod KindGrammar
 pub mod KindLemmas
+pub mod Longest
+pub mod Many
 pub mod NumberLemmas
 mod Rows
 pub mod ScanLemmas
 pub mod ScriptLaws
+pub mod Spelled
+pub mod TreeLaws
 pub mod WithinLemmas

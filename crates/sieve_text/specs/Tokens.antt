@@ -1,6 +1,5 @@
 -- The tokens of a script (RFC 5228, section 8.1): gaps and tokens in turn, each token the longest that fits.
-use Rattle.std.specs.Prelude.{◌≡◌, ℕ, suc, ◌+◌, ◌*◌, ◌<◌, ◌≤◌, ◌⊎◌, Bool, true, false, List, [], ◌∷◌, ◌++◌, length, take, drop, Option, Some, None, Result, Ok, Err, nat_lt, ◌==◌, ◌&&◌, ◌||◌, not, is_some, if◌then◌else◌}
-use Rattle.std.specs.Option.{unwrap_or}
+use Rattle.std.specs.Prelude.{◌≡◌, ℕ, suc, ◌+◌, ◌*◌, ◌<◌, ◌≤◌, ◌⊎◌, true, false, List, [], ◌∷◌, length, take, drop, Option, Some, None, Result, Ok, Err, nat_lt, ◌==◌, ◌||◌, if◌then◌else◌}
 use Rattle.std.specs.List.{prefix_len}
 use Rattle.std.specs.Char.{is_ascii_digit}
 use Rattle.std.specs.Str.{IsUtf8}
@@ -14,12 +13,11 @@ use Rattle.sieve_text.specs.declared.fault.ScanRefusal.{ScanRefusal}
 use Rattle.sieve_text.specs.declared.fault.ScanRefusal.TheVariants.{NotUtf8, NoToken, StringNotClosed, CommentNotClosed, NumberTooLarge, ScriptTooLong, StringTooLong}
 use Rattle.sieve_text.specs.declared.fault.ScanFault.{ScanFault}
 use Rattle.sieve_text.specs.declared.fault.ScanFault.TheVariants.{NoMemory, Refused}
-use Rattle.sieve_text.specs.Octets.{is_start, is_word, begins, stray_len, line_end_len}
+use Rattle.sieve_text.specs.Octets.{is_blank, is_start, is_word, begins, stray_len, line_end_len}
 use Rattle.sieve_text.specs.Gaps.{gap_len, opens_bracketed}
 use Rattle.sieve_text.specs.Strings.{quoted_len, quoted_value, begins_text, opening_end_at, lines_len, lines_value}
-use Rattle.sieve_text.specs.Octets.{is_blank}
 
--- the numbers by which refusals are told
+-- the number by which a refusal is told
 abbrev pub scan_number : ScanRefusal → ℕ
 scan_number NotUtf8 = 10
 scan_number NoToken = 11
@@ -151,3 +149,34 @@ Gives view (Err e) read = Fails e read
 abbrev pub FaultsBy : List ℕ → ScanFault → Type 0
 FaultsBy script NoMemory = Unit {0}
 FaultsBy script (Refused refusal at) = IsFaulty script refusal
+
+-- where no token is found a refusal stands at one place, and else at another
+abbrev pub either_place : ℕ → ℕ → ScanRefusal → ℕ
+either_place first octet NoToken = octet
+either_place first octet NotUtf8 = first
+either_place first octet StringNotClosed = first
+either_place first octet CommentNotClosed = first
+either_place first octet NumberTooLarge = first
+either_place first octet ScriptTooLong = first
+either_place first octet StringTooLong = first
+
+-- how many octets "text:" and the blanks behind it take, where it begins here
+abbrev pub text_len : List ℕ → ℕ
+text_len bs = if begins_text bs then 5 + prefix_len is_blank (drop 5 bs) else 0
+
+-- where the refusal stands of what begins behind the gap from an offset on: at its first octet, or where no token can
+-- be at the octet that is none, which "text:" and blanks may stand before
+abbrev pub fault_place : List ℕ → ℕ → ScanRefusal → ℕ
+fault_place script at = let start = at + gap_len 0 (drop at script) in either_place start (start + text_len (drop start script))
+
+-- the refusal stands at this place
+abbrev pub StandsAt : (ScanRefusal → ℕ) → ScanFault → Type 0
+StandsAt place NoMemory = Unit {0}
+StandsAt place (Refused refusal at) = at ≡ place refusal
+
+-- the refusal stands at the first stray octet or at the start of an unsound script, or at the first faulty place
+abbrev pub StandsIn : List ℕ → ScanFault → Type 0
+StandsIn script NoMemory = Unit {0}
+StandsIn script (Refused refusal at) =
+    (IsUnsound script refusal × (at ≡ either_place 0 (stray_len script) refusal))
+    ⊎ ((ts : List Token) × (end : ℕ) × Reads script 0 ts end × (token_at script end ≡ Err refusal) × (at ≡ fault_place script end refusal))

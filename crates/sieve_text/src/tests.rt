@@ -1,4 +1,5 @@
-//! What no contract says: that scripts have tokens where memory is ample, and where refusals stand.
+//! What no contract says: that scripts have tokens where memory is ample, and that the definitions mean what the standard
+//! and its profile say. The expected values are worked out by hand.
 
 use crate::{ScanFault, scan};
 use sieve_syntax::{Mark, Token, TokenKind};
@@ -258,6 +259,23 @@ fn longest_strings(rt: HostRuntime) -> Result<(), Fail> {
 /// The number of tokens, if a script has any.
 fn count(alloc: Global, script: &[u8]) -> Option<usize> {
     Some(scan(alloc, script).ok()?.len())
+}
+
+#[test]
+fn most_tokens(rt: HostRuntime) -> Result<(), Fail> {
+    let alloc = rt.alloc();
+    for octet in [b'(', b'[', b'{', b'a', b'1'] {
+        let script = filled(alloc, b"", octet, 262_144, b"")?;
+        let want = if octet == b'a' {
+            Some(1)
+        } else if octet == b'1' {
+            None
+        } else {
+            Some(262_144)
+        };
+        assert_eq!(rt; count(alloc, script.as_slice()), want);
+    }
+    Ok(())
 }
 
 /// Scripts of RFC 5228, as they stand there.
