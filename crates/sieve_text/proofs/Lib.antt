@@ -14,3 +14,4 @@ pub mod ScriptLaws
 pub mod Spelled
 pub mod TreeLaws
 pub mod WithinLemmas
+mod TreeRows
