@@ -20,3 +20,6 @@ pub use fields::Field;
 pub use owned::PieceHead;
 pub use pieces::{HeadFault, HeadReader, MOST_OCTETS};
 pub use reading::{Head, read_head};
+
+#[cfg(test)]
+mod tests;

@@ -5,3 +5,4 @@ pub mod QuotedLemmas
 pub mod WordLemmas
 pub mod SpellingLemmas
 pub mod ShownLemmas
+pub mod SpanLemmas

@@ -4,6 +4,7 @@ use Rattle.std.proofs.lemmas.List.{take-append-drop}
 use Rattle.std.proofs.lemmas.List.Folds.{length-prefix_len}
 use Rattle.std.specs.Prelude.{option_map, slice_index, nat_lt, ◌&&◌}
 use Rattle.std.specs.List.{list_all, prefix_len, take_while}
+use Rattle.mail_words.specs.Spans.{may_stand_behind, StandsIn}
 use Rattle.mail_words.specs.Words.{Word, spelling, IsWord, is_charset_octet, is_text_octet, is_encoding, precedes, can_follow, opens, closes, names_encoding, word_at, if_followed, followed_word_at, or_later, first_word}
 
 pub and_parts : (a b : Bool) → (a && b) ≡ true → (a ≡ true) × (b ≡ true)
@@ -86,19 +87,6 @@ word_at-spelled bs found h =
     } in
     Spelled-of bs w found.0 (drop 2 closed) found.1 spelled whole.1 whole.2
 
--- a text that a word may stand behind: one of no octets, where one may stand at the start, or one that ends with a blank
--- or "("
-abbrev pub may_stand_behind : Bool → List ℕ → Bool
-may_stand_behind start [] = start
-may_stand_behind start (b ∷ bs) = may_stand_behind (precedes b) bs
-
--- a word that stands in a text
-pub record StandsIn (start : Bool) (bs gap : List ℕ) (w : Word) (after : List ℕ) : Type 0 where
-  pub joined : bs ≡ gap ++ (spelling w ++ after)
-  pub word : IsWord w
-  pub behind : may_stand_behind start gap ≡ true
-  pub before : can_follow after ≡ true
-
 followed-spelled : (o : Option (Word × List ℕ)) (found : Word × List ℕ) → if_followed o ≡ Some found → (o ≡ Some found) × (can_follow found.1 ≡ true)
 followed-spelled None found h = absurd cc
 followed-spelled (Some w) found h = at (can_follow w.1) refl h
@@ -131,12 +119,12 @@ first_word-stands start (b ∷ bs) f h = at (step_cases start (followed_word_at 
         let front = followed-spelled (word_at (b ∷ bs)) w found in
         let spelled = word_at-spelled (b ∷ bs) w front.0 in
         let P : Found → Type 0 = λ x. StandsIn start (b ∷ bs) x.0 x.1 x.2 in
-        let here : P ([], w.0, w.1) = record { joined = spelled.joined; word = spelled.word; behind = begins; before = front.1 } in
+        let here : P ([], w.0, w.1) = record { joined = spelled.joined; word = spelled.word; begins = begins; ends = front.1 } in
         subst P (sym e) here
     at (inr (g, found, e)) more =
         let later = more g found in
         let P : Found → Type 0 = λ x. StandsIn start (b ∷ bs) x.0 x.1 x.2 in
-        let here : P (b ∷ g.0, g.1, g.2) = record { joined = ap (λ x. b ∷ x) later.joined; word = later.word; behind = later.behind; before = later.before } in
+        let here : P (b ∷ g.0, g.1, g.2) = record { joined = ap (λ x. b ∷ x) later.joined; word = later.word; begins = later.begins; ends = later.ends } in
         subst P (sym e) here
 
 -- what a search that found a word says of the text

@@ -3,3 +3,4 @@ pub mod Words
 pub mod Charsets
 pub mod Decoding
 pub mod Value
+pub mod Spans

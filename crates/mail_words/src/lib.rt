@@ -14,3 +14,6 @@ mod value;
 mod words;
 
 pub use value::value_of;
+
+#[cfg(test)]
+mod tests;

@@ -1,8 +1,9 @@
 //! The value of a field.
 
-ghost use Rattle.std.specs.Prelude.{◌≡◌, [], ◌&&◌, IfOk, if◌then◌else◌};
+ghost use Rattle.std.specs.Prelude.{◌≡◌, [], ◌&&◌, IfOk, OnOk, if◌then◌else◌};
 ghost use Rattle.std.specs.List.{list_all};
 ghost use Rattle.mail_words.specs.Unfolding.{is_blank};
+ghost use Rattle.mail_words.specs.Spans.{IsShown, StandApart};
 ghost use Rattle.mail_words.specs.Value.{words_shown, value_of_body};
 
 use crate::decoding::decode;
@@ -29,9 +30,12 @@ fn shown_gap(gap: &[u8], after_good: bool) -> &[u8]
 }
 
 /// The text with its good words replaced by what they stand for, and without the blanks that alone stand between two
-/// of them.
+/// of them. The clauses `spans` and `apart` are laws of the definitions: the words that are found are exactly those that
+/// stand in the text, and no two of them overlap.
 fn show_words(alloc: Global, text: &[u8]) -> Result<Vec<u8>, AllocError>
-    ensures { IfOk result (λ v. v.items ≡ words_shown text.now) }
+    ensures value { IfOk result (λ v. v.items ≡ words_shown text.now) }
+    ensures spans { IfOk result (λ v. IsShown text.now v.items) }
+    ensures apart { OnOk result (StandApart text.now) }
 {
     let mut shown = Vec::new(alloc);
     let mut after_good = false;

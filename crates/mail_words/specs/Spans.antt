@@ -1,0 +1,37 @@
+-- A text and what is shown of it, said by the spans of its words (RFC 2047, sections 2, 5 and 6.2): which words stand in
+-- the text, that it is cut at all of them and nowhere else, and what is shown of such a cut.
+use Rattle.std.specs.Prelude.{◌≡◌, ℕ, Bool, true, List, [], ◌∷◌, ◌++◌}
+use Rattle.mail_words.specs.Words.{Word, spelling, IsWord, precedes, can_follow}
+use Rattle.mail_words.specs.Value.{Cut, shown_cut}
+
+-- a word may stand behind these octets: there are none, where one may stand at the start, or the last of them is a blank
+-- or "("
+abbrev pub may_stand_behind : Bool → List ℕ → Bool
+may_stand_behind start [] = start
+may_stand_behind start (b ∷ bs) = may_stand_behind (precedes b) bs
+
+-- a word stands in a text, between what is before it and what is behind it
+pub record StandsIn (start : Bool) (text before : List ℕ) (w : Word) (after : List ℕ) : Type 0 where
+  pub joined : text ≡ before ++ (spelling w ++ after)
+  pub word : IsWord w
+  pub begins : may_stand_behind start before ≡ true
+  pub ends : can_follow after ≡ true
+
+-- gaps and words, written one after another, and what stands behind them
+abbrev pub written : List (List ℕ × Word) → List ℕ → List ℕ
+written [] last = last
+written (part ∷ parts) last = part.0 ++ (spelling part.1 ++ written parts last)
+
+-- a cut is a text's: it is the text, each of its words stands there, and each word that stands there is one of its words
+pub record IsCutOf (text : List ℕ) (cut : Cut) : Type 0 where
+  pub whole : text ≡ written cut.0 cut.1
+  pub words : (front : List (List ℕ × Word)) (part : List ℕ × Word) (back : List (List ℕ × Word)) → cut.0 ≡ front ++ part ∷ back → StandsIn true text (written front part.0) part.1 (written back cut.1)
+  pub all : (before : List ℕ) (w : Word) (after : List ℕ) → StandsIn true text before w after → (front : List (List ℕ × Word)) × (gap : List ℕ) × (back : List (List ℕ × Word)) × (cut.0 ≡ front ++ (gap, w) ∷ back) × (before ≡ written front gap)
+
+-- what is shown of a text
+abbrev pub IsShown : List ℕ → List ℕ → Type 0
+IsShown text value = (cut : Cut) × IsCutOf text cut × (value ≡ shown_cut cut)
+
+-- two words that stand in a text never overlap: the second begins behind the end of the first
+abbrev pub StandApart : List ℕ → Type 0
+StandApart text = (before : List ℕ) (w : Word) (after : List ℕ) (b : ℕ) (more : List ℕ) (u : Word) (rest : List ℕ) → StandsIn true text before w after → StandsIn true text (before ++ b ∷ more) u rest → (gap : List ℕ) × (b ∷ more ≡ spelling w ++ gap)
