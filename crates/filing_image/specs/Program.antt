@@ -1,0 +1,53 @@
+-- What an image says: a filing program, and the same as it is written.
+use Rattle.std.specs.Prelude.{ℕ, List, map}
+use Rattle.filing_image.specs.declared.instruction.Instruction.{Instruction}
+use Rattle.filing_image.specs.declared.instruction.Operation.{Operation}
+use Rattle.filing_image.specs.declared.instruction.Operation.TheVariants.{PushTrue, PushFalse, Not, Values, Join, Match, Pop, Exists, Size, Number, Less, Jump, JumpIf, JumpUnless, Marked, Mark, File, Keep, Discard, Stop, Fault}
+
+-- the number of an operation and its operands, 0 where it has none
+abbrev pub written : ℕ → ℕ → ℕ → Instruction
+written op a b = record { op = op; a = a; b = b }
+
+-- how each operation is written
+abbrev pub instruction_of : Operation → Instruction
+instruction_of PushTrue = written 1 0 0
+instruction_of PushFalse = written 2 0 0
+instruction_of Not = written 3 0 0
+instruction_of (Values b) = written 4 0 b
+instruction_of Join = written 5 0 0
+instruction_of (Match a b) = written 6 a b
+instruction_of Pop = written 7 0 0
+instruction_of (Exists b) = written 8 0 b
+instruction_of Size = written 9 0 0
+instruction_of (Number b) = written 10 0 b
+instruction_of Less = written 11 0 0
+instruction_of (Jump b) = written 12 0 b
+instruction_of (JumpIf b) = written 13 0 b
+instruction_of (JumpUnless b) = written 14 0 b
+instruction_of (Marked b) = written 15 0 b
+instruction_of (Mark b) = written 16 0 b
+instruction_of (File a b) = written 17 a b
+instruction_of Keep = written 18 0 0
+instruction_of Discard = written 19 0 0
+instruction_of Stop = written 20 0 0
+instruction_of (Fault a) = written 21 a 0
+
+-- a filing program: its budget of steps, the texts and numbers that its operations name, how many slots it
+-- has for marks, and its code
+pub record Program : Type 0 where
+  pub budget : ℕ
+  pub texts : List (List ℕ)
+  pub numbers : List ℕ
+  pub slots : ℕ
+  pub code : List Operation
+
+-- the same with its code as it is written
+pub record Parts : Type 0 where
+  pub budget : ℕ
+  pub texts : List (List ℕ)
+  pub numbers : List ℕ
+  pub slots : ℕ
+  pub instructions : List Instruction
+
+abbrev pub parts : Program → Parts
+parts p = record { budget = p.budget; texts = p.texts; numbers = p.numbers; slots = p.slots; instructions = map instruction_of p.code }

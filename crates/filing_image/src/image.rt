@@ -1,0 +1,124 @@
+//! An image: the parts of a filing program, of which the format has a spelling.
+
+ghost use Rattle.std.specs.Prelude.{◌≡◌, ◌<◌, ◌^◌, length, map, All, slice_get, IfOk, Err, Some, IsTrue, ◌↔◌};
+ghost use Rattle.filing_image.specs.Program.{Program, Parts, parts, instruction_of};
+ghost use Rattle.filing_image.specs.Spelling.{IsShort, IsProgram, FitsInstruction};
+
+use crate::fault::FormFault;
+use crate::instruction::{Instruction, Operation};
+use std::alloc::Global;
+use std::marker::Model;
+
+/// A filing program, as contracts see it: its budget in steps, its texts, numbers and slots, and its code.
+#[derive(Debug, Drop)]
+pub struct Image {
+    budget: u32,
+    texts: Vec<Vec<u8>>,
+    numbers: Vec<u64>,
+    slots: u16,
+    code: Vec<Operation>,
+}
+
+impl Model for Image {
+    ghost Value = { Program };
+
+    ghost view = { λ i. record { budget = i.budget; texts = map (λ t. t.items) i.texts.items; numbers = i.numbers.items; slots = i.slots; code = i.code.items } };
+
+    ghost invariant = { λ i. (length i.texts.items < 2 ^ 16) × (length i.numbers.items < 2 ^ 16) × (length i.code.items < 2 ^ 16) × All (λ t. length t.items < 2 ^ 16) i.texts.items × All (λ n. n < 2 ^ 64) i.numbers.items × All FitsInstruction (map instruction_of i.code.items) };
+}
+
+impl Image {
+    /// The image of these parts. `BadForm`, 60, exactly where the format has no spelling of them: more than 65,535
+    /// texts, numbers or instructions, a text of more than 65,535 octets, an instruction whose number is none of 1
+    /// to 21, or a non-zero operand that its operation does not have.
+    pub fn new(
+        alloc: Global,
+        budget: u32,
+        texts: Vec<Vec<u8>>,
+        numbers: Vec<u64>,
+        slots: u16,
+        instructions: Vec<Instruction>,
+    ) -> Result<Image, FormFault>
+        ensures made { IfOk result (λ i. parts i ≡ record { budget = budget; texts = map (λ t. t.items) texts.items; numbers = numbers.items; slots = slots; instructions = instructions.items }) }
+        ensures refused { let given : Parts = record { budget = budget; texts = map (λ t. t.items) texts.items; numbers = numbers.items; slots = slots; instructions = instructions.items } in
+            result ≡ Err FormFault.BadForm → IsShort given → IsProgram given → ⊥ }
+    {
+        if texts.len() > 65_535 || numbers.len() > 65_535 || instructions.len() > 65_535 {
+            return Err(FormFault::BadForm);
+        }
+        if !are_short(&texts) {
+            return Err(FormFault::BadForm);
+        }
+        let code = operations(alloc, &instructions)?;
+        Ok(Image { budget, texts, numbers, slots, code })
+    }
+
+    /// The budget that the image declares, in steps.
+    pub fn budget(&self) -> u32
+        ensures { result ≡ self.now.budget }
+    {
+        self.budget
+    }
+
+    /// The code: place 0 first.
+    pub fn code(&self) -> &[Operation]
+        ensures value { result.now ≡ self.now.code }
+        ensures short { length result.now < 2 ^ 16 }
+    {
+        &self.code
+    }
+
+    /// The numbers that operations name by their places.
+    pub fn numbers(&self) -> &[u64]
+        ensures value { result.now ≡ self.now.numbers }
+        ensures short { length result.now < 2 ^ 16 }
+    {
+        &self.numbers
+    }
+
+    /// How many slots there are for marks.
+    pub fn slots(&self) -> u16
+        ensures { result ≡ self.now.slots }
+    {
+        self.slots
+    }
+
+    /// How many texts there are.
+    pub fn text_count(&self) -> usize
+        ensures value { result ≡ length self.now.texts }
+        ensures short { result < 2 ^ 16 }
+    {
+        self.texts.len()
+    }
+
+    /// The octets of the text at a place among the texts.
+    pub fn text(&self, place: usize) -> &[u8]
+        requires { place < length self.now.texts }
+        ensures value { slice_get self.now.texts place ≡ Some result.now }
+        ensures short { length result.now < 2 ^ 16 }
+    {
+        &self.texts[place]
+    }
+}
+
+fn are_short(texts: &[Vec<u8>]) -> bool
+    ensures { IsTrue result ↔ All (λ t. length t.items < 2 ^ 16) texts.now }
+{
+    texts.iter().all(|text| text.len() <= 65_535)
+}
+
+/// The operations that the instructions write, where each writes one.
+fn operations(alloc: Global, instructions: &[Instruction]) -> Result<Vec<Operation>, FormFault>
+    ensures made { IfOk result (λ v. map instruction_of v.items ≡ instructions.now) }
+    ensures fits { IfOk result (λ v. All FitsInstruction (map instruction_of v.items)) }
+    ensures refused { result ≡ Err FormFault.BadForm → (code : _) → map instruction_of code ≡ instructions.now → ⊥ }
+{
+    let mut code = Vec::new(alloc);
+    for instruction in instructions {
+        let Some(operation) = Operation::of(*instruction) else {
+            return Err(FormFault::BadForm);
+        };
+        code.push(operation)?;
+    }
+    Ok(code)
+}

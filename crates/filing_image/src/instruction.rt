@@ -1,0 +1,131 @@
+//! Instructions as they are written, and the operations that they write.
+
+ghost use Rattle.std.specs.Prelude.{◌≡◌, ◌≢◌, IfSome, IfNone};
+ghost use Rattle.filing_image.specs.Program.{instruction_of};
+ghost use Rattle.filing_image.specs.Spelling.{FitsInstruction};
+
+/// An instruction as it is written in four octets: the operation's number, 1 to 21, and two operands, each 0 where the
+/// operation has none.
+#[derive(Clone, Copy, Debug, PartialEq, Eq)]
+pub struct Instruction {
+    pub op: u8,
+    pub a: u8,
+    pub b: u16,
+}
+
+/// What an instruction does, with the operands that it has. T stands for a truth on the stack, L for a list of texts,
+/// N for a number; the topmost entry stands last. Each executed operation is one step.
+#[derive(Clone, Copy, Debug, PartialEq, Eq)]
+pub enum Operation {
+    /// 1: pushes T, true.
+    PushTrue,
+    /// 2: pushes T, false.
+    PushFalse,
+    /// 3: T becomes its opposite.
+    Not,
+    /// 4: pushes L, the values of the fields that the text names, in order.
+    Values(u16),
+    /// 5: L L become one L, the first pushed first.
+    Join,
+    /// 6: L stays, and T is pushed: whether some value of L matches the text as key. The first operand is 0 for `:is`,
+    /// 2 for `:contains`, 4 for `:matches` under `i;octet`, and one more for the same under `i;ascii-casemap`.
+    Match(u8, u16),
+    /// 7: pops one entry of any kind.
+    Pop,
+    /// 8: pushes T: whether a field that the text names is there.
+    Exists(u16),
+    /// 9: pushes N, the message's octets.
+    Size,
+    /// 10: pushes N, a number of the program.
+    Number(u16),
+    /// 11: N N become T: whether the first pushed is less.
+    Less,
+    /// 12: goes to a place.
+    Jump(u16),
+    /// 13: pops T and goes to a place if it is true.
+    JumpIf(u16),
+    /// 14: pops T and goes to a place if it is false.
+    JumpUnless(u16),
+    /// 15: pushes T: whether a slot is set.
+    Marked(u16),
+    /// 16: sets a slot.
+    Mark(u16),
+    /// 17: files into the class whose path is the text, where that is open, and ends with fault 1 where it is not. The
+    /// first operand is 0, and the implicit keep is cancelled, or 1 for a copy.
+    File(u8, u16),
+    /// 18: keeps the message.
+    Keep,
+    /// 19: cancels the implicit keep.
+    Discard,
+    /// 20: ends the run.
+    Stop,
+    /// 21: ends the run with a fault, 2 to 5.
+    Fault(u8),
+}
+
+impl Operation {
+    /// The operation that an instruction writes, or none where its number is none of 1 to 21, or an operand that the
+    /// operation does not have is not 0.
+    pub fn of(instruction: Instruction) -> Option<Operation>
+        ensures found { IfSome result (λ o. instruction_of o ≡ instruction) }
+        ensures fits { IfSome result (λ o. FitsInstruction (instruction_of o)) }
+        ensures none { IfNone result ((o : _) → instruction_of o ≢ instruction) }
+    {
+        let Instruction { op, a, b } = instruction;
+        let found = match (op, a, b) {
+            (1, 0, 0) => Operation::PushTrue,
+            (2, 0, 0) => Operation::PushFalse,
+            (3, 0, 0) => Operation::Not,
+            (4, 0, b) => Operation::Values(b),
+            (5, 0, 0) => Operation::Join,
+            (6, a, b) => Operation::Match(a, b),
+            (7, 0, 0) => Operation::Pop,
+            (8, 0, b) => Operation::Exists(b),
+            (9, 0, 0) => Operation::Size,
+            (10, 0, b) => Operation::Number(b),
+            (11, 0, 0) => Operation::Less,
+            (12, 0, b) => Operation::Jump(b),
+            (13, 0, b) => Operation::JumpIf(b),
+            (14, 0, b) => Operation::JumpUnless(b),
+            (15, 0, b) => Operation::Marked(b),
+            (16, 0, b) => Operation::Mark(b),
+            (17, a, b) => Operation::File(a, b),
+            (18, 0, 0) => Operation::Keep,
+            (19, 0, 0) => Operation::Discard,
+            (20, 0, 0) => Operation::Stop,
+            (21, a, 0) => Operation::Fault(a),
+            _ => return None,
+        };
+        Some(found)
+    }
+
+    /// The one way to write an operation.
+    pub fn instruction(self) -> Instruction
+        ensures { result ≡ instruction_of self }
+    {
+        let (op, a, b) = match self {
+            Operation::PushTrue => (1, 0, 0),
+            Operation::PushFalse => (2, 0, 0),
+            Operation::Not => (3, 0, 0),
+            Operation::Values(b) => (4, 0, b),
+            Operation::Join => (5, 0, 0),
+            Operation::Match(a, b) => (6, a, b),
+            Operation::Pop => (7, 0, 0),
+            Operation::Exists(b) => (8, 0, b),
+            Operation::Size => (9, 0, 0),
+            Operation::Number(b) => (10, 0, b),
+            Operation::Less => (11, 0, 0),
+            Operation::Jump(b) => (12, 0, b),
+            Operation::JumpIf(b) => (13, 0, b),
+            Operation::JumpUnless(b) => (14, 0, b),
+            Operation::Marked(b) => (15, 0, b),
+            Operation::Mark(b) => (16, 0, b),
+            Operation::File(a, b) => (17, a, b),
+            Operation::Keep => (18, 0, 0),
+            Operation::Discard => (19, 0, 0),
+            Operation::Stop => (20, 0, 0),
+            Operation::Fault(a) => (21, a, 0),
+        };
+        Instruction { op, a, b }
+    }
+}

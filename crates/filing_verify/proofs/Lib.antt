@@ -1,0 +1,4 @@
+pub mod Marking
+pub mod Tables
+pub mod Longest
+pub mod Leading

@@ -1,0 +1,83 @@
+-- What the passes over the code keep: the tables of the proof, of which no statement of the verifier speaks.
+use Rattle.std.specs.Prelude.{◌≡◌, ◌≢◌, ℕ, ◌+◌, ◌<◌, ◌≤◌, ◌⊎◌, List, [], length, Bool, true, false, Option, Some, None, slice_get, slice_set, slice_index_or, max, ◌↔◌}
+use Rattle.filing_image.specs.Program.{Program}
+use Rattle.filing_image.specs.declared.instruction.Operation.{Operation}
+use Rattle.filing_verify.specs.declared.kind.Kind.{Kind}
+use Rattle.filing_verify.specs.Flow.{target, goes_on, Follows, Leads, Reached}
+use Rattle.filing_verify.specs.Shapes.{after, IsAssignment}
+
+abbrev pub IsMarked : List Bool → ℕ → Type 0
+IsMarked ms p = slice_get ms p ≡ Some true
+
+-- each place has a mark, which is set where the place is reached
+abbrev pub MarksReached : Program → List Bool → Type 0
+MarksReached program ms = (length ms ≡ length program.code) × ((p : ℕ) → p < length program.code → (IsMarked ms p ↔ Reached program p))
+
+-- the marks with that of the place that a jump names
+abbrev pub with_target : Option ℕ → List Bool → List Bool
+with_target None ms = ms
+with_target (Some q) ms = slice_set ms q true
+
+abbrev pub with_next : Bool → ℕ → List Bool → List Bool
+with_next true p ms = slice_set ms (p + 1) true
+with_next false p ms = ms
+
+-- the marks when the places before i have passed theirs on
+pub record Marks (program : Program) (i : ℕ) (ms : List Bool) : Type 0 where
+  pub long : length ms ≡ length program.code
+  pub first : 0 < length program.code → IsMarked ms 0
+  pub sound : (p : ℕ) → IsMarked ms p → Reached program p
+  pub closed : (p q : ℕ) → p < i → IsMarked ms p → Leads program p q → q < length program.code → IsMarked ms q
+  pub forward : (p q : ℕ) (o : Operation) → p < i → IsMarked ms p → slice_get program.code p ≡ Some o → target o ≡ Some q → p < q
+
+-- the shape that a table has at a place
+abbrev pub Has : List (Option (List Kind)) → ℕ → List Kind → Type 0
+Has table p ks = slice_get table p ≡ Some (Some ks)
+
+-- the successors that the operation at place p has in any program
+abbrev pub FollowsBy : Operation → ℕ → ℕ → Type 0
+FollowsBy o p q = ((goes_on o ≡ true) × (q ≡ p + 1)) ⊎ (target o ≡ Some q)
+
+-- The places At, and no others, have got this shape, where they are places of the table.
+pub record Takes (old : List (Option (List Kind))) (At : ℕ → Type 0) (r : List Kind) (new : List (Option (List Kind))) : Type 0 where
+  pub long : length new ≡ length old
+  pub offered : (q : ℕ) → At q → q < length old → Has new q r
+  pub kept : (p : ℕ) (ks : List Kind) → Has old p ks → Has new p ks
+  pub only : (p : ℕ) (ks : List Kind) → Has new p ks → Has old p ks ⊎ (At p × (ks ≡ r))
+
+-- One of the places At has another shape.
+pub record Clashes (old : List (Option (List Kind))) (At : ℕ → Type 0) (r : List Kind) : Type 0 where
+  pub place : ℕ
+  pub named : At place
+  pub other : List Kind
+  pub there : Has old place other
+  pub differs : other ≢ r
+
+-- the table when the places before i have passed theirs on
+pub record Shaping (program : Program) (i : ℕ) (table : List (Option (List Kind))) : Type 0 where
+  pub long : length table ≡ length program.code
+  pub first : 0 < length program.code → Has table 0 []
+  pub reached : (p : ℕ) (ks : List Kind) → Has table p ks → Reached program p
+  pub shallow : (p : ℕ) (ks : List Kind) → Has table p ks → length ks ≤ 32
+  pub forced : (p : ℕ) (ks : List Kind) → Has table p ks → (shape : ℕ → List Kind) → IsAssignment program shape → shape p ≡ ks
+  pub passed : (p : ℕ) (ks : List Kind) (o : Operation) → p < i → Has table p ks → slice_get program.code p ≡ Some o → (r : List Kind) × (after o ks ≡ Some r) × (length r ≤ 32) × ((q : ℕ) → Follows program o p q → q < length program.code → Has table q r)
+
+-- the most places on a path from place i on, where the places after i have theirs, and places past the end have 0
+abbrev pub by_target : Option ℕ → List ℕ → ℕ
+by_target None costs = 0
+by_target (Some q) costs = slice_index_or costs q 0
+
+abbrev pub by_next : Bool → ℕ → List ℕ → ℕ
+by_next true p costs = slice_index_or costs (p + 1) 0
+by_next false p costs = 0
+
+abbrev pub cost_at : Operation → ℕ → List ℕ → ℕ
+cost_at o p costs = 1 + max (by_next (goes_on o) p costs) (by_target (target o) costs)
+
+-- the places from i on have the most places on a path from them, where they are reached
+pub record Costs (program : Program) (i : ℕ) (costs : List ℕ) : Type 0 where
+  pub long : length costs ≡ length program.code
+  pub small : (p : ℕ) → p < length program.code → slice_index_or costs p 0 + p ≤ length program.code
+  pub some : (p : ℕ) → i ≤ p → p < length program.code → Reached program p → 1 ≤ slice_index_or costs p 0
+  pub upper : (p q : ℕ) → i ≤ p → Reached program p → Leads program p q → q < length program.code → slice_index_or costs q 0 + 1 ≤ slice_index_or costs p 0
+  pub attained : (p : ℕ) → i ≤ p → p < length program.code → Reached program p → (slice_index_or costs p 0 ≡ 1) ⊎ ((q : ℕ) × (q < length program.code) × Leads program p q × (slice_index_or costs q 0 + 1 ≡ slice_index_or costs p 0))

@@ -1,0 +1,63 @@
+//! The longest path.
+
+ghost use Rattle.std.specs.Prelude.{◌≡◌, ◌<◌, ◌≤◌, ◌+◌, ℕ, IfOk, length, slice_index_or};
+ghost use Rattle.filing_verify.specs.Flow.{Path, target, goes_on};
+ghost use Rattle.filing_verify.specs.Well.{GoesForward};
+ghost use Rattle.filing_verify.specs.Passes.{MarksReached, Costs, cost_at, by_next, by_target};
+
+use crate::flow::{goes_on, operation_at, place_count, target};
+use filing_image::{Image, Operation};
+use std::alloc::{AllocError, Global};
+
+/// The most places on a path of successors from place 0.
+pub fn longest(alloc: Global, image: &Image, marks: &[bool]) -> Result<usize, AllocError>
+    requires forward { GoesForward image.now }
+    requires marks { MarksReached image.now marks.now }
+    requires some { 0 < length image.now.code }
+    ensures most { IfOk result (λ c. (n q : ℕ) → Path image.now n q → q < length image.now.code → n + 1 ≤ c) }
+    ensures attained { IfOk result (λ c. (n q : ℕ) × Path image.now n q × (q < length image.now.code) × (n + 1 ≡ c)) }
+{
+    let mut costs = Vec::new(alloc);
+    costs.resize(place_count(image), 0usize)?;
+    for place in (0..place_count(image)).rev() {
+        set_cost(image, marks, &mut costs, place);
+    }
+    Ok(costs[0])
+}
+
+fn set_cost(image: &Image, marks: &[bool], costs: &mut [usize], place: usize)
+    requires within { place < length image.now.code }
+    requires forward { GoesForward image.now }
+    requires marks { MarksReached image.now marks.now }
+    requires so_far { Costs image.now (place + 1) costs.old }
+    ensures { Costs image.now place costs.new }
+{
+    if marks[place] {
+        costs[place] = cost(operation_at(image, place), place, costs);
+    }
+}
+
+fn cost(operation: Operation, place: usize, costs: &[usize]) -> usize
+    requires small { (p : ℕ) → p < length costs.now → slice_index_or costs.now p 0 + p ≤ length costs.now }
+    requires within { place < length costs.now }
+    ensures { result ≡ cost_at operation place costs.now }
+{
+    let next = if goes_on(operation) {
+        at(costs, place + 1)
+    } else {
+        0
+    };
+    let jump = match target(operation) {
+        Some(to) => at(costs, to),
+        None => 0,
+    };
+    next.max(jump) + 1
+}
+
+fn at(costs: &[usize], place: usize) -> usize
+    requires { (p : ℕ) → p < length costs.now → slice_index_or costs.now p 0 + p ≤ length costs.now }
+    ensures is { result ≡ slice_index_or costs.now place 0 }
+    ensures small { result ≤ length costs.now }
+{
+    if place < costs.len() { costs[place] } else { 0 }
+}

@@ -1,0 +1,121 @@
+//! Which shape the stack has at each place.
+
+ghost use Rattle.std.specs.Prelude.{◌≡◌, ◌<◌, ◌+◌, IfOk, true, false, Some, length};
+ghost use Rattle.filing_verify.specs.Flow.{target, goes_on};
+ghost use Rattle.filing_verify.specs.Shapes.{HasShapes};
+ghost use Rattle.filing_verify.specs.Well.{GoesForward};
+ghost use Rattle.filing_verify.specs.Passes.{FollowsBy, Takes, Clashes, Shaping};
+
+use crate::effect::apply;
+use crate::flow::{goes_on, operation_at, place_count, target};
+use crate::shape::Shape;
+use filing_image::{Image, Operation};
+use std::alloc::{AllocError, Global};
+
+/// Whether there are shapes for the places that are reached.
+pub fn has_shapes(alloc: Global, image: &Image) -> Result<bool, AllocError>
+    requires { GoesForward image.now }
+    ensures yes { IfOk result (λ yes. yes ≡ true → HasShapes image.now) }
+    ensures no { IfOk result (λ yes. yes ≡ false → HasShapes image.now → ⊥) }
+{
+    let mut table = Vec::new(alloc);
+    for _ in 0..place_count(image) {
+        table.push(None)?;
+    }
+    offer(alloc, &mut table, 0, &Shape::new(alloc))?;
+    for place in 0..place_count(image) {
+        if !pass_on(alloc, image, &mut table, place)? {
+            return Ok(false);
+        }
+    }
+    Ok(true)
+}
+
+/// Passes the shape of a place, after its operation, on to its successors.
+fn pass_on(
+    alloc: Global,
+    image: &Image,
+    table: &mut [Option<Shape>],
+    place: usize,
+) -> Result<bool, AllocError>
+    requires within { place < length image.now.code }
+    requires forward { GoesForward image.now }
+    requires so_far { Shaping image.now place table.old }
+    ensures passed { IfOk result (λ yes. yes ≡ true → Shaping image.now (place + 1) table.new) }
+    ensures refused { IfOk result (λ yes. yes ≡ false → HasShapes image.now → ⊥) }
+{
+    let Some(shape) = &table[place] else {
+        return Ok(true);
+    };
+    let mut shape = shape.copy(alloc)?;
+    let operation = operation_at(image, place);
+    if !apply(operation, &mut shape)? {
+        return Ok(false);
+    }
+    if shape.depth() > 32 {
+        return Ok(false);
+    }
+    offer_successors(alloc, operation, table, place, &shape)
+}
+
+fn offer_successors(
+    alloc: Global,
+    operation: Operation,
+    table: &mut [Option<Shape>],
+    place: usize,
+    shape: &Shape,
+) -> Result<bool, AllocError>
+    requires { place < length table.old }
+    ensures taken { IfOk result (λ yes. yes ≡ true → Takes table.old (FollowsBy operation place) shape.now table.new) }
+    ensures refused { IfOk result (λ yes. yes ≡ false → Clashes table.old (FollowsBy operation place) shape.now) }
+{
+    match target(operation) {
+        None => offer_next(alloc, operation, table, place, shape),
+        Some(to) => {
+            if !offer(alloc, table, to, shape)? {
+                return Ok(false);
+            }
+            offer_next(alloc, operation, table, place, shape)
+        }
+    }
+}
+
+fn offer_next(
+    alloc: Global,
+    operation: Operation,
+    table: &mut [Option<Shape>],
+    place: usize,
+    shape: &Shape,
+) -> Result<bool, AllocError>
+    requires { place < length table.old }
+    ensures taken { IfOk result (λ yes. yes ≡ true → Takes table.old (λ q. (goes_on operation ≡ true) × (q ≡ place + 1)) shape.now table.new) }
+    ensures refused { IfOk result (λ yes. yes ≡ false → Clashes table.old (λ q. (goes_on operation ≡ true) × (q ≡ place + 1)) shape.now) }
+{
+    if !goes_on(operation) {
+        return Ok(true);
+    }
+    offer(alloc, table, place + 1, shape)
+}
+
+/// Gives a place this shape, unless it has another.
+fn offer(
+    alloc: Global,
+    table: &mut [Option<Shape>],
+    at: usize,
+    shape: &Shape,
+) -> Result<bool, AllocError>
+    ensures taken { IfOk result (λ yes. yes ≡ true → Takes table.old (λ q. q ≡ at) shape.now table.new) }
+    ensures refused { IfOk result (λ yes. yes ≡ false → Clashes table.old (λ q. q ≡ at) shape.now) }
+{
+    if at >= table.len() {
+        return Ok(true);
+    }
+    match &table[at] {
+        Some(other) => Ok(other.is(shape)),
+        None => {
+            let copy = shape.copy(alloc)?;
+            table[at] = Some(copy);
+            Ok(true)
+        }
+    }
+}
