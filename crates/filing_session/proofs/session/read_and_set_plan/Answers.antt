@@ -14,5 +14,5 @@ returns-clause-said g c = λ t.
     let s = subst P c.in-Some.is (c.in_ok-text.ensures.octets t) in (
       Call (set_plan (take c.args.text old)),
       one_read c.args.text set_plan old new s.0 s.1,
-      c.set_plan.ensures (take c.args.text old) s.2,
+      c.set_plan-reply.ensures (take c.args.text old) s.2,
     )
