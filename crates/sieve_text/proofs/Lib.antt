@@ -3,8 +3,10 @@ pub mod Spelled
 pub mod Again
 pub mod Depths
 pub mod TreeLaws
+pub mod ScriptLaws
 pub mod GapLemmas
+pub mod KindLemmas
 pub mod NumberLemmas
 mod Rows
 pub mod ScanLemmas
-pub mod ScriptLaws
+pub mod WithinLemmas

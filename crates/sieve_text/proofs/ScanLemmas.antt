@@ -1,8 +1,13 @@
 -- Tokens one after another, and the one verdict on a script.
-use Rattle.std.proofs.Common.{◌≡◌, ℕ, List, [], ◌∷◌, ◌++◌, length, Option, Some, None, Result, Ok, Err, refl, sym, ap, ◌∙◌, ◌<◌, arith, inl, inr, ◌⊎◌}
+use Rattle.std.proofs.Common.{◌≡◌, ℕ, zero, suc, ◌+◌, ◌≤◌, true, false, List, [], ◌∷◌, ◌++◌, length, Option, Some, None, Result, Ok, Err, refl, sym, ap, ◌∙◌, ◌<◌, arith, inl, inr, ◌⊎◌}
 use Rattle.sieve_syntax.specs.declared.token.Token.{Token}
 use Rattle.sieve_text.specs.declared.fault.ScanRefusal.{ScanRefusal}
 use Rattle.sieve_text.specs.declared.fault.ScanRefusal.TheVariants.{NotUtf8, NoToken, StringNotClosed, CommentNotClosed, NumberTooLarge, ScriptTooLong, StringTooLong}
+use Rattle.std.specs.Str.{is_utf8}
+use Rattle.std.proofs.lemmas.Str.{is_utf8-from_IsUtf8, IsUtf8-from_is_utf8}
+use Rattle.std.proofs.lemmas.Bool.{cases_Bool, cases_lt, both_ways}
+use Rattle.sieve_text.specs.Octets.{stray_len, is_stray}
+use Rattle.sieve_text.proofs.WithinLemmas.{token_within}
 use Rattle.sieve_text.specs.Tokens.{token_at, Reads, IsSound, IsUnsound, IsScan, IsFirstFault, IsFaulty}
 
 pub Reads_push : (script : List ℕ) (at : ℕ) (ts : List Token) (t : Token) (end : ℕ) → Reads script at ts end → token_at script end ≡ Ok (Some t) → Reads script at (ts ++ t ∷ []) t.end
@@ -100,3 +105,47 @@ one_fault script a b (inl h) (inl k) = unsound_once script a b h k
 one_fault script a b (inl h) (inr k) = absurd (sound_once script a k.0 h)
 one_fault script a b (inr h) (inl k) = absurd (sound_once script b h.0 k)
 one_fault script a b (inr h) (inr k) = first_once script a b h.1 k.1
+
+-- from an offset on there are tokens to the end or to a fault
+abbrev Verdict : List ℕ → ℕ → Type 0
+Verdict script at = ((ts : List Token) × (end : ℕ) × Reads script at ts end × (token_at script end ≡ Ok None)) ⊎ ((refusal : ScanRefusal) × (ts : List Token) × (end : ℕ) × Reads script at ts end × (token_at script end ≡ Err refusal))
+
+behind_one : (script : List ℕ) (at : ℕ) (t : Token) → token_at script at ≡ Ok (Some t) → Verdict script t.end → Verdict script at
+behind_one script at t e (inl h) = inl (t ∷ h.0, h.1, (e, h.2), h.3)
+behind_one script at t e (inr h) = inr (h.0, t ∷ h.1, h.2, (e, h.3), h.4)
+
+verdict_at : (script : List ℕ) (at : ℕ) (answer : Result (Option Token) ScanRefusal) → token_at script at ≡ answer → ((t : Token) → token_at script at ≡ Ok (Some t) → Verdict script t.end) → Verdict script at
+verdict_at script at (Ok None) e behind = inl ([], at, refl, e)
+verdict_at script at (Ok (Some t)) e behind = behind_one script at t e (behind t e)
+verdict_at script at (Err refusal) e behind = inr (refusal, [], at, refl, e)
+
+verdict_from : (turns : ℕ) (script : List ℕ) (at : ℕ) → at ≤ length script → length script < at + turns → Verdict script at
+verdict_from zero script at within enough = absurd (omega arith)
+verdict_from (suc turns) script at within enough = verdict_at script at (token_at script at) refl (λ (t : Token) (e : token_at script at ≡ Ok (Some t)).
+    let w = token_within script at t within e in
+    verdict_from turns script t.end (omega arith) (omega arith))
+
+stray_within : (bs : List ℕ) → stray_len bs ≤ length bs
+unfolding stray_len
+stray_within [] = omega arith
+stray_within (b ∷ bs) = elim (cases_Bool (is_stray b bs)) [
+  | inl h ↦ rw h (omega arith)
+  | inr h ↦ (let r = stray_within bs in rw h (omega arith))
+]
+
+sound_verdict : (script : List ℕ) → IsSound script → Verdict script 0 → ((ts : List Token) × IsScan script ts) ⊎ ((refusal : ScanRefusal) × IsFaulty script refusal)
+sound_verdict script sound (inl h) = inl (h.0, (sound, (h.1, h.2, h.3)))
+sound_verdict script sound (inr h) = inr (h.0, inr (sound, (h.1, h.2, h.3, h.4)))
+
+-- a script has tokens or a refusal
+pub some_verdict : (script : List ℕ) → ((ts : List Token) × IsScan script ts) ⊎ ((refusal : ScanRefusal) × IsFaulty script refusal)
+some_verdict script = elim (cases_lt 262144 (length script)) [
+  | inl long ↦ inr (ScriptTooLong, inl long)
+  | inr short ↦ elim (cases_Bool (is_utf8 script)) [
+    | inr bad ↦ inr (NotUtf8, inl (short, λ utf8. both_ways (is_utf8 script) bad (is_utf8-from_IsUtf8 script utf8)))
+    | inl good ↦ elim (cases_lt (stray_len script) (length script)) [
+      | inl stray ↦ inr (NoToken, inl (short, IsUtf8-from_is_utf8 script good, stray))
+      | inr none ↦ (let w = stray_within script in sound_verdict script (short, IsUtf8-from_is_utf8 script good, omega arith) (verdict_from (suc (length script)) script 0 (omega arith) (omega arith)))
+    ]
+  ]
+]

@@ -1,6 +1,6 @@
 //! Laws of the tokens of a script. The functions have no code: their contracts are the laws.
 
-ghost use Rattle.std.specs.Prelude.{◌≡◌, ℕ, List};
+ghost use Rattle.std.specs.Prelude.{◌≡◌, ◌⊎◌, ℕ, List};
 ghost use Rattle.sieve_syntax.specs.declared.token.Token.{Token};
 ghost use Rattle.sieve_text.specs.declared.fault.ScanRefusal.{ScanRefusal};
 ghost use Rattle.sieve_text.specs.Tokens.{IsScan, IsFaulty};
@@ -14,4 +14,9 @@ pub fn one_scan()
 pub fn one_verdict()
     ensures tokens { (script : List ℕ) (ts : List Token) (refusal : ScanRefusal) → IsScan script ts → IsFaulty script refusal → ⊥ }
     ensures refusal { (script : List ℕ) (a b : ScanRefusal) → IsFaulty script a → IsFaulty script b → a ≡ b }
+{}
+
+/// Every script has tokens or a refusal.
+pub fn some_verdict()
+    ensures { (script : List ℕ) → ((ts : List Token) × IsScan script ts) ⊎ ((refusal : ScanRefusal) × IsFaulty script refusal) }
 {}

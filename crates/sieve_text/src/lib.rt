@@ -13,6 +13,6 @@ mod scanner;
 mod tests;
 
 pub use fault::{ScanFault, ScanRefusal, TextFault, TextRefusal};
-pub use laws::{one_scan, one_verdict};
+pub use laws::{one_scan, one_verdict, some_verdict};
 pub use parser::{one_tree, parse};
 pub use scanner::scan;
