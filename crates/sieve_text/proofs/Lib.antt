@@ -3,6 +3,7 @@ pub mod Spelled
 pub mod Again
 pub mod Depths
 pub mod TreeLaws
+mod TreeRows
 pub mod ScriptLaws
 pub mod GapLemmas
 pub mod KindLemmas
