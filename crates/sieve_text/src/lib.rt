@@ -1,7 +1,7 @@
 //! The text of Sieve scripts (RFC 5228): from octets to tokens, and from tokens to the tree.
 //!
 //! In `specs/`, `Octets`, `Gaps` and `Strings` have the parts of the tokens' grammar, and `Tokens` says which tokens a
-//! script has, or which refusal. `Grammar` says which trees a script has and what an answer says of it; `Reading` has
+//! script has, or which refusal. `Scripts` says which trees a script has and what an answer says of it; `Reading` has
 //! the grammar read from left to right, against which the parser's functions are proved first.
 #![tactic(auto)]
 
