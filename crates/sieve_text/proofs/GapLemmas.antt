@@ -1,10 +1,10 @@
 -- A gap is cut into white space and comments.
-use Rattle.std.proofs.Common.{◌≡◌, ℕ, zero, suc, ◌+◌, ◌-◌, ◌<◌, ◌≤◌, Bool, true, false, cond, List, [], ◌∷◌, length, drop, nat_lt, refl, sym, ap, ◌∙◌, arith, inl, inr}
+use Rattle.std.proofs.Common.{◌≡◌, ℕ, zero, suc, ◌+◌, ◌-◌, ◌<◌, ◌≤◌, true, false, List, [], ◌∷◌, length, drop, nat_lt, refl, ap, arith, inl, inr}
 use Rattle.std.specs.List.{prefix_len}
 use Rattle.std.proofs.lemmas.Grind.{common_steps}
 use Rattle.std.proofs.lemmas.Bool.{cases_Bool, lt-ltb}
-use Rattle.sieve_text.specs.Octets.{is_white, begins, begins_with}
-use Rattle.sieve_text.specs.Gaps.{comment_len, gap_len, opens_bracketed}
+use Rattle.sieve_text.specs.Octets.{is_white, begins}
+use Rattle.sieve_text.specs.Gaps.{comment_len, gap_len}
 
 pub drop_more : (m n : ℕ) (bs : List ℕ) → drop (m + n) bs ≡ drop n (drop m bs)
 drop_more zero n bs = ap (λ k. drop k bs) (omega arith)

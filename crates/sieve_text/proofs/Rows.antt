@@ -1,14 +1,12 @@
 -- Worked rows of the definitions.
-use Rattle.std.proofs.Common.{◌≡◌, ℕ, List, [], ◌∷◌, ◌++◌, Option, Some, None, Result, Ok, Err, refl, false, true}
+use Rattle.std.proofs.Common.{◌≡◌, ℕ, List, [], ◌∷◌, ◌++◌, Ok, Err, refl}
 use Rattle.std.specs.Prelude.{codes}
-use Rattle.sieve_syntax.specs.declared.token.TokenKind.{TokenKind}
 use Rattle.sieve_syntax.specs.declared.token.TokenKind.TheVariants as kinds
-use Rattle.sieve_text.specs.declared.fault.ScanRefusal.{ScanRefusal}
-use Rattle.sieve_text.specs.declared.fault.ScanRefusal.TheVariants.{NotUtf8, NoToken, StringNotClosed, CommentNotClosed, NumberTooLarge, ScriptTooLong, StringTooLong}
+use Rattle.sieve_text.specs.declared.fault.ScanRefusal.TheVariants.{NoToken, StringNotClosed, CommentNotClosed, NumberTooLarge}
 use Rattle.sieve_text.specs.Octets.{stray_len}
 use Rattle.sieve_text.specs.Gaps.{bracketed_len, comment_len, gap_len}
 use Rattle.sieve_text.specs.Strings.{quoted_len, unescaped, with_crlf, lines_len, unstuffed}
-use Rattle.sieve_text.specs.Tokens.{kind_at, multi_line_at, lines_at, quoted_at, tag_at, number_at, token_at}
+use Rattle.sieve_text.specs.Tokens.{kind_at, multi_line_at, lines_at, quoted_at, number_at}
 
 abbrev pub lf : List ℕ
 lf = 10 ∷ []

@@ -1,5 +1,5 @@
 -- Tokens one after another, and the one verdict on a script.
-use Rattle.std.proofs.Common.{◌≡◌, ℕ, zero, suc, ◌+◌, ◌≤◌, true, false, List, [], ◌∷◌, ◌++◌, length, Option, Some, None, Result, Ok, Err, refl, sym, ap, ◌∙◌, ◌<◌, arith, inl, inr, ◌⊎◌}
+use Rattle.std.proofs.Common.{◌≡◌, ℕ, zero, suc, ◌+◌, ◌≤◌, List, [], ◌∷◌, ◌++◌, length, Option, Some, None, Result, Ok, Err, refl, sym, ◌∙◌, ◌<◌, arith, inl, inr, ◌⊎◌}
 use Rattle.sieve_syntax.specs.declared.token.Token.{Token}
 use Rattle.sieve_text.specs.declared.fault.ScanRefusal.{ScanRefusal}
 use Rattle.sieve_text.specs.declared.fault.ScanRefusal.TheVariants.{NotUtf8, NoToken, StringNotClosed, CommentNotClosed, NumberTooLarge, ScriptTooLong, StringTooLong}

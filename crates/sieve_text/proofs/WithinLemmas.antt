@@ -1,32 +1,30 @@
 -- A token takes an octet at least, and ends within the script.
-use Rattle.std.proofs.Common.{◌≡◌, ℕ, zero, suc, ◌+◌, ◌-◌, ◌<◌, ◌≤◌, ◌⊎◌, Bool, true, false, cond, List, [], ◌∷◌, length, take, drop, nat_lt, Option, Some, None, Result, Ok, Err, refl, sym, ap, ◌∙◌, arith, inl, inr}
+use Rattle.std.proofs.Common.{◌≡◌, ℕ, zero, suc, ◌+◌, ◌-◌, ◌<◌, ◌≤◌, ◌⊎◌, Bool, true, false, List, [], ◌∷◌, length, drop, nat_lt, Option, Some, None, Result, Ok, Err, sym, ap, ◌∙◌, arith, inl, inr}
 use Rattle.std.specs.Prelude.{if◌then◌else◌, ◌==◌, ◌&&◌, ◌||◌, codes}
 use Rattle.std.specs.List.{prefix_len}
 use Rattle.std.specs.Char.{is_ascii_digit, to_ascii_lowercase}
-use Rattle.std.proofs.lemmas.Bool.{cases_Bool, ltb-true, ltb-false, and_parts, or_left}
+use Rattle.std.proofs.lemmas.Bool.{ltb-true, and_parts, or_left}
 use Rattle.std.proofs.lemmas.List.{length-drop}
 use Rattle.std.proofs.lemmas.List.Sums.{prefix_len-le-length}
-use Rattle.sieve_syntax.specs.declared.token.Mark.{Mark}
 use Rattle.sieve_syntax.specs.declared.token.Token.{Token}
 use Rattle.sieve_syntax.specs.declared.token.TokenKind.{TokenKind}
-use Rattle.sieve_syntax.specs.declared.token.TokenKind.TheVariants as kinds
 use Rattle.sieve_text.specs.declared.fault.ScanRefusal.{ScanRefusal}
 use Rattle.sieve_text.specs.declared.fault.ScanRefusal.TheVariants.{NoToken, StringNotClosed}
-use Rattle.sieve_text.specs.Octets.{is_blank, is_start, is_word, is_white, begins, begins_with, not_lf, line_end_len}
+use Rattle.sieve_text.specs.Octets.{is_blank, is_start, is_word, is_white, begins_with, not_lf, line_end_len}
 use Rattle.sieve_text.specs.Gaps.{gap_len, comment_len}
-use Rattle.sieve_text.specs.Strings.{quoted_len, begins_as, begins_text, opening_end_at, lines_len}
-use Rattle.sieve_text.specs.Tokens.{mark_kind, mark_of, quoted_at, lines_at, multi_line_at, tag_at, factor_at, number_at, kind_at, token_at, ◌>>=◌}
-use Rattle.sieve_text.proofs.KindLemmas.{read_as, tested, bound_parts, same_kind, no_kind, quoted_parts, lines_parts, multi_line_parts, tag_parts, number_parts, mark_parts, Branch, branch, lines, name, digits, colon, quote, one}
+use Rattle.sieve_text.specs.Strings.{begins_as, begins_text, opening_end_at, lines_len}
+use Rattle.sieve_text.specs.Tokens.{mark_of, lines_at, multi_line_at, factor_at, kind_at, token_at, ◌>>=◌}
+use Rattle.sieve_text.proofs.KindLemmas.{read_as, tested, bound_parts, same_kind, no_kind, quoted_parts, lines_parts, multi_line_parts, tag_parts, number_parts, mark_parts, branch, lines, name, digits, colon, quote, one}
 
 -- one octet and so many of the others
-one_more : (p : ℕ → Bool) (b : ℕ) (bs : List ℕ) → p b ≡ true → 0 < prefix_len p (b ∷ bs)
+pub one_more : (p : ℕ → Bool) (b : ℕ) (bs : List ℕ) → p b ≡ true → 0 < prefix_len p (b ∷ bs)
 one_more p b bs h = rw h (omega arith)
 
 if_le : (t : Bool) (x y n : ℕ) → x ≤ n → y ≤ n → (if t then x else y) ≤ n
 if_le true x y n h k = h
 if_le false x y n h k = k
 
-if_le_1 : (t : Bool) (x y : ℕ × ℕ) (n : ℕ) → x.1 ≤ n → y.1 ≤ n → (if t then x else y).1 ≤ n
+pub if_le_1 : (t : Bool) (x y : ℕ × ℕ) (n : ℕ) → x.1 ≤ n → y.1 ≤ n → (if t then x else y).1 ≤ n
 if_le_1 true x y n h k = h
 if_le_1 false x y n h k = k
 
@@ -39,7 +37,7 @@ line_end_within (b ∷ []) = if_le (b == 10) 1 (if (b == 13) && false then 2 els
     not_both false = omega arith
 line_end_within (b ∷ c ∷ bs) = if_le (b == 10) 1 (if (b == 13) && (c == 10) then 2 else 0) (length (b ∷ c ∷ bs)) (omega arith) (if_le ((b == 13) && (c == 10)) 2 0 (length (b ∷ c ∷ bs)) (omega arith) (omega arith))
 
-text_within : (bs : List ℕ) → begins_text bs ≡ true → 5 ≤ length bs
+pub text_within : (bs : List ℕ) → begins_text bs ≡ true → 5 ≤ length bs
 text_within bs h = as_within (codes "text:") bs h
   where
     as_within : (xs bs : List ℕ) → begins_as xs bs ≡ true → length xs ≤ length bs
@@ -70,7 +68,7 @@ lines_within before bs k e =
     let d = length-drop (lines_len true bs + 1) bs in
     (omega arith, omega arith)
 
-multi_line_within : (bs : List ℕ) (k : TokenKind × ℕ) → multi_line_at bs ≡ Ok k → (0 < k.1) × (k.1 ≤ 5 + length bs)
+pub multi_line_within : (bs : List ℕ) (k : TokenKind × ℕ) → multi_line_at bs ≡ Ok k → (5 < k.1) × (k.1 ≤ 5 + length bs)
 multi_line_within bs k e =
     let p = multi_line_parts bs k e in
     let o = opening_end_within (drop (prefix_len is_blank bs) bs) p.0 p.1 in
@@ -80,13 +78,13 @@ multi_line_within bs k e =
     let d = length-drop (prefix_len is_blank bs + p.0) bs in
     (omega arith, omega arith)
 
-factor_within : (bs : List ℕ) → (factor_at bs).1 ≤ length bs
+pub factor_within : (bs : List ℕ) → (factor_at bs).1 ≤ length bs
 factor_within [] = omega arith
 factor_within (b ∷ bs) =
     let n : ℕ = length (b ∷ bs) in
     if_le_1 ((b == 75) || (b == 107)) (1024, 1) _ n (omega arith) (if_le_1 ((b == 77) || (b == 109)) (1048576, 1) _ n (omega arith) (if_le_1 ((b == 71) || (b == 103)) (1073741824, 1) (1, 0) n (omega arith) (omega arith)))
 
-nothing_here : (k : TokenKind × ℕ) → kind_at [] ≡ Ok k → ⊥
+pub nothing_here : (k : TokenKind × ℕ) → kind_at [] ≡ Ok k → ⊥
 unfolding kind_at
 nothing_here k e = no_kind NoToken k e
 

@@ -1,5 +1,5 @@
 -- What may stand between tokens: white space and comments (RFC 5228, sections 2.2 and 2.3).
-use Rattle.std.specs.Prelude.{ℕ, suc, zero, ◌+◌, ◌-◌, Bool, true, false, List, [], ◌∷◌, length, drop, nat_lt, ◌==◌, ◌&&◌, if◌then◌else◌}
+use Rattle.std.specs.Prelude.{ℕ, suc, zero, ◌+◌, ◌-◌, Bool, false, List, [], ◌∷◌, length, drop, nat_lt, ◌==◌, ◌&&◌, if◌then◌else◌}
 use Rattle.std.specs.List.{prefix_len}
 use Rattle.sieve_text.specs.Octets.{is_white, not_lf, begins_with}
 

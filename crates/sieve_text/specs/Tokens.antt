@@ -1,6 +1,5 @@
 -- The tokens of a script (RFC 5228, section 8.1): gaps and tokens in turn, each token the longest that fits.
-use Rattle.std.specs.Prelude.{◌≡◌, ℕ, suc, ◌+◌, ◌*◌, ◌<◌, ◌≤◌, ◌⊎◌, Bool, true, false, List, [], ◌∷◌, ◌++◌, length, take, drop, Option, Some, None, Result, Ok, Err, nat_lt, ◌==◌, ◌&&◌, ◌||◌, not, is_some, if◌then◌else◌}
-use Rattle.std.specs.Option.{unwrap_or}
+use Rattle.std.specs.Prelude.{◌≡◌, ℕ, suc, ◌+◌, ◌*◌, ◌<◌, ◌≤◌, ◌⊎◌, true, false, List, [], ◌∷◌, length, take, drop, Option, Some, None, Result, Ok, Err, nat_lt, ◌==◌, ◌||◌, if◌then◌else◌}
 use Rattle.std.specs.List.{prefix_len}
 use Rattle.std.specs.Char.{is_ascii_digit}
 use Rattle.std.specs.Str.{IsUtf8}
@@ -14,12 +13,11 @@ use Rattle.sieve_text.specs.declared.fault.ScanRefusal.{ScanRefusal}
 use Rattle.sieve_text.specs.declared.fault.ScanRefusal.TheVariants.{NotUtf8, NoToken, StringNotClosed, CommentNotClosed, NumberTooLarge, ScriptTooLong, StringTooLong}
 use Rattle.sieve_text.specs.declared.fault.ScanFault.{ScanFault}
 use Rattle.sieve_text.specs.declared.fault.ScanFault.TheVariants.{NoMemory, Refused}
-use Rattle.sieve_text.specs.Octets.{is_start, is_word, begins, stray_len, line_end_len}
+use Rattle.sieve_text.specs.Octets.{is_blank, is_start, is_word, begins, stray_len, line_end_len}
 use Rattle.sieve_text.specs.Gaps.{gap_len, opens_bracketed}
 use Rattle.sieve_text.specs.Strings.{quoted_len, quoted_value, begins_text, opening_end_at, lines_len, lines_value}
-use Rattle.sieve_text.specs.Octets.{is_blank}
 
--- the numbers by which refusals are told
+-- the number by which a refusal is told
 abbrev pub scan_number : ScanRefusal → ℕ
 scan_number NotUtf8 = 10
 scan_number NoToken = 11

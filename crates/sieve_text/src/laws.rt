@@ -3,6 +3,7 @@
 ghost use Rattle.std.specs.Prelude.{◌≡◌, ◌⊎◌, ℕ, List};
 ghost use Rattle.sieve_syntax.specs.declared.token.Token.{Token};
 ghost use Rattle.sieve_text.specs.declared.fault.ScanRefusal.{ScanRefusal};
+ghost use Rattle.sieve_text.specs.Grammar.{IsCut};
 ghost use Rattle.sieve_text.specs.Tokens.{IsScan, IsFaulty};
 
 /// No script has two lists of tokens.
@@ -19,4 +20,10 @@ pub fn one_verdict()
 /// Every script has tokens or a refusal.
 pub fn some_verdict()
     ensures { (script : List ℕ) → ((ts : List Token) × IsScan script ts) ⊎ ((refusal : ScanRefusal) × IsFaulty script refusal) }
+{}
+
+/// The tokens of a script and the gaps before them make the script, by the grammar of RFC 5228, section 8.1; each token
+/// is the longest that fits.
+pub fn cut()
+    ensures { (script : List ℕ) (ts : List Token) → IsScan script ts → IsCut 0 script ts }
 {}

@@ -260,6 +260,23 @@ fn count(alloc: Global, script: &[u8]) -> Option<usize> {
     Some(scan(alloc, script).ok()?.len())
 }
 
+#[test]
+fn most_tokens(rt: HostRuntime) -> Result<(), Fail> {
+    let alloc = rt.alloc();
+    for octet in [b'(', b'[', b'{', b'a', b'1'] {
+        let script = filled(alloc, b"", octet, 262_144, b"")?;
+        let want = if octet == b'a' {
+            Some(1)
+        } else if octet == b'1' {
+            None
+        } else {
+            Some(262_144)
+        };
+        assert_eq!(rt; count(alloc, script.as_slice()), want);
+    }
+    Ok(())
+}
+
 /// Scripts of RFC 5228, as they stand there.
 #[test]
 fn scripts_of_the_standard(rt: HostRuntime) -> Result<(), Fail> {

@@ -1,6 +1,6 @@
 use Rattle.std.proofs.Common.{◌≡◌, ◌+◌, ◌<◌, ◌≤◌, length, drop, arith}
 use Rattle.std.proofs.lemmas.List.{drop_all}
-use Rattle.sieve_text.specs.Gaps.{comment_len, gap_len}
+use Rattle.sieve_text.specs.Gaps.{comment_len}
 use Rattle.sieve_text.proofs.GapLemmas.{drop_more, gap_last, gap_piece, gap_nothing}
 use Rattle.sieve_text.proofs.scanner.gap.gap_length.Goals as goal
 

@@ -1,4 +1,4 @@
-use Rattle.std.proofs.Common.{◌≡◌, ◌+◌, length, take, arith}
+use Rattle.std.proofs.Common.{◌≡◌, ◌+◌, take, arith}
 use Rattle.std.proofs.lemmas.List.{take_all}
 use Rattle.sieve_text.proofs.NumberLemmas.{digit_at, one_more, no_less}
 use Rattle.sieve_text.proofs.scanner.number.decimal.Goals as goal

@@ -1,0 +1,80 @@
+-- The tokens that are read, and the gaps before them, make the script.
+use Rattle.std.proofs.Common.{◌≡◌, ℕ, ◌+◌, ◌≤◌, List, [], ◌∷◌, ◌++◌, length, drop, Option, Some, None, Result, Ok, refl, sym, ap, subst, ◌∙◌, arith, inl, inr, length-append}
+use Rattle.std.proofs.lemmas.Bool.{lt-ltb, cases_lt}
+use Rattle.std.proofs.lemmas.List.{length-drop}
+use Rattle.sieve_syntax.specs.declared.token.Token.{Token}
+use Rattle.sieve_syntax.specs.declared.token.TokenKind.{TokenKind}
+use Rattle.sieve_text.specs.declared.fault.ScanRefusal.{ScanRefusal}
+use Rattle.sieve_text.specs.Gaps.{gap_len}
+use Rattle.sieve_text.specs.Tokens.{kind_at, token_at, Reads, IsScan}
+use Rattle.sieve_text.specs.Grammar.{Lexeme, IsWithinLimits, Gap, IsFirst, IsCut}
+use Rattle.sieve_text.proofs.GapLemmas.{drop_more}
+use Rattle.sieve_text.proofs.GapGrammar.{gap_sound, dropped}
+use Rattle.sieve_text.proofs.KindGrammar.{kind_sound}
+use Rattle.sieve_text.proofs.KindLemmas.{read_as, bound_parts}
+use Rattle.sieve_text.proofs.Longest.{lexeme_short}
+use Rattle.sieve_text.proofs.WithinLemmas.{token_parts}
+
+-- where no token follows, the gap goes on to the end
+at_end : (script : List ℕ) (at : ℕ) → token_at script at ≡ Ok None → length script ≤ at + gap_len 0 (drop at script)
+unfolding token_at
+at_end script at e = elim (cases_lt start (length script)) [
+  | inl h ↦ (let p = bound_parts (kind_at (drop start script)) made None (rw (lt-ltb start (length script) h) at e) in absurd (some (record { kind = p.0.0; start = start; end = start + p.0.1 }) p.2))
+  | inr h ↦ h
+]
+  where
+    start : ℕ
+    start = at + gap_len 0 (drop at script)
+
+    made : TokenKind × ℕ → Result (Option Token) ScanRefusal
+    made k = Ok (Some (record { kind = k.0; start = start; end = start + k.1 }))
+
+    some : (t : Token) → read_as (Some t) ≡ Ok None → ⊥
+    some t e = cc
+
+last_gap : (bs : List ℕ) → length bs ≤ gap_len 0 bs → Gap bs []
+last_gap bs h =
+    let g = gap_sound bs in
+    let l = ap length g.cut ∙ length-append g.gap g.rest in
+    let long = g.long in
+    let none = empty g.rest (omega arith) in
+    let whole : g.gap ≡ bs = sym (g.cut ∙ ap (λ cs. g.gap ++ cs) none ∙ append_nil g.gap) in
+    subst (λ cs. Gap cs []) whole (subst (λ cs. Gap g.gap cs) none g.gap_is)
+  where
+    empty : (bs : List ℕ) → length bs ≡ 0 → bs ≡ []
+    empty [] e = refl
+    empty (b ∷ bs) e = absurd (omega arith)
+
+    append_nil : (bs : List ℕ) → bs ++ [] ≡ bs
+    append_nil [] = refl
+    append_nil (b ∷ bs) = ap (λ cs. b ∷ cs) (append_nil bs)
+
+-- one token, and what is behind it
+token_cut : (script : List ℕ) (at : ℕ) (t : Token) → token_at script at ≡ Ok (Some t) → IsFirst at (drop at script) t (drop t.end script)
+token_cut script at t e =
+    let p = token_parts script at t e in
+    let g = gap_sound (drop at script) in
+    let k = kind_sound (drop t.start script) p.kind p.read in
+    let rest : drop t.start script ≡ g.rest = ap (λ n. drop n script) p.begins ∙ drop_more at (gap_len 0 (drop at script)) script ∙ dropped (drop at script) g.gap g.rest g.cut (gap_len 0 (drop at script)) g.long in
+    let behind : drop t.end script ≡ k.behind = ap (λ n. drop n script) p.ends ∙ drop_more t.start p.kind.1 script ∙ dropped (drop t.start script) k.octets k.behind k.cut p.kind.1 k.long in
+    subst (λ cs. IsFirst at (drop at script) t cs) (sym behind) (record {
+      gap = g.gap;
+      octets = k.octets;
+      cut = g.cut ∙ ap (λ cs. g.gap ++ cs) (sym rest ∙ k.cut);
+      gap_is = subst (λ cs. Gap g.gap cs) (sym rest ∙ k.cut) g.gap_is;
+      start = p.begins ∙ ap (λ n. at + n) (sym g.long);
+      end = p.ends ∙ ap (λ n. t.start + n) (sym k.long);
+      spelled = subst (λ (kind : TokenKind). Lexeme kind k.octets k.behind) (sym p.says) k.spelled;
+      limited = subst IsWithinLimits (sym p.says) k.limited;
+      longest = λ kind more others same lexeme. (let s = lexeme_short kind more others p.kind lexeme (sym (ap kind_at (k.cut ∙ same)) ∙ p.read) in let l = k.long in omega arith);
+    })
+
+cut_from : (script : List ℕ) (at : ℕ) (ts : List Token) (end : ℕ) → Reads script at ts end → token_at script end ≡ Ok None → IsCut at (drop at script) ts
+cut_from script at [] end h e =
+    let l = at_end script at (rw h e) in
+    let d = length-drop at script in
+    last_gap (drop at script) (omega arith)
+cut_from script at (t ∷ ts) end h e = (drop t.end script, token_cut script at t h.0, cut_from script t.end ts end h.1 e)
+
+pub scan_cut : (script : List ℕ) (ts : List Token) → IsScan script ts → IsCut 0 script ts
+scan_cut script ts h = cut_from script 0 ts h.1.0 h.1.1 h.1.2
