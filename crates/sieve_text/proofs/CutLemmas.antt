@@ -7,7 +7,7 @@ use Rattle.sieve_syntax.specs.declared.token.TokenKind.{TokenKind}
 use Rattle.sieve_text.specs.declared.fault.ScanRefusal.{ScanRefusal}
 use Rattle.sieve_text.specs.Gaps.{gap_len}
 use Rattle.sieve_text.specs.Tokens.{kind_at, token_at, Reads, IsScan}
-use Rattle.sieve_text.specs.Grammar.{Lexeme, IsWithinLimits, Gap, IsFirst, IsCut}
+use Rattle.sieve_text.specs.TokenGrammar.{Lexeme, IsWithinLimits, Gap, IsFirst, IsCut}
 use Rattle.sieve_text.proofs.GapLemmas.{drop_more}
 use Rattle.sieve_text.proofs.GapGrammar.{gap_sound, dropped}
 use Rattle.sieve_text.proofs.KindGrammar.{kind_sound}

@@ -9,7 +9,7 @@ use Rattle.std.proofs.Math.Seq.{drop-append_seam}
 use Rattle.std.proofs.Math.Nat.{lt_irrefl}
 use Rattle.sieve_text.specs.Octets.{is_white, not_lf, begins, begins_with}
 use Rattle.sieve_text.specs.Gaps.{bracketed_len, opens_bracketed, closed_len, comment_len, gap_len}
-use Rattle.sieve_text.specs.Grammar.{closes, Gap, gap_end, gap_white, gap_hash, gap_bracketed}
+use Rattle.sieve_text.specs.TokenGrammar.{closes, Gap, gap_end, gap_white, gap_hash, gap_bracketed}
 use Rattle.sieve_text.proofs.GapLemmas.{gap_none, gap_comment, gap_nothing}
 
 -- the front that passes a test passes it all, and what is behind does not begin so

@@ -14,7 +14,7 @@ use Rattle.sieve_text.specs.declared.fault.ScanRefusal.TheVariants.{NoToken, Str
 use Rattle.sieve_text.specs.Octets.{is_blank, is_start, is_word, not_lf, begins, begins_with, line_end_len}
 use Rattle.sieve_text.specs.Strings.{quoted_len, unescaped, quoted_value, begins_as, begins_text, opening_end_at, is_last_line, lines_len, unstuffed, lines_value}
 use Rattle.sieve_text.specs.Tokens.{mark_of, lines_at, multi_line_at, factor_at, kind_at}
-use Rattle.sieve_text.specs.Grammar.{IsName, QuotedText, quoted_end, quoted_plain, quoted_pair, IsLineEnd, is_dot, without_dot, Lines, no_lines, line, Lexeme, IsWithinLimits}
+use Rattle.sieve_text.specs.TokenGrammar.{IsName, QuotedText, quoted_end, quoted_plain, quoted_pair, IsLineEnd, is_dot, without_dot, Lines, no_lines, line, Lexeme, IsWithinLimits}
 use Rattle.sieve_text.proofs.GapLemmas.{drop_more}
 use Rattle.sieve_text.proofs.GapGrammar.{prefix_passes}
 use Rattle.sieve_text.proofs.KindLemmas.{tested, same_kind, no_kind, quoted_parts, lines_parts, multi_line_parts, tag_parts, number_parts, mark_parts, branch, lines, name, digits, colon, quote, one}

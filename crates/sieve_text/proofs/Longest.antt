@@ -12,7 +12,7 @@ use Rattle.sieve_syntax.specs.declared.token.TokenKind.TheVariants as kinds
 use Rattle.sieve_text.specs.Octets.{is_blank, is_start, is_word, not_lf, begins, begins_with, line_end_len}
 use Rattle.sieve_text.specs.Strings.{quoted_len, begins_as, begins_text, opening_end_at, is_last_line, lines_len}
 use Rattle.sieve_text.specs.Tokens.{lines_at, multi_line_at, factor_at, kind_at}
-use Rattle.sieve_text.specs.Grammar.{IsName, QuotedText, quoted_end, quoted_plain, quoted_pair, IsLineEnd, Lines, no_lines, line, IsMultiLine, Lexeme}
+use Rattle.sieve_text.specs.TokenGrammar.{IsName, QuotedText, quoted_end, quoted_plain, quoted_pair, IsLineEnd, Lines, no_lines, line, IsMultiLine, Lexeme}
 use Rattle.sieve_text.proofs.GapLemmas.{drop_more}
 use Rattle.sieve_text.proofs.KindLemmas.{same_kind, quoted_parts, lines_parts, multi_line_parts, tag_parts, number_parts, branch, lines, name, digits, colon, quote, one}
 use Rattle.sieve_text.proofs.WithinLemmas.{if_le_1, kind_within, multi_line_within}

@@ -6,7 +6,7 @@ use Rattle.sieve_syntax.specs.declared.token.TokenKind.{TokenKind}
 use Rattle.sieve_text.specs.declared.parser.stop.Misfit.{Misfit}
 use Rattle.sieve_text.specs.declared.parser.stop.Stop.{Stop}
 use Rattle.sieve_text.specs.declared.parser.stop.Stop.TheVariants.{NoMemory, Refused}
-use Rattle.sieve_text.specs.Scripts.{kinds}
+use Rattle.sieve_text.specs.Grammar.{kinds}
 use Rattle.sieve_text.specs.Reading.{◌>>=◌, Fails, Tries, many_at, behind}
 
 pub length_kinds : (ts : List Token) → length (kinds ts) ≡ length ts

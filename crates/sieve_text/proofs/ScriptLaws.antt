@@ -14,7 +14,7 @@ use Rattle.sieve_text.specs.declared.fault.TextFault.TheVariants.{NoMemory, Refu
 use Rattle.sieve_text.specs.declared.parser.stop.Misfit.{Misfit}
 use Rattle.sieve_text.specs.declared.parser.stop.Misfit.TheVariants.{Syntax, Nesting}
 use Rattle.sieve_text.specs.Tokens.{IsScan, IsFaulty, FaultsBy}
-use Rattle.sieve_text.specs.Scripts.{kinds, IsDeep, Spells, IsScript, AnswersTree, AnswersRefusal, Explains, text_fault_of}
+use Rattle.sieve_text.specs.Grammar.{kinds, IsDeep, Spells, IsScript, AnswersTree, AnswersRefusal, Explains, text_fault_of}
 use Rattle.sieve_text.specs.Reading.{script_at, GivesScript}
 use Rattle.sieve_text.proofs.ScanLemmas.{one_scan, no_both, one_fault}
 use Rattle.sieve_text.proofs.Spelled.{ok_is}

@@ -3,7 +3,7 @@ use Rattle.std.proofs.Common.{◌≡◌, ℕ, ◌≤◌, max, List, Bool, true, 
 use Rattle.sieve_syntax.specs.declared.token.TokenKind.{TokenKind}
 use Rattle.sieve_syntax.specs.Tree.{CommandTrees, commands_tokens, commands_test_depth, commands_block_depth}
 use Rattle.sieve_text.specs.declared.parser.stop.Misfit.TheVariants.{Syntax, Nesting}
-use Rattle.sieve_text.specs.Scripts.{IsShallow, IsDeep}
+use Rattle.sieve_text.specs.Grammar.{IsShallow, IsDeep}
 use Rattle.sieve_text.specs.Reading.{script_at}
 use Rattle.sieve_text.proofs.Depths.{commands_fit, commands_within, commands_depth-fit, commands_deep}
 use Rattle.sieve_text.proofs.Spelled.{ok_is, script_sound}

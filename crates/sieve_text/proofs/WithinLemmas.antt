@@ -13,7 +13,7 @@ use Rattle.sieve_text.specs.declared.fault.ScanRefusal.TheVariants.{NoToken, Str
 use Rattle.sieve_text.specs.Octets.{is_blank, is_start, is_word, is_white, begins_with, not_lf, line_end_len}
 use Rattle.sieve_text.specs.Gaps.{gap_len, comment_len}
 use Rattle.sieve_text.specs.Strings.{begins_as, begins_text, opening_end_at, lines_len}
-use Rattle.sieve_text.specs.Tokens.{mark_of, lines_at, multi_line_at, factor_at, kind_at, token_at, ◌>>=◌}
+use Rattle.sieve_text.specs.Tokens.{text_len, mark_of, lines_at, multi_line_at, factor_at, kind_at, token_at, ◌>>=◌}
 use Rattle.sieve_text.proofs.KindLemmas.{read_as, tested, bound_parts, same_kind, no_kind, quoted_parts, lines_parts, multi_line_parts, tag_parts, number_parts, mark_parts, branch, lines, name, digits, colon, quote, one}
 
 -- one octet and so many of the others
@@ -161,3 +161,7 @@ token_within script at t within e =
     let b = p.begins in
     let n = p.ends in
     (omega arith, omega arith, omega arith)
+
+-- a fault stands at the first octet where no "text:" begins
+pub no_text : (at : ℕ) (bs : List ℕ) → begins_text bs ≡ false → at + text_len bs ≡ at
+no_text at bs h = rw h (omega arith)

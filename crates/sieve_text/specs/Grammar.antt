@@ -1,126 +1,67 @@
--- The grammar of scripts as sequences of gaps and tokens (RFC 5228, sections 2.2 to 2.4 and 8.1), apart from how they
--- are found.
-use Rattle.std.specs.Prelude.{◌≡◌, ℕ, ◌+◌, ◌*◌, ◌<◌, ◌≤◌, ◌⊎◌, Bool, true, false, List, [], ◌∷◌, ◌++◌, map, length, Some, ◌==◌, ◌&&◌, ◌||◌, codes, if◌then◌else◌}
-use Rattle.std.specs.List.{list_all}
-use Rattle.std.specs.Char.{is_ascii_digit, to_ascii_lowercase}
-use Rattle.std.specs.Str.Parse.{digits_value}
-use Rattle.sieve_syntax.specs.declared.token.TokenKind.{TokenKind}
-use Rattle.sieve_syntax.specs.declared.token.TokenKind.TheVariants as kinds
+-- Which texts are scripts, and which trees they have (RFC 5228, section 8): a text is scanned into tokens, and these
+-- are the spelling of a tree with at most 32 tests and at most 32 blocks inside one another.
+use Rattle.std.specs.Prelude.{◌≡◌, ℕ, ◌≤◌, ◌<◌, ◌⊎◌, List, Result, Ok, Err, map}
 use Rattle.sieve_syntax.specs.declared.token.Token.{Token}
-use Rattle.sieve_text.specs.Octets.{is_blank, is_white, is_start, is_word, not_lf, begins, begins_with}
-use Rattle.sieve_text.specs.Strings.{with_crlf}
-use Rattle.sieve_text.specs.Tokens.{mark_of, factor_at}
+use Rattle.sieve_syntax.specs.declared.token.TokenKind.{TokenKind}
+use Rattle.sieve_syntax.specs.declared.tree.Script.{Script}
+use Rattle.sieve_syntax.specs.Tree.{CommandTrees, commands_tokens, commands_test_depth, commands_block_depth}
+use Rattle.sieve_syntax.specs.View.{tree_of}
+use Rattle.sieve_text.specs.declared.fault.ScanFault.{ScanFault}
+use Rattle.sieve_text.specs.declared.fault.ScanFault.TheVariants as scan_faults
+use Rattle.sieve_text.specs.declared.fault.TextRefusal.{TextRefusal}
+use Rattle.sieve_text.specs.declared.fault.TextRefusal.TheVariants.{Scan, Syntax, Nesting}
+use Rattle.sieve_text.specs.declared.fault.TextFault.{TextFault}
+use Rattle.sieve_text.specs.declared.fault.TextFault.TheVariants.{NoMemory, Refused}
+use Rattle.sieve_text.specs.Tokens.{IsScan, IsFaulty, scan_number}
 
--- (ALPHA / "_") *(ALPHA / DIGIT / "_")
-abbrev pub IsName : List ℕ → Type 0
-IsName name = (begins is_start name ≡ true) × (list_all is_word name ≡ true)
+-- the numbers by which refusals are told
+abbrev pub text_number : TextRefusal → ℕ
+text_number (Scan r) = scan_number r
+text_number Syntax = 20
+text_number Nesting = 21
 
--- 1*DIGIT [QUANTIFIER]; where no quantifier stands its factor is 1
-pub record IsNumber (value : ℕ) (octets : List ℕ) : Type 0 where
-  pub digits : List ℕ
-  pub quantifier : List ℕ
-  pub factor : ℕ
-  pub cut : octets ≡ digits ++ quantifier
-  pub some : 0 < length digits
-  pub all : list_all is_ascii_digit digits ≡ true
-  pub counts : factor_at quantifier ≡ (factor, length quantifier)
-  pub says : value ≡ digits_value 10 digits * factor
+-- a fault of the scanner, as one of the parser
+abbrev pub text_fault_of : ScanFault → TextFault
+text_fault_of scan_faults.NoMemory = NoMemory
+text_fault_of (scan_faults.Refused r at) = Refused (Scan r) at
 
--- the text between quotation marks, and what it says: a quotation mark or backslash stands behind a backslash alone
-pub data QuotedText : List ℕ → List ℕ → Type 0 where
-  quoted_end : QuotedText [] []
-  quoted_plain : (b : ℕ) (bs says : List ℕ) → (b ≡ 34 → ⊥) → (b ≡ 92 → ⊥) → QuotedText bs says → QuotedText (b ∷ bs) (b ∷ says)
-  quoted_pair : (b : ℕ) (bs says : List ℕ) → QuotedText bs says → QuotedText (92 ∷ b ∷ bs) (b ∷ says)
+-- what tokens say, without where they stand
+abbrev pub kinds : List Token → List TokenKind
+kinds = map (λ (t : Token). t.kind)
 
--- DQUOTE quoted-text DQUOTE
-pub record IsQuoted (value octets : List ℕ) : Type 0 where
-  pub body : List ℕ
-  pub text : List ℕ
-  pub cut : octets ≡ 34 ∷ (body ++ 34 ∷ [])
-  pub spells : QuotedText body text
-  pub says : value ≡ with_crlf false text
+-- no more than 32 tests and no more than 32 blocks stand inside one another
+abbrev pub IsShallow : CommandTrees → Type 0
+IsShallow t = (commands_test_depth t ≤ 32) × (commands_block_depth t ≤ 32)
 
--- LF or CR LF
-abbrev pub IsLineEnd : List ℕ → Type 0
-IsLineEnd octets = (octets ≡ 10 ∷ []) ⊎ (octets ≡ 13 ∷ 10 ∷ [])
+-- more than 32 tests or more than 32 blocks do
+abbrev pub IsDeep : CommandTrees → Type 0
+IsDeep t = (32 < commands_test_depth t) ⊎ (32 < commands_block_depth t)
 
--- a single dot, before an LF or before CR LF
-abbrev pub is_dot : List ℕ → Bool
-is_dot [] = false
-is_dot (b ∷ []) = b == 46
-is_dot (b ∷ c ∷ []) = (b == 46) && (c == 13)
-is_dot (b ∷ c ∷ d ∷ bs) = false
+-- the text's tokens are the spelling of this tree, of any depth
+abbrev pub Spells : List ℕ → CommandTrees → Type 0
+Spells script t = (ts : List Token) × IsScan script ts × (kinds ts ≡ commands_tokens t)
 
--- a leading dot is dropped where another dot follows it
-abbrev pub without_dot : List ℕ → List ℕ
-without_dot [] = []
-without_dot (b ∷ bs) = if (b == 46) && begins_with 46 bs then bs else b ∷ bs
+-- the text is a script with this tree
+abbrev pub IsScript : List ℕ → CommandTrees → Type 0
+IsScript script t = Spells script t × IsShallow t
 
--- lines, of which none is a single dot, and what they say
-pub data Lines : List ℕ → List ℕ → Type 0 where
-  no_lines : Lines [] []
-  line : (content bs says : List ℕ) → list_all not_lf content ≡ true → is_dot content ≡ false → Lines bs says → Lines (content ++ 10 ∷ bs) (without_dot content ++ 10 ∷ says)
+-- the answer is this tree, want of memory aside
+abbrev pub AnswersTree : CommandTrees → Result Script TextFault → Type 0
+AnswersTree t (Ok s) = tree_of s ≡ t
+AnswersTree t (Err NoMemory) = Unit {0}
+AnswersTree t (Err (Refused refusal at)) = ⊥
 
--- "text:" *(SP / HTAB) [hash-comment] line-end lines "." line-end, where the script's end may stand for the last one
-pub record IsMultiLine (value octets behind : List ℕ) : Type 0 where
-  pub word : List ℕ
-  pub blanks : List ℕ
-  pub comment : List ℕ
-  pub end : List ℕ
-  pub body : List ℕ
-  pub text : List ℕ
-  pub last : List ℕ
-  pub cut : octets ≡ word ++ (blanks ++ (comment ++ (end ++ (body ++ 46 ∷ last))))
-  pub word_is : map to_ascii_lowercase word ≡ codes "text:"
-  pub blanks_are : list_all is_blank blanks ≡ true
-  pub comment_is : (comment ≡ []) ⊎ ((begins_with 35 comment ≡ true) × (list_all not_lf comment ≡ true))
-  pub end_is : IsLineEnd end
-  pub body_is : Lines body text
-  pub last_is : IsLineEnd last ⊎ ((last ≡ []) × (behind ≡ []))
-  pub says : value ≡ with_crlf false text
+-- the answer is this refusal, want of memory aside
+abbrev pub AnswersRefusal : TextRefusal → Result Script TextFault → Type 0
+AnswersRefusal r (Ok s) = ⊥
+AnswersRefusal r (Err NoMemory) = Unit {0}
+AnswersRefusal r (Err (Refused refusal at)) = refusal ≡ r
 
--- the octets of a token, before others
-abbrev pub Lexeme : TokenKind → List ℕ → List ℕ → Type 0
-Lexeme (kinds.Identifier name) octets behind = (octets ≡ name) × IsName name
-Lexeme (kinds.Tag name) octets behind = (octets ≡ 58 ∷ name) × IsName name
-Lexeme (kinds.Number n) octets behind = IsNumber n octets
-Lexeme (kinds.StringValue value) octets behind = IsQuoted value octets ⊎ IsMultiLine value octets behind
-Lexeme (kinds.Mark mark) octets behind = (b : ℕ) × (octets ≡ b ∷ []) × (mark_of b ≡ Some mark)
-
--- a number is at most 2^63 - 1, a string has at most 65,535 octets
-abbrev pub IsWithinLimits : TokenKind → Type 0
-IsWithinLimits (kinds.Identifier name) = Unit {0}
-IsWithinLimits (kinds.Tag name) = Unit {0}
-IsWithinLimits (kinds.Number n) = n ≤ 9223372036854775807
-IsWithinLimits (kinds.StringValue value) = length value ≤ 65535
-IsWithinLimits (kinds.Mark mark) = Unit {0}
-
--- whether "*/" stands somewhere
-abbrev pub closes : List ℕ → Bool
-closes [] = false
-closes (b ∷ bs) = ((b == 42) && begins_with 47 bs) || closes bs
-
--- white space and comments before other octets. A hash comment goes on to its line's end, or to the script's end; a
--- bracketed one ends with the first "*/"
-pub data Gap : List ℕ → List ℕ → Type 0 where
-  gap_end : (behind : List ℕ) → Gap [] behind
-  gap_white : (b : ℕ) (bs behind : List ℕ) → is_white b ≡ true → Gap bs behind → Gap (b ∷ bs) behind
-  gap_hash : (text bs behind : List ℕ) → list_all not_lf text ≡ true → begins not_lf (bs ++ behind) ≡ false → Gap bs behind → Gap (35 ∷ (text ++ bs)) behind
-  gap_bracketed : (text bs behind : List ℕ) → closes (text ++ 42 ∷ []) ≡ false → Gap bs behind → Gap (47 ∷ 42 ∷ (text ++ 42 ∷ 47 ∷ bs)) behind
-
--- a token stands first, behind a gap, from an offset on: it is the longest that fits
-pub record IsFirst (at : ℕ) (bs : List ℕ) (t : Token) (behind : List ℕ) : Type 0 where
-  pub gap : List ℕ
-  pub octets : List ℕ
-  pub cut : bs ≡ gap ++ (octets ++ behind)
-  pub gap_is : Gap gap (octets ++ behind)
-  pub start : t.start ≡ at + length gap
-  pub end : t.end ≡ t.start + length octets
-  pub spelled : Lexeme t.kind octets behind
-  pub limited : IsWithinLimits t.kind
-  pub longest : (kind : TokenKind) (more rest : List ℕ) → octets ++ behind ≡ more ++ rest → Lexeme kind more rest → length more ≤ length octets
-
--- gaps and tokens in turn, from an offset on to the script's end
-abbrev pub IsCut : ℕ → List ℕ → List Token → Type 0
-IsCut at bs [] = Gap bs []
-IsCut at bs (t ∷ ts) = (behind : List ℕ) × IsFirst at bs t behind × IsCut t.end behind ts
+-- what a fault says of the text: by a refusal of the scanner, that this is the text's; by `Syntax`, that the text has
+-- tokens, and these have no tree of any depth; by `Nesting`, that it has tokens, and these have no tree within the
+-- limits; by want of memory nothing
+abbrev pub Explains : List ℕ → TextFault → Type 0
+Explains script NoMemory = Unit {0}
+Explains script (Refused (Scan r) at) = IsFaulty script r
+Explains script (Refused Syntax at) = ((ts : List Token) × IsScan script ts) × ((t : CommandTrees) → ¬ (Spells script t))
+Explains script (Refused Nesting at) = ((ts : List Token) × IsScan script ts) × ((t : CommandTrees) → ¬ (IsScript script t))

@@ -149,3 +149,34 @@ Gives view (Err e) read = Fails e read
 abbrev pub FaultsBy : List ℕ → ScanFault → Type 0
 FaultsBy script NoMemory = Unit {0}
 FaultsBy script (Refused refusal at) = IsFaulty script refusal
+
+-- where no token is found a refusal stands at one place, and else at another
+abbrev pub either_place : ℕ → ℕ → ScanRefusal → ℕ
+either_place first octet NoToken = octet
+either_place first octet NotUtf8 = first
+either_place first octet StringNotClosed = first
+either_place first octet CommentNotClosed = first
+either_place first octet NumberTooLarge = first
+either_place first octet ScriptTooLong = first
+either_place first octet StringTooLong = first
+
+-- how many octets "text:" and the blanks behind it take, where it begins here
+abbrev pub text_len : List ℕ → ℕ
+text_len bs = if begins_text bs then 5 + prefix_len is_blank (drop 5 bs) else 0
+
+-- where the refusal stands of what begins behind the gap from an offset on: at its first octet, or where no token can
+-- be at the octet that is none, which "text:" and blanks may stand before
+abbrev pub fault_place : List ℕ → ℕ → ScanRefusal → ℕ
+fault_place script at = let start = at + gap_len 0 (drop at script) in either_place start (start + text_len (drop start script))
+
+-- the refusal stands at this place
+abbrev pub StandsAt : (ScanRefusal → ℕ) → ScanFault → Type 0
+StandsAt place NoMemory = Unit {0}
+StandsAt place (Refused refusal at) = at ≡ place refusal
+
+-- the refusal stands at the first stray octet or at the start of an unsound script, or at the first faulty place
+abbrev pub StandsIn : List ℕ → ScanFault → Type 0
+StandsIn script NoMemory = Unit {0}
+StandsIn script (Refused refusal at) =
+    (IsUnsound script refusal × (at ≡ either_place 0 (stray_len script) refusal))
+    ⊎ ((ts : List Token) × (end : ℕ) × Reads script 0 ts end × (token_at script end ≡ Err refusal) × (at ≡ fault_place script end refusal))

@@ -1,7 +1,7 @@
 //! Why a script is refused.
 
 ghost use Rattle.std.specs.Prelude.{◌≡◌};
-ghost use Rattle.sieve_text.specs.Scripts.{text_number};
+ghost use Rattle.sieve_text.specs.Grammar.{text_number};
 ghost use Rattle.sieve_text.specs.Tokens.{scan_number};
 
 use std::alloc::{AllocError, AllocFailed};
@@ -111,7 +111,7 @@ pub enum TextFault {
 
 impl From<ScanFault> for TextFault {
     ghost use Rattle.std.specs.Prelude.{◌≡◌};
-    ghost use Rattle.sieve_text.specs.Scripts.{text_fault_of};
+    ghost use Rattle.sieve_text.specs.Grammar.{text_fault_of};
 
     ghost from_gives = { λ e f. f ≡ text_fault_of e };
 

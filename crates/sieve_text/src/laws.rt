@@ -3,7 +3,7 @@
 ghost use Rattle.std.specs.Prelude.{◌≡◌, ◌⊎◌, ℕ, List};
 ghost use Rattle.sieve_syntax.specs.declared.token.Token.{Token};
 ghost use Rattle.sieve_text.specs.declared.fault.ScanRefusal.{ScanRefusal};
-ghost use Rattle.sieve_text.specs.Grammar.{IsCut};
+ghost use Rattle.sieve_text.specs.TokenGrammar.{IsCut};
 ghost use Rattle.sieve_text.specs.Tokens.{IsScan, IsFaulty};
 
 /// No script has two lists of tokens.

@@ -1,10 +1,10 @@
 //! The text of Sieve scripts (RFC 5228): from octets to tokens, and from tokens to the tree.
 //!
 //! In `specs/`, `Octets`, `Gaps` and `Strings` have the parts of tokens, and `Tokens` says which tokens a script has, or
-//! which refusal. `Grammar` has the grammar of section 8.1 as the standard writes it, apart from any order of reading;
-//! that the tokens are those of this grammar, each the longest that fits, is the law `cut`. `Scripts` says which trees
-//! a script has by the grammar of section 8.2, and what the parser's answer says of it; `Reading` is that grammar read
-//! from left to right, against which the parser's functions are proved first.
+//! which refusal. `TokenGrammar` has the tokens of the standard's section 8.1 apart from any order of reading; that the
+//! tokens are those of this grammar, each the longest that fits, is the law `cut`. `Grammar` says which trees a script has
+//! and what an answer says of it; `Reading` has the grammar read from left to right, against which the parser's functions
+//! are proved first.
 #![tactic(auto)]
 
 mod fault;

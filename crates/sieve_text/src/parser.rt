@@ -6,7 +6,7 @@ ghost use Rattle.sieve_syntax.specs.Tree.{CommandTrees};
 ghost use Rattle.sieve_syntax.specs.View.{tree_of, command_of, commands_of};
 ghost use Rattle.sieve_text.specs.declared.fault.ScanRefusal.{ScanRefusal};
 ghost use Rattle.sieve_text.specs.declared.fault.TextRefusal.{TextRefusal};
-ghost use Rattle.sieve_text.specs.Scripts.{kinds, Spells, IsScript, IsDeep, AnswersTree, AnswersRefusal, Explains};
+ghost use Rattle.sieve_text.specs.Grammar.{kinds, Spells, IsScript, IsDeep, AnswersTree, AnswersRefusal, Explains};
 ghost use Rattle.sieve_text.specs.Tokens.{IsFaulty};
 ghost use Rattle.sieve_text.specs.Reading.{Gives, GivesScript, script_at};
 

@@ -9,8 +9,8 @@ mod number;
 mod octets;
 mod quoted;
 
-ghost use Rattle.std.specs.Prelude.{◌≡◌, ◌≤◌, ◌<◌, ◌+◌, ◌^◌, ◌∷◌, length, drop, suc, IfOk, IfErr, IfSome, OnOk};
-ghost use Rattle.sieve_text.specs.Tokens.{mark_of, kind_at, tag_at, identifier_at, token_at, Gives, IsSound, IsScan, FaultsBy};
+ghost use Rattle.std.specs.Prelude.{◌≡◌, ◌≤◌, ◌<◌, ◌+◌, ◌^◌, ◌∷◌, length, drop, suc, IfOk, IfErr, IfSome, OnOk, ℕ};
+ghost use Rattle.sieve_text.specs.Tokens.{mark_of, kind_at, tag_at, identifier_at, token_at, Gives, IsSound, IsScan, FaultsBy, StandsAt, StandsIn, either_place, text_len, fault_place};
 
 use crate::fault::{ScanFault, ScanRefusal};
 use sieve_syntax::{Mark, Text, Token, TokenKind};
@@ -52,6 +52,7 @@ fn tag(alloc: Global, behind: &[u8], at: usize) -> Result<(TokenKind, usize), Sc
     ensures value { Gives (λ x. x) result (tag_at behind.now) }
     ensures within { IfOk result (λ x. x.1 ≤ suc (length behind.now)) }
     ensures some { IfOk result (λ x. 0 < x.1) }
+    ensures place { (first : ℕ) → IfErr result (λ e. StandsAt (either_place first at) e) }
 {
     match behind {
         [b, ..] if octets::starts_word(*b) => {
@@ -70,6 +71,7 @@ fn kind(alloc: Global, rest: &[u8], at: usize) -> Result<(TokenKind, usize), Sca
     ensures value { Gives (λ x. x) result (kind_at rest.now) }
     ensures within { IfOk result (λ x. x.1 ≤ length rest.now) }
     ensures some { IfOk result (λ x. 0 < x.1) }
+    ensures place { IfErr result (λ e. StandsAt (either_place at (at + text_len rest.now)) e) }
 {
     let Some((&b, behind)) = rest.split_first() else {
         return Err(ScanFault::Refused(ScanRefusal::NoToken, at));
@@ -101,6 +103,7 @@ fn token(alloc: Global, script: &[u8], at: usize) -> Result<Option<Token>, ScanF
     requires { at ≤ length script.now }
     ensures value { Gives (λ x. x) result (token_at script.now at) }
     ensures within { IfOk result (λ x. IfSome x (λ t. (at < t.end) × (t.end ≤ length script.now))) }
+    ensures place { IfErr result (λ e. StandsAt (fault_place script.now at) e) }
 {
     let (_, behind) = script.split_at(at);
     let start = at + gap::gap_length(behind);
@@ -120,6 +123,7 @@ fn token(alloc: Global, script: &[u8], at: usize) -> Result<Option<Token>, ScanF
 fn judge(script: &[u8]) -> Result<(), ScanFault>
     ensures sound { OnOk result (IsSound script.now) }
     ensures fault { IfErr result (λ e. FaultsBy script.now e) }
+    ensures place { IfErr result (λ e. StandsIn script.now e) }
 {
     if script.len() > MOST_OCTETS {
         return Err(ScanFault::Refused(ScanRefusal::ScriptTooLong, 0));
@@ -147,6 +151,7 @@ fn judge(script: &[u8]) -> Result<(), ScanFault>
 pub fn scan(alloc: Global, script: &[u8]) -> Result<Vec<Token>, ScanFault>
     ensures tokens { IfOk result (λ v. IsScan script.now v.items) }
     ensures fault { IfErr result (λ e. FaultsBy script.now e) }
+    ensures place { IfErr result (λ e. StandsIn script.now e) }
 {
     judge(script)?;
     let mut tokens = Vec::new(alloc);

@@ -1,4 +1,5 @@
-//! What no contract says: that scripts have tokens where memory is ample, and where refusals stand.
+//! What no contract says: that scripts have tokens where memory is ample, and that the definitions mean what the standard
+//! and its profile say. The expected values are worked out by hand.
 
 use crate::{ScanFault, scan};
 use sieve_syntax::{Mark, Token, TokenKind};

@@ -1,7 +1,7 @@
 //! Strings and arguments.
 
 ghost use Rattle.std.specs.Prelude.{◌≡◌, ◌≤◌, ◌<◌, length, IfOk, IfSome, option_map};
-ghost use Rattle.sieve_text.specs.Scripts.{kinds};
+ghost use Rattle.sieve_text.specs.Grammar.{kinds};
 ghost use Rattle.sieve_text.specs.Reading.{Gives, string_at, behind_bracket, next_with, other_strings_at, string_list_at, argument_at, arguments_at};
 
 use crate::parser::stop::{Stop, split_kind, syntax};

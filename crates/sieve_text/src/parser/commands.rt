@@ -2,7 +2,7 @@
 
 ghost use Rattle.std.specs.Prelude.{◌≡◌, ◌≤◌, ◌<◌, length, map, IfOk, IfSome, option_map, Ok};
 ghost use Rattle.sieve_syntax.specs.View.{command_of, ending_of, commands_of};
-ghost use Rattle.sieve_text.specs.Scripts.{kinds};
+ghost use Rattle.sieve_text.specs.Grammar.{kinds};
 ghost use Rattle.sieve_text.specs.Reading.{Gives, many_at, inside_at, command_with, commands_with, ending_with, behind_brace};
 
 use crate::parser::arguments::arguments;

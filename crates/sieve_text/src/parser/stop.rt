@@ -1,7 +1,7 @@
 //! What the readers of the grammar share: the first token, and why reading stops before a tree is whole.
 
 ghost use Rattle.std.specs.Prelude.{◌≡◌, ◌<◌, [], ◌∷◌, length, MatchOption, IfSome};
-ghost use Rattle.sieve_text.specs.Scripts.{kinds};
+ghost use Rattle.sieve_text.specs.Grammar.{kinds};
 ghost use Rattle.sieve_text.specs.declared.parser.stop.Misfit.TheVariants.{Syntax};
 ghost use Rattle.sieve_text.specs.declared.parser.stop.Stop.TheVariants.{Refused};
 

@@ -2,7 +2,7 @@
 
 ghost use Rattle.std.specs.Prelude.{◌≡◌, ◌≤◌, ◌<◌, [], ◌∷◌, length, map, IfOk, IfSome, option_map};
 ghost use Rattle.sieve_syntax.specs.View.{test_of, inner_of};
-ghost use Rattle.sieve_text.specs.Scripts.{kinds};
+ghost use Rattle.sieve_text.specs.Grammar.{kinds};
 ghost use Rattle.sieve_text.specs.Reading.{Gives, behind, behind_paren, next_with, many_at, test_at, test_list_with, inner_with};
 
 use crate::parser::arguments::arguments;

@@ -1,8 +1,10 @@
 //! Multi-line strings (RFC 5228, section 2.4.2).
 
-ghost use Rattle.std.specs.Prelude.{◌≡◌, ◌≤◌, ◌<◌, ◌+◌, ◌^◌, length, true, false, IfOk};
+ghost use Rattle.sieve_text.specs.Octets.{is_blank};
+ghost use Rattle.std.specs.List.{prefix_len};
+ghost use Rattle.std.specs.Prelude.{◌≡◌, ◌≤◌, ◌<◌, ◌+◌, ◌^◌, length, true, false, IfOk, ℕ, IfErr};
 ghost use Rattle.sieve_text.specs.Strings.{begins_text, opening_end_at, is_last_line, lines_len, lines_value};
-ghost use Rattle.sieve_text.specs.Tokens.{lines_at, multi_line_at, Gives};
+ghost use Rattle.sieve_text.specs.Tokens.{lines_at, multi_line_at, Gives, StandsAt, either_place};
 
 use crate::fault::{ScanFault, ScanRefusal};
 use crate::scanner::{octets, quoted};
@@ -31,6 +33,7 @@ pub fn begins(rest: &[u8]) -> bool
 fn opening_end(rest: &[u8], start: usize, at: usize) -> Result<usize, ScanFault>
     ensures value { Gives (λ x. x) result (opening_end_at rest.now) }
     ensures within { IfOk result (λ n. n ≤ length rest.now) }
+    ensures place { IfErr result (λ e. StandsAt (either_place start at) e) }
 {
     if rest.is_empty() {
         return Err(ScanFault::Refused(ScanRefusal::StringNotClosed, start));
@@ -114,6 +117,7 @@ fn lines_token(
     requires { before + length lines.now < 2 ^ 64 }
     ensures value { Gives (λ x. x) result (lines_at before lines.now) }
     ensures within { IfOk result (λ x. (before < x.1) × (x.1 ≤ before + length lines.now)) }
+    ensures place { (octet : ℕ) → IfErr result (λ e. StandsAt (either_place at octet) e) }
 {
     let n = lines_length(lines);
     if n == lines.len() {
@@ -132,6 +136,7 @@ pub fn token(alloc: Global, behind: &[u8], at: usize) -> Result<(TokenKind, usiz
     ensures value { Gives (λ x. x) result (multi_line_at behind.now) }
     ensures within { IfOk result (λ x. x.1 ≤ 5 + length behind.now) }
     ensures some { IfOk result (λ x. 0 < x.1) }
+    ensures place { IfErr result (λ e. StandsAt (either_place at (at + (5 + prefix_len is_blank behind.now))) e) }
 {
     let blanks = octets::blank_length(behind);
     let (_, rest) = behind.split_at(blanks);

@@ -1,10 +1,10 @@
 //! Numbers (RFC 5228, section 2.4.1).
 
-ghost use Rattle.std.specs.Prelude.{◌≡◌, ◌≤◌, ◌<◌, ◌^◌, length, IfOk, SomeIff};
+ghost use Rattle.std.specs.Prelude.{◌≡◌, ◌≤◌, ◌<◌, ◌^◌, length, IfOk, SomeIff, ℕ, IfErr};
 ghost use Rattle.std.specs.List.{prefix_len};
 ghost use Rattle.std.specs.Char.{is_ascii_digit};
 ghost use Rattle.std.specs.Str.Parse.{digits_value};
-ghost use Rattle.sieve_text.specs.Tokens.{factor_at, number_at, Gives};
+ghost use Rattle.sieve_text.specs.Tokens.{factor_at, number_at, Gives, StandsAt, either_place};
 
 use crate::fault::{ScanFault, ScanRefusal};
 use sieve_syntax::TokenKind;
@@ -55,6 +55,7 @@ pub fn token(rest: &[u8], at: usize) -> Result<(TokenKind, usize), ScanFault>
     ensures value { Gives (λ x. x) result (number_at rest.now) }
     ensures within { IfOk result (λ x. x.1 ≤ length rest.now) }
     ensures some { IfOk result (λ x. prefix_len is_ascii_digit rest.now ≤ x.1) }
+    ensures place { (octet : ℕ) → IfErr result (λ e. StandsAt (either_place at octet) e) }
 {
     let n = digits_length(rest);
     let (digits, behind) = rest.split_at(n);

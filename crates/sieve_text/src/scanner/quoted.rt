@@ -1,8 +1,8 @@
 //! Quoted strings (RFC 5228, section 2.4.2).
 
-ghost use Rattle.std.specs.Prelude.{◌≡◌, ◌≤◌, ◌<◌, ◌+◌, length, false, suc, IfOk};
+ghost use Rattle.std.specs.Prelude.{◌≡◌, ◌≤◌, ◌<◌, ◌+◌, length, false, suc, IfOk, ℕ, IfErr};
 ghost use Rattle.sieve_text.specs.Strings.{quoted_len, quoted_value};
-ghost use Rattle.sieve_text.specs.Tokens.{quoted_at, string_kind, Gives};
+ghost use Rattle.sieve_text.specs.Tokens.{quoted_at, string_kind, Gives, StandsAt, either_place};
 
 use crate::fault::{ScanFault, ScanRefusal};
 use sieve_syntax::{Text, TokenKind};
@@ -58,6 +58,7 @@ fn value(alloc: Global, body: &[u8]) -> Result<Text, AllocError>
 pub fn string(value: Text, length: usize, at: usize) -> Result<(TokenKind, usize), ScanFault>
     ensures value { Gives (λ x. x) result (string_kind value length) }
     ensures same_length { IfOk result (λ x. x.1 ≡ length) }
+    ensures place { (octet : ℕ) → IfErr result (λ e. StandsAt (either_place at octet) e) }
 {
     if value.as_slice().len() > MOST_OCTETS {
         return Err(ScanFault::Refused(ScanRefusal::StringTooLong, at));
@@ -71,6 +72,7 @@ pub fn token(alloc: Global, behind: &[u8], at: usize) -> Result<(TokenKind, usiz
     ensures value { Gives (λ x. x) result (quoted_at behind.now) }
     ensures within { IfOk result (λ x. x.1 ≤ suc (length behind.now)) }
     ensures some { IfOk result (λ x. 0 < x.1) }
+    ensures place { (octet : ℕ) → IfErr result (λ e. StandsAt (either_place at octet) e) }
 {
     let n = body_length(behind);
     if n == behind.len() {

@@ -1,6 +1,6 @@
 use Rattle.std.proofs.Common.{◌<◌, length, arith, refl}
 use Rattle.std.proofs.lemmas.Result.{err_from_is_err_and}
-use Rattle.sieve_text.specs.Scripts.{kinds}
+use Rattle.sieve_text.specs.Grammar.{kinds}
 use Rattle.sieve_text.specs.Reading.{string_at, next_with, other_strings_at}
 use Rattle.sieve_text.proofs.Many.{length_kinds, goes_on_first, goes_on_more, goes_on_ends, goes_on_fails}
 use Rattle.sieve_text.proofs.parser.arguments.other_strings.Goals as goal

@@ -1,5 +1,5 @@
 use Rattle.std.proofs.Common.{◌≤◌, length}
-use Rattle.sieve_text.specs.Scripts.{kinds}
+use Rattle.sieve_text.specs.Grammar.{kinds}
 use Rattle.sieve_text.specs.Reading.{string_at, next_with, other_strings_at}
 use Rattle.sieve_text.proofs.Many.{GoesOn}
 use Rattle.sieve_text.proofs.parser.arguments.other_strings.Given as goal

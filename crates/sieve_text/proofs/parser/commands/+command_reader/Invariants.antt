@@ -1,6 +1,6 @@
 use Rattle.std.proofs.Common.{◌+◌, ◌*◌, ◌≤◌, length, map}
 use Rattle.sieve_syntax.specs.View.{command_of}
-use Rattle.sieve_text.specs.Scripts.{kinds}
+use Rattle.sieve_text.specs.Grammar.{kinds}
 use Rattle.sieve_text.specs.Reading.{many_at, command_with, inside_at}
 use Rattle.sieve_text.proofs.Many.{GoesOn}
 use Rattle.sieve_text.proofs.parser.commands.+command_reader.Given as goal

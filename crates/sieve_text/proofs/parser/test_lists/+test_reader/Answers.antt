@@ -2,7 +2,7 @@ use Rattle.std.proofs.Common.{◌≡◌, ◌<◌, ◌∷◌, ◌++◌, [], lengt
 use Rattle.std.proofs.lemmas.Result.{err_from_is_err_and}
 use Rattle.std.proofs.lemmas.List.{map_push}
 use Rattle.sieve_syntax.specs.View.{test_of}
-use Rattle.sieve_text.specs.Scripts.{kinds}
+use Rattle.sieve_text.specs.Grammar.{kinds}
 use Rattle.sieve_text.specs.Reading.{next_with, many_at, test_at, behind}
 use Rattle.sieve_text.proofs.Many.{length_kinds, goes_on_more, goes_on_ends, goes_on_fails}
 use Rattle.sieve_text.proofs.parser.test_lists.+test_reader.Goals as goal

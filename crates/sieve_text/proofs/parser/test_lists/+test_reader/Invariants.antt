@@ -1,6 +1,6 @@
 use Rattle.std.proofs.Common.{◌+◌, ◌*◌, ◌≤◌, [], ◌∷◌, length, map}
 use Rattle.sieve_syntax.specs.View.{test_of}
-use Rattle.sieve_text.specs.Scripts.{kinds}
+use Rattle.sieve_text.specs.Grammar.{kinds}
 use Rattle.sieve_text.specs.Reading.{next_with, many_at, test_at, behind}
 use Rattle.sieve_text.proofs.Many.{GoesOn}
 use Rattle.sieve_text.proofs.parser.test_lists.+test_reader.Given as goal

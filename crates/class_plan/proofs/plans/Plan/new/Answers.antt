@@ -1,0 +1,14 @@
+use Rattle.std.proofs.Common.{◌≡◌, [], ◌∷◌, None, true, refl, ap, sym, ◌∙◌}
+use Rattle.class_plan.specs.Plans.{IsPlan, Listing, put, open_row, first_plan}
+use Rattle.class_plan.specs.Paths.{unfiled}
+use Rattle.class_plan.specs.Fields.{row, rows, rows_in}
+use Rattle.class_plan.specs.declared.schedules.Schedule.TheVariants.{Permanent}
+use Rattle.class_plan.proofs.Found.{rows-insert, row-same}
+use Rattle.class_plan.proofs.Keeping.{first-plan}
+use Rattle.class_plan.proofs.plans.Plan.new.Goals as goal
+
+pub invariant_of-result : goal.invariant_of-result
+invariant_of-result c =
+    let made : rows_in c.insert.new.self ≡ open_row unfiled ∷ [] =
+    ap rows c.in_ok-insert.ensures.entries ∙ rows-insert c.new-classes.result.entries c.in_ok-from_slice.field-0 _ ∙ ap (λ es. put (row (c.in_ok-from_slice.field-0, _)) (rows es)) c.new-classes.ensures.empty ∙ ap (λ r. r ∷ []) (row-same _ _ true None None c.in_ok-from_slice.ensures.items refl) in
+    rw made first-plan

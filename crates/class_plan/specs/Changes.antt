@@ -1,0 +1,23 @@
+-- Changes of a plan.
+use Rattle.std.specs.Prelude.{ℕ, nat_le, Bool, true, false, not, List, length, Result}
+use Rattle.class_plan.specs.declared.faults.PlanFault.{PlanFault}
+use Rattle.class_plan.specs.declared.faults.PlanFault.TheVariants.{NotToml, BadShape, BadPath, ParentMissing, PathTwice, BadSchedule, TooManyClasses, PathDropped, NoMemory}
+use Rattle.class_plan.specs.Faults.{judged}
+use Rattle.class_plan.specs.Paths.{is_path, has_parent_in}
+use Rattle.class_plan.specs.Plans.{Row, Listing, has, put, open_row}
+
+-- what speaks against one more open class at a path
+abbrev pub speaks_against : Listing → List ℕ → PlanFault → Bool
+speaks_against p q BadPath = not (is_path q)
+speaks_against p q ParentMissing = not (has_parent_in (has p.rows) q)
+speaks_against p q PathTwice = has p.rows q
+speaks_against p q TooManyClasses = nat_le 4096 (length p.rows)
+speaks_against p q _ = false
+
+-- the plan with one more open class
+abbrev pub with_class : Listing → List ℕ → Listing
+with_class p q = record { root = p.root; rows = put (open_row q) p.rows }
+
+-- the plan with one more open class, or the fault with the smallest number
+abbrev pub added : Listing → List ℕ → Result Listing PlanFault
+added p q = judged (speaks_against p q) (with_class p q)

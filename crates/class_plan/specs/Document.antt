@@ -1,0 +1,100 @@
+-- Plan files: a TOML table with the key `root`, a schedule's text, and optionally `class`, an array
+-- of tables with the key `path`, a text, and optionally `open`, a truth, and `schedule`, a text.
+use Rattle.std.specs.Prelude.{◌≡◌, ℕ, Bool, true, false, not, ◌&&◌, ◌||◌, if◌then◌else◌, List, [], ◌∷◌, map, codes, Option, Some, None, option_map, option_and_then, unwrap_or, Result}
+use Rattle.std.specs.Str.{bytes_eq, is_utf8}
+use Rattle.toml.specs.Data.{Data, Items, no_items, item, Members, no_members, member, get_member, as_str, as_bool, as_array, as_table}
+use Rattle.toml.specs.Parse.{parse_document}
+use Rattle.class_plan.specs.declared.faults.PlanFault.{PlanFault}
+use Rattle.class_plan.specs.declared.faults.PlanFault.TheVariants.{NotToml, BadShape, BadPath, ParentMissing, PathTwice, BadSchedule, TooManyClasses, PathDropped, NoMemory}
+use Rattle.class_plan.specs.declared.entries.Lists.{Lists}
+use Rattle.class_plan.specs.Faults.{judged}
+use Rattle.class_plan.specs.Paths.{unfiled}
+use Rattle.class_plan.specs.Plans.{Listing, first_plan}
+use Rattle.class_plan.specs.Texts.{◌>>=◌, schedule_of_bytes}
+use Rattle.class_plan.specs.Entries.{Entry, Contents, shown, stated_if, contents_faults, listing_of}
+
+-- each key is a known one
+abbrev pub has_only : (List ℕ → Bool) → Members → Bool
+has_only known no_members = true
+has_only known (member k d ms) = known k && has_only known ms
+
+abbrev pub is_file_key : List ℕ → Bool
+is_file_key k = bytes_eq k (codes "root") || bytes_eq k (codes "class")
+
+abbrev pub is_class_key : List ℕ → Bool
+is_class_key k = bytes_eq k (codes "path") || bytes_eq k (codes "open") || bytes_eq k (codes "schedule")
+
+-- the value of a key that may be missing; None is a value of another kind
+abbrev pub optional : {A : Type 0} → (Data → Option A) → Option Data → Option (Option A)
+optional f None = Some None
+optional f (Some d) = option_map (λ a. Some a) (f d)
+
+-- a class that may be listed: `unfiled` is open
+abbrev pub checked : Entry → Option Entry
+checked e = if bytes_eq e.path unfiled && not e.is_open then None else Some e
+
+-- a class from its parts, each of the right kind
+abbrev pub class_of_parts : Bool → Option (List ℕ) → Option (Option Bool) → Option (Option (List ℕ)) → Option Entry
+class_of_parts true (Some path) (Some is_open) (Some text) = checked (record { path = path; is_open = unwrap_or is_open true; stated = stated_if (option_map schedule_of_bytes text) })
+class_of_parts _ _ _ _ = None
+
+-- a class from its table
+unfoldable pub class_of : Members → Option Entry
+class_of ms = class_of_parts (has_only is_class_key ms) (option_and_then as_str (get_member (codes "path") ms)) (optional as_bool (get_member (codes "open") ms)) (optional as_str (get_member (codes "schedule") ms))
+
+unfoldable pub entry_of : Data → Option Entry
+entry_of d = as_table d >>= class_of
+
+-- the classes of the array
+unfoldable pub entries_of : Items → Option (List Entry)
+entries_of no_items = Some []
+entries_of (item d ds) = do
+  e ← entry_of d
+  es ← entries_of ds
+  Some (e ∷ es)
+
+-- the classes of the file: none where the key is missing
+unfoldable pub listed_of : Option Data → Option (List Entry)
+listed_of None = Some []
+listed_of (Some d) = as_array d >>= entries_of
+
+-- the contents from their parts, each of the right kind
+abbrev pub contents_of_parts : Bool → Option (List ℕ) → Option (List Entry) → Option Contents
+contents_of_parts true (Some root) (Some entries) = Some (record { root = schedule_of_bytes root; entries = entries })
+contents_of_parts _ _ _ = None
+
+-- the contents of a table; None is a table of another shape
+unfoldable pub contents_of : Members → Option Contents
+contents_of ms = contents_of_parts (has_only is_file_key ms) (option_and_then as_str (get_member (codes "root") ms)) (listed_of (get_member (codes "class") ms))
+
+-- what the lists of a file show
+abbrev pub shown_lists : Lists → Contents
+shown_lists f = record { root = f.root; entries = map shown f.classes.items }
+
+-- what speaks against a table, by the contents that it has
+abbrev pub table_faults : Option Contents → PlanFault → Bool
+table_faults None BadShape = true
+table_faults None _ = false
+table_faults (Some f) g = contents_faults f g
+
+-- what speaks against a document, by the table that it is
+abbrev pub document_faults : Option Members → PlanFault → Bool
+document_faults None NotToml = true
+document_faults None _ = false
+document_faults (Some ms) g = table_faults (contents_of ms) g
+
+-- the table of a text, by the grammar of TOML; None is a text that is none, or not UTF-8
+unfoldable pub document_of : List ℕ → Option Members
+document_of t = if is_utf8 t then parse_document t else None
+
+-- what speaks against a text as a plan file
+abbrev pub text_faults : List ℕ → PlanFault → Bool
+text_faults t g = document_faults (document_of t) g
+
+abbrev pub listing_if : Option Contents → Listing
+listing_if None = first_plan
+listing_if (Some f) = listing_of f
+
+-- the plan of a text, or the fault with the smallest number
+unfoldable pub plan_of_text : List ℕ → Result Listing PlanFault
+plan_of_text t = judged (text_faults t) (listing_if (document_of t >>= contents_of))

@@ -1,0 +1,10 @@
+pub mod Faults
+pub mod Paths
+pub mod Schedules
+pub mod Texts
+pub mod Plans
+pub mod Fields
+pub mod Changes
+pub mod Entries
+pub mod Document
+pub mod Dates

@@ -1,0 +1,90 @@
+-- Plans of classes, what they say of a path, and what each of them keeps.
+use Rattle.std.specs.Prelude.{◌≡◌, ℕ, ◌≤◌, Bool, true, false, if◌then◌else◌, List, [], ◌∷◌, map, filter, length, Option, Some, None, is_some, option_map, option_and_then, unwrap_or}
+use Rattle.std.specs.Str.{bytes_eq}
+use Rattle.std.specs.List.{All, list_all}
+use Rattle.std.specs.List.Sorted.{IsStrictlySortedBy}
+use Rattle.std.specs.Ordering.{nat_cmp, match_ordering}
+use Rattle.std.specs.Cmp.Lexicographic.{slice_cmp}
+use Rattle.class_plan.specs.declared.schedules.Schedule.{Schedule}
+use Rattle.class_plan.specs.declared.schedules.Schedule.TheVariants.{Permanent}
+use Rattle.class_plan.specs.Paths.{is_path, ancestors, has_parent_in, unfiled}
+use Rattle.class_plan.specs.Schedules.{IsInRange, IsInRangeIfAny}
+
+-- a class: its path, whether it is open, and its own schedule, if it has one
+pub record Row : Type 0 where
+  pub path : List ℕ
+  pub is_open : Bool
+  pub schedule : Option Schedule
+
+-- a plan: the root's schedule, and the classes in byte order of their paths
+pub record Listing : Type 0 where
+  pub root : Schedule
+  pub rows : List Row
+
+-- an open class without a schedule of its own
+abbrev pub open_row : List ℕ → Row
+open_row q = record { path = q; is_open = true; schedule = None }
+
+-- the plan of `unfiled` alone
+abbrev pub first_plan : Listing
+first_plan = record { root = Permanent; rows = open_row unfiled ∷ [] }
+
+-- the class with that path
+abbrev pub found : List ℕ → List Row → Option Row
+found q [] = None
+found q (x ∷ xs) = if bytes_eq q x.path then Some x else found q xs
+
+-- whether there is a class with that path
+abbrev pub has : List Row → List ℕ → Bool
+has rows q = is_some (found q rows)
+
+-- a class put at its place in byte order, over one with that path
+abbrev pub put : Row → List Row → List Row
+put r [] = r ∷ []
+put r (x ∷ xs) = match_ordering (slice_cmp nat_cmp r.path x.path) (r ∷ x ∷ xs) (record { path = x.path; is_open = r.is_open; schedule = r.schedule } ∷ xs) (x ∷ put r xs)
+
+-- whether a path is, octet for octet, an open class
+abbrev pub open_at : List Row → List ℕ → Bool
+open_at rows q = unwrap_or (option_map (λ r. r.is_open) (found q rows)) false
+
+abbrev pub is_open_in : Listing → List ℕ → Bool
+is_open_in p q = open_at p.rows q
+
+-- the schedule of its own that the class with that path has
+abbrev pub own_at : List Row → List ℕ → Option Schedule
+own_at rows q = option_and_then (λ r. r.schedule) (found q rows)
+
+-- the first schedule that classes at some paths have, or else the root's
+abbrev pub first_own : Listing → List (List ℕ) → Schedule
+first_own p [] = p.root
+first_own p (q ∷ qs) = unwrap_or (own_at p.rows q) (first_own p qs)
+
+-- the schedule of a class: its own, or else that of its nearest ancestor that has one, or else the
+-- root's; None of a path that is no class
+abbrev pub schedule_at : Listing → List ℕ → Option Schedule
+schedule_at p q = if has p.rows q then Some (first_own p (q ∷ ancestors q)) else None
+
+-- each class of the old plan is one of the new
+abbrev pub keeps : Listing → Listing → Bool
+keeps old new = list_all (λ r. has new.rows r.path) old.rows
+
+-- the paths of the open classes, in byte order
+abbrev pub paths_of : List Row → List (List ℕ)
+paths_of rows = map (λ r. r.path) rows
+
+abbrev pub open_paths_of : Listing → List (List ℕ)
+open_paths_of p = paths_of (filter (λ r. r.is_open) p.rows)
+
+-- what a plan keeps of a class that stands among these
+pub record IsClass (rows : List Row) (r : Row) : Type 0 where
+  pub path : is_path r.path ≡ true
+  pub parent : has_parent_in (has rows) r.path ≡ true
+  pub range : IsInRangeIfAny r.schedule
+
+-- what each plan keeps
+pub record IsPlan (p : Listing) : Type 0 where
+  pub root : IsInRange p.root
+  pub classes : All (IsClass p.rows) p.rows
+  pub unfiled_open : is_open_in p unfiled ≡ true
+  pub few : length p.rows ≤ 4096
+  pub in_order : IsStrictlySortedBy (slice_cmp nat_cmp) (paths_of p.rows)

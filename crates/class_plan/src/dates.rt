@@ -1,0 +1,90 @@
+//! Capture days and due dates, by the proleptic Gregorian calendar of the crate `jiff`.
+ghost use Rattle.std.specs.Prelude.{◌≡◌, ℕ, pos, ◌/◌, ◌≤◌, ◌<◌, ◌+ℤ◌, MatchOption};
+ghost use Rattle.jiff.specs.Words.{epoch_day, IsBetween};
+ghost use Rattle.class_plan.specs.Schedules.{IsInRange};
+ghost use Rattle.class_plan.specs.Dates.{IsCaptureDay, IsDue, IsMonthsAfter};
+
+use crate::schedules::{Schedule, Unit};
+use jiff::ToSpan;
+use jiff::civil::{Date, date};
+
+/// The seconds of a day.
+const DAY_SECONDS: u64 = 86_400;
+
+/// The last moment of 2199, in seconds since 1970-01-01T00:00:00Z.
+const LAST_MOMENT: u64 = 7_258_118_399;
+
+/// The day number of 9999-12-31.
+const LAST_DAY: i64 = 2_932_896;
+
+/// So many days later.
+fn days_after(day: Date, count: u32) -> Date
+    requires day { IsCaptureDay day }
+    requires count { count ≤ 366000 }
+    ensures { epoch_day result ≡ epoch_day day +ℤ pos count }
+{
+    day.saturating_add((count as i64).days())
+}
+
+/// So many months later, the day cut to the month's last.
+fn months_after(day: Date, count: u32) -> Date
+    requires day { IsCaptureDay day }
+    requires count { count ≤ 12000 }
+    ensures { IsMonthsAfter day count result }
+{
+    let months = day.year() as u32 * 12 + (day.month() as u32 - 1) + count;
+    let year = (months / 12) as i16;
+    let month = (months % 12 + 1) as i8;
+    let last = date(year, month, 1).days_in_month();
+    date(year, month, day.day().min(last))
+}
+
+/// The UTC date of a moment in seconds since 1970-01-01T00:00:00Z, or `None` for a moment after
+/// 2199-12-31T23:59:59Z.
+pub fn day_of(moment: u64) -> Option<Date>
+    ensures { MatchOption result (7258118399 < moment) (λ d. (moment ≤ 7258118399) × (epoch_day d ≡ pos (moment / 86400))) }
+{
+    if moment > LAST_MOMENT {
+        return None;
+    }
+    let days = (moment / DAY_SECONDS) as i64;
+    Some(date(1970, 1, 1).saturating_add(days.days()))
+}
+
+/// The date on which a record that was captured on a day falls due: that many days later, or that
+/// many months or years later with the day cut to the last of a shorter month. `None` for a
+/// permanent schedule.
+///
+/// The caller gives a day of 1970 to 2199 and a count in its unit's range.
+pub fn due_date(day: Date, schedule: Schedule) -> Option<Date>
+    requires day { IsCaptureDay day }
+    requires range { IsInRange schedule }
+    ensures { IsDue day schedule result }
+{
+    match schedule {
+        Schedule::Permanent => None,
+        Schedule::After { count, unit, .. } => Some(match unit {
+            Unit::Days => days_after(day, count),
+            Unit::Months => months_after(day, count),
+            Unit::Years => months_after(day, count * 12),
+        }),
+    }
+}
+
+/// The day number of a date, in days since 1970-01-01.
+pub fn day_number(day: Date) -> i64
+    ensures { result ≡ epoch_day day }
+{
+    date(1970, 1, 1).duration_until(day).as_hours() / 24
+}
+
+/// The date with a day number, in days since 1970-01-01, or `None` for a number outside 1970 to
+/// 9999.
+pub fn date_of(number: i64) -> Option<Date>
+    ensures { MatchOption result (¬ (IsBetween (pos 0) (pos 2932896) number)) (λ d. IsBetween (pos 0) (pos 2932896) number × (epoch_day d ≡ number)) }
+{
+    if number < 0 || number > LAST_DAY {
+        return None;
+    }
+    Some(date(1970, 1, 1).saturating_add(number.days()))
+}

@@ -1,0 +1,182 @@
+//! The shape of a plan file: which keys its tables have, and of which kinds their values are.
+ghost use Rattle.std.specs.Prelude.{◌≡◌, Some, None, option_map, option_and_then, option_copied, IfOk, map, codes};
+ghost use Rattle.toml.specs.Data.{get_member, as_str, as_bool};
+ghost use Rattle.toml.specs.View.{view, table_view, array_view};
+ghost use Rattle.class_plan.specs.Texts.{schedule_of_bytes};
+ghost use Rattle.class_plan.specs.Entries.{shown, stated_if};
+ghost use Rattle.class_plan.specs.Document.{has_only, is_class_key, is_file_key, optional, class_of, entry_of, entries_of, listed_of, contents_of, shown_lists};
+
+use crate::entries::{Listed, Lists, Stated};
+use crate::texts::read_schedule;
+use std::alloc::{AllocError, Global};
+use toml::{Table, Value};
+
+/// The text at a key, if the key holds a text.
+fn text_at<'a>(table: &'a Table, key: &str) -> Option<&'a str>
+    ensures { option_map (λ s. s.now) result ≡ option_and_then as_str (get_member key.now (table_view table.now)) }
+{
+    match table.get(key) {
+        Some(value) => value.as_str(),
+        None => None,
+    }
+}
+
+/// The text at a key that may be missing; `None` where the key holds no text.
+fn optional_text<'a>(table: &'a Table, key: &str) -> Option<Option<&'a str>>
+    ensures { option_map (λ o. option_map (λ s. s.now) o) result ≡ optional as_str (get_member key.now (table_view table.now)) }
+{
+    match table.get(key) {
+        Some(value) => match value.as_str() {
+            Some(text) => Some(Some(text)),
+            None => None,
+        },
+        None => Some(None),
+    }
+}
+
+/// The truth at a key that may be missing; `None` where the key holds no truth.
+fn optional_truth(table: &Table, key: &str) -> Option<Option<bool>>
+    ensures { result ≡ optional as_bool (get_member key.now (table_view table.now)) }
+{
+    match table.get(key) {
+        Some(value) => match value.as_bool() {
+            Some(truth) => Some(Some(truth)),
+            None => None,
+        },
+        None => Some(None),
+    }
+}
+
+/// Whether a class's table may have the key.
+fn fits_class(key: &str) -> bool
+    ensures { result ≡ is_class_key key.now }
+{
+    key == "path" || key == "open" || key == "schedule"
+}
+
+/// Whether a file's table may have the key.
+fn fits_file(key: &str) -> bool
+    ensures { result ≡ is_file_key key.now }
+{
+    key == "root" || key == "class"
+}
+
+/// Whether a class's table may have each of the table's keys.
+fn has_only_class_keys(table: &Table) -> bool
+    ensures { result ≡ has_only is_class_key (table_view table.now) }
+{
+    for key in table.keys() {
+        if !fits_class(key.as_str()) {
+            return false;
+        }
+    }
+    true
+}
+
+/// Whether a file's table may have each of the table's keys.
+fn has_only_file_keys(table: &Table) -> bool
+    ensures { result ≡ has_only is_file_key (table_view table.now) }
+{
+    for key in table.keys() {
+        if !fits_file(key.as_str()) {
+            return false;
+        }
+    }
+    true
+}
+
+/// What a class's schedule text, if it has one, says.
+fn stated_by(text: Option<&str>) -> Stated
+    ensures { result ≡ stated_if (option_map schedule_of_bytes (option_copied text.entry)) }
+{
+    match text {
+        Some(text) => match read_schedule(text) {
+            Some(schedule) => Stated::Own(schedule),
+            None => Stated::Faulty,
+        },
+        None => Stated::Nothing,
+    }
+}
+
+/// The class that a table lists.
+fn class_from(table: &Table) -> Option<Listed<'_>>
+    ensures { option_map shown result ≡ class_of (table_view table.now) }
+{
+    if !has_only_class_keys(table) {
+        return None;
+    }
+    let Some(path) = text_at(table, "path") else {
+        return None;
+    };
+    let Some(is_open) = optional_truth(table, "open") else {
+        return None;
+    };
+    let Some(schedule) = optional_text(table, "schedule") else {
+        return None;
+    };
+    let is_open = is_open.unwrap_or(true);
+    if path == "unfiled" && !is_open {
+        return None;
+    }
+    Some(Listed {
+        path: path.as_bytes(),
+        is_open,
+        stated: stated_by(schedule),
+    })
+}
+
+/// The class that a value lists.
+fn class_in(value: &Value) -> Option<Listed<'_>>
+    ensures { option_map shown result ≡ entry_of (view value.now) }
+{
+    match value.as_table() {
+        Some(table) => class_from(table),
+        None => None,
+    }
+}
+
+/// The classes of an array, or `None` where one is no class.
+fn all_listed(alloc: Global, values: &Vec<Value>) -> Result<Option<Vec<Listed<'_>>>, AllocError>
+    ensures { IfOk result (λ o. option_map (λ v. map shown v.items) o ≡ entries_of (array_view values.now)) }
+{
+    let mut out = Vec::with_capacity(alloc, values.len())?;
+    for value in values {
+        match class_in(value) {
+            Some(class) => out.push(class)?,
+            None => return Ok(None),
+        }
+    }
+    Ok(Some(out))
+}
+
+/// The classes that the file lists, none where it has no such key.
+fn classes_at<'a>(alloc: Global, table: &'a Table) -> Result<Option<Vec<Listed<'a>>>, AllocError>
+    ensures { IfOk result (λ o. option_map (λ v. map shown v.items) o ≡ listed_of (get_member (codes "class") (table_view table.now))) }
+{
+    match table.get("class") {
+        Some(value) => match value.as_array() {
+            Some(values) => all_listed(alloc, values),
+            None => Ok(None),
+        },
+        None => Ok(Some(Vec::new(alloc))),
+    }
+}
+
+/// The contents of a file's table, or `None` for a table of another shape.
+pub(crate) fn lists_from(alloc: Global, table: &Table) -> Result<Option<Lists<'_>>, AllocError>
+    ensures { IfOk result (λ o. option_map shown_lists o ≡ contents_of (table_view table.now)) }
+{
+    if !has_only_file_keys(table) {
+        return Ok(None);
+    }
+    let Some(root) = text_at(table, "root") else {
+        return Ok(None);
+    };
+    let Some(classes) = classes_at(alloc, table)? else {
+        return Ok(None);
+    };
+    Ok(Some(Lists {
+        root: read_schedule(root),
+        classes,
+    }))
+}

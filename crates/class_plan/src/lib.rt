@@ -1,0 +1,22 @@
+//! Classes of records and their disposal schedules: which classes there are, which of them are
+//! open, and when a record of a class falls due.
+#![tactic(auto)]
+
+mod changes;
+mod dates;
+mod document;
+mod entries;
+mod faults;
+mod files;
+mod judge;
+mod paths;
+mod plans;
+mod readers;
+mod schedules;
+mod texts;
+
+pub use dates::{date_of, day_number, day_of, due_date};
+pub use faults::PlanFault;
+pub use jiff::civil::Date;
+pub use plans::Plan;
+pub use schedules::{Action, Schedule, Unit};

@@ -1,0 +1,42 @@
+//! Paths of classes: segments of small letters, digits and `-`, joined by `/`.
+ghost use Rattle.std.specs.Prelude.{◌≡◌};
+ghost use Rattle.class_plan.specs.Paths.{is_mark, is_path};
+
+/// The octet between two segments.
+pub(crate) const SLASH: u8 = b'/';
+
+/// The most `/` of a path, one fewer than its segments.
+const MOST_SLASHES: usize = 7;
+
+/// The most octets of a segment.
+const MOST_OCTETS: usize = 40;
+
+/// Whether an octet may stand in a segment.
+fn fits_segment(octet: u8) -> bool
+    ensures { result ≡ is_mark octet }
+{
+    octet.is_ascii_lowercase() || octet.is_ascii_digit() || octet == b'-'
+}
+
+/// Whether a path is 1 to 8 segments of 1 to 40 octets that may stand in one.
+pub(crate) fn fits_path(path: &[u8]) -> bool
+    ensures { result ≡ is_path path.now }
+{
+    let mut closed: usize = 0;
+    let mut run: usize = 0;
+    for octet in path {
+        if *octet == SLASH {
+            if run == 0 || closed == MOST_SLASHES {
+                return false;
+            }
+            closed += 1;
+            run = 0;
+        } else {
+            if !fits_segment(*octet) || run == MOST_OCTETS {
+                return false;
+            }
+            run += 1;
+        }
+    }
+    run > 0
+}

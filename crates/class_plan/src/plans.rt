@@ -1,0 +1,158 @@
+//! A plan: the root's schedule and the classes, each with a path, open or closed, and with a
+//! schedule of its own or none.
+ghost use Rattle.std.specs.Prelude.{◌≡◌, ◌≢◌, ◌≤◌, Bool, true, false, is_some, Option, Some, None, option_map, Ok, Err, IfOk, IfErr, OnOk, OnErr, MatchResult, map};
+ghost use Rattle.class_plan.specs.Paths.{has_parent_in};
+ghost use Rattle.class_plan.specs.Plans.{found, has, is_open_in, open_paths_of, first_plan};
+ghost use Rattle.class_plan.specs.Fields.{rows_in};
+ghost use Rattle.class_plan.specs.Changes.{added, speaks_against};
+ghost use Rattle.class_plan.specs.Faults.{first_fault, HoldsNone, IsSmallest};
+ghost use Rattle.class_plan.specs.declared.faults.PlanFault.TheVariants.{NoMemory};
+
+use crate::faults::PlanFault;
+use crate::paths::{SLASH, fits_path};
+use crate::schedules::Schedule;
+use std::alloc::{AllocError, Global};
+use std::collections::{BTreeMap, BTreeSet};
+use std::marker::Model;
+
+/// The most classes of a plan.
+pub(crate) const MOST_CLASSES: usize = 4096;
+
+/// The class that is always there and open.
+pub(crate) const UNFILED: &[u8] = b"unfiled";
+
+/// What a plan keeps of a class beside its path.
+#[derive(Clone, Copy, Debug)]
+pub(crate) struct Class {
+    pub(crate) is_open: bool,
+    pub(crate) schedule: Option<Schedule>,
+}
+
+/// A plan of classes. The class `unfiled` is always among them, and open; the parent of each is
+/// one of them; there are at most 4,096; and each count is in its unit's range.
+#[derive(Drop)]
+pub struct Plan {
+    pub(crate) alloc: Global,
+    pub(crate) root: Schedule,
+    pub(crate) classes: BTreeMap<Vec<u8>, Class>,
+}
+
+impl Model for Plan {
+    ghost use Rattle.class_plan.specs.Plans.{Listing, IsPlan};
+    ghost use Rattle.class_plan.specs.Fields.{rows_in};
+
+    ghost Value = { Listing };
+
+    ghost view = { λ p. record { root = p.root; rows = rows_in p.classes } };
+
+    ghost invariant = { λ p. IsPlan (record { root = p.root; rows = rows_in p.classes }) };
+}
+
+/// The class at a path.
+pub(crate) fn class_at(classes: &BTreeMap<Vec<u8>, Class>, path: &[u8]) -> Option<Class>
+    ensures open { option_map (λ c. c.is_open) result ≡ option_map (λ r. r.is_open) (found path.now (rows_in classes.now)) }
+    ensures schedule { option_map (λ c. c.schedule) result ≡ option_map (λ r. r.schedule) (found path.now (rows_in classes.now)) }
+    ensures some { is_some result ≡ has (rows_in classes.now) path.now }
+{
+    classes.get(path).copied()
+}
+
+/// Whether the path without its last segment, if it has more than one, is a class.
+pub(crate) fn has_parent(classes: &BTreeMap<Vec<u8>, Class>, path: &[u8]) -> bool
+    ensures { result ≡ has_parent_in (has (rows_in classes.now)) path.now }
+{
+    for end in (0..path.len()).rev() {
+        if path[end] == SLASH {
+            return class_at(classes, &path[..end]).is_some();
+        }
+    }
+    true
+}
+
+impl Plan {
+    /// The plan of the open class `unfiled` alone, whose schedule is the root's, permanent.
+    ///
+    /// Refuses for want of memory only.
+    pub fn new(alloc: Global) -> Result<Plan, AllocError>
+        ensures { IfOk result (λ p. p ≡ first_plan) }
+    {
+        let mut classes = BTreeMap::new(alloc);
+        let class = Class {
+            is_open: true,
+            schedule: None,
+        };
+        classes.insert(Vec::from_slice(alloc, UNFILED)?, class)?;
+        Ok(Plan {
+            alloc,
+            root: Schedule::Permanent,
+            classes,
+        })
+    }
+
+    /// What speaks against one more class at the path.
+    fn fault_at(&self, path: &[u8]) -> Option<PlanFault>
+        ensures { result ≡ first_fault (speaks_against self.now path.now) }
+    {
+        if !fits_path(path) {
+            return Some(PlanFault::BadPath);
+        }
+        if !has_parent(&self.classes, path) {
+            return Some(PlanFault::ParentMissing);
+        }
+        if class_at(&self.classes, path).is_some() {
+            return Some(PlanFault::PathTwice);
+        }
+        if self.classes.len() >= MOST_CLASSES {
+            return Some(PlanFault::TooManyClasses);
+        }
+        None
+    }
+
+    /// Adds an open class without a schedule of its own.
+    ///
+    /// Refused by the smallest of 52 (the path is not well made), 53 (its parent is no class), 54
+    /// (it is there) and 56 (there are 4,096 classes) that holds, or by 99; the plan is then as
+    /// before.
+    pub fn add(&mut self, path: &[u8]) -> Result<(), PlanFault>
+        ensures ok { OnOk result (added self.old path.now ≡ Ok self.new) }
+        ensures refused { IfErr result (λ f. f ≢ NoMemory → added self.old path.now ≡ Err f) }
+        ensures smallest { MatchResult result (λ _. HoldsNone (speaks_against self.old path.now)) (λ f. f ≢ NoMemory → IsSmallest (speaks_against self.old path.now) f) }
+        ensures unchanged { OnErr result (self.new ≡ self.old) }
+    {
+        if let Some(fault) = self.fault_at(path) {
+            return Err(fault);
+        }
+        let key = Vec::from_slice(self.alloc, path)?;
+        let class = Class {
+            is_open: true,
+            schedule: None,
+        };
+        self.classes.insert(key, class)?;
+        Ok(())
+    }
+
+    /// Whether the path is, octet for octet, an open class of the plan.
+    pub fn is_open(&self, path: &[u8]) -> bool
+        ensures { result ≡ is_open_in self.now path.now }
+    {
+        match class_at(&self.classes, path) {
+            Some(class) => class.is_open,
+            None => false,
+        }
+    }
+
+    /// The paths of the open classes.
+    ///
+    /// Refuses for want of memory only.
+    pub fn open_paths(&self, alloc: Global) -> Result<BTreeSet<Vec<u8>>, AllocError>
+        ensures { IfOk result (λ s. map (λ v. v.items) s.keys ≡ open_paths_of self.now) }
+    {
+        let mut paths = BTreeSet::new(alloc);
+        for (path, class) in &self.classes {
+            if class.is_open {
+                paths.insert(Vec::from_slice(alloc, path.as_slice())?)?;
+            }
+        }
+        Ok(paths)
+    }
+}

@@ -1,0 +1,78 @@
+//! What a plan says: its root's schedule, its classes, and the schedule of a path.
+ghost use Rattle.std.specs.Prelude.{◌≡◌, ◌<◌, length, IfSome};
+ghost use Rattle.std.specs.List.{HoldsAt};
+ghost use Rattle.class_plan.specs.Paths.{ancestors};
+ghost use Rattle.class_plan.specs.Schedules.{IsInRange};
+ghost use Rattle.class_plan.specs.Plans.{own_at, first_own, schedule_at, IsPlan};
+ghost use Rattle.class_plan.specs.Fields.{rows_in};
+
+use crate::paths::SLASH;
+use crate::plans::{Class, Plan, class_at};
+use crate::schedules::Schedule;
+use std::collections::BTreeMap;
+
+/// The schedule of its own that the class at a path has.
+fn own_schedule_at(classes: &BTreeMap<Vec<u8>, Class>, path: &[u8]) -> Option<Schedule>
+    ensures { result ≡ own_at (rows_in classes.now) path.now }
+{
+    match class_at(classes, path) {
+        Some(class) => class.schedule,
+        None => None,
+    }
+}
+
+/// The schedule of the nearest ancestor of a path that has one, or else the root's.
+fn inherited_schedule(root: Schedule, classes: &BTreeMap<Vec<u8>, Class>, path: &[u8]) -> Schedule
+    ensures { result ≡ first_own (record { root = root; rows = rows_in classes.now }) (ancestors path.now) }
+{
+    for end in (0..path.len()).rev() {
+        if path[end] == SLASH {
+            if let Some(schedule) = own_schedule_at(classes, &path[..end]) {
+                return schedule;
+            }
+        }
+    }
+    root
+}
+
+impl Plan {
+    /// The schedule of a class: its own, or else that of its nearest ancestor that has one, or else
+    /// the root's. `None` where the path is no class. An ancestor of a path is a class whose path
+    /// stands before a `/` in it, so `a` is none of `ab`.
+    pub fn schedule_of(&self, path: &[u8]) -> Option<Schedule>
+        ensures schedule { result ≡ schedule_at self.now path.now }
+        ensures range { IfSome result (λ s. IsInRange s) }
+    {
+        let class = class_at(&self.classes, path)?;
+        Some(match class.schedule {
+            Some(schedule) => schedule,
+            None => inherited_schedule(self.root, &self.classes, path),
+        })
+    }
+
+    /// The root's schedule, which classes have where neither they nor an ancestor has one.
+    pub fn root(&self) -> Schedule
+        ensures root { result ≡ self.now.root }
+        ensures range { IsInRange result }
+    {
+        self.root
+    }
+
+    /// How many classes there are, `unfiled` among them: 1 to 4,096.
+    pub fn class_count(&self) -> usize
+        ensures count { result ≡ length self.now.rows }
+        ensures plan { IsPlan self.now }
+    {
+        self.classes.len()
+    }
+
+    /// The class at a place in byte order of the paths: its path, whether it is open, and the
+    /// schedule of its own, if it has one.
+    pub fn class(&self, i: usize) -> (&[u8], bool, Option<Schedule>)
+        requires { i < length self.now.rows }
+        ensures { HoldsAt (λ r. r ≡ record { path = result.0.now; is_open = result.1; schedule = result.2 }) self.now.rows i }
+    {
+        let (path, class) = self.classes.iter().nth(i).unwrap();
+        (path.as_slice(), class.is_open, class.schedule)
+    }
+}

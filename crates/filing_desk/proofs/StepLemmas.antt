@@ -1,0 +1,10 @@
+-- Laws of steps that a session needs.
+use Rattle.std.proofs.Common.{◌≡◌, None, refl, inl}
+use Rattle.filing_desk.specs.Answers.{refused}
+use Rattle.filing_desk.specs.Steps.{State, Command, add_class, file, Step}
+
+-- want of memory may stand in place of any answer, and changes nothing
+pub out_of_memory : (s : State) (c : Command) → Step s c (refused 99 None) s
+unfolding Step
+out_of_memory s (add_class path) = (refl, refl, inl refl)
+out_of_memory s (file script message) = (refl, refl, inl refl)

@@ -1,0 +1,6 @@
+use Rattle.std.proofs.Common.{◌≡◌, map, take}
+use Rattle.filing_desk.specs.Case.{field_in, shown}
+use Rattle.filing_desk.proofs.case.read_case.Given as goal
+
+abbrev pub invariant-loop-field : goal.invariant-loop-field
+invariant-loop-field l = map shown l.fields.items ≡ map field_in (take l.field-index l.field-items)

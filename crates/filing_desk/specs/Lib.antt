@@ -1,0 +1,7 @@
+pub mod Answers
+pub mod Faults
+pub mod Steps
+pub mod Judging
+pub mod Case
+pub mod Runs
+pub mod Weights

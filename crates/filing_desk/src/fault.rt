@@ -1,0 +1,130 @@
+//! Why the desk refuses.
+
+ghost use Rattle.std.specs.Prelude.{◌≡◌};
+ghost use Rattle.filing_desk.specs.Faults.{refusal_of, has_place as has_place_of};
+
+use class_plan::PlanFault;
+use sieve_check::CheckFault;
+use sieve_text::{TextFault, TextRefusal};
+use std::alloc::{AllocError, AllocFailed};
+
+/// A refusal as a session shows it: its number, and where it has one the offset in octets of a script.
+#[derive(Clone, Copy, Debug, PartialEq, Eq)]
+pub struct Refusal {
+    pub number: u8,
+    pub offset: Option<usize>,
+}
+
+/// Why a call is refused.
+#[derive(Clone, Copy, Debug, PartialEq, Eq)]
+pub enum DeskFault {
+    /// 99: an allocation was refused.
+    NoMemory,
+    /// 10 to 16, 20, 21: the text is no script, and the offset in octets at which that shows.
+    Text(TextRefusal, usize),
+    /// 30 to 41: the script is not well made.
+    Check(CheckFault),
+    /// 50 to 57: the plan refuses.
+    Plan(PlanFault),
+    /// 95: the message has more than 8,388,608 octets.
+    MessageTooLong,
+}
+
+impl From<AllocError> for DeskFault {
+    ghost use Rattle.std.specs.Prelude.{◌≡◌};
+    ghost use Rattle.filing_desk.specs.declared.fault.DeskFault.TheVariants.{NoMemory};
+
+    ghost from_gives = { λ _ f. f ≡ NoMemory };
+
+    fn from(_error: AllocError) -> DeskFault {
+        DeskFault::NoMemory
+    }
+}
+
+impl<T: Drop> From<AllocFailed<T>> for DeskFault {
+    ghost use Rattle.std.specs.Prelude.{◌≡◌};
+    ghost use Rattle.filing_desk.specs.declared.fault.DeskFault.TheVariants.{NoMemory};
+
+    ghost from_gives = { λ _ f. f ≡ NoMemory };
+
+    fn from(_error: AllocFailed<T>) -> DeskFault {
+        DeskFault::NoMemory
+    }
+}
+
+impl From<TextFault> for DeskFault {
+    ghost use Rattle.std.specs.Prelude.{◌≡◌};
+    ghost use Rattle.filing_desk.specs.Faults.{text_fault};
+
+    ghost from_gives = { λ e f. f ≡ text_fault e };
+
+    fn from(fault: TextFault) -> DeskFault {
+        match fault {
+            TextFault::NoMemory => DeskFault::NoMemory,
+            TextFault::Refused(refusal, at) => DeskFault::Text(refusal, at),
+        }
+    }
+}
+
+impl From<CheckFault> for DeskFault {
+    ghost use Rattle.std.specs.Prelude.{◌≡◌};
+    ghost use Rattle.filing_desk.specs.declared.fault.DeskFault.TheVariants.{Check};
+
+    ghost from_gives = { λ e f. f ≡ Check e };
+
+    fn from(fault: CheckFault) -> DeskFault {
+        DeskFault::Check(fault)
+    }
+}
+
+impl From<PlanFault> for DeskFault {
+    ghost use Rattle.std.specs.Prelude.{◌≡◌};
+    ghost use Rattle.filing_desk.specs.Faults.{plan_fault};
+
+    ghost from_gives = { λ e f. f ≡ plan_fault e };
+
+    fn from(fault: PlanFault) -> DeskFault {
+        match fault {
+            PlanFault::NoMemory => DeskFault::NoMemory,
+            fault => DeskFault::Plan(fault),
+        }
+    }
+}
+
+/// Whether a refusal with this number is shown with its offset: 11 to 14, 16, 20 and 21.
+fn has_place(number: u8) -> bool
+    ensures { result ≡ has_place_of number }
+{
+    matches!(number, 11..=14 | 16 | 20 | 21)
+}
+
+impl DeskFault {
+    /// The number of the refusal, and its offset where it has one.
+    pub fn refusal(&self) -> Refusal
+        ensures { result ≡ refusal_of self.now }
+    {
+        match self {
+            DeskFault::NoMemory => Refusal {
+                number: 99,
+                offset: None,
+            },
+            DeskFault::Text(refusal, at) => {
+                let number = refusal.number();
+                let offset = if has_place(number) { Some(*at) } else { None };
+                Refusal { number, offset }
+            }
+            DeskFault::Check(fault) => Refusal {
+                number: fault.number(),
+                offset: None,
+            },
+            DeskFault::Plan(fault) => Refusal {
+                number: fault.number(),
+                offset: None,
+            },
+            DeskFault::MessageTooLong => Refusal {
+                number: 95,
+                offset: None,
+            },
+        }
+    }
+}

@@ -1,0 +1,12 @@
+//! The desk: what a session talks to. It keeps the plan of classes, and files messages by scripts.
+//!
+//! In `specs/`, `Steps` says what each command may be answered and what it leaves.
+#![tactic(auto)]
+
+mod case;
+mod desk;
+mod evaluate;
+mod fault;
+
+pub use desk::{Desk, GREATEST_MESSAGE, Outcome};
+pub use fault::{DeskFault, Refusal};

@@ -1,0 +1,64 @@
+-- Writing in pieces.
+use Rattle.std.proofs.Common.{◌≡◌, ℕ, ◌+◌, ◌<◌, List, ◌∷◌, ◌++◌, length, take, drop, min, get_or, ap, sym, ◌∙◌, append_assoc, add-one, subst}
+use Rattle.std.specs.Prelude.{flat_map, Result, Ok, Err}
+use Rattle.std.specs.Result.{IsErr, is_err}
+use Rattle.std.specs.Prelude.{true, false}
+use Rattle.std.proofs.lemmas.List.{take_min, take-append-le, take_more, flat_map_more}
+use Rattle.std.proofs.Math.Nat.{min-le_right}
+use Rattle.std.proofs.Math.Seq.{take-append-add, drop-cons}
+use Rattle.std.proofs.lemmas.Bool.{false≢true}
+use Rattle.std.proofs.lemmas.Grind.{flat_map-append}
+use Rattle.std.proofs.lemmas.List.{take-append-drop}
+use Rattle.filing_session.specs.Streams.{IsBehind}
+use Rattle.filing_session.specs.Written.{Writes}
+use Rattle.filing_session.specs.declared.stream.WriteFault.{WriteFault}
+
+-- a prefix of the first octets is one of them all
+pub extends : (old xs ys new : List ℕ) → IsBehind old xs new → IsBehind old (xs ++ ys) new
+extends old xs ys new b =
+    let k : ℕ = min b.0 (length xs) in
+    let part : take k (xs ++ ys) ≡ take b.0 xs = take-append-le k xs ys (min-le_right b.0 (length xs)) ∙ take_min b.0 xs in
+    (k, b.1 ∙ ap (λ s. old ++ s) (sym part))
+
+-- a prefix of the next octets
+pub joins : (old xs mid ys new : List ℕ) → mid ≡ old ++ xs → IsBehind mid ys new → IsBehind old (xs ++ ys) new
+joins old xs mid ys new e b =
+    (length xs + b.0, b.1 ∙ ap (λ s. s ++ take b.0 ys) e ∙ append_assoc old xs (take b.0 ys) ∙ ap (λ s. old ++ s) (sym (take-append-add xs ys b.0)))
+
+pub writes_after : (r : Result (Unit {0}) WriteFault) (old xs mid ys new : List ℕ) → mid ≡ old ++ xs → Writes r mid ys new → Writes r old (xs ++ ys) new
+writes_after (Ok u) old xs mid ys new e w = w ∙ ap (λ s. s ++ ys) e ∙ append_assoc old xs ys
+writes_after (Err f) old xs mid ys new e w = joins old xs mid ys new e w
+
+pub writes_same : (r : Result (Unit {0}) WriteFault) (old xs ys new : List ℕ) → xs ≡ ys → Writes r old xs new → Writes r old ys new
+writes_same r old xs ys new e w = let P : List ℕ → Type 0 = λ s. Writes r old s new in subst P e w
+
+drop_next : {X : Type 0} (xs : List X) (i : ℕ) (d : X) → i < length xs → drop i xs ≡ get_or xs i d ∷ drop (i + 1) xs
+drop_next xs i d h = rw add-one (drop-cons xs i d h)
+
+flat_map_at : {X : Type 0} (f : X → List ℕ) (xs : List X) (i : ℕ) (d : X) → i < length xs → flat_map f xs ≡ flat_map f (take i xs) ++ (f (get_or xs i d) ++ flat_map f (drop (i + 1) xs))
+flat_map_at f xs i d h =
+    ap (flat_map f) (sym (take-append-drop i xs)) ∙ flat_map-append f (take i xs) (drop i xs) ∙ ap (λ s. flat_map f (take i xs) ++ flat_map f s) (drop_next xs i d h)
+
+-- a prefix of the octets of the next element
+pub behind_next : {X : Type 0} (f : X → List ℕ) (xs : List X) (i : ℕ) (d : X) (old mid new : List ℕ) → i < length xs → mid ≡ old ++ flat_map f (take i xs) → IsBehind mid (f (get_or xs i d)) new → IsBehind old (flat_map f xs) new
+behind_next f xs i d old mid new h e b =
+    let P : List ℕ → Type 0 = λ s. IsBehind old s new in
+    subst P (sym (flat_map_at f xs i d h))
+    (joins old (flat_map f (take i xs)) mid (f (get_or xs i d) ++ flat_map f (drop (i + 1) xs)) new e (extends mid (f (get_or xs i d)) (flat_map f (drop (i + 1) xs)) new b))
+
+-- the octets of one more element
+pub written_more : {X : Type 0} (f : X → List ℕ) (xs : List X) (i : ℕ) (d : X) (old mid new : List ℕ) → i < length xs → mid ≡ old ++ flat_map f (take i xs) → new ≡ mid ++ f (get_or xs i d) → new ≡ old ++ flat_map f (take (i + 1) xs)
+written_more f xs i d old mid new h e w =
+    w ∙ ap (λ s. s ++ f (get_or xs i d)) e ∙ flat_map_more f old (take i xs) (get_or xs i d) ∙ ap (λ s. old ++ flat_map f s) (sym (take_more xs i d h))
+
+pub as_fault : (r : Result (Unit {0}) WriteFault) (old xs new : List ℕ) → IsErr r → IsBehind old xs new → Writes r old xs new
+as_fault (Err f) old xs new is b = b
+as_fault (Ok u) old xs new is b = absurd (false≢true is)
+
+pub written_ok : (r : Result (Unit {0}) WriteFault) (old xs new : List ℕ) → Writes r old xs new → is_err r ≡ false → new ≡ old ++ xs
+written_ok (Ok u) old xs new w e = w
+written_ok (Err f) old xs new w e = absurd (false≢true (sym e))
+
+pub written_fault : (r : Result (Unit {0}) WriteFault) (old xs new : List ℕ) → Writes r old xs new → is_err r ≡ true → IsBehind old xs new
+written_fault (Ok u) old xs new w e = absurd (false≢true e)
+written_fault (Err f) old xs new w e = w

@@ -1,0 +1,120 @@
+-- How far a session has come.
+use Rattle.std.proofs.Common.{◌≡◌, ◌<◌, ◌≤◌, ◌+◌, ◌-◌, ◌++◌, ◌∷◌, [], ℕ, zero, suc, List, length, take, min, refl, arith, ap, ◌∙◌, sym, subst, append_assoc, Result, Ok, Err}
+use Rattle.std.specs.Prelude.{OnOk, OnErr}
+use Rattle.std.proofs.lemmas.List.{append-nil, take_min, take-append-le}
+use Rattle.std.proofs.Math.Nat.{min-le_right}
+use Rattle.std.proofs.Math.Seq.{take-append_seam, take-append-add}
+use Rattle.std.proofs.lemmas.Grind.{flat_map-append}
+use Rattle.filing_session.specs.Streams.{IsBehind}
+use Rattle.filing_desk.specs.Answers.{Answer}
+use Rattle.filing_desk.specs.Steps.{State}
+use Rattle.filing_session.specs.Session.{Item, Got, Stop, heard, Session, go_on, session_of, ending_octets, answers_octets, ItemStep, Run, IsServed, IsBroken}
+use Rattle.filing_session.specs.Replies.{reply_octets}
+use Rattle.filing_session.specs.declared.session.Ending.{Ending}
+use Rattle.filing_session.specs.declared.session.Ending.TheVariants.{Limit}
+
+-- a session with some items before its own
+abbrev pub before : List Item → Session → Session
+before items s = record { items = items ++ s.items; ending = s.ending }
+
+-- some commands were done and answered, and so many more may come
+pub record Served (n : ℕ) (all : Session) (s₀ : State) (w₀ left : List ℕ) (s : State) (w : List ℕ) : Type 0 where
+  pub items : List Item
+  pub answers : List Answer
+  pub rest : all ≡ before items (session_of n left)
+  pub run : Run s₀ items answers s
+  pub written : w ≡ w₀ ++ answers_octets answers
+
+run_more : (s₀ s s' : State) (items : List Item) (answers : List Answer) (i : Item) (r : Answer) → Run s₀ items answers s → ItemStep s i r s' → Run s₀ (items ++ i ∷ []) (answers ++ r ∷ []) s'
+run_more s₀ s s' [] [] i r run step = let P : State → Type 0 = λ x. ItemStep x i r s' in (s', subst P run step, refl)
+run_more s₀ s s' (j ∷ items) (q ∷ answers) i r run step = (run.0, run.1, run_more run.0 s s' items answers i r run.2 step)
+run_more s₀ s s' [] (q ∷ answers) i r run step = absurd run
+run_more s₀ s s' (j ∷ items) [] i r run step = absurd run
+
+answers_more : (answers : List Answer) (r : Answer) → answers_octets (answers ++ r ∷ []) ≡ answers_octets answers ++ reply_octets r
+answers_more answers r = flat_map-append reply_octets answers (r ∷ []) ∙ ap (λ x. answers_octets answers ++ x) (append-nil (reply_octets r))
+
+pub session_more : (n : ℕ) (left : List ℕ) → session_of (suc n) left ≡ go_on (heard left) (λ rest. session_of n rest)
+unfolding session_of
+session_more n left = refl
+
+pub session_over : (left : List ℕ) → session_of zero left ≡ record { items = []; ending = Limit }
+unfolding session_of
+session_over left = refl
+
+-- a command more
+pub more : (n : ℕ) (all : Session) (s₀ : State) (w₀ left : List ℕ) (s : State) (w : List ℕ) (item : Item) (r : Answer) (rest : List ℕ) (s' : State) (w' : List ℕ) → Served (suc n) all s₀ w₀ left s w → heard left ≡ Got item rest → ItemStep s item r s' → w' ≡ w ++ reply_octets r → Served n all s₀ w₀ rest s' w'
+more n all s₀ w₀ left s w item r rest s' w' h e step ew =
+    record {
+      items = h.items ++ item ∷ [];
+      answers = h.answers ++ r ∷ [];
+      rest =
+          let here : session_of (suc n) left ≡ before (item ∷ []) (session_of n rest) = session_more n left ∙ ap (λ x. go_on x (λ y. session_of n y)) e in
+          let join : before h.items (before (item ∷ []) (session_of n rest)) ≡ before (h.items ++ item ∷ []) (session_of n rest) = ap (λ x. record { items = x; ending = (session_of n rest).ending }) (sym (append_assoc h.items (item ∷ []) (session_of n rest).items)) in
+          h.rest ∙ ap (before h.items) here ∙ join;
+      run = run_more s₀ s s' h.items h.answers item r h.run step;
+      written = ew ∙ ap (λ x. x ++ reply_octets r) h.written ∙ append_assoc w₀ (answers_octets h.answers) (reply_octets r) ∙ ap (λ x. w₀ ++ x) (sym (answers_more h.answers r));
+    }
+
+-- what is left ends the session
+pub all_ends : (n : ℕ) (all : Session) (s₀ : State) (w₀ left : List ℕ) (s : State) (w : List ℕ) (e : Ending) → (h : Served n all s₀ w₀ left s w) → session_of n left ≡ record { items = []; ending = e } → all ≡ record { items = h.items; ending = e }
+all_ends n all s₀ w₀ left s w e h stop = h.rest ∙ ap (before h.items) stop ∙ ap (λ x. record { items = x; ending = e }) (append-nil h.items)
+
+pub ends_now : (n : ℕ) (all : Session) (s₀ : State) (w₀ left : List ℕ) (s : State) (w : List ℕ) (e : Ending) (w' : List ℕ) → Served n all s₀ w₀ left s w → session_of n left ≡ record { items = []; ending = e } → w' ≡ w ++ ending_octets e → IsServed all s₀ w₀ w' s
+ends_now n all s₀ w₀ left s w e w' h stop ew =
+    let is = all_ends n all s₀ w₀ left s w e h stop in
+    rw is (h.answers, h.run, ew ∙ ap (λ x. x ++ ending_octets e) h.written)
+
+-- a fault in the middle: what was written of the next octets is some prefix of them
+pub breaks_at : (n k : ℕ) (all : Session) (s₀ : State) (w₀ left : List ℕ) (s : State) (w w' : List ℕ) → Served n all s₀ w₀ left s w → w' ≡ w → IsBroken all s₀ w₀ w' s
+breaks_at n k all s₀ w₀ left s w w' h same =
+    let first : take (length h.items) all.items ≡ h.items = ap (λ x. take (length h.items) x.items) h.rest ∙ take-append_seam h.items (session_of n left).items in
+    let P : List Item → Type 0 = λ x. Run s₀ x h.answers s in
+    let part : take (length (answers_octets h.answers)) (answers_octets h.answers ++ ending_octets all.ending) ≡ answers_octets h.answers = take-append_seam (answers_octets h.answers) (ending_octets all.ending) in
+    (length h.items, h.answers, subst P (sym first) h.run, (length (answers_octets h.answers), same ∙ h.written ∙ ap (λ x. w₀ ++ x) (sym part)))
+
+pub breaks_in : (n : ℕ) (all : Session) (s₀ : State) (w₀ left : List ℕ) (s : State) (w : List ℕ) (item : Item) (r : Answer) (rest : List ℕ) (s' : State) (w' : List ℕ) → Served (suc n) all s₀ w₀ left s w → heard left ≡ Got item rest → ItemStep s item r s' → IsBehind w (reply_octets r) w' → IsBroken all s₀ w₀ w' s'
+unfolding more
+breaks_in n all s₀ w₀ left s w item r rest s' w' h e step b =
+    let next : Served n all s₀ w₀ rest s' (w ++ reply_octets r) = more n all s₀ w₀ left s w item r rest s' (w ++ reply_octets r) h e step refl in
+    let k : ℕ = min b.0 (length (reply_octets r)) in
+    let said = answers_octets h.answers in
+    let end = ending_octets all.ending in
+    let first : take (length next.items) all.items ≡ next.items = ap (λ x. take (length next.items) x.items) next.rest ∙ take-append_seam next.items (session_of n rest).items in
+    let P : List Item → Type 0 = λ x. Run s₀ x next.answers s' in
+    let part : take k (reply_octets r ++ end) ≡ take b.0 (reply_octets r) = take-append-le k (reply_octets r) end (min-le_right b.0 (length (reply_octets r))) ∙ take_min b.0 (reply_octets r) in
+    let all_said : answers_octets next.answers ++ end ≡ said ++ (reply_octets r ++ end) = ap (λ x. x ++ end) (answers_more h.answers r) ∙ append_assoc said (reply_octets r) end in
+    let cut : take (length said + k) (answers_octets next.answers ++ end) ≡ said ++ take b.0 (reply_octets r) = ap (take (length said + k)) all_said ∙ take-append-add said (reply_octets r ++ end) k ∙ ap (λ x. said ++ x) part in
+    (length next.items, next.answers, subst P (sym first) next.run, (length said + k, b.1 ∙ ap (λ x. x ++ take b.0 (reply_octets r)) h.written ∙ append_assoc w₀ said (take b.0 (reply_octets r)) ∙ ap (λ x. w₀ ++ x) (sym cut)))
+
+pub breaks_end : (n : ℕ) (all : Session) (s₀ : State) (w₀ left : List ℕ) (s : State) (w : List ℕ) (e : Ending) (w' : List ℕ) → Served n all s₀ w₀ left s w → session_of n left ≡ record { items = []; ending = e } → IsBehind w (ending_octets e) w' → IsBroken all s₀ w₀ w' s
+breaks_end n all s₀ w₀ left s w e w' h stop b =
+    let said = answers_octets h.answers in
+    let first : take (length h.items) all.items ≡ h.items = ap (λ x. take (length h.items) x.items) h.rest ∙ take-append_seam h.items (session_of n left).items in
+    let P : List Item → Type 0 = λ x. Run s₀ x h.answers s in
+    let same : ending_octets all.ending ≡ ending_octets e = ap (λ x. ending_octets x.ending) (all_ends n all s₀ w₀ left s w e h stop) in
+    let cut : take (length said + b.0) (said ++ ending_octets all.ending) ≡ said ++ take b.0 (ending_octets e) = take-append-add said (ending_octets all.ending) b.0 ∙ ap (λ x. said ++ take b.0 x) same in
+    (length h.items, h.answers, subst P (sym first) h.run, (length said + b.0, b.1 ∙ ap (λ x. x ++ take b.0 (ending_octets e)) h.written ∙ append_assoc w₀ said (take b.0 (ending_octets e)) ∙ ap (λ x. w₀ ++ x) (sym cut)))
+
+pub stops : (n : ℕ) (left : List ℕ) (e : Ending) → heard left ≡ Stop e → session_of (suc n) left ≡ record { items = []; ending = e }
+stops n left e h = session_more n left ∙ ap (λ x. go_on x (λ y. session_of n y)) h
+
+pub one_less : (i : ℕ) → i < 1000000 → 1000000 - i ≡ suc (1000000 - (i + 1))
+one_less i h = omega arith
+
+pub none_left : (i : ℕ) → 1000000 ≤ i → 1000000 - i ≡ 0
+none_left i h = omega arith
+
+pub limit_ends : (i : ℕ) (left : List ℕ) → 1000000 ≤ i → session_of (1000000 - i) left ≡ record { items = []; ending = Limit }
+limit_ends i left h = ap (λ n. session_of n left) (none_left i h) ∙ session_over left
+
+pub stop_ends : (i : ℕ) (left : List ℕ) (e : Ending) → i < 1000000 → heard left ≡ Stop e → session_of (1000000 - i) left ≡ record { items = []; ending = e }
+stop_ends i left e h is = ap (λ n. session_of n left) (one_less i h) ∙ stops (1000000 - (i + 1)) left e is
+
+pub ended_ok : {E : Type 0} (r : Result (Unit {0}) E) (n : ℕ) (all : Session) (s₀ : State) (w₀ left : List ℕ) (s : State) (w : List ℕ) (e : Ending) (w' : List ℕ) → Served n all s₀ w₀ left s w → session_of n left ≡ record { items = []; ending = e } → OnOk r (w' ≡ w ++ ending_octets e) → OnOk r (IsServed all s₀ w₀ w' s)
+ended_ok (Ok x) n all s₀ w₀ left s w e w' h stop ew = ends_now n all s₀ w₀ left s w e w' h stop ew
+ended_ok (Err x) n all s₀ w₀ left s w e w' h stop ew = tt
+
+pub ended_err : {E : Type 0} (r : Result (Unit {0}) E) (n : ℕ) (all : Session) (s₀ : State) (w₀ left : List ℕ) (s : State) (w : List ℕ) (e : Ending) (w' : List ℕ) → Served n all s₀ w₀ left s w → session_of n left ≡ record { items = []; ending = e } → OnErr r (IsBehind w (ending_octets e) w') → OnErr r (IsBroken all s₀ w₀ w' s)
+ended_err (Err x) n all s₀ w₀ left s w e w' h stop b = breaks_end n all s₀ w₀ left s w e w' h stop b
+ended_err (Ok x) n all s₀ w₀ left s w e w' h stop b = tt

@@ -1,0 +1,11 @@
+use Rattle.std.proofs.Common.{◌≡◌, ◌-◌, ◌≤◌, [], length}
+use Rattle.filing_session.proofs.FirstLine.{line_from}
+use Rattle.filing_session.proofs.lines.read_line.Given as goal
+
+abbrev pub invariant-loop : goal.invariant-loop
+invariant-loop g l = record {
+  count : length l.line ≡ l.counter;
+  rest : g.S.Source.tells → line_from 512 [] (g.S.Source.left l.fn.source) ≡ line_from (512 - l.counter) l.line (g.S.Source.left l.source);
+  ends : g.S.Source.ends l.fn.source ≤ g.S.Source.ends l.source;
+  troubles : g.S.Source.troubles l.fn.source ≤ g.S.Source.troubles l.source;
+}

@@ -1,0 +1,9 @@
+use Rattle.std.proofs.Common.{◌≡◌, ◌≤◌, ◌++◌, take}
+use Rattle.std.specs.Prelude.{flat_map}
+use Rattle.filing_session.proofs.stream.write_pieces.Given as goal
+
+abbrev pub invariant-loop-piece : goal.invariant-loop-piece
+invariant-loop-piece g l = record {
+  written : g.K.Sink.tells → g.K.Sink.written l.sink ≡ g.K.Sink.written l.fn.sink ++ flat_map (λ p. p.now) (take l.piece-index l.pieces);
+  troubles : g.K.Sink.troubles l.fn.sink ≤ g.K.Sink.troubles l.sink;
+}

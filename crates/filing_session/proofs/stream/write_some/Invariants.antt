@@ -1,0 +1,9 @@
+use Rattle.std.proofs.Common.{◌≡◌, ◌+◌, ◌≤◌, ◌<◌, ◌-◌, ◌^◌, min}
+use Rattle.filing_session.proofs.stream.write_some.Given as goal
+
+abbrev pub invariant-loop : goal.invariant-loop
+invariant-loop g l = record {
+  written : g.K.Sink.tells → g.K.Sink.written l.sink ≡ g.K.Sink.written l.initial.sink;
+  more : g.K.Sink.troubles l.initial.sink ≤ g.K.Sink.troubles l.sink;
+  troubles : 0 < l.counter → min (g.K.Sink.troubles l.initial.sink + 1) (2 ^ 64 - 1) ≤ g.K.Sink.troubles l.sink;
+}

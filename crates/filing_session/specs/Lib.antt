@@ -1,0 +1,10 @@
+pub mod Streams
+pub mod Written
+pub mod Lines
+pub mod Words
+pub mod WordsLeft
+pub mod Payloads
+pub mod Replies
+pub mod Session
+pub mod Heard
+pub mod Memory

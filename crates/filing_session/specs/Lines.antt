@@ -1,0 +1,39 @@
+-- Lines of a session's input.
+use Rattle.std.specs.Prelude.{ℕ, ◌+◌, List, [], ◌∷◌, ◌==◌, ◌&&◌, nat_le, nat_lt, if◌then◌else◌, length, take, drop}
+use Rattle.std.specs.List.{position_or_len}
+use Rattle.filing_session.specs.declared.lines.LineEnd.{LineEnd}
+use Rattle.filing_session.specs.declared.lines.LineEnd.TheVariants as ended
+
+-- what an input begins with
+pub data Line : Type 0 where
+  -- a line, without its LF, and what follows the LF
+  Whole : (text rest : List ℕ) → Line
+  -- 513 octets without LF
+  TooLong : Line
+  -- at most 512 octets without LF, and the end
+  Cut : Line
+  -- the end
+  End : Line
+
+-- where the first LF stands, or the input's length where there is none
+abbrev pub line_length : List ℕ → ℕ
+line_length input = position_or_len (λ o. o == 10) input
+
+-- an input that ends without LF
+abbrev pub cut_at : List ℕ → Line
+cut_at [] = End
+cut_at (x ∷ xs) = Cut
+
+-- the first line of an input; a line has at most 512 octets
+unfoldable pub line_of : List ℕ → Line
+line_of input =
+    if nat_lt (line_length input) (length input) && nat_le (line_length input) 512 then Whole (take (line_length input) input) (drop (line_length input + 1) input)
+    else if nat_lt 512 (length input) then TooLong
+    else cut_at input
+
+-- what was found, as the program tells it
+abbrev pub line_as : LineEnd → (text rest : List ℕ) → Line
+line_as ended.Whole text rest = Whole text rest
+line_as ended.TooLong text rest = TooLong
+line_as ended.Cut text rest = Cut
+line_as ended.Nothing text rest = End

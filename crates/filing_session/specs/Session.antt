@@ -1,0 +1,102 @@
+-- The commands of a session's octets, the runs of a desk that they lead to, and the octets of its answers.
+use Rattle.std.specs.Prelude.{◌≡◌, ℕ, zero, suc, ◌+◌, List, [], ◌∷◌, ◌++◌, if◌then◌else◌, nat_le, None, length, take, drop, codes, flat_map}
+use Rattle.filing_desk.specs.Answers.{Answer, refused}
+use Rattle.filing_desk.specs.Steps.{State, Command, add_class, file, Step}
+use Rattle.filing_session.specs.Lines.{Line, Whole, TooLong, Cut, End, line_of}
+use Rattle.filing_session.specs.Words.{Asked, AddClass, File, Quit, Unknown, BadWord, asked}
+use Rattle.filing_session.specs.Replies.{reply_octets}
+use Rattle.filing_session.specs.Streams.{IsBehind}
+use Rattle.filing_session.specs.declared.session.Ending.{Ending}
+use Rattle.filing_session.specs.declared.session.Ending.TheVariants as ending
+
+-- what one line asks, with its payloads
+pub data Item : Type 0 where
+  -- a command to the desk
+  Call : Command → Item
+  -- a line whose first word is no command's
+  UnknownCommand : Item
+  -- a line with a wrong word, or a wrong number of words
+  WrongWord : Item
+
+-- what an input begins with: an item, and the octets behind it; or the session's end
+pub data Heard : Type 0 where
+  Got : Item → (rest : List ℕ) → Heard
+  Stop : Ending → Heard
+
+-- a session: its items, and its way of ending
+pub record Session : Type 0 where
+  pub items : List Item
+  pub ending : Ending
+
+-- the payloads follow the line's LF directly
+abbrev pub with_payloads : (script message : ℕ) → (rest : List ℕ) → Heard
+with_payloads script message rest =
+    if nat_le (script + message) (length rest) then Got (Call (file (take script rest) (take message (drop script rest)))) (drop (script + message) rest)
+    else Stop ending.CutShort
+
+abbrev pub heard_line : Asked → (rest : List ℕ) → Heard
+heard_line (AddClass path) rest = Got (Call (add_class path)) rest
+heard_line (File script message) rest = with_payloads script message rest
+heard_line Quit rest = Stop ending.Quit
+heard_line Unknown rest = Got UnknownCommand rest
+heard_line BadWord rest = Got WrongWord rest
+
+abbrev pub heard_in : Line → Heard
+heard_in (Whole text rest) = heard_line (asked text) rest
+heard_in TooLong = Stop ending.LongLine
+heard_in Cut = Stop ending.CutShort
+heard_in End = Stop ending.Ended
+
+-- what an input begins with
+abbrev pub heard : List ℕ → Heard
+heard input = heard_in (line_of input)
+
+abbrev pub go_on : Heard → (List ℕ → Session) → Session
+go_on (Got item rest) next = record { items = item ∷ (next rest).items; ending = (next rest).ending }
+go_on (Stop e) next = record { items = []; ending = e }
+
+-- the session of an input, of so many items at most
+unfoldable pub session_of : ℕ → List ℕ → Session
+session_of zero input = record { items = []; ending = ending.Limit }
+session_of (suc most) input = go_on (heard input) (λ rest. session_of most rest)
+
+-- what is written at the end
+abbrev pub ending_octets : Ending → List ℕ
+ending_octets ending.Quit = codes "end\n"
+ending_octets ending.Ended = codes "end\n"
+ending_octets ending.CutShort = codes "refused 72\nend\n"
+ending_octets ending.LongLine = codes "refused 73\nend\n"
+ending_octets ending.Limit = codes "end\n"
+
+-- what is written for answers
+abbrev pub answers_octets : List Answer → List ℕ
+answers_octets answers = flat_map reply_octets answers
+
+-- an item may be answered so, and leaves that: a command as the desk says, another line is refused and leaves all as it was
+abbrev pub ItemStep : State → Item → Answer → State → Type 0
+ItemStep s (Call c) a new = Step s c a new
+ItemStep s UnknownCommand a new = (a ≡ refused 70 None) × (new ≡ s)
+ItemStep s WrongWord a new = (a ≡ refused 71 None) × (new ≡ s)
+
+-- items may be answered so, one after the other, and leave that
+abbrev pub Run : State → List Item → List Answer → State → Type 0
+Run s [] [] new = new ≡ s
+Run s (i ∷ items) (a ∷ answers) new = (mid : State) × ItemStep s i a mid × Run mid items answers new
+Run s [] (a ∷ answers) new = ⊥
+Run s (i ∷ items) [] new = ⊥
+
+-- all items were done, and all answers and the ending were written
+abbrev pub IsServed : Session → State → (old written : List ℕ) → State → Type 0
+IsServed session s old written new = (answers : List Answer) × Run s session.items answers new × (written ≡ old ++ answers_octets answers ++ ending_octets session.ending)
+
+-- some first items were done, and a prefix of their answers and of the ending was written
+abbrev pub IsBroken : Session → State → (old written : List ℕ) → State → Type 0
+IsBroken session s old written new = (n : ℕ) × (answers : List Answer) × Run s (take n session.items) answers new × IsBehind old (answers_octets answers ++ ending_octets session.ending) written
+
+-- the input ended, between items or inside one
+abbrev pub EndsByInput : Ending → Type 0
+EndsByInput ending.Ended = Unit {0}
+EndsByInput ending.CutShort = Unit {0}
+EndsByInput ending.Quit = ⊥
+EndsByInput ending.LongLine = ⊥
+EndsByInput ending.Limit = ⊥

@@ -1,0 +1,21 @@
+//! A session: commands with their payloads are read from a source, and replies are written to a sink.
+//!
+//! - `stream`: sources and sinks, which may fail, be interrupted, and move fewer octets than they are asked to;
+//! - `lines`, `words`, `payload`: what is read, a line with its payloads at a time;
+//! - `reply`: what is written;
+//! - `memory`: a source and a sink for tests;
+//! - `session`: `serve`, whose contract says which octets it writes to which it read, and what the desk has done.
+//!
+//! In `specs/`, `Session` has the whole of it: the commands of an input, the runs of a desk, and the octets of answers.
+#![tactic(auto)]
+
+mod lines;
+pub mod memory;
+mod payload;
+mod reply;
+mod session;
+mod stream;
+mod words;
+
+pub use session::{COMMANDS, ServeFault, serve};
+pub use stream::{Sink, Source, Trouble};

@@ -1,0 +1,198 @@
+//! A source and a sink over memory, which know their octets, for tests. They can be told to move few octets at once,
+//! and to meet trouble at a place.
+
+ghost use Rattle.std.specs.Prelude.{◌≡◌, []};
+ghost use Rattle.filing_session.specs.Memory.{left_of, written_of};
+
+use crate::stream::{Sink, Source, Trouble};
+use std::alloc::Global;
+
+/// A source over octets in memory.
+#[derive(Drop)]
+pub struct MemorySource<'a> {
+    /// What is left.
+    rest: &'a [u8],
+    /// How many octets one read gives at most.
+    piece: usize,
+    /// The trouble to be met, how many octets are read before it, and how often it is then met.
+    trouble: Trouble,
+    before: usize,
+    times: u64,
+    troubles: u64,
+    ends: u64,
+}
+
+impl<'a> MemorySource<'a> {
+    /// A source that gives these octets and meets no trouble.
+    pub fn new(octets: &'a [u8]) -> MemorySource<'a>
+        ensures { left_of result ≡ octets.now }
+    {
+        MemorySource {
+            rest: octets,
+            piece: usize::MAX,
+            trouble: Trouble::Failed,
+            before: 0,
+            times: 0,
+            troubles: 0,
+            ends: 0,
+        }
+    }
+
+    /// The same, with at most so many octets a read; 0 counts as 1.
+    pub fn in_pieces(self, piece: usize) -> MemorySource<'a>
+        ensures { left_of result ≡ left_of self.entry }
+    {
+        MemorySource { piece, ..self }
+    }
+
+    /// The same, with a trouble that is met so many times in a row after so many octets.
+    pub fn with_trouble(self, trouble: Trouble, before: usize, times: u64) -> MemorySource<'a>
+        ensures { left_of result ≡ left_of self.entry }
+    {
+        MemorySource {
+            trouble,
+            before,
+            times,
+            ..self
+        }
+    }
+
+    /// What is left.
+    pub fn as_slice(&self) -> &[u8]
+        ensures { result.now ≡ left_of self.now }
+    {
+        self.rest
+    }
+}
+
+impl Source for MemorySource<'_> {
+    ghost use Rattle.std.specs.Prelude.{ℕ, List};
+    ghost use Rattle.filing_session.specs.Memory.{left_of};
+
+    ghost tells = { Unit {0} };
+
+    ghost left = { left_of };
+
+    ghost troubles = { λ s. s.troubles };
+
+    ghost ends = { λ s. s.ends };
+
+    fn read(&mut self, room: &mut [u8]) -> Result<usize, Trouble> {
+        let mut count = room.len().min(self.rest.len()).min(self.piece.max(1));
+        if self.times > 0 {
+            if self.before == 0 {
+                self.times -= 1;
+                self.troubles = self.troubles.saturating_add(1);
+                return Err(self.trouble);
+            }
+            count = count.min(self.before);
+            self.before -= count;
+        }
+        if count == 0 && !room.is_empty() {
+            self.ends = self.ends.saturating_add(1);
+        }
+        let (front, rest) = self.rest.split_at(count);
+        room[..count].copy_from_slice(front);
+        self.rest = rest;
+        Ok(count)
+    }
+}
+
+/// What a write to memory can be told to meet.
+#[derive(Clone, Copy, Debug, PartialEq, Eq)]
+pub enum Hitch {
+    /// It is interrupted.
+    Interrupted,
+    /// It fails.
+    Failed,
+    /// It takes no octet.
+    Idle,
+}
+
+/// A sink that keeps what it takes in memory. Where there is no memory for it, a write fails.
+#[derive(Drop)]
+pub struct MemorySink {
+    written: Vec<u8>,
+    /// How many octets one write takes at most.
+    piece: usize,
+    /// The hitch to be met, how many octets are taken before it, and how often it is then met.
+    hitch: Hitch,
+    before: usize,
+    times: u64,
+    troubles: u64,
+}
+
+impl MemorySink {
+    /// A sink that has taken nothing, and meets no hitch.
+    pub fn new(alloc: Global) -> MemorySink
+        ensures { written_of result ≡ [] }
+    {
+        MemorySink {
+            written: Vec::new(alloc),
+            piece: usize::MAX,
+            hitch: Hitch::Failed,
+            before: 0,
+            times: 0,
+            troubles: 0,
+        }
+    }
+
+    /// The same, with at most so many octets a write; 0 counts as 1.
+    pub fn in_pieces(self, piece: usize) -> MemorySink
+        ensures { written_of result ≡ written_of self }
+    {
+        MemorySink { piece, ..self }
+    }
+
+    /// The same, with a hitch that is met so many times in a row after so many octets.
+    pub fn with_hitch(self, hitch: Hitch, before: usize, times: u64) -> MemorySink
+        ensures { written_of result ≡ written_of self }
+    {
+        MemorySink {
+            hitch,
+            before,
+            times,
+            ..self
+        }
+    }
+
+    /// What was taken.
+    pub fn as_slice(&self) -> &[u8]
+        ensures { result.now ≡ written_of self.now }
+    {
+        self.written.as_slice()
+    }
+}
+
+impl Sink for MemorySink {
+    ghost use Rattle.std.specs.Prelude.{ℕ, List};
+    ghost use Rattle.filing_session.specs.Memory.{written_of};
+
+    ghost tells = { Unit {0} };
+
+    ghost written = { written_of };
+
+    ghost troubles = { λ s. s.troubles };
+
+    fn write(&mut self, octets: &[u8]) -> Result<usize, Trouble> {
+        let mut count = octets.len().min(self.piece.max(1));
+        if self.times > 0 && !octets.is_empty() {
+            if self.before == 0 {
+                self.times -= 1;
+                self.troubles = self.troubles.saturating_add(1);
+                return match self.hitch {
+                    Hitch::Interrupted => Err(Trouble::Interrupted),
+                    Hitch::Failed => Err(Trouble::Failed),
+                    Hitch::Idle => Ok(0),
+                };
+            }
+            count = count.min(self.before);
+            self.before -= count;
+        }
+        if self.written.extend_from_slice(&octets[..count]).is_err() {
+            self.troubles = self.troubles.saturating_add(1);
+            return Err(Trouble::Failed);
+        }
+        Ok(count)
+    }
+}

@@ -1,0 +1,101 @@
+//! Payloads: so many octets as the line before them said. One that is not kept is read through all the same, so that
+//! the next line is where it should be.
+
+ghost use Rattle.std.specs.Prelude.{◌≡◌, ℕ, List, ◌+◌, ◌<◌, ◌≤◌, ◌++◌, length, drop, IfOk, OnErr, Ok, None, true, false, vec_len, vec_capacity};
+ghost use Rattle.filing_session.specs.Payloads.{IsRead};
+ghost use Rattle.filing_session.specs.Streams.{Rises};
+
+use crate::stream::{ReadFault, Source, read_some};
+use std::alloc::Global;
+
+/// How many octets are read at once.
+const PIECE: usize = 4096;
+
+/// What there is of a payload that was read to its end.
+#[derive(Drop)]
+pub enum Payload {
+    /// Its octets.
+    Whole(Vec<u8>),
+    /// Nothing: it is longer than its limit.
+    TooLong,
+    /// Nothing: there was no memory for it (99).
+    NoMemory,
+}
+
+/// Reads so many octets and drops them; false where the input ends before.
+fn skip<S: Source>(source: &mut S, size: usize) -> Result<bool, ReadFault>
+    ensures whole { S.tells → result ≡ Ok true → (size ≤ length (S.left source.old)) × (S.left source.new ≡ drop size (S.left source.old)) }
+    ensures cut { S.tells → result ≡ Ok false → length (S.left source.old) < size }
+    ensures ended { result ≡ Ok false → Rises (S.ends source.old) (S.ends source.new) }
+    ensures ends { S.ends source.old ≤ S.ends source.new }
+    ensures troubles { S.troubles source.old ≤ S.troubles source.new }
+    ensures fault { OnErr result (Rises (S.troubles source.old) (S.troubles source.new)) }
+{
+    let mut room = [0u8; PIECE];
+    let mut got = 0;
+    while got < size {
+        let most = (size - got).min(PIECE);
+        let count = read_some(source, &mut room[..most])?;
+        if count == 0 {
+            return Ok(false);
+        }
+        got += count;
+    }
+    Ok(true)
+}
+
+/// Appends where there is room.
+fn append(octets: &mut Vec<u8>, more: &[u8])
+    requires { vec_len octets.old + length more.now ≤ vec_capacity octets.old }
+    ensures items { octets.new.items ≡ octets.old.items ++ more.now }
+    ensures len { vec_len octets.new ≡ vec_len octets.old + length more.now }
+    ensures capacity { vec_capacity octets.old ≤ vec_capacity octets.new }
+{
+    octets.extend_from_slice(more).unwrap();
+}
+
+/// Reads so many octets behind those that are there, for which there is room; false where the input ends before.
+fn fill<S: Source>(source: &mut S, octets: &mut Vec<u8>, size: usize) -> Result<bool, ReadFault>
+    requires empty { vec_len octets.old ≡ 0 }
+    requires room { size ≤ vec_capacity octets.old }
+    ensures whole { S.tells → result ≡ Ok true → (S.left source.old ≡ octets.new.items ++ S.left source.new) × (length octets.new.items ≡ size) }
+    ensures cut { S.tells → result ≡ Ok false → length (S.left source.old) < size }
+    ensures ended { result ≡ Ok false → Rises (S.ends source.old) (S.ends source.new) }
+    ensures ends { S.ends source.old ≤ S.ends source.new }
+    ensures troubles { S.troubles source.old ≤ S.troubles source.new }
+    ensures fault { OnErr result (Rises (S.troubles source.old) (S.troubles source.new)) }
+{
+    let mut room = [0u8; PIECE];
+    while octets.len() < size {
+        let most = (size - octets.len()).min(PIECE);
+        let part = &mut room[..most];
+        let count = read_some(source, part)?;
+        if count == 0 {
+            return Ok(false);
+        }
+        append(octets, &part[..count]);
+    }
+    Ok(true)
+}
+
+/// Reads a payload of so many octets, and keeps it if it is no longer than its limit; none where the input ends before.
+pub fn read_payload<S: Source>(
+    alloc: Global,
+    source: &mut S,
+    size: usize,
+    limit: usize,
+) -> Result<Option<Payload>, ReadFault>
+    ensures octets { S.tells → IfOk result (λ p. IsRead size limit p (S.left source.old) (S.left source.new)) }
+    ensures ended { result ≡ Ok None → Rises (S.ends source.old) (S.ends source.new) }
+    ensures ends { S.ends source.old ≤ S.ends source.new }
+    ensures troubles { S.troubles source.old ≤ S.troubles source.new }
+    ensures fault { OnErr result (Rises (S.troubles source.old) (S.troubles source.new)) }
+{
+    if size > limit {
+        return Ok(skip(source, size)?.then_some(Payload::TooLong));
+    }
+    let Ok(mut octets) = Vec::with_capacity(alloc, size) else {
+        return Ok(skip(source, size)?.then_some(Payload::NoMemory));
+    };
+    Ok(fill(source, &mut octets, size)?.then_some(Payload::Whole(octets)))
+}

@@ -1,0 +1,159 @@
+//! Where the octets of a session come from and go to, and calls that try again after an interruption.
+//!
+//! Nothing is known of the octets of a terminal, a file or a pipe. So the two traits leave it to the type whether it
+//! tells its octets, and count what each type can count: troubles, and reads that told the input's end.
+
+ghost use Rattle.std.specs.Prelude.{◌≡◌, ℕ, List, ◌+◌, ◌<◌, ◌≤◌, ◌++◌, ◌∷◌, [], length, take, drop, IfOk, OnErr, IfSome, IfNone, is_err, true, Ok, flat_map};
+ghost use Rattle.filing_session.specs.Streams.{Counts, tells_end, is_trouble, moved, Rises};
+ghost use Rattle.filing_session.specs.Written.{Writes};
+
+/// Why a call moved no octet.
+#[derive(Clone, Copy, Debug, PartialEq, Eq)]
+pub enum Trouble {
+    /// The call was interrupted, and may be made again.
+    Interrupted,
+    /// The call failed.
+    Failed,
+}
+
+/// Where octets come from.
+pub trait Source {
+    /// Whether the type knows its octets: `Unit {0}`, or `⊥` where nothing is claimed of them.
+    ghost tells: { Type 0 };
+
+    /// The octets that are left.
+    ghost left: { Self → List ℕ };
+
+    /// How many reads met trouble. The count stays at its greatest value, 2^64 - 1.
+    ghost troubles: { Self → ℕ };
+
+    /// How many reads told the input's end. The count stays at its greatest value, 2^64 - 1.
+    ghost ends: { Self → ℕ };
+
+    /// Reads octets into the front of the room, and answers how many. Into room for one octet or more, 0 tells the
+    /// input's end, which is no trouble.
+    fn read(&mut self, room: &mut [u8]) -> Result<usize, Trouble>
+        ensures within { IfOk result (λ n. n ≤ length room.old) }
+        ensures octets { tells → IfOk result (λ n. (n ≤ length (left self.old)) × (take n room.new ≡ take n (left self.old))) }
+        ensures left { tells → left self.new ≡ drop (moved result) (left self.old) }
+        ensures end { tells → tells_end (length room.old) result ≡ true → left self.old ≡ [] }
+        ensures troubles { Counts (is_err result) (troubles self.old) (troubles self.new) }
+        ensures ends { Counts (tells_end (length room.old) result) (ends self.old) (ends self.new) };
+}
+
+/// Where octets go.
+pub trait Sink {
+    /// Whether the type knows its octets: `Unit {0}`, or `⊥` where nothing is claimed of them.
+    ghost tells: { Type 0 };
+
+    /// The octets that were taken.
+    ghost written: { Self → List ℕ };
+
+    /// How many writes met trouble; one that took no octet of one or more is among them. The count stays at its
+    /// greatest value, 2^64 - 1.
+    ghost troubles: { Self → ℕ };
+
+    /// Takes octets from the front, and answers how many.
+    fn write(&mut self, octets: &[u8]) -> Result<usize, Trouble>
+        ensures within { IfOk result (λ n. n ≤ length octets.now) }
+        ensures written { tells → written self.new ≡ written self.old ++ take (moved result) octets.now }
+        ensures troubles { Counts (is_trouble (length octets.now) result) (troubles self.old) (troubles self.new) };
+}
+
+/// A read that met trouble.
+#[derive(Clone, Copy, Debug, PartialEq, Eq)]
+pub struct ReadFault;
+
+/// A write that met trouble.
+#[derive(Clone, Copy, Debug, PartialEq, Eq)]
+pub struct WriteFault;
+
+/// How many interruptions in a row are a fault.
+const PATIENCE: u8 = 64;
+
+/// Reads as `Source::read` does, again after an interruption; 0 is the input's end.
+pub fn read_some<S: Source>(source: &mut S, room: &mut [u8]) -> Result<usize, ReadFault>
+    requires { 0 < length room.old }
+    ensures within { IfOk result (λ n. n ≤ length room.old) }
+    ensures octets { S.tells → IfOk result (λ n. S.left source.old ≡ take n room.new ++ S.left source.new) }
+    ensures end { S.tells → result ≡ Ok 0 → S.left source.old ≡ [] }
+    ensures ended { result ≡ Ok 0 → Rises (S.ends source.old) (S.ends source.new) }
+    ensures ends { S.ends source.old ≤ S.ends source.new }
+    ensures troubles { S.troubles source.old ≤ S.troubles source.new }
+    ensures fault { OnErr result (Rises (S.troubles source.old) (S.troubles source.new)) }
+{
+    for _ in 0..PATIENCE {
+        match source.read(room) {
+            Ok(n) => return Ok(n),
+            Err(Trouble::Interrupted) => {}
+            Err(Trouble::Failed) => return Err(ReadFault),
+        }
+    }
+    Err(ReadFault)
+}
+
+/// One octet, or none where the input has ended.
+pub fn read_one<S: Source>(source: &mut S) -> Result<Option<u8>, ReadFault>
+    ensures some { S.tells → IfOk result (λ o. IfSome o (λ x. S.left source.old ≡ x ∷ S.left source.new)) }
+    ensures none { S.tells → IfOk result (λ o. IfNone o ((S.left source.old ≡ []) × (S.left source.new ≡ []))) }
+    ensures ended { IfOk result (λ o. IfNone o (Rises (S.ends source.old) (S.ends source.new))) }
+    ensures ends { S.ends source.old ≤ S.ends source.new }
+    ensures troubles { S.troubles source.old ≤ S.troubles source.new }
+    ensures fault { OnErr result (Rises (S.troubles source.old) (S.troubles source.new)) }
+{
+    let mut room = [0u8; 1];
+    for _ in 0..PATIENCE {
+        match source.read(&mut room) {
+            Ok(0) => return Ok(None),
+            Ok(_) => return Ok(Some(room[0])),
+            Err(Trouble::Interrupted) => {}
+            Err(Trouble::Failed) => return Err(ReadFault),
+        }
+    }
+    Err(ReadFault)
+}
+
+/// Writes one octet or more, again after an interruption.
+fn write_some<K: Sink>(sink: &mut K, octets: &[u8]) -> Result<usize, WriteFault>
+    requires { 0 < length octets.now }
+    ensures within { IfOk result (λ n. (0 < n) × (n ≤ length octets.now)) }
+    ensures written { K.tells → IfOk result (λ n. K.written sink.new ≡ K.written sink.old ++ take n octets.now) }
+    ensures same { K.tells → OnErr result (K.written sink.new ≡ K.written sink.old) }
+    ensures troubles { K.troubles sink.old ≤ K.troubles sink.new }
+    ensures fault { OnErr result (Rises (K.troubles sink.old) (K.troubles sink.new)) }
+{
+    for _ in 0..PATIENCE {
+        match sink.write(octets) {
+            Ok(0) => return Err(WriteFault),
+            Ok(n) => return Ok(n),
+            Err(Trouble::Interrupted) => {}
+            Err(Trouble::Failed) => return Err(WriteFault),
+        }
+    }
+    Err(WriteFault)
+}
+
+/// Writes all octets. After a fault some prefix of them is written.
+pub fn write_all<K: Sink>(sink: &mut K, octets: &[u8]) -> Result<(), WriteFault>
+    ensures written { K.tells → Writes result (K.written sink.old) octets.now (K.written sink.new) }
+    ensures troubles { K.troubles sink.old ≤ K.troubles sink.new }
+    ensures fault { OnErr result (Rises (K.troubles sink.old) (K.troubles sink.new)) }
+{
+    let mut at = 0;
+    while at < octets.len() {
+        at += write_some(sink, &octets[at..])?;
+    }
+    Ok(())
+}
+
+/// Writes pieces, one after the other. After a fault some prefix of them all is written.
+pub fn write_pieces<K: Sink>(sink: &mut K, pieces: &[&[u8]]) -> Result<(), WriteFault>
+    ensures written { K.tells → Writes result (K.written sink.old) (flat_map (λ p. p.now) pieces.now) (K.written sink.new) }
+    ensures troubles { K.troubles sink.old ≤ K.troubles sink.new }
+    ensures fault { OnErr result (Rises (K.troubles sink.old) (K.troubles sink.new)) }
+{
+    for piece in pieces {
+        write_all(sink, *piece)?;
+    }
+    Ok(())
+}

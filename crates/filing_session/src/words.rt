@@ -1,0 +1,137 @@
+//! The words of a command line, and what a line asks.
+
+ghost use Rattle.std.specs.Prelude.{◌≡◌, ◌∷◌, [], IfSome, IfNone};
+ghost use Rattle.std.specs.Char.{is_ascii_digit};
+ghost use Rattle.std.specs.List.{list_all};
+ghost use Rattle.filing_session.specs.Words.{words_of, is_decimal, length_of, class_of, file_of, quit_of, asked, asked_as};
+ghost use Rattle.filing_session.specs.WordsLeft.{words_left};
+
+use std::str;
+
+/// What a line asks.
+#[derive(Clone, Copy, Debug, PartialEq, Eq)]
+pub enum Request<'a> {
+    /// To add the class of a path.
+    AddClass(&'a [u8]),
+    /// To file a message by a script, payloads of these lengths in octets.
+    File { script: u32, message: u32 },
+    /// To end the session.
+    Quit,
+    /// Nothing: the first word is no command's (70).
+    Unknown,
+    /// Nothing: a word, or the number of words, is wrong (71).
+    BadWord,
+}
+
+/// The words of a line that are still to be taken. None are left after the last word; an empty text is one empty word.
+#[derive(Clone, Copy, Debug)]
+pub struct Words<'a> {
+    rest: Option<&'a [u8]>,
+}
+
+impl<'a> Words<'a> {
+    /// All words of a line.
+    pub fn new(line: &'a [u8]) -> Words<'a>
+        ensures { words_left result ≡ words_of line.now }
+    {
+        Words { rest: Some(line) }
+    }
+
+    /// Takes the next word.
+    pub fn next(&mut self) -> Option<&'a [u8]>
+        ensures some { IfSome result (λ w. words_left self.old ≡ w.now ∷ words_left self.new) }
+        ensures none { IfNone result (words_left self.old ≡ []) }
+    {
+        let text = self.rest?;
+        match text.iter().position(|octet| *octet == b' ') {
+            None => {
+                self.rest = None;
+                Some(text)
+            }
+            Some(at) => {
+                self.rest = Some(&text[at + 1..]);
+                Some(&text[..at])
+            }
+        }
+    }
+}
+
+/// Whether all octets are decimal digits.
+fn are_digits(word: &[u8]) -> bool
+    ensures { result ≡ list_all is_ascii_digit word.now }
+{
+    word.iter().all(|octet| octet.is_ascii_digit())
+}
+
+/// Whether a word is one digit or more, without a leading zero.
+fn is_number(word: &[u8]) -> bool
+    ensures { result ≡ is_decimal word.now }
+{
+    match word {
+        [] | [b'0', _, ..] => false,
+        _ => are_digits(word),
+    }
+}
+
+/// The length of a payload in octets, at most 4,294,967,295.
+fn read_length(word: &[u8]) -> Option<u32>
+    ensures { result ≡ length_of word.now }
+{
+    if !is_number(word) {
+        return None;
+    }
+    str::from_utf8(word).ok()?.parse().ok()
+}
+
+/// What `CLASS` asks with the words after it.
+fn read_class<'a>(mut words: Words<'a>) -> Request<'a>
+    ensures { asked_as result ≡ class_of (words_left words.entry) }
+{
+    match (words.next(), words.next()) {
+        (Some(path), None) => Request::AddClass(path),
+        _ => Request::BadWord,
+    }
+}
+
+/// What `FILE` asks with the words after it.
+fn read_file<'a>(mut words: Words<'a>) -> Request<'a>
+    ensures { asked_as result ≡ file_of (words_left words.entry) }
+{
+    let (Some(script), Some(message), None) = (words.next(), words.next(), words.next()) else {
+        return Request::BadWord;
+    };
+    match (read_length(script), read_length(message)) {
+        (Some(script), Some(message)) => Request::File { script, message },
+        _ => Request::BadWord,
+    }
+}
+
+/// What `QUIT` asks with the words after it.
+fn read_quit<'a>(mut words: Words<'a>) -> Request<'a>
+    ensures { asked_as result ≡ quit_of (words_left words.entry) }
+{
+    match words.next() {
+        None => Request::Quit,
+        Some(_) => Request::BadWord,
+    }
+}
+
+/// What a line asks; the line is without its LF.
+#[tactic(auto, unfolding(crate::specs::Words::asked))]
+pub fn read_request(line: &[u8]) -> Request<'_>
+    ensures { asked_as result ≡ asked line.now }
+{
+    let mut words = Words::new(line);
+    let Some(name) = words.next() else {
+        return Request::Unknown;
+    };
+    if name == b"CLASS".as_slice() {
+        read_class(words)
+    } else if name == b"FILE".as_slice() {
+        read_file(words)
+    } else if name == b"QUIT".as_slice() {
+        read_quit(words)
+    } else {
+        Request::Unknown
+    }
+}

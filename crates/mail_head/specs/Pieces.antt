@@ -1,0 +1,32 @@
+-- A message that comes in pieces, and what a reader keeps of it.
+use Rattle.std.specs.Prelude.{ℕ, ◌-◌, Bool, false, List, length, take, nat_lt, not, slice_index, ◌==◌, ◌&&◌, ◌||◌}
+use Rattle.std.specs.List.{concat}
+use Rattle.mail_head.specs.Lines.{header_of}
+
+-- the octets of the header of a text: those of its lines, with their ends
+abbrev pub header_octets : List ℕ → List ℕ
+header_octets text = concat (header_of text)
+
+-- a reader: the octets that it keeps, how many it was fed, and whether it refuses
+pub record Reader : Type 0 where
+  pub kept : List ℕ
+  pub size : ℕ
+  pub refuses : Bool
+
+-- the reader that was fed a message: of the message it keeps the header and nothing else
+abbrev pub reader_of : List ℕ → Reader
+reader_of message = record { kept = header_octets message; size = length message; refuses = false }
+
+-- a header that owns its octets: the fields, the message's octet count, and the octets that it owns
+pub record Owned : Type 0 where
+  pub fields : List (List ℕ × List ℕ)
+  pub size : ℕ
+  pub octets : List ℕ
+
+-- no octet of a text stands in a line that has not ended
+abbrev pub at_line_start : List ℕ → Bool
+at_line_start bs = not (nat_lt 0 (length bs)) || (slice_index bs (length bs - 1) == 10)
+
+-- a text whose last line is one CR so far
+abbrev pub ends_in_lone_cr : List ℕ → Bool
+ends_in_lone_cr bs = (nat_lt 0 (length bs) && (slice_index bs (length bs - 1) == 13)) && at_line_start (take (length bs - 1) bs)

@@ -1,0 +1,22 @@
+//! The header of a message (RFC 5322, section 2.2): its fields, as slices of the octets that were handed in.
+//!
+//! Any octets are a message. Reading is lenient, since mail comes as it comes: a bare LF ends a line as CRLF does,
+//! blanks may stand before a field's colon, and a line that is no field is passed over. Octets are never changed
+//! here: a folded body keeps its line ends, and encoded words stay as they stand.
+//!
+//! `read_head` reads a whole message, `HeadReader` one that comes in pieces; both give the same fields. `lines` cuts a
+//! header into logical lines, `fields` takes one apart, and `reading` puts both together. `parts` says what a piece adds
+//! to the header of those before it, `pieces` has the reader, and `owned` the header that it gives.
+#![tactic(auto)]
+
+mod fields;
+mod lines;
+mod owned;
+mod parts;
+mod pieces;
+mod reading;
+
+pub use fields::Field;
+pub use owned::PieceHead;
+pub use pieces::{HeadFault, HeadReader, MOST_OCTETS};
+pub use reading::{Head, read_head};

@@ -1,0 +1,81 @@
+//! What a piece of a message adds to the header of the pieces before it.
+
+ghost use Rattle.std.specs.Prelude.{◌≡◌, ◌≤◌, length, take, drop, count_by, ◌==◌};
+ghost use Rattle.mail_head.specs.Fields.{begins_with};
+ghost use Rattle.mail_head.specs.Parts.{IsPart};
+ghost use Rattle.mail_head.specs.Pieces.{header_octets, at_line_start, ends_in_lone_cr};
+
+use crate::lines::{first_line_len, header_ends};
+
+/// What a piece adds to a header that hasn't ended: its first octets, so many; or nothing, since it begins with the LF
+/// that makes an empty line of the CR at the header's end, which then is no part of the header either.
+#[derive(Clone, Copy)]
+pub enum HeaderPart {
+    Front(usize),
+    LessCr,
+}
+
+/// How many octets of a text that begins at a line's start belong to its header.
+pub fn header_len(text: &[u8]) -> usize
+    ensures value { header_octets text.now ≡ take result text.now }
+    ensures within { result ≤ length text.now }
+{
+    let mut len = 0;
+    let mut rest = text;
+    while !header_ends(rest) {
+        let (line, after) = rest.split_at(first_line_len(rest));
+        len += line.len();
+        rest = after;
+    }
+    len
+}
+
+fn is_at_line_start(text: &[u8]) -> bool
+    ensures { result ≡ at_line_start text.now }
+{
+    match text {
+        [.., last] => *last == b'\n',
+        [] => true,
+    }
+}
+
+/// Whether the last line is one CR so far.
+fn has_lone_cr(text: &[u8]) -> bool
+    ensures { result ≡ ends_in_lone_cr text.now }
+{
+    match text {
+        [front @ .., b'\r'] => is_at_line_start(front),
+        _ => false,
+    }
+}
+
+fn begins_with_lf(text: &[u8]) -> bool
+    ensures { result ≡ begins_with 10 text.now }
+{
+    match text {
+        [first, ..] => *first == b'\n',
+        [] => false,
+    }
+}
+
+/// What `piece` adds to the header `kept`, which has all octets before it.
+pub fn header_part(kept: &[u8], piece: &[u8]) -> HeaderPart
+    ensures { IsPart kept.now piece.now result }
+{
+    if is_at_line_start(kept) {
+        return HeaderPart::Front(header_len(piece));
+    }
+    if has_lone_cr(kept) && begins_with_lf(piece) {
+        return HeaderPart::LessCr;
+    }
+    let (line, rest) = piece.split_at(first_line_len(piece));
+    HeaderPart::Front(line.len() + header_len(rest))
+}
+
+/// How many LF the text has.
+pub fn line_end_count(text: &[u8]) -> usize
+    ensures value { result ≡ count_by (λ b. b == 10) text.now }
+    ensures within { result ≤ length text.now }
+{
+    text.iter().filter(|octet| **octet == b'\n').count()
+}

@@ -1,0 +1,60 @@
+//! The whole header of a message.
+
+ghost use Rattle.std.specs.Prelude.{◌≡◌, ◌<◌, length, IfOk};
+ghost use Rattle.mail_head.specs.Fields.{fields_of};
+
+use crate::fields::{Field, field_at};
+use crate::lines::{header_ends, logical_len};
+use std::alloc::{AllocError, Global};
+use std::marker::Model;
+
+/// The fields of a message in order, and how many octets the message has.
+#[derive(Drop)]
+pub struct Head<'a> {
+    fields: Vec<Field<'a>>,
+    size: u64,
+}
+
+impl<'a> Model for Head<'a> {
+    ghost use Rattle.std.specs.Prelude.{ℕ, List};
+
+    ghost Value = { List (List ℕ × List ℕ) × ℕ };
+
+    ghost view = { λ h. (h.fields.items, h.size) };
+}
+
+impl<'a> Head<'a> {
+    /// The fields, in the order of the message.
+    pub fn fields(&self) -> &[Field<'a>]
+        ensures { result.now ≡ self.now.0 }
+    {
+        self.fields.as_slice()
+    }
+
+    /// How many octets the message has, its body included.
+    pub fn size(&self) -> u64
+        ensures { result ≡ self.now.1 }
+    {
+        self.size
+    }
+}
+
+/// The header of a message: the fields of RFC 5322, section 2.2, read leniently, in order, as slices of `msg`, and
+/// the number of its octets. Nothing behind the header is read. Its one refusal is want of memory.
+pub fn read_head(alloc: Global, msg: &[u8]) -> Result<Head<'_>, AllocError>
+    ensures { IfOk result (λ h. h ≡ (fields_of msg.now, length msg.now)) }
+{
+    let mut fields = Vec::new(alloc);
+    let mut rest = msg;
+    while !header_ends(rest) {
+        let (line, after) = rest.split_at(logical_len(rest));
+        if let Some(field) = field_at(line) {
+            fields.push(field)?;
+        }
+        rest = after;
+    }
+    Ok(Head {
+        fields,
+        size: msg.len() as u64,
+    })
+}

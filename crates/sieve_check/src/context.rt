@@ -1,0 +1,79 @@
+//! What is known of the commands before a command.
+
+ghost use Rattle.std.specs.Prelude.{◌≡◌};
+ghost use Rattle.std.specs.List.{list_any};
+ghost use Rattle.std.specs.Option.{is_none};
+ghost use Rattle.sieve_check.specs.Lookup.{capability_named};
+ghost use Rattle.sieve_check.specs.Rules.{argument_strings, names_unknown, is_require, is_branch, goes_on};
+
+use crate::lookup::find_capability;
+use crate::named::Named;
+use crate::table::Role;
+use sieve_syntax::{Argument, Arguments, Text};
+
+/// What the commands before a command say.
+#[derive(Clone, Copy)]
+pub struct Context {
+    /// What their `require`s name.
+    pub named: Named,
+    /// Whether one of them is no `require`.
+    pub begun: bool,
+}
+
+impl Role {
+    pub fn is_require(self) -> bool
+        ensures { result ≡ is_require self }
+    {
+        matches!(self, Role::Require)
+    }
+
+    /// Whether another branch may follow.
+    pub fn is_branch(self) -> bool
+        ensures { result ≡ is_branch self }
+    {
+        matches!(self, Role::If | Role::Elsif)
+    }
+
+    /// Whether it goes on with a chain of branches.
+    pub fn goes_on(self) -> bool
+        ensures { result ≡ goes_on self }
+    {
+        matches!(self, Role::Elsif | Role::Else)
+    }
+}
+
+/// Whether no capability has this name.
+fn is_unknown(text: &Text) -> bool
+    ensures { result ≡ is_none (capability_named text.now) }
+{
+    find_capability(text.as_slice()).is_none()
+}
+
+/// Whether one of these is no capability.
+fn any_is_unknown(texts: &[Text]) -> bool
+    ensures { result ≡ list_any (λ s. is_none (capability_named s)) texts.now }
+{
+    texts.iter().any(|text| is_unknown(text))
+}
+
+/// Whether a string of the argument is no capability.
+fn argument_names_unknown(argument: &Argument) -> bool
+    ensures { result ≡ list_any (λ s. is_none (capability_named s)) (argument_strings argument.now) }
+{
+    match argument {
+        Argument::Strings(list) => is_unknown(list.first()) || any_is_unknown(list.others()),
+        _ => false,
+    }
+}
+
+/// Whether a string of the arguments is no capability.
+pub fn names_unknown(arguments: &Arguments) -> bool
+    ensures { result ≡ names_unknown arguments.now }
+{
+    for argument in arguments.as_slice() {
+        if argument_names_unknown(argument) {
+            return true;
+        }
+    }
+    false
+}

@@ -1,0 +1,130 @@
+//! The least rule that a command breaks, its tests at any depth among it.
+
+ghost use Rattle.std.specs.Prelude.{◌≡◌, Some};
+ghost use Rattle.std.specs.Option.{option_map};
+ghost use Rattle.sieve_syntax.specs.View.{test_of, inner_of, command_of, ending_of};
+ghost use Rattle.sieve_check.specs.Context.{has_of};
+ghost use Rattle.sieve_check.specs.Faults.{number_of};
+ghost use Rattle.sieve_check.specs.Pieces.{pieces};
+ghost use Rattle.sieve_check.specs.Rules.{lesser, least, form_rules, broken_by_test, broken_by_inner, place_rules, broken_in_place, head_of, is_block, has_wrong_ending};
+ghost use Rattle.sieve_check.specs.Views.{form_view, command_view};
+ghost use Rattle.sieve_check.specs.Walk.{first_broken};
+
+use crate::context::{Context, names_unknown};
+use crate::fault::CheckFault;
+use crate::lookup::find_test;
+use crate::named::Named;
+use crate::rules::{
+    has_tag_twice, has_unknown_comparator, has_wrong_arguments, has_wrong_tag, has_wrong_tests,
+    lacks_capability,
+};
+use crate::table::{CommandRow, Form};
+use sieve_syntax::{Arguments, Command, Ending, Test, Tests};
+
+/// The one of the lesser number.
+fn lesser(fault: Option<CheckFault>, other: Option<CheckFault>) -> Option<CheckFault>
+    ensures { option_map number_of result ≡ lesser (option_map number_of fault) (option_map number_of other) }
+{
+    match (fault, other) {
+        (None, _) => other,
+        (_, None) => fault,
+        (Some(a), Some(b)) => Some(if b.number() < a.number() { b } else { a }),
+    }
+}
+
+/// The first rule on what stands behind a name that is broken, without the tests inside.
+fn form_fault(named: Named, form: &Form, arguments: &Arguments, tests: &Tests) -> Option<CheckFault>
+    ensures { option_map number_of result ≡ first_broken (form_rules (has_of named) (form_view form.now) (pieces (form_view form.now).tags arguments.now) (inner_of tests.now)) }
+{
+    if lacks_capability(named, form, arguments) {
+        Some(CheckFault::CapabilityNotRequired)
+    } else if has_wrong_tag(form, arguments) {
+        Some(CheckFault::TagNotAllowed)
+    } else if has_tag_twice(form, arguments) {
+        Some(CheckFault::TagTwice)
+    } else if has_wrong_arguments(form, arguments) {
+        Some(CheckFault::WrongArguments)
+    } else if has_unknown_comparator(form, arguments) {
+        Some(CheckFault::UnknownComparator)
+    } else if has_wrong_tests(form, tests) {
+        Some(CheckFault::Tests)
+    } else {
+        None
+    }
+}
+
+/// The least rule that a test breaks, or one of the tests inside it.
+#[cycle(judging)]
+fn test_fault(test: &Test, named: Named) -> Option<CheckFault>
+    ensures { option_map number_of result ≡ least (broken_by_test (has_of named) (test_of test.now)) }
+{
+    match find_test(test.name.as_slice()) {
+        None => Some(CheckFault::UnknownTest),
+        Some(row) => {
+            let own = form_fault(named, &row.form, &test.arguments, &test.tests);
+            lesser(own, tests_fault(&test.tests, named))
+        }
+    }
+}
+
+/// The least rule that one of the tests breaks.
+#[cycle(judging)]
+fn tests_fault(tests: &Tests, named: Named) -> Option<CheckFault>
+    ensures { option_map number_of result ≡ least (broken_by_inner (has_of named) (inner_of tests.now)) }
+{
+    match tests {
+        Tests::None => None,
+        Tests::One(test) => test_fault(test, named),
+        Tests::Listed(list) => {
+            let mut fault = None;
+            for test in list {
+                fault = lesser(fault, test_fault(test, named));
+            }
+            fault
+        }
+    }
+}
+
+/// Whether a command ends with a block.
+fn is_block(ending: &Ending) -> bool
+    ensures { result ≡ is_block (ending_of ending.now) }
+{
+    matches!(ending, Ending::Block(_))
+}
+
+/// Whether the ending is not the one that the table has.
+fn has_wrong_ending(row: &CommandRow, ending: &Ending) -> bool
+    ensures { result ≡ has_wrong_ending row.now.has_block (is_block (ending_of ending.now)) }
+{
+    if row.has_block {
+        !is_block(ending)
+    } else {
+        is_block(ending)
+    }
+}
+
+/// The first rule that is broken by where a command stands, by what it requires or by how it ends.
+fn place_fault(context: Context, row: &CommandRow, command: &Command, follows_branch: bool) -> Option<CheckFault>
+    ensures { option_map number_of result ≡ first_broken (place_rules context.begun (command_view row.now) (head_of follows_branch (command_of command.now))) }
+{
+    if row.role.is_require() && names_unknown(&command.arguments) {
+        Some(CheckFault::UnknownCapability)
+    } else if row.role.is_require() && context.begun {
+        Some(CheckFault::RequireTooLate)
+    } else if row.role.goes_on() && !follows_branch {
+        Some(CheckFault::ElseWithoutIf)
+    } else if has_wrong_ending(row, &command.ending) {
+        Some(CheckFault::Block)
+    } else {
+        None
+    }
+}
+
+/// The least rule that a command of this row breaks, its tests among it, and the commands of its block not.
+pub fn command_fault(context: Context, row: &CommandRow, command: &Command, follows_branch: bool) -> Option<CheckFault>
+    ensures { option_map number_of result ≡ least (broken_in_place (has_of context.named) context.begun (Some (command_view row.now)) (head_of follows_branch (command_of command.now))) }
+{
+    let place = place_fault(context, row, command, follows_branch);
+    let form = form_fault(context.named, &row.form, &command.arguments, &command.tests);
+    lesser(place, lesser(form, tests_fault(&command.tests, context.named)))
+}

@@ -1,0 +1,256 @@
+//! The rules on what stands behind the name of a command or a test, one function each.
+
+ghost use Rattle.std.specs.Prelude.{◌≡◌, map};
+ghost use Rattle.std.specs.List.{list_any};
+ghost use Rattle.sieve_check.specs.Context.{has_of};
+ghost use Rattle.sieve_check.specs.Views.{form_view};
+ghost use Rattle.sieve_check.specs.PieceViews.{piece_view};
+ghost use Rattle.sieve_check.specs.Pieces.{pieces, is_tagged, positional_arguments};
+ghost use Rattle.sieve_check.specs.Rules.{lacks, piece_lacks, lacks_capability, is_unknown_tag, tag_behind, has_wrong_tag, same_kind, has_kind, stands_twice, has_tag_twice, takes, fits, lacks_string, lacks_tag, has_wrong_arguments, is_unknown_comparator, tests_there, same_tests, has_wrong_tests};
+ghost use Rattle.sieve_check.specs.Lookup.{same_text};
+ghost use Rattle.sieve_check.specs.Tables.{comparator_table};
+ghost use Rattle.sieve_syntax.specs.View.{inner_of};
+
+use crate::lookup::is_same_text;
+use crate::named::Named;
+use crate::pieces::{Piece, Pieces};
+use crate::table::{Capability, Form, Positional, TagKind, TestsForm, comparators};
+use sieve_syntax::{Argument, Arguments, StringList, Tests};
+
+impl TagKind {
+    fn is_same(self, other: TagKind) -> bool
+        ensures { result ≡ same_kind self other }
+    {
+        self == other
+    }
+}
+
+impl Positional {
+    fn takes(self, argument: &Argument) -> bool
+        ensures { result ≡ takes self argument.now }
+    {
+        match (self, argument) {
+            (Positional::OneString, Argument::Strings(StringList::One(_))) => true,
+            (Positional::StringList, Argument::Strings(_)) => true,
+            (Positional::OneNumber, Argument::Number(_)) => true,
+            _ => false,
+        }
+    }
+}
+
+/// Whether a capability is needed that is not named.
+fn lacks(named: Named, needs: Option<Capability>) -> bool
+    ensures { result ≡ lacks (has_of named) needs }
+{
+    match needs {
+        Some(capability) => !named.has(capability),
+        None => false,
+    }
+}
+
+impl<'a> Piece<'a> {
+    fn lacks_capability(self, named: Named) -> bool
+        ensures { result ≡ piece_lacks (has_of named) (piece_view self.entry) }
+    {
+        match self {
+            Piece::Tagged(Some(row), _) => lacks(named, row.needs),
+            _ => false,
+        }
+    }
+
+    fn is_tag(self) -> bool
+        ensures { result ≡ is_tagged (piece_view self.entry) }
+    {
+        matches!(self, Piece::Tagged(_, _))
+    }
+
+    fn is_unknown_tag(self) -> bool
+        ensures { result ≡ is_unknown_tag (piece_view self.entry) }
+    {
+        matches!(self, Piece::Tagged(None, _))
+    }
+
+    fn has_kind(self, kind: TagKind) -> bool
+        ensures { result ≡ has_kind kind (piece_view self.entry) }
+    {
+        match self {
+            Piece::Tagged(Some(row), _) => kind.is_same(row.kind),
+            _ => false,
+        }
+    }
+
+    fn lacks_string(self) -> bool
+        ensures { result ≡ lacks_string (piece_view self.entry) }
+    {
+        match self {
+            Piece::Tagged(Some(row), None) => row.names_comparator,
+            _ => false,
+        }
+    }
+
+    fn is_unknown_comparator(self) -> bool
+        ensures { result ≡ is_unknown_comparator (piece_view self.entry) }
+    {
+        match self {
+            Piece::Tagged(_, Some(text)) => !is_comparator(text),
+            _ => false,
+        }
+    }
+}
+
+/// Whether these are the octets of a comparator.
+fn is_comparator(text: &[u8]) -> bool
+    ensures { result ≡ list_any (λ t. same_text text.now t) comparator_table }
+{
+    for name in comparators() {
+        if is_same_text(text, name) {
+            return true;
+        }
+    }
+    false
+}
+
+/// Whether one of the tags needs a capability that is not named.
+fn tag_lacks_capability(named: Named, form: &Form, arguments: &Arguments) -> bool
+    ensures { result ≡ list_any (piece_lacks (has_of named)) (pieces (form_view form.now).tags arguments.now) }
+{
+    Pieces::new(form, arguments).any(|piece| piece.lacks_capability(named))
+}
+
+/// 34: whether the command or one of its tags needs a capability that is not named.
+pub fn lacks_capability(named: Named, form: &Form, arguments: &Arguments) -> bool
+    ensures { result ≡ lacks_capability (has_of named) (form_view form.now) (pieces (form_view form.now).tags arguments.now) }
+{
+    lacks(named, form.needs) || tag_lacks_capability(named, form, arguments)
+}
+
+/// Whether a tag is not the form's.
+fn has_unknown_tag(form: &Form, arguments: &Arguments) -> bool
+    ensures { result ≡ list_any is_unknown_tag (pieces (form_view form.now).tags arguments.now) }
+{
+    Pieces::new(form, arguments).any(|piece| piece.is_unknown_tag())
+}
+
+/// Whether a tag stands behind a positional argument.
+fn has_tag_behind(form: &Form, arguments: &Arguments) -> bool
+    ensures { result ≡ tag_behind (pieces (form_view form.now).tags arguments.now) }
+{
+    Pieces::new(form, arguments)
+        .skip_while(|piece| piece.is_tag())
+        .any(|piece| piece.is_tag())
+}
+
+/// 35: whether a tag is not the form's, or stands behind a positional argument.
+pub fn has_wrong_tag(form: &Form, arguments: &Arguments) -> bool
+    ensures { result ≡ has_wrong_tag (pieces (form_view form.now).tags arguments.now) }
+{
+    has_unknown_tag(form, arguments) || has_tag_behind(form, arguments)
+}
+
+/// Whether two tags are of this kind.
+fn has_kind_twice(kind: TagKind, form: &Form, arguments: &Arguments) -> bool
+    ensures { result ≡ stands_twice kind (pieces (form_view form.now).tags arguments.now) }
+{
+    Pieces::new(form, arguments)
+        .skip_while(|piece| !piece.has_kind(kind))
+        .skip(1)
+        .any(|piece| piece.has_kind(kind))
+}
+
+/// 36: whether two tags are of one kind.
+pub fn has_tag_twice(form: &Form, arguments: &Arguments) -> bool
+    ensures { result ≡ has_tag_twice (form_view form.now) (pieces (form_view form.now).tags arguments.now) }
+{
+    for row in form.tags {
+        if has_kind_twice(row.kind, form, arguments) {
+            return true;
+        }
+    }
+    false
+}
+
+/// Whether the positional arguments are those of the form.
+fn fits(form: &Form, arguments: &Arguments) -> bool
+    ensures { result ≡ fits (form_view form.now) (pieces (form_view form.now).tags arguments.now) }
+{
+    let mut expected = form.positional;
+    for piece in Pieces::new(form, arguments) {
+        if let Piece::Positional(argument) = piece {
+            match expected.split_first() {
+                Some((place, behind)) if place.takes(argument) => expected = behind,
+                _ => return false,
+            }
+        }
+    }
+    expected.is_empty()
+}
+
+/// Whether a tag that names a comparator stands without it.
+fn lacks_comparator(form: &Form, arguments: &Arguments) -> bool
+    ensures { result ≡ list_any lacks_string (pieces (form_view form.now).tags arguments.now) }
+{
+    Pieces::new(form, arguments).any(|piece| piece.lacks_string())
+}
+
+/// Whether a tag of this kind is there.
+fn has_tag(kind: TagKind, form: &Form, arguments: &Arguments) -> bool
+    ensures { result ≡ list_any (has_kind kind) (pieces (form_view form.now).tags arguments.now) }
+{
+    Pieces::new(form, arguments).any(|piece| piece.has_kind(kind))
+}
+
+/// Whether a tag that has to be there is not.
+fn lacks_tag(form: &Form, arguments: &Arguments) -> bool
+    ensures { result ≡ lacks_tag (form_view form.now).needs_tag (pieces (form_view form.now).tags arguments.now) }
+{
+    match form.needs_tag {
+        Some(kind) => !has_tag(kind, form, arguments),
+        None => false,
+    }
+}
+
+/// 37: whether the positional arguments are not the form's, or a tag lacks its string, or one is missing.
+pub fn has_wrong_arguments(form: &Form, arguments: &Arguments) -> bool
+    ensures { result ≡ has_wrong_arguments (form_view form.now) (pieces (form_view form.now).tags arguments.now) }
+{
+    !fits(form, arguments) || lacks_comparator(form, arguments) || lacks_tag(form, arguments)
+}
+
+/// 38: whether a comparator is none of this profile.
+pub fn has_unknown_comparator(form: &Form, arguments: &Arguments) -> bool
+    ensures { result ≡ list_any is_unknown_comparator (pieces (form_view form.now).tags arguments.now) }
+{
+    Pieces::new(form, arguments).any(|piece| piece.is_unknown_comparator())
+}
+
+/// Which tests stand there. A list of no tests, which no text spells, counts as none.
+fn tests_there(tests: &Tests) -> TestsForm
+    ensures { result ≡ tests_there (inner_of tests.now) }
+{
+    match tests {
+        Tests::None => TestsForm::NoTest,
+        Tests::One(_) => TestsForm::OneTest,
+        Tests::Listed(list) => {
+            if list.is_empty() {
+                TestsForm::NoTest
+            } else {
+                TestsForm::TestList
+            }
+        }
+    }
+}
+
+impl TestsForm {
+    fn is_same(self, other: TestsForm) -> bool
+        ensures { result ≡ same_tests self other }
+    {
+        self == other
+    }
+}
+
+/// 41: whether the tests are not those of the form.
+pub fn has_wrong_tests(form: &Form, tests: &Tests) -> bool
+    ensures { result ≡ has_wrong_tests (form_view form.now).tests (inner_of tests.now) }
+{
+    !form.tests.is_same(tests_there(tests))
+}

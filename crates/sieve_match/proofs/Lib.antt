@@ -1,0 +1,4 @@
+pub mod FoldLemmas
+pub mod OccurrenceLemmas
+pub mod SearchLemmas
+pub mod TwoWayLemmas

@@ -1,0 +1,154 @@
+-- What a search for a key under `i;ascii-casemap` knows of the key and of the places that it passes over.
+use Rattle.std.proofs.Common.{◌≡◌, ℕ, ◌+◌, ◌-◌, ◌<◌, ◌≤◌, Bool, true, false, eqb, ◌||◌, List, length, take, drop, slice_index, max, Some, IsTrue, ◌↔◌, ⊎_elim, inl, inr, sym, ap, subst, ◌∙◌, arith}
+use Rattle.std.specs.Char.{to_ascii_lowercase, to_ascii_uppercase}
+use Rattle.std.proofs.Math.ListN.{get_or-map}
+use Rattle.std.proofs.lemmas.List.{length-map, length-take-le, length-drop, get_or-take, get_or-drop}
+use Rattle.std.proofs.lemmas.Bool.{cases_lt, false≢true}
+use Rattle.std.proofs.lemmas.Bool.Decides.{nat_tests}
+use Rattle.memchr.specs.Find.{Nowhere, NoneBefore, Passes, OccursAt, is_byte2}
+use Rattle.memchr.specs.TwoWay.{IsCut}
+use Rattle.memchr.specs.declared.arch.all.twoway.Shift.TheVariants.{Small, Large}
+use Rattle.memchr.proofs.lemmas.FindLemmas.{Nowhere-then}
+use Rattle.memchr.proofs.lemmas.SearchLemmas.{Nowhere-right, Nowhere-left, known-next, IsShift-large, IsShift-small}
+use Rattle.sieve_meaning.specs.declared.matching.Comparator.{Comparator}
+use Rattle.sieve_meaning.specs.declared.matching.Comparator.TheVariants.{Casemap}
+use Rattle.sieve_meaning.specs.Matching.{folded, fold, Contains}
+use Rattle.sieve_match.specs.declared.two_way.Order.{Order}
+use Rattle.sieve_match.specs.declared.two_way.Order.TheVariants.{Rising, Falling}
+use Rattle.sieve_match.specs.declared.two_way.Plan.{Plan}
+use Rattle.sieve_match.specs.TwoWay.{read, StandsAt, StandsIn, Precedes, IsPlan}
+use Rattle.sieve_match.proofs.OccurrenceLemmas.{around_from, place_from}
+
+pub Precedes-trans : (order : Order) (a b c : ℕ) → Precedes order a b → Precedes order b c → Precedes order a c
+unfolding Precedes
+Precedes-trans Rising a b c p q = omega arith
+Precedes-trans Falling a b c p q = omega arith
+
+pub Precedes-irrefl : (order : Order) (a : ℕ) → Precedes order a a → ⊥
+unfolding Precedes
+Precedes-irrefl Rising a p = omega arith
+Precedes-irrefl Falling a p = omega arith
+
+pub Precedes-opposed : (a b : ℕ) → Precedes Rising a b → Precedes Falling a b → ⊥
+unfolding Precedes
+Precedes-opposed a b p q = omega arith
+
+-- the plan of a key, by how its cut is known
+module _ (x : ℕ → ℕ) (m : ℕ) (p : Plan) (rare : p.rare < m) where
+  pub IsPlan-small : IsCut x m p.cut (Small p.shift) → p.kept ≡ m - p.shift → IsPlan x m p
+  IsPlan-small h kept =
+      let s = IsShift-small p.cut h.shifts in
+      record { below = h.below; critical = h.critical; some = s.0; fits = s.2; short = s.4; kept = inr (omega (arith, s.2), s.1, s.3); rare = rare }
+
+  pub IsPlan-large : IsCut x m p.cut (Large p.shift) → p.kept ≡ 0 → IsPlan x m p
+  IsPlan-large h kept =
+      let s = IsShift-large p.cut h.shifts in
+      record { below = h.below; critical = h.critical; some = s.0; fits = s.1; short = s.2; kept = inl kept; rare = rare }
+
+-- an octet that is equal to another as they are compared is that octet in one of its cases
+either_case : (b o : ℕ) → folded Casemap b ≡ folded Casemap o → (eqb b (to_ascii_uppercase o) || eqb b (to_ascii_lowercase o)) ≡ true
+either_case b o e = grind (arith, nat_tests)
+
+-- a text as it is compared reads as its octets do
+read_fold : (text : List ℕ) (k : ℕ) → slice_index (fold Casemap text) k ≡ read text k
+unfolding read
+read_fold text k = get_or-map (folded Casemap) text k 0
+
+occurs_from : (key value : List ℕ) (k : ℕ) → StandsAt value key k → OccursAt (fold Casemap value) (fold Casemap key) k
+occurs_from key value k h = record {
+  fits = rw (length-map value (folded Casemap), length-map key (folded Casemap)) h.fits;
+  reads = λ j l. read_fold value (k + j) ∙ h.reads j (rw (length-map key (folded Casemap)) at l) ∙ sym (read_fold key j);
+}
+
+stands_from : (key value : List ℕ) (k : ℕ) → OccursAt (fold Casemap value) (fold Casemap key) k → StandsAt value key k
+stands_from key value k h = record {
+  fits = rw (length-map value (folded Casemap), length-map key (folded Casemap)) at h.fits;
+  reads = λ j l. sym (read_fold value (k + j)) ∙ h.reads j (rw (length-map key (folded Casemap)) l) ∙ read_fold key j;
+}
+
+-- what an answer on places says of a text around the key
+pub stands_casemap : (c : Comparator) (key value : List ℕ) (r : Bool) → c ≡ Casemap → IsTrue r ↔ StandsIn value key → IsTrue r ↔ Contains c key value
+stands_casemap c key value r is h = rw is (
+  λ t. let s = h.0 t in around_from (fold Casemap value) (fold Casemap key) s.0 (occurs_from key value s.0 s.1),
+  λ a. let p = place_from (fold Casemap value) (fold Casemap key) a in h.1 (p.0, stands_from key value p.0 p.1),
+)
+
+-- the key stands at no place where its rare octet stands in neither case
+module _ (key value : List ℕ) (at rare upper lower : ℕ) (inside : rare < length key) (within : at + length key ≤ length value) (is_upper : upper ≡ to_ascii_uppercase (slice_index key rare)) (is_lower : lower ≡ to_ascii_lowercase (slice_index key rare)) where
+  -- the octets of the value at which the rare octet may stand
+  abbrev ahead : List ℕ
+  ahead = take (length value - length key + rare + 1 - (at + rare)) (drop (at + rare) value)
+
+  length-ahead : length ahead ≡ length value - length key + rare + 1 - (at + rare)
+  length-ahead =
+      let fits : length value - length key + rare + 1 - (at + rare) ≤ length (drop (at + rare) value) = rw length-drop (omega arith) in
+      length-take-le (length value - length key + rare + 1 - (at + rare)) (drop (at + rare) value) fits
+
+  at-ahead : (j : ℕ) → j < length value - length key + rare + 1 - (at + rare) → slice_index ahead j ≡ slice_index value (at + rare + j)
+  at-ahead j l = get_or-take (length value - length key + rare + 1 - (at + rare)) (drop (at + rare) value) j 0 l ∙ get_or-drop (at + rare) value j 0
+
+  passes : (k : ℕ) → at ≤ k → k < length value + 1 - length key → StandsAt value key k → Passes (is_byte2 upper lower) ahead (k - at)
+  unfolding read
+  passes k low high h =
+      let e : folded Casemap (slice_index value (k + rare)) ≡ folded Casemap (slice_index key rare) = h.reads rare inside in
+      let place : at + rare + (k - at) ≡ k + rare = omega arith in
+      let octet : slice_index ahead (k - at) ≡ slice_index value (k + rare) = at-ahead (k - at) (omega arith) ∙ ap (λ (q : ℕ). slice_index value q) place in
+      rw (octet, is_upper, is_lower) (either_case (slice_index value (k + rare)) (slice_index key rare) e)
+
+  pub skipped_all : Nowhere (Passes (is_byte2 upper lower) ahead) 0 (length ahead) → Nowhere (StandsAt value key) at (length value + 1 - length key)
+  skipped_all h k low high stands = h (k - at) (omega arith) (omega (arith, length-ahead)) (passes k low high stands)
+
+  pub skipped_to : (j : ℕ) → NoneBefore (Passes (is_byte2 upper lower) ahead) 0 (length ahead) j → (at + j < length value + 1 - length key) × Nowhere (StandsAt value key) at (at + j)
+  skipped_to j h = (
+    omega (arith, h.high, length-ahead),
+    λ k low high stands. h.before (k - at) (omega arith) (omega arith) (passes k low (omega (arith, h.high, length-ahead)) stands),
+  )
+
+-- one place at which the search compares: the octets from `start` up to `end` fit, and those before `known`
+module _ (key value : List ℕ) (p : Plan) (plan : IsPlan (read key) (length key) p) (some : 0 < length key) (at next known start end : ℕ)
+    (passed : Nowhere (StandsAt value key) 0 at) (small : known < length key) (fits : (k : ℕ) → k < known → read key k ≡ read value (at + k))
+    (candidate : (at ≤ next) × (next < length value + 1 - length key) × Nowhere (StandsAt value key) at next) (stays : 0 < known → Some next ≡ Some at)
+    (start_is : start ≡ max p.cut known) (low : start ≤ end) (high : end ≤ length key) (same : (k : ℕ) → start ≤ k → k < end → read key k ≡ read value (next + k)) where
+  before : Nowhere (StandsAt value key) 0 next
+  before = Nowhere-then passed candidate.2
+
+  front : (k : ℕ) → k < known → read key k ≡ read value (next + k)
+  front k l =
+      let s = stays (omega arith) in
+      let e : at ≡ next = cc in
+      subst (λ (q : ℕ). read key k ≡ read value (q + k)) e (fits k l)
+
+  right : (k : ℕ) → p.cut ≤ k → k < end → read key k ≡ read value (next + k)
+  right k a b = ⊎_elim (λ inside. front k (omega arith)) (λ outside. same k outside b) (cases_lt k start)
+
+  pub after_right : end < length key → (read key end ≡ read value (next + end) → ⊥) → Nowhere (StandsAt value key) 0 (next + (end - p.cut + 1))
+  after_right below differs = Nowhere-then before (Nowhere-right (read key) (length key) (read value) (length value) p.cut plan.critical next end (omega arith) below right differs)
+
+  pub found : length key ≤ end → ((k : ℕ) → known ≤ k → k < p.cut → read key k ≡ read value (next + k)) → StandsIn value key
+  found full left = (
+    next,
+    record {
+      fits = omega (arith, candidate.1);
+      reads = λ j l. sym (⊎_elim
+          (λ early. front j early)
+          (λ late. ⊎_elim (λ inside. left j late inside) (λ outside. right j outside (omega arith)) (cases_lt j p.cut))
+          (cases_lt j known));
+    },
+  )
+
+  pub after_left : length key ≤ end → (((k : ℕ) → known ≤ k → k < p.cut → read key k ≡ read value (next + k)) → ⊥) → Nowhere (StandsAt value key) 0 (next + p.shift)
+  after_left full differs = Nowhere-then before (Nowhere-left (read key) (length key) (read value) (length value) p.cut p.shift plan.critical plan.short next
+      (λ k a b. right k a (omega arith)) (λ occurs. differs (λ k a b. sym (occurs.reads k (omega (arith, plan.below))))))
+
+  pub kept_fits : length key ≤ end → (k : ℕ) → k < p.kept → read key k ≡ read value (next + p.shift + k)
+  kept_fits full k l = ⊎_elim
+      (λ none. absurd (omega (arith, none)))
+      (λ s. known-next (read key) (length key) (read value) (length value) p.cut p.shift s.2 s.1 next (λ j a b. right j a (omega arith)) k (omega (arith, s.0)))
+      plan.kept
+
+pub kept_below : (x : ℕ → ℕ) (m : ℕ) (p : Plan) → IsPlan x m p → 0 < m → p.kept < m
+kept_below x m p plan some = ⊎_elim (λ none. omega (arith, none)) (λ s. omega (arith, s.0, plan.some)) plan.kept
+
+-- where each place at which the key could stand was passed over, it stands nowhere
+pub stands_nowhere : (key value : List ℕ) (bound : ℕ) → Nowhere (StandsAt value key) 0 bound → length value < bound + length key → IsTrue false ↔ StandsIn value key
+stands_nowhere key value bound h past = (λ e. absurd (false≢true e), λ s. absurd (h s.0 (omega arith) (omega (arith, s.1.fits)) s.1))

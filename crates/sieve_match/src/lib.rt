@@ -1,0 +1,37 @@
+//! Comparators and match types (RFC 5228, sections 2.7.1 and 2.7.3; RFC 4790, sections 9.2 and 9.3): whether a key
+//! matches a value. No call takes memory.
+//!
+//! What the answers mean stands in `sieve_meaning`, as relations and as tests that compute the same; each call here
+//! has a clause for either.
+//!
+//! - `octets`: octets as they are compared, and `:is`;
+//! - `substring`: `:contains`;
+//! - `wildcards`: `:matches`.
+#![tactic(auto)]
+
+ghost use Rattle.std.specs.Prelude.{◌≡◌};
+ghost use Rattle.sieve_meaning.specs.Matching.{key_matches as key_matches_by};
+
+mod octets;
+mod substring;
+mod two_way;
+mod wildcards;
+
+pub use octets::is;
+pub use sieve_meaning::{Comparator, MatchType};
+pub use substring::contains;
+pub use wildcards::{matches, matches_counted};
+
+/// Whether a key matches a value, by a match type and a comparator.
+pub fn key_matches(match_type: MatchType, key: &[u8], value: &[u8], comparator: Comparator) -> bool
+    ensures { result ≡ key_matches_by match_type comparator key.now value.now }
+{
+    match match_type {
+        MatchType::Is => is(key, value, comparator),
+        MatchType::Contains => contains(key, value, comparator),
+        MatchType::Matches => matches(key, value, comparator),
+    }
+}
+
+#[cfg(test)]
+mod tests;

@@ -1,0 +1,257 @@
+//! A search for a key under `i;ascii-casemap`, in time linear in key and value and with no memory: Two-Way
+//! (M. Crochemore and D. Perrin, "Two-way string-matching", Journal of the ACM 38, 1991) over octets as they are
+//! compared.
+//!
+//! A key is cut at a place where each repeat across the cut is a period of the whole key. The part right of the cut
+//! is compared from the cut on, and then the part left of it. A mismatch on the right moves the search past what was
+//! compared there, and one on the left by the key's period, where what is left of the key is known to fit, or by a
+//! number below which it has no period.
+//!
+//! Where nothing is known of a place, `memchr2` looks for the next place of one octet of the key, in either case.
+
+ghost use Rattle.std.specs.Prelude.{◌≡◌, ◌≢◌, ◌↔◌, ℕ, ◌+◌, ◌-◌, ◌*◌, ◌<◌, ◌≤◌, Some, length, IsTrue};
+ghost use Rattle.std.specs.Ordering.{MatchOrdering};
+ghost use Rattle.memchr.specs.Critical.{IsSuffixAt, IsCutPlace};
+ghost use Rattle.memchr.specs.TwoWay.{IsNextCandidate};
+ghost use Rattle.sieve_match.specs.TwoWay.{read, StandsAt, StandsIn, Precedes, IsPlan};
+
+use crate::Comparator;
+use crate::octets::fold;
+use memchr::arch::all::packedpair::Pair;
+use memchr::memchr2;
+use std::cmp::Ordering;
+
+/// Whether a key stands somewhere in a value, by octets as they are compared.
+pub(crate) fn stands_in(key: &[u8], value: &[u8]) -> bool
+    ensures { IsTrue result ↔ StandsIn value.now key.now }
+{
+    key.is_empty() || Plan::new(key).finds(key, value)
+}
+
+/// An octet of a text, as it is compared.
+#[tactic(auto, unfolding(crate::specs::TwoWay::read))]
+#[inline(always)]
+fn folded_at(text: &[u8], place: usize) -> u8
+    requires { place < length text.now }
+    ensures { result ≡ read text.now place }
+{
+    fold(Comparator::Casemap, text[place])
+}
+
+/// An order of octets, by which the suffixes of a key are compared.
+#[derive(Clone, Copy)]
+pub(crate) enum Order {
+    /// The smaller octet comes first.
+    Rising,
+    /// The greater octet comes first.
+    Falling,
+}
+
+impl Order {
+    #[tactic(auto, unfolding(crate::specs::TwoWay::Precedes))]
+    #[inline(always)]
+    fn compare(self, left: u8, right: u8) -> Ordering
+        ensures { MatchOrdering result (Precedes self left right) (left ≡ right) (Precedes self right left) }
+    {
+        match self {
+            Order::Rising => left.cmp(&right),
+            Order::Falling => right.cmp(&left),
+        }
+    }
+}
+
+/// The greatest suffix of a key.
+#[derive(Clone, Copy)]
+struct Suffix {
+    /// Where it begins.
+    place: usize,
+    /// Its least period.
+    period: usize,
+}
+
+/// The greatest suffix of a key by an order.
+fn greatest_suffix(key: &[u8], order: Order) -> Suffix
+    requires { 0 < length key.now }
+    ensures { IsSuffixAt (Precedes order) (read key.now) (length key.now) result.place result.period }
+{
+    let (mut place, mut period) = (0, 1);
+    let (mut candidate, mut offset) = (1, 0);
+    'suffixes: while candidate + offset < key.len() {
+        let best = folded_at(key, place + offset);
+        let other = folded_at(key, candidate + offset);
+        match order.compare(best, other) {
+            Ordering::Less => {
+                place = candidate;
+                period = 1;
+                candidate += 1;
+                offset = 0;
+            }
+            Ordering::Greater => {
+                candidate += offset + 1;
+                offset = 0;
+                period = candidate - place;
+            }
+            Ordering::Equal => {
+                if offset + 1 == period {
+                    candidate += period;
+                    offset = 0;
+                } else {
+                    offset += 1;
+                }
+            }
+        }
+    }
+    Suffix { place, period }
+}
+
+/// Whether each octet before the cut is equal to the one that stands a period after it.
+fn repeats_before(key: &[u8], cut: usize, period: usize) -> bool
+    requires { cut + period ≤ length key.now }
+    ensures { IsTrue result ↔ ((k : ℕ) → k < cut → read key.now k ≡ read key.now (k + period)) }
+{
+    for place in 0..cut {
+        if folded_at(key, place) != folded_at(key, place + period) {
+            return false;
+        }
+    }
+    true
+}
+
+/// The place of an octet of the key that is rare in most text.
+fn rare_place(key: &[u8]) -> usize
+    requires { 0 < length key.now }
+    ensures { result < length key.now }
+{
+    match Pair::new(key) {
+        Some(pair) => usize::from(pair.index1()),
+        None => 0,
+    }
+}
+
+/// The first octet place from `start` on at which the key, laid at a place of the value, does not fit; the key's
+/// length where there is none.
+#[inline(always)]
+fn fits_to(key: &[u8], value: &[u8], at: usize, start: usize) -> usize
+    requires within { at + length key.now ≤ length value.now }
+    requires from { start ≤ length key.now }
+    ensures low { start ≤ result }
+    ensures high { result ≤ length key.now }
+    ensures same { (k : ℕ) → start ≤ k → k < result → read key.now k ≡ read value.now (at + k) }
+    ensures differs { result < length key.now → read key.now result ≢ read value.now (at + result) }
+{
+    let mut end = start;
+    while end < key.len() && folded_at(key, end) == folded_at(value, at + end) {
+        end += 1;
+    }
+    end
+}
+
+/// Whether the octets of the key from `low` up to `high` fit, where the key is laid at a place of the value.
+#[inline(always)]
+fn fits_between(key: &[u8], value: &[u8], at: usize, low: usize, high: usize) -> bool
+    requires within { at + length key.now ≤ length value.now }
+    requires top { high ≤ length key.now }
+    ensures { IsTrue result ↔ ((k : ℕ) → low ≤ k → k < high → read key.now k ≡ read value.now (at + k)) }
+{
+    for place in low..high {
+        if folded_at(key, place) != folded_at(value, at + place) {
+            return false;
+        }
+    }
+    true
+}
+
+/// What a search needs to know of its key.
+#[derive(Clone, Copy)]
+pub(crate) struct Plan {
+    /// Where the key is cut.
+    cut: usize,
+    /// How far the search moves where the octets right of the cut fit and one left of it does not.
+    shift: usize,
+    /// How many octets at the front of the key are known to fit then.
+    kept: usize,
+    /// The place of a rare octet.
+    rare: usize,
+}
+
+impl Plan {
+    fn new(key: &[u8]) -> Plan
+        requires { 0 < length key.now }
+        ensures { IsPlan (read key.now) (length key.now) result }
+    {
+        let rising = greatest_suffix(key, Order::Rising);
+        let falling = greatest_suffix(key, Order::Falling);
+        if falling.place > rising.place {
+            Plan::at(key, falling.place, falling.period)
+        } else {
+            Plan::at(key, rising.place, rising.period)
+        }
+    }
+
+    /// The plan of a key that is cut before a suffix of this least period.
+    fn at(key: &[u8], cut: usize, period: usize) -> Plan
+        requires { IsCutPlace (read key.now) (length key.now) cut period }
+        ensures { IsPlan (read key.now) (length key.now) result }
+    {
+        let rare = rare_place(key);
+        if cut * 2 < key.len() && repeats_before(key, cut, period) {
+            return Plan {
+                cut,
+                shift: period,
+                kept: key.len() - period,
+                rare,
+            };
+        }
+        Plan {
+            cut,
+            shift: cut.max(key.len() - cut),
+            kept: 0,
+            rare,
+        }
+    }
+
+    /// Whether the key stands somewhere in a value.
+    fn finds(&self, key: &[u8], value: &[u8]) -> bool
+        requires some { 0 < length key.now }
+        requires plan { IsPlan (read key.now) (length key.now) self.now }
+        ensures { IsTrue result ↔ StandsIn value.now key.now }
+    {
+        let (mut at, mut known) = (0, 0);
+        'places: while at + key.len() <= value.len() {
+            let Some(next) = self.next_place(key, value, at, known) else {
+                return false;
+            };
+            at = next;
+            let end = fits_to(key, value, at, self.cut.max(known));
+            if end < key.len() {
+                at += end - self.cut + 1;
+                known = 0;
+                continue;
+            }
+            if fits_between(key, value, at, known, self.cut) {
+                return true;
+            }
+            at += self.shift;
+            known = self.kept;
+        }
+        false
+    }
+
+    /// The next place that may hold the key, from `at` on, where its first `known` octets are known to fit at `at`.
+    #[inline(always)]
+    fn next_place(&self, key: &[u8], value: &[u8], at: usize, known: usize) -> Option<usize>
+        requires rare { self.now.rare < length key.now }
+        requires within { at + length key.now ≤ length value.now }
+        ensures next { IsNextCandidate (StandsAt value.now key.now) at (length value.now + 1 - length key.now) result }
+        ensures stays { 0 < known → result ≡ Some at }
+    {
+        if known > 0 || folded_at(value, at + self.rare) == folded_at(key, self.rare) {
+            return Some(at);
+        }
+        let octet = key[self.rare];
+        let ahead = &value[at + self.rare..value.len() - key.len() + self.rare + 1];
+        let (upper, lower) = (octet.to_ascii_uppercase(), octet.to_ascii_lowercase());
+        let skipped = memchr2(upper, lower, ahead)?;
+        Some(at + skipped)
+    }
+}

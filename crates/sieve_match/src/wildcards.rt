@@ -1,0 +1,127 @@
+//! `:matches` (RFC 5228, section 2.7.1): patterns with `*` and `?`.
+//!
+//! The search goes back to the last `*` only: where the items behind it cover some front of what is left, an earlier
+//! `*` has no better place. So each item is compared at most once for each place of the value.
+
+ghost use Rattle.std.specs.Prelude.{◌≡◌, ◌≤◌, ◌+◌, ◌*◌, ◌↔◌, ◌∷◌, ◌==◌, [], length, IsTrue, MatchOption};
+ghost use Rattle.sieve_meaning.specs.Matching.{folded, items_of, covers, Matches};
+ghost use Rattle.sieve_match.specs.Steps.{turn_of, turn_view, comparisons};
+
+use crate::Comparator;
+use crate::octets::fold;
+use sieve_meaning::Item;
+
+/// What the first item of a pattern does at the front of a text.
+#[derive(Drop)]
+pub(crate) enum Step<'a> {
+    /// There is no item, and no octet.
+    Ends,
+    /// The item is `*`; with the pattern behind it.
+    Star(&'a [u8]),
+    /// The item takes an octet; with the pattern and the text behind them.
+    Goes(&'a [u8], &'a [u8]),
+    /// The item does not fit, or octets are left and no item.
+    Stuck,
+}
+
+/// The first item of a pattern, and the pattern behind it.
+#[tactic(auto, unfolding(sieve_meaning::specs::Matching::items_from))]
+fn next_item(pattern: &[u8]) -> Option<(Item, &[u8])>
+    ensures { MatchOption result (items_of pattern.now ≡ []) (λ x. items_of pattern.now ≡ x.0 ∷ items_of x.1.now) }
+{
+    let (&octet, rest) = pattern.split_first()?;
+    match octet {
+        b'*' => Some((Item::Any, rest)),
+        b'?' => Some((Item::One, rest)),
+        b'\\' => match rest.split_first() {
+            Some((&escaped, behind)) => Some((Item::Octet(escaped), behind)),
+            None => Some((Item::Octet(b'\\'), rest)),
+        },
+        _ => Some((Item::Octet(octet), rest)),
+    }
+}
+
+/// Whether an octet of a pattern is equal to one of a value, as they are compared, and one for the comparison: each
+/// comparison of `matches_counted` is made here.
+#[inline(always)]
+fn compare(comparator: Comparator, item: u8, octet: u8) -> (bool, u128)
+    ensures answer { result.0 ≡ (folded comparator item == folded comparator octet) }
+    ensures count { result.1 ≡ 1 }
+{
+    (fold(comparator, item) == fold(comparator, octet), 1)
+}
+
+/// What the first item does, and how many octets were compared.
+fn first_step<'a>(comparator: Comparator, pattern: &'a [u8], text: &'a [u8]) -> (Step<'a>, u128)
+    ensures value { turn_view result.0 ≡ turn_of comparator (items_of pattern.now) text.now }
+    ensures count { result.1 ≤ comparisons (items_of pattern.now) }
+{
+    match next_item(pattern) {
+        None if text.is_empty() => (Step::Ends, 0),
+        None => (Step::Stuck, 0),
+        Some((Item::Any, after)) => (Step::Star(after), 0),
+        Some((Item::One, after)) => match text.split_first() {
+            Some((_, behind)) => (Step::Goes(after, behind), 0),
+            None => (Step::Stuck, 0),
+        },
+        Some((Item::Octet(item), after)) => match text.split_first() {
+            Some((&octet, behind)) => match compare(comparator, item, octet) {
+                (true, compared) => (Step::Goes(after, behind), compared),
+                (false, compared) => (Step::Stuck, compared),
+            },
+            None => (Step::Stuck, 0),
+        },
+    }
+}
+
+/// Whether a pattern covers a whole value, as octets are compared, and how many times an octet of the pattern was
+/// compared with one of the value: the match type `:matches` (RFC 5228, section 2.7.1).
+///
+/// `*` is zero or more octets, `?` is one octet, and a backslash makes the next octet stand for itself; a last lone
+/// backslash is a backslash. For p items and t octets there are at most `(p + 1) * (t + 1)` comparisons.
+pub fn matches_counted(pattern: &[u8], value: &[u8], comparator: Comparator) -> (bool, u128)
+    ensures answer { IsTrue result.0 ↔ Matches comparator (items_of pattern.now) value.now }
+    ensures test { result.0 ≡ covers comparator (items_of pattern.now) value.now }
+    ensures count { result.1 ≤ (length (items_of pattern.now) + 1) * (length value.now + 1) }
+{
+    let mut items = pattern;
+    let mut rest = value;
+    let mut count = 0;
+
+    // behind the last `*`: the items, and where the value was tried last
+    let mut star: Option<(&[u8], &[u8])> = None;
+    'search: loop {
+        let (step, compared) = first_step(comparator, items, rest);
+        count += compared;
+        match step {
+            Step::Ends => return (true, count),
+            Step::Goes(after, behind) => {
+                items = after;
+                rest = behind;
+            }
+            Step::Star(after) => {
+                items = after;
+                star = Some((after, rest));
+            }
+            Step::Stuck => {
+                let Some((after, from)) = star else {
+                    return (false, count);
+                };
+                let Some((_, behind)) = from.split_first() else {
+                    return (false, count);
+                };
+                items = after;
+                rest = behind;
+                star = Some((after, behind));
+            }
+        }
+    }
+}
+
+/// Whether a pattern covers a whole value, as octets are compared: what `matches_counted` answers first.
+pub fn matches(pattern: &[u8], value: &[u8], comparator: Comparator) -> bool
+    ensures answer { IsTrue result ↔ Matches comparator (items_of pattern.now) value.now }
+    ensures test { result ≡ covers comparator (items_of pattern.now) value.now }
+{
+    matches_counted(pattern, value, comparator).0
+}

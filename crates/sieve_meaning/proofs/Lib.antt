@@ -1,0 +1,2 @@
+pub mod MatchingLemmas
+mod Rows

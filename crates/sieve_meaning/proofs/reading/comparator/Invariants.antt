@@ -1,0 +1,6 @@
+use Rattle.std.proofs.Common.{◌≡◌, false, drop}
+use Rattle.sieve_meaning.specs.Reading.{comparator_from}
+use Rattle.sieve_meaning.proofs.reading.comparator.Given as goal
+
+abbrev pub invariant-loop-argument : goal.invariant-loop-argument
+invariant-loop-argument l = comparator_from l.behind (drop l.argument-index l.arguments) ≡ comparator_from false l.arguments

@@ -1,0 +1,10 @@
+pub mod Words
+pub mod Matching
+pub mod Case
+pub mod Paths
+pub mod Program
+pub mod Reading
+pub mod Truth
+pub mod Meaning
+pub mod Outcome
+pub mod Weight

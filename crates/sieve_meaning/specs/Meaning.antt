@@ -1,0 +1,129 @@
+-- What a run of a script does (RFC 5228, sections 2.10 and 4; RFC 3894; RFC 6609, section 3).
+use Rattle.std.specs.Prelude.{ℕ, zero, suc, List, [], ◌∷◌, Bool, true, false, not, ◌&&◌, ◌||◌, if◌then◌else◌, Option, Some, None}
+use Rattle.std.specs.List.{list_any}
+use Rattle.std.specs.Str.{bytes_eq}
+use Rattle.sieve_meaning.specs.Case.{Facts}
+use Rattle.sieve_meaning.specs.Paths.{Paths, insert_path}
+use Rattle.sieve_meaning.specs.Truth.{truth}
+use Rattle.sieve_meaning.specs.Program.{Include, Command, require, keep, discard, stop, return, file_into, branch, include, Commands, no_command, command_then, Branches, no_branch, otherwise, if_then}
+
+-- a script by its location and name
+pub record ScriptName : Type 0 where
+  pub global : Bool
+  pub name : List ℕ
+
+abbrev pub same_bool : Bool → Bool → Bool
+same_bool true b = b
+same_bool false b = not b
+
+abbrev pub same_script : ScriptName → ScriptName → Bool
+same_script a b = same_bool a.global b.global && bytes_eq a.name b.name
+
+-- what a run has done so far
+pub record Filing : Type 0 where
+  pub filed : Paths
+  pub kept : Bool
+  pub cancelled : Bool
+  -- the scripts that were entered, the main one too where it has a name
+  pub entered : List ScriptName
+
+pub data Ending : Type 0 where
+  GoesOn : Filing → Ending
+  Returns : Filing → Ending
+  Stops : Filing → Ending
+  Faults : ℕ → Filing → Ending
+
+abbrev pub and_then : Ending → (Filing → Ending) → Ending
+and_then (GoesOn f) go = go f
+and_then (Returns f) go = Returns f
+and_then (Stops f) go = Stops f
+and_then (Faults n f) go = Faults n f
+
+-- `fileinto`: only a copy leaves the implicit keep (RFC 3894, section 3); a path that is not open is fault 1
+abbrev pub filing : Facts → Bool → List ℕ → Filing → Ending
+filing facts copy path f = if facts.is_open path then GoesOn (record f { filed = insert_path path f.filed; cancelled = f.cancelled || not copy }) else Faults 1 f
+
+-- what an `include` does
+abbrev pub Included : Type 0
+Included = Include → Filing → Ending
+
+abbrev mutual
+  pub run : Facts → Included → Commands → Filing → Ending
+  run facts inc no_command f = GoesOn f
+  run facts inc (command_then x xs) f = and_then (run_one facts inc x f) (run facts inc xs)
+
+  pub run_one : Facts → Included → Command → Filing → Ending
+  run_one facts inc require f = GoesOn f
+  run_one facts inc keep f = GoesOn (record f { kept = true })
+  run_one facts inc discard f = GoesOn (record f { cancelled = true })
+  run_one facts inc stop f = Stops f
+  run_one facts inc return f = Returns f
+  run_one facts inc (file_into copy path) f = filing facts copy path f
+  run_one facts inc (branch bs) f = run_branches facts inc bs f
+  run_one facts inc (include n) f = inc n f
+
+  -- the block of the first branch whose test is true (RFC 5228, section 3.1)
+  pub run_branches : Facts → Included → Branches → Filing → Ending
+  run_branches facts inc no_branch f = GoesOn f
+  run_branches facts inc (otherwise xs) f = run facts inc xs f
+  run_branches facts inc (if_then t xs bs) f = if truth facts t then run facts inc xs f else run_branches facts inc bs f
+
+-- the scripts that can be included, by name
+pub record Library : Type 0 where
+  pub find : ScriptName → Option Commands
+
+abbrev pub script_named : Include → ScriptName
+script_named n = record { global = n.global; name = n.name }
+
+abbrev pub is_among : List ScriptName → ScriptName → Bool
+is_among names s = list_any (same_script s) names
+
+-- an included script that returns has ended
+abbrev pub ended : Ending → Ending
+ended (Returns f) = GoesOn f
+ended (GoesOn f) = GoesOn f
+ended (Stops f) = Stops f
+ended (Faults n f) = Faults n f
+
+abbrev pub entering : ScriptName → Filing → Filing
+entering s f = record f { entered = s ∷ f.entered }
+
+abbrev pub unless_missing : Option Commands → Bool → (Commands → Filing → Ending) → Filing → Ending
+unless_missing None optional go f = if optional then GoesOn f else Faults 2 f
+unless_missing (Some script) optional go f = go script f
+
+abbrev pub unless_active : Bool → (Filing → Ending) → Filing → Ending
+unless_active true go f = Faults 3 f
+unless_active false go f = go f
+
+abbrev pub unless_entered : Bool → (Filing → Ending) → Filing → Ending
+unless_entered true go f = GoesOn f
+unless_entered false go f = go f
+
+-- An `include` is judged in this order: under `:once` a script that was entered does nothing; a missing one
+-- does nothing under `:optional` and is fault 2 otherwise; an active one is fault 3; else it is entered so.
+abbrev pub including : Library → (chain : List ScriptName) → (Commands → Filing → Ending) → Included
+including lib chain enter n f = unless_entered (n.once && is_among f.entered (script_named n)) (unless_missing (lib.find (script_named n)) n.optional (λ script. unless_active (is_among chain (script_named n)) (enter script))) f
+
+-- An `include` where so many further scripts may be active, behind the active ones that have names. Where
+-- none may, entering a script is fault 4.
+abbrev pub included : Facts → Library → ℕ → (chain : List ScriptName) → Included
+included facts lib zero chain n = including lib chain (λ script f. Faults 4 f) n
+included facts lib (suc left) chain n = including lib chain (λ script f. ended (run facts (included facts lib left (script_named n ∷ chain)) script (entering (script_named n) f))) n
+
+-- the main script's personal name, if it has one
+abbrev pub main_names : Option (List ℕ) → List ScriptName
+main_names None = []
+main_names (Some name) = record { global = false; name = name } ∷ []
+
+-- nothing is filed and no flag is set; the main script was entered
+abbrev pub opening : Option (List ℕ) → Filing
+opening known_as = record { filed = []; kept = false; cancelled = false; entered = main_names known_as }
+
+-- the run of a main script; eight scripts may be active, the main one among them
+abbrev pub meaning : Facts → Library → (known_as : Option (List ℕ)) → Commands → Ending
+meaning facts lib known_as main = run facts (included facts lib 7 (main_names known_as)) main (opening known_as)
+
+-- no script can be included
+abbrev pub no_library : Library
+no_library = record { find = λ s. None }

@@ -1,0 +1,39 @@
+-- The classes that a run captures a message in.
+use Rattle.std.specs.Prelude.{ℕ, List, [], ◌∷◌, Bool, false, not, ◌||◌, Option, Some, None, codes, nat_lt, if◌then◌else◌}
+use Rattle.sieve_meaning.specs.Case.{Facts}
+use Rattle.sieve_meaning.specs.Paths.{Paths, insert_path}
+use Rattle.sieve_meaning.specs.Program.{Commands}
+use Rattle.sieve_meaning.specs.Meaning.{Filing, Ending, GoesOn, Returns, Stops, Faults, Library, meaning}
+use Rattle.sieve_meaning.specs.Weight.{linked_weight}
+
+pub record Outcome : Type 0 where
+  pub classes : Paths
+  pub fault : Option ℕ
+
+-- the default class
+abbrev pub unfiled : List ℕ
+unfiled = codes "unfiled"
+
+-- A fault leaves the default class alone. Else the classes are the filed ones, and the default one where the
+-- message is kept, explicitly or implicitly (RFC 5228, section 2.10.2).
+abbrev pub outcome_at : Option ℕ → (filed : Paths) → (kept cancelled : Bool) → Outcome
+outcome_at (Some n) filed kept cancelled = record { classes = unfiled ∷ []; fault = Some n }
+outcome_at None filed kept cancelled = record { classes = if kept || not cancelled then insert_path unfiled filed else filed; fault = None }
+
+abbrev pub outcome_with : Option ℕ → Filing → Outcome
+outcome_with fault f = outcome_at fault f.filed f.kept f.cancelled
+
+abbrev pub outcome_of : Ending → Outcome
+outcome_of (GoesOn f) = outcome_with None f
+outcome_of (Returns f) = outcome_with None f
+outcome_of (Stops f) = outcome_with None f
+outcome_of (Faults n f) = outcome_with (Some n) f
+
+-- the greatest weight of a script that is run
+abbrev pub greatest_weight : ℕ
+greatest_weight = 60000
+
+-- a main script that is too heavy is fault 5
+unfoldable pub outcome : Facts → Library → (known_as : Option (List ℕ)) → Commands → Outcome
+outcome facts lib known_as main =
+    if nat_lt greatest_weight (linked_weight lib known_as main) then outcome_at (Some 5) [] false false else outcome_of (meaning facts lib known_as main)

@@ -1,0 +1,21 @@
+//! Laws of the definitions, each on a function with nothing to do.
+
+ghost use Rattle.std.specs.Prelude.{ℕ, List, IsTrue, ◌↔◌};
+ghost use Rattle.sieve_meaning.specs.Matching.{equals, IsEqualUnder, contains, Contains, covers, Matches};
+ghost use Rattle.sieve_meaning.specs.declared.matching.Comparator.{Comparator};
+ghost use Rattle.sieve_meaning.specs.declared.matching.Item.{Item};
+
+/// The test for `:is` says what the relation says.
+pub fn equality_is_decided()
+    ensures { (c : Comparator) (key value : List ℕ) → IsTrue (equals c key value) ↔ IsEqualUnder c key value }
+{}
+
+/// The test for `:contains` says what the relation says.
+pub fn contains_is_decided()
+    ensures { (c : Comparator) (key value : List ℕ) → IsTrue (contains c key value) ↔ Contains c key value }
+{}
+
+/// The test for `:matches` says what the relation says.
+pub fn pattern_is_decided()
+    ensures { (c : Comparator) (items : List Item) (value : List ℕ) → IsTrue (covers c items value) ↔ Matches c items value }
+{}

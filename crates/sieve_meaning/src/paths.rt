@@ -1,0 +1,69 @@
+//! Sets of class paths.
+
+ghost use Rattle.std.specs.Prelude.{◌≡◌, [], ◌≤◌, length, insert, IfNone, IfSome, OnOk, OnErr};
+ghost use Rattle.sieve_meaning.specs.Paths.{insert_path};
+
+use sieve_syntax::Text;
+use std::alloc::{AllocError, Global};
+use std::cmp::Ordering;
+use std::marker::Model;
+
+/// A set of class paths. Contracts see it as the list of its paths in byte order, each once.
+#[derive(Drop)]
+pub struct Paths {
+    items: Vec<Text>,
+}
+
+impl Model for Paths {
+    ghost use Rattle.std.specs.Prelude.{ℕ, List};
+
+    ghost Value = { List (List ℕ) };
+
+    ghost view = { λ p. p.items.items };
+}
+
+/// Where a path that is missing belongs in byte order; none where it is there.
+fn missing_place(items: &[Text], path: &[u8]) -> Option<usize>
+    ensures there { IfNone result (insert_path path.now items.now ≡ items.now) }
+    ensures missing { IfSome result (λ at. (at ≤ length items.now) × (insert_path path.now items.now ≡ insert items.now at path.now)) }
+{
+    for (at, item) in items.iter().enumerate() {
+        match path.cmp(item.as_slice()) {
+            Ordering::Less => return Some(at),
+            Ordering::Equal => return None,
+            Ordering::Greater => {}
+        }
+    }
+    Some(items.len())
+}
+
+impl Paths {
+    /// No path; takes no memory.
+    pub fn new(alloc: Global) -> Paths
+        ensures { result ≡ [] }
+    {
+        Paths {
+            items: Vec::new(alloc),
+        }
+    }
+
+    /// Adds a path, unless it is there. The only error is want of memory, and the set is then as before.
+    pub fn insert(&mut self, alloc: Global, path: &[u8]) -> Result<(), AllocError>
+        ensures ok { OnOk result (self.new ≡ insert_path path.now self.old) }
+        ensures err { OnErr result (self.new ≡ self.old) }
+    {
+        let Some(at) = missing_place(self.items.as_slice(), path) else {
+            return Ok(());
+        };
+        let path = Text::from_vec(Vec::from_slice(alloc, path)?);
+        self.items.insert(at, path)?;
+        Ok(())
+    }
+
+    /// The paths in byte order.
+    pub fn as_slice(&self) -> &[Text]
+        ensures { result.now ≡ self.now }
+    {
+        self.items.as_slice()
+    }
+}

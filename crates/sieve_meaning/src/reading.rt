@@ -1,0 +1,106 @@
+//! Reads the arguments of commands and tests in a checked script.
+
+ghost use Rattle.std.specs.Prelude.{◌≡◌, [], ◌∷◌, ◌<◌, length, false, MatchOption};
+ghost use Rattle.sieve_meaning.specs.Reading.{is_tag, has_tag as has_tag_of, string_lists, comparator_named, comparator_from, match_type as match_type_of, number_in};
+
+use crate::matching::{Comparator, MatchType};
+use crate::words::is_word;
+use sieve_syntax::{Argument, StringList};
+
+/// Whether an argument is the tag with a name.
+fn is_tag_named(argument: &Argument, name: &[u8]) -> bool
+    ensures { result ≡ is_tag name.now argument.now }
+{
+    match argument {
+        Argument::Tag(tag) => is_word(tag.as_slice(), name),
+        Argument::Number(_) | Argument::Strings(_) => false,
+    }
+}
+
+/// Whether the tag with a name is among the arguments.
+pub fn has_tag(arguments: &[Argument], name: &[u8]) -> bool
+    ensures { result ≡ has_tag_of name.now arguments.now }
+{
+    arguments.iter().any(|argument| is_tag_named(argument, name))
+}
+
+/// The first string list but for the one that follows `:comparator` directly, and the arguments behind it.
+#[tactic(auto, unfolding(crate::specs::Reading::string_lists))]
+pub fn next_string_list(arguments: &[Argument]) -> Option<(&StringList, &[Argument])>
+    ensures { MatchOption result (string_lists false arguments.now ≡ []) (λ x. string_lists false arguments.now ≡ x.0.now ∷ string_lists false x.1.now) }
+{
+    let mut behind = false;
+    let mut rest = arguments;
+    while let Some((argument, after)) = rest.split_first() {
+        match argument {
+            Argument::Strings(list) => {
+                if !behind {
+                    return Some((list, after));
+                }
+                behind = false;
+            }
+            Argument::Number(_) => behind = false,
+            Argument::Tag(tag) => behind = is_word(tag.as_slice(), b"comparator"),
+        }
+        rest = after;
+    }
+    None
+}
+
+/// The comparator with a name.
+fn named_comparator(name: &[u8]) -> Comparator
+    ensures { result ≡ comparator_named name.now }
+{
+    if name == b"i;octet".as_slice() {
+        Comparator::Octet
+    } else {
+        Comparator::Casemap
+    }
+}
+
+/// The comparator that the arguments name: `i;ascii-casemap` where they name none (RFC 5228, section 2.7.3).
+#[tactic(auto, unfolding(crate::specs::Reading::comparator_from))]
+pub fn comparator(arguments: &[Argument]) -> Comparator
+    ensures { result ≡ comparator_from false arguments.now }
+{
+    let mut behind = false;
+    for argument in arguments {
+        match argument {
+            Argument::Strings(list) => {
+                if behind {
+                    return named_comparator(list.first().as_slice());
+                }
+                behind = false;
+            }
+            Argument::Number(_) => behind = false,
+            Argument::Tag(tag) => behind = is_word(tag.as_slice(), b"comparator"),
+        }
+    }
+    Comparator::Casemap
+}
+
+/// The match type that the arguments name: `:is` where they name none (RFC 5228, section 2.7.1).
+pub fn match_type(arguments: &[Argument]) -> MatchType
+    ensures { result ≡ match_type_of arguments.now }
+{
+    if has_tag(arguments, b"contains") {
+        MatchType::Contains
+    } else if has_tag(arguments, b"matches") {
+        MatchType::Matches
+    } else {
+        MatchType::Is
+    }
+}
+
+/// The first number among the arguments, or 0.
+#[tactic(auto, unfolding(crate::specs::Reading::number_in))]
+pub fn number(arguments: &[Argument]) -> u64
+    ensures { result ≡ number_in arguments.now }
+{
+    for argument in arguments {
+        if let Argument::Number(number) = argument {
+            return *number;
+        }
+    }
+    0
+}
