@@ -1,19 +1,18 @@
 -- What is spelled so is read, or is refused for its depth.
-use Rattle.std.proofs.Common.{◌≡◌, ℕ, zero, suc, ◌+◌, ◌≤◌, ◌<◌, List, [], ◌∷◌, ◌++◌, length, Bool, true, false, Option, Some, None, Result, Ok, Err, refl, sym, ap, subst, ◌∙◌, append_assoc, arith}
+use Rattle.std.proofs.Common.{◌≡◌, ℕ, zero, suc, ◌≤◌, List, [], ◌∷◌, ◌++◌, length, Bool, true, false, Some, None, Result, Ok, Err, refl, sym, ap, ◌∙◌, append_assoc, arith}
 use Rattle.std.specs.Prelude.{◌&&◌}
 use Rattle.std.proofs.lemmas.List.{append-nil, length-append}
-use Rattle.sieve_syntax.specs.declared.tree.StringList.{StringList}
 use Rattle.sieve_syntax.specs.declared.tree.StringList.TheVariants as string_lists
 use Rattle.sieve_syntax.specs.declared.tree.Argument.{Argument}
 use Rattle.sieve_syntax.specs.declared.tree.Argument.TheVariants as arguments
-use Rattle.sieve_syntax.specs.declared.token.Mark.TheVariants.{Semicolon, OpenBrace, CloseBrace, OpenParen, CloseParen, OpenBracket, CloseBracket, Comma}
+use Rattle.sieve_syntax.specs.declared.token.Mark.TheVariants.{Semicolon, OpenBrace, CloseBrace, CloseParen, CloseBracket, Comma}
 use Rattle.sieve_syntax.specs.declared.token.TokenKind.{TokenKind}
 use Rattle.sieve_syntax.specs.declared.token.TokenKind.TheVariants as tokens
-use Rattle.sieve_syntax.specs.Tree.{TestTree, test, InnerTests, no_tests, one_test, listed_tests, TestRow, last_test, next_test, CommandTree, command, EndingTree, semicolon, block, CommandTrees, no_commands, command_then, other_string_tokens, string_list_tokens, argument_tokens, arguments_tokens, test_tokens, inner_tokens, row_tokens, command_tokens, ending_tokens, commands_tokens}
+use Rattle.sieve_syntax.specs.Tree.{TestTree, test, InnerTests, no_tests, one_test, listed_tests, TestRow, last_test, next_test, CommandTree, command, EndingTree, semicolon, block, CommandTrees, no_commands, command_then, other_string_tokens, argument_tokens, arguments_tokens, test_tokens, inner_tokens, row_tokens, command_tokens, ending_tokens, commands_tokens}
 use Rattle.sieve_syntax.specs.View.{row_of, commands_of}
 use Rattle.sieve_text.specs.declared.parser.stop.Misfit.{Misfit}
-use Rattle.sieve_text.specs.declared.parser.stop.Misfit.TheVariants.{Syntax, Nesting}
-use Rattle.sieve_text.specs.Reading.{◌>>=◌, Reads, Tries, many_with, many_at, next_with, string_at, behind_bracket, behind_paren, behind_brace, other_strings_at, string_list_at, argument_at, arguments_at, test_list_with, inner_with, test_with, refused_at, test_at, ending_with, command_with, commands_with, inside_at, whole_of, script_at}
+use Rattle.sieve_text.specs.declared.parser.stop.Misfit.TheVariants.{Nesting}
+use Rattle.sieve_text.specs.Reading.{◌>>=◌, Reads, Tries, many_with, many_at, next_with, string_at, other_strings_at, string_list_at, argument_at, arguments_at, test_list_with, inner_with, test_at, ending_with, command_with, commands_with, inside_at, whole_of, script_at}
 use Rattle.sieve_text.proofs.Depths.{test_fits, inner_fits, row_fits, command_fits, ending_fits, commands_fit}
 
 -- what is read of a tree that fits, or of one that does not

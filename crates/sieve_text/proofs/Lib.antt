@@ -13,5 +13,6 @@ pub mod ScanLemmas
 pub mod ScriptLaws
 pub mod Spelled
 pub mod TreeLaws
+mod TreeRows
 pub mod WithinLemmas
 mod TreeRows

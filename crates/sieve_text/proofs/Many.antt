@@ -1,5 +1,5 @@
 -- The steps of a loop that reads things for as long as there are some.
-use Rattle.std.proofs.Common.{◌≡◌, ℕ, zero, suc, ◌+◌, ◌≤◌, ◌<◌, List, [], ◌∷◌, ◌++◌, length, map, Option, Some, None, Result, Ok, Err, refl, sym, ap, ◌∙◌, append_assoc, arith}
+use Rattle.std.proofs.Common.{◌≡◌, ℕ, zero, suc, ◌≤◌, ◌<◌, List, [], ◌∷◌, ◌++◌, length, Option, Some, None, Result, Ok, Err, refl, sym, ap, ◌∙◌, append_assoc, arith}
 use Rattle.std.proofs.lemmas.List.{append-nil, nil_from_length}
 use Rattle.sieve_syntax.specs.declared.token.Token.{Token}
 use Rattle.sieve_syntax.specs.declared.token.TokenKind.{TokenKind}
@@ -7,7 +7,7 @@ use Rattle.sieve_text.specs.declared.parser.stop.Misfit.{Misfit}
 use Rattle.sieve_text.specs.declared.parser.stop.Stop.{Stop}
 use Rattle.sieve_text.specs.declared.parser.stop.Stop.TheVariants.{NoMemory, Refused}
 use Rattle.sieve_text.specs.Grammar.{kinds}
-use Rattle.sieve_text.specs.Reading.{◌>>=◌, Fails, Tries, Reads, many_with, many_at, behind}
+use Rattle.sieve_text.specs.Reading.{◌>>=◌, Fails, Tries, many_at, behind}
 
 pub length_kinds : (ts : List Token) → length (kinds ts) ≡ length ts
 length_kinds [] = refl

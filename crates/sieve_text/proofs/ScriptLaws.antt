@@ -2,7 +2,6 @@
 use Rattle.std.proofs.Common.{◌≡◌, ℕ, List, Result, Ok, Err, ap, sym, ◌∙◌}
 use Rattle.std.specs.Prelude.{IfOk, IfErr}
 use Rattle.sieve_syntax.specs.declared.token.Token.{Token}
-use Rattle.sieve_syntax.specs.declared.token.TokenKind.{TokenKind}
 use Rattle.sieve_syntax.specs.declared.tree.Script.{Script}
 use Rattle.sieve_syntax.specs.Tree.{CommandTrees, commands_tokens}
 use Rattle.sieve_syntax.specs.View.{tree_of}
@@ -15,7 +14,7 @@ use Rattle.sieve_text.specs.declared.fault.TextFault.TheVariants.{NoMemory, Refu
 use Rattle.sieve_text.specs.declared.parser.stop.Misfit.{Misfit}
 use Rattle.sieve_text.specs.declared.parser.stop.Misfit.TheVariants.{Syntax, Nesting}
 use Rattle.sieve_text.specs.Tokens.{IsScan, IsFaulty, FaultsBy}
-use Rattle.sieve_text.specs.Grammar.{kinds, IsShallow, IsDeep, Spells, IsScript, AnswersTree, AnswersRefusal, Explains, text_fault_of}
+use Rattle.sieve_text.specs.Grammar.{kinds, IsDeep, Spells, IsScript, AnswersTree, AnswersRefusal, Explains, text_fault_of}
 use Rattle.sieve_text.specs.Reading.{script_at, GivesScript}
 use Rattle.sieve_text.proofs.ScanLemmas.{one_scan, no_both, one_fault}
 use Rattle.sieve_text.proofs.Spelled.{ok_is}

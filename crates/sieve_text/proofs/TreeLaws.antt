@@ -1,8 +1,7 @@
 -- What a reading says of the trees that tokens spell.
-use Rattle.std.proofs.Common.{◌≡◌, ℕ, ◌≤◌, ◌<◌, max, List, Bool, true, false, Result, Ok, Err, ap, subst, sym, ◌∙◌, arith}
+use Rattle.std.proofs.Common.{◌≡◌, ℕ, ◌≤◌, max, List, Bool, true, false, Ok, Err, ap, sym, ◌∙◌, arith}
 use Rattle.sieve_syntax.specs.declared.token.TokenKind.{TokenKind}
 use Rattle.sieve_syntax.specs.Tree.{CommandTrees, commands_tokens, commands_test_depth, commands_block_depth}
-use Rattle.sieve_text.specs.declared.parser.stop.Misfit.{Misfit}
 use Rattle.sieve_text.specs.declared.parser.stop.Misfit.TheVariants.{Syntax, Nesting}
 use Rattle.sieve_text.specs.Grammar.{IsShallow, IsDeep}
 use Rattle.sieve_text.specs.Reading.{script_at}

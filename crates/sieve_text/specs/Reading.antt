@@ -1,7 +1,7 @@
 -- The grammar of RFC 5228, section 8.2, read from left to right. Each reader gives what it read and the tokens
 -- behind that. The parser's functions are proved against these first; what its callers see speaks of the
 -- spelling of trees alone.
-use Rattle.std.specs.Prelude.{◌≡◌, ℕ, zero, suc, List, [], ◌∷◌, ◌++◌, length, Option, Some, None, Result, Ok, Err, option_map}
+use Rattle.std.specs.Prelude.{◌≡◌, ℕ, zero, suc, List, [], ◌∷◌, ◌++◌, length, Option, Some, None, Result, Ok, Err}
 use Rattle.sieve_syntax.specs.declared.tree.StringList.{StringList}
 use Rattle.sieve_syntax.specs.declared.tree.StringList.TheVariants as string_lists
 use Rattle.sieve_syntax.specs.declared.tree.Argument.{Argument}
@@ -9,7 +9,7 @@ use Rattle.sieve_syntax.specs.declared.tree.Argument.TheVariants as arguments
 use Rattle.sieve_syntax.specs.declared.token.Mark.TheVariants.{Semicolon, OpenBrace, CloseBrace, OpenParen, CloseParen, OpenBracket, CloseBracket, Comma}
 use Rattle.sieve_syntax.specs.declared.token.TokenKind.{TokenKind}
 use Rattle.sieve_syntax.specs.declared.token.TokenKind.TheVariants as tokens
-use Rattle.sieve_syntax.specs.Tree.{TestTree, test, InnerTests, no_tests, one_test, listed_tests, TestRow, CommandTree, command, EndingTree, semicolon, block, CommandTrees}
+use Rattle.sieve_syntax.specs.Tree.{TestTree, test, InnerTests, no_tests, one_test, listed_tests, CommandTree, command, EndingTree, semicolon, block, CommandTrees}
 use Rattle.sieve_syntax.specs.declared.tree.Script.{Script}
 use Rattle.sieve_syntax.specs.View.{row_of, commands_of, tree_of}
 use Rattle.sieve_text.specs.declared.fault.TextRefusal.TheVariants as refusals

@@ -1,4 +1,4 @@
-//! Why reading stops before a tree is whole.
+//! What the readers of the grammar share: the first token, and why reading stops before a tree is whole.
 
 ghost use Rattle.std.specs.Prelude.{◌≡◌, ◌<◌, [], ◌∷◌, length, MatchOption, IfSome};
 ghost use Rattle.sieve_text.specs.Grammar.{kinds};

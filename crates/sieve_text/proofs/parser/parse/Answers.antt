@@ -1,4 +1,3 @@
-use Rattle.std.proofs.Common.{◌≡◌, List, rules}
 use Rattle.std.proofs.lemmas.Result.{err_from_is_err_and}
 use Rattle.sieve_text.proofs.ScriptLaws.{script_found, script_only, script_deep, script_faulty, script_explained, fault_only, fault_deep, fault_faulty}
 use Rattle.sieve_text.proofs.parser.parse.Goals as goal

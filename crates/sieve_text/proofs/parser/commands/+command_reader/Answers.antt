@@ -1,10 +1,10 @@
-use Rattle.std.proofs.Common.{◌≡◌, ◌≤◌, ◌<◌, ◌∷◌, ◌++◌, [], length, map, refl, arith}
+use Rattle.std.proofs.Common.{◌≡◌, ◌<◌, ◌∷◌, ◌++◌, [], length, map, refl, arith}
 use Rattle.std.proofs.lemmas.Result.{err_from_is_err_and}
 use Rattle.std.proofs.lemmas.List.{map_push}
 use Rattle.sieve_syntax.specs.View.{command_of}
 use Rattle.sieve_text.specs.Grammar.{kinds}
 use Rattle.sieve_text.specs.Reading.{many_at, command_with, inside_at}
-use Rattle.sieve_text.proofs.Many.{length_kinds, goes_on_first, goes_on_more, goes_on_ends, goes_on_fails}
+use Rattle.sieve_text.proofs.Many.{length_kinds, goes_on_more, goes_on_ends, goes_on_fails}
 use Rattle.sieve_text.proofs.parser.commands.+command_reader.Goals as goal
 
 pub commands-returns-in_err-next-clause-value : goal.commands-returns-in_err-next-clause-value
