@@ -15,4 +15,3 @@ pub mod Spelled
 pub mod TreeLaws
 mod TreeRows
 pub mod WithinLemmas
-mod TreeRows
