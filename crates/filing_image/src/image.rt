@@ -50,7 +50,13 @@ impl Image {
             return Err(FormFault::BadForm);
         }
         let code = operations(alloc, &instructions)?;
-        Ok(Image { budget, texts, numbers, slots, code })
+        Ok(Image {
+            budget,
+            texts,
+            numbers,
+            slots,
+            code,
+        })
     }
 
     /// The budget that the image declares, in steps.

@@ -21,7 +21,9 @@ fn is_tag_named(argument: &Argument, name: &[u8]) -> bool
 pub fn has_tag(arguments: &[Argument], name: &[u8]) -> bool
     ensures { result ≡ has_tag_of name.now arguments.now }
 {
-    arguments.iter().any(|argument| is_tag_named(argument, name))
+    arguments
+        .iter()
+        .any(|argument| is_tag_named(argument, name))
 }
 
 /// The first string list but for the one that follows `:comparator` directly, and the arguments behind it.
