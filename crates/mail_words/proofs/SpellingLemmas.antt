@@ -4,7 +4,7 @@ use Rattle.std.proofs.lemmas.List.{take-append-drop}
 use Rattle.std.proofs.lemmas.List.Folds.{length-prefix_len}
 use Rattle.std.specs.Prelude.{option_map, slice_index, nat_lt, ◌&&◌}
 use Rattle.std.specs.List.{list_all, prefix_len, take_while}
-use Rattle.mail_words.specs.Spans.{may_stand_behind, StandsIn}
+use Rattle.mail_words.specs.Spans.{StandsIn}
 use Rattle.mail_words.specs.Words.{Word, spelling, IsWord, is_charset_octet, is_text_octet, is_encoding, precedes, can_follow, opens, closes, names_encoding, word_at, if_followed, followed_word_at, or_later, first_word}
 
 pub and_parts : (a b : Bool) → (a && b) ≡ true → (a ≡ true) × (b ≡ true)
