@@ -94,11 +94,11 @@ module _ (program : Program) (i : ℕ) (costs : List ℕ) (forward : GoesForward
     v_small = elim (is_of_one program o i costs) [
       | inl e ↦ omega (arith, slice_get_within program.code i o here)
       | inr (q, f, e) ↦
-        let lt : i < q = later i q (omega arith) reached (o, here, f) in
-        elim (cases_lt q (length program.code)) [
-          | inl a ↦ let b = so_far.small q a in omega arith
-          | inr b ↦ let z : at costs q ≡ 0 = get_or_past costs q 0 (omega (arith, so_far.long)) in omega (arith, slice_get_within program.code i o here)
-        ]
+          let lt : i < q = later i q (omega arith) reached (o, here, f) in
+          elim (cases_lt q (length program.code)) [
+            | inl a ↦ let b = so_far.small q a in omega arith
+            | inr b ↦ let z : at costs q ≡ 0 = get_or_past costs q 0 (omega (arith, so_far.long)) in omega (arith, slice_get_within program.code i o here)
+          ]
     ]
 
     v_some : 1 ≤ v
@@ -134,24 +134,24 @@ module _ (program : Program) (i : ℕ) (costs : List ℕ) (forward : GoesForward
         | inr e ↦ let n = new_here in rw e (omega (arith, v_some))
       ];
       upper = λ p q le r leads lt.
-        let eq = new_other q (later p q le r leads) in
-        elim (onto p le) [
-          | inl a ↦ let e = new_other p (omega arith) in let b = so_far.upper p q a r leads lt in omega arith
-          | inr e ↦ let n = new_here in let b = v_upper q (follower_of p q e leads) in rw e (omega arith)
-        ];
+          let eq = new_other q (later p q le r leads) in
+          elim (onto p le) [
+            | inl a ↦ let e = new_other p (omega arith) in let b = so_far.upper p q a r leads lt in omega arith
+            | inr e ↦ let n = new_here in let b = v_upper q (follower_of p q e leads) in rw e (omega arith)
+          ];
       attained = λ p le lt r. elim (onto p le) [
         | inl a ↦
-          let e = new_other p (omega arith) in
-          elim (so_far.attained p a lt r) [
-            | inl one ↦ inl (e ∙ one)
-            | inr (q, l, leads, c) ↦ inr (q, l, leads, ap (λ (k : ℕ). k + 1) (new_other q (later p q le r leads)) ∙ c ∙ sym e)
-          ]
+            let e = new_other p (omega arith) in
+            elim (so_far.attained p a lt r) [
+              | inl one ↦ inl (e ∙ one)
+              | inr (q, l, leads, c) ↦ inr (q, l, leads, ap (λ (k : ℕ). k + 1) (new_other q (later p q le r leads)) ∙ c ∙ sym e)
+            ]
         | inr e ↦
-          let n = new_here in
-          rw e (elim v_attained [
-            | inl one ↦ inl (n ∙ one)
-            | inr (q, l, leads, c) ↦ inr (q, l, leads, ap (λ (k : ℕ). k + 1) (new_other q (later i q (omega arith) reached leads)) ∙ c ∙ sym n)
-          ])
+            let n = new_here in
+            rw e (elim v_attained [
+              | inl one ↦ inl (n ∙ one)
+              | inr (q, l, leads, c) ↦ inr (q, l, leads, ap (λ (k : ℕ). k + 1) (new_other q (later i q (omega arith) reached leads)) ∙ c ∙ sym n)
+            ])
       ];
     }
 
@@ -184,8 +184,8 @@ module _ (program : Program) (costs : List ℕ) (all : Costs program 0 costs) wh
   goes_on_to (suc k) n p path lt e = elim (all.attained p (omega arith) lt (n, path)) [
     | inl one ↦ absurd (omega arith)
     | inr (q, l, leads, c) ↦
-      let r = goes_on_to k (suc n) q (p, path, leads) l (omega arith) in
-      (r.0, r.1, r.2, r.3, omega (arith, r.4))
+        let r = goes_on_to k (suc n) q (p, path, leads) l (omega arith) in
+        (r.0, r.1, r.2, r.3, omega (arith, r.4))
   ]
 
   pub attained : 0 < length program.code → (n q : ℕ) × Path program n q × (q < length program.code) × (n + 1 ≡ at costs 0)

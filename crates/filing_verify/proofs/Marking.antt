@@ -120,16 +120,16 @@ module _ (program : Program) (i : ℕ) (ms : List Bool) (so_far : Marks program 
         closed = λ p q lt h leads within. elim (upto p lt) [
           | inl a ↦ all_kept (goes_on o) (target o) i ms q (so_far.closed p q a (old_mark p lt h) leads within)
           | inr e ↦
-            let same : leads.0 ≡ o = cc (leads.1, at, ap (slice_get program.code) e) in
-            let f : Follows program o i q = subst (λ (x : Operation × ℕ). Follows program x.0 x.1 q) (cc) leads.2 in
-            follows_made (goes_on o) (target o) i ms q (omega (arith, so_far.long)) f
+              let same : leads.0 ≡ o = cc (leads.1, at, ap (slice_get program.code) e) in
+              let f : Follows program o i q = subst (λ (x : Operation × ℕ). Follows program x.0 x.1 q) (cc) leads.2 in
+              follows_made (goes_on o) (target o) i ms q (omega (arith, so_far.long)) f
         ];
         forward = λ p q o' lt h at' to. elim (upto p lt) [
           | inl a ↦ so_far.forward p q o' a (old_mark p lt h) at' to
           | inr e ↦
-            let same : o' ≡ o = cc (at', at, ap (slice_get program.code) e) in
-            let to' : target o ≡ Some q = subst (λ (x : Operation). target x ≡ Some q) same to in
-            rw e (ahead q to')
+              let same : o' ≡ o = cc (at', at, ap (slice_get program.code) e) in
+              let to' : target o ≡ Some q = subst (λ (x : Operation). target x ≡ Some q) same to in
+              rw e (ahead q to')
         ];
       }
 

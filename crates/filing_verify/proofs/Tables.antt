@@ -116,18 +116,18 @@ module _ (program : Program) (i : ℕ) (table : Table) (forward : GoesForward pr
           forced = λ p js h shape good. elim (takes.only p js h) [
             | inl a ↦ so_far.forced p js a shape good
             | inr (f, e) ↦
-              let within : p < length program.code = omega (arith, slice_get_within new p (Some js) h, takes.long, so_far.long) in
-              (fine shape good).passed_on p f within ∙ forced_after shape good ∙ sym e
+                let within : p < length program.code = omega (arith, slice_get_within new p (Some js) h, takes.long, so_far.long) in
+                (fine shape good).passed_on p f within ∙ forced_after shape good ∙ sym e
           ];
           passed = λ p js o' lt h at'. elim (upto p lt) [
             | inl a ↦
-              let was = so_far.passed p js o' a (old_one p js lt h) at' in
-              (was.0, was.1, was.2, λ q f within. takes.kept q was.0 (was.3 q f within))
+                let was = so_far.passed p js o' a (old_one p js lt h) at' in
+                (was.0, was.1, was.2, λ q f within. takes.kept q was.0 (was.3 q f within))
             | inr e ↦
-              let h' : Has table i js = subst (λ (k : ℕ). Has table k js) e (old_one p js lt h) in
-              let same : o' ≡ o = cc (at', at, ap (slice_get program.code) e) in
-              let js-is : js ≡ ks = cc (h', here) in
-              (r, rw (same, js-is) finds, shallow, λ q f within. takes.offered q (subst (λ (x : Operation). Follows program x i q) same (subst (λ (k : ℕ). Follows program o' k q) e f)) (omega (arith, so_far.long)))
+                let h' : Has table i js = subst (λ (k : ℕ). Has table k js) e (old_one p js lt h) in
+                let same : o' ≡ o = cc (at', at, ap (slice_get program.code) e) in
+                let js-is : js ≡ ks = cc (h', here) in
+                (r, rw (same, js-is) finds, shallow, λ q f within. takes.offered q (subst (λ (x : Operation). Follows program x i q) same (subst (λ (k : ℕ). Follows program o' k q) e f)) (omega (arith, so_far.long)))
           ];
         }
 
@@ -162,17 +162,20 @@ module _ (program : Program) (table : Table) (all : Shaping program (length prog
   ]
 
   pub has_shapes : HasShapes program
-  has_shapes = (assigned, record {
-    start = at_start;
-    each = λ p o reached at.
-      let within : p < length program.code = slice_get_within program.code p o at in
-      let here = has reached.0 p reached.1 within in
-      let then = all.passed p here.0 o within here.1 at in
-      record {
-        result = then.0;
-        finds = ap (after o) (is_assigned p here.0 here.1) ∙ then.1;
-        shallow = rw (is_assigned p here.0 here.1) (all.shallow p here.0 here.1);
-        shallow_after = then.2;
-        passed_on = λ q f lt. is_assigned q then.0 (then.3 q f lt);
-      };
-  })
+  has_shapes = (
+    assigned,
+    record {
+      start = at_start;
+      each = λ p o reached at.
+          let within : p < length program.code = slice_get_within program.code p o at in
+          let here = has reached.0 p reached.1 within in
+          let then = all.passed p here.0 o within here.1 at in
+          record {
+            result = then.0;
+            finds = ap (after o) (is_assigned p here.0 here.1) ∙ then.1;
+            shallow = rw (is_assigned p here.0 here.1) (all.shallow p here.0 here.1);
+            shallow_after = then.2;
+            passed_on = λ q f lt. is_assigned q then.0 (then.3 q f lt);
+          };
+    },
+  )

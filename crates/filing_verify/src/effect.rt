@@ -14,13 +14,11 @@ pub fn apply(operation: Operation, shape: &mut Shape) -> Result<bool, AllocError
     ensures lacks { IfOk result (λ yes. yes ≡ false → after operation shape.old ≡ None) }
 {
     match operation {
-        Operation::PushTrue
-        | Operation::PushFalse
-        | Operation::Exists(_)
-        | Operation::Marked(_) => {
-            shape.push(Kind::Truth)?;
-            Ok(true)
-        }
+        Operation::PushTrue | Operation::PushFalse | Operation::Exists(_) | Operation::Marked(_) =>
+            {
+                shape.push(Kind::Truth)?;
+                Ok(true)
+            }
         Operation::Not => {
             let Some(Kind::Truth) = shape.pop() else {
                 return Ok(false);

@@ -23,7 +23,9 @@ impl Shape {
     pub fn new(alloc: Global) -> Shape
         ensures { result ≡ [] }
     {
-        Shape { kinds: Vec::new(alloc) }
+        Shape {
+            kinds: Vec::new(alloc),
+        }
     }
 
     pub fn copy(&self, alloc: Global) -> Result<Shape, AllocError>

@@ -50,7 +50,11 @@ fn one_instruction(rt: HostRuntime) {
 #[test]
 fn budgets(rt: HostRuntime) {
     for (budget, number) in [(0, 66), (1, 0), (65_535, 0), (65_536, 66)] {
-        assert_eq!(rt; verdict(rt.alloc(), &with_budget(budget)), number, "at {budget}");
+        assert_eq!(rt;
+            verdict(rt.alloc(), &with_budget(budget)),
+            number,
+            "at {budget}"
+        );
     }
 }
 

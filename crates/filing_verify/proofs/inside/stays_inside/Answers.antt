@@ -14,7 +14,7 @@ pub returns-clause-inside : goal.returns-clause-inside
 returns-clause-inside c = λ _. record {
   some = omega (arith, c.if-place_count-lt1.false, c.place_count.ensures.value);
   inside = λ p reached leads.
-    let within = slice_get_within c.args.image.now.code p leads.0 leads.1 in
-    let before : p < c.loop-place.place = omega (arith, within, c.place_count-place-end.ensures.value, c.loop-place-test.false) in
-    c.loop-place.invariant p before reached leads;
+      let within = slice_get_within c.args.image.now.code p leads.0 leads.1 in
+      let before : p < c.loop-place.place = omega (arith, within, c.place_count-place-end.ensures.value, c.loop-place-test.false) in
+      c.loop-place.invariant p before reached leads;
 }
