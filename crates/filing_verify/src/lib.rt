@@ -16,8 +16,6 @@ mod kind;
 mod reach;
 mod shape;
 mod shaping;
-#[cfg(test)]
-mod tests;
 
 pub use fault::VerifyFault;
 pub use judge::{Verified, verify};
