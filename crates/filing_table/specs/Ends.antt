@@ -1,0 +1,19 @@
+-- How a run ends, and the classes that it captures.
+use Rattle.std.specs.Prelude.{◌≡◌, ℕ, ◌<◌, Option}
+use Rattle.filing_image.specs.Program.{Program}
+use Rattle.sieve_meaning.specs.Case.{Facts}
+use Rattle.sieve_meaning.specs.Outcome.{Outcome, outcome_at}
+use Rattle.filing_table.specs.Machine.{State, At, Over, after_steps}
+
+-- The run of the program in the case ends with its nth step, with or without a fault, in a state.
+pub record Ends (p : Program) (c : Facts) (n : ℕ) (fault : Option ℕ) (s : State) : Type 0 where
+  pub over : after_steps p c n ≡ Over fault s
+  pub going : (k : ℕ) → k < n → (t : State) × (after_steps p c k ≡ At t)
+
+-- what a state at the end captures
+abbrev pub outcome_left : Option ℕ → State → Outcome
+outcome_left fault s = outcome_at fault s.filed s.kept s.cancelled
+
+-- The run of the program in the case ends with its nth step, with this outcome.
+abbrev pub HasOutcome : Program → Facts → ℕ → Outcome → Type 0
+HasOutcome p c n o = (fault : Option ℕ) × (s : State) × Ends p c n fault s × (outcome_left fault s ≡ o)
