@@ -1,7 +1,7 @@
 -- What the parts of filing answer.
 use Rattle.std.specs.Prelude.{◌≡◌, ℕ, ◌⊎◌, List, is_some}
 use Rattle.filing_desk.specs.Faults.{refusal_of, has_place}
-use Rattle.filing_desk.specs.Steps.{IsNoScript, IsIllMade, RefusesFiling}
+use Rattle.filing_desk.specs.Steps.{IsNoScript, IsIllMade, RefusesFiling, IsLongImage, IsNoImage, IsUnfit}
 use Rattle.filing_desk.specs.declared.desk.Outcome.{Outcome}
 use Rattle.filing_desk.specs.declared.fault.DeskFault.{DeskFault}
 use Rattle.sieve_meaning.specs.Outcome as meaning
@@ -12,6 +12,11 @@ outcome_view o = record { classes = o.classes; fault = o.fault }
 -- a script is refused with this number: want of memory, or the first of the text and the check that fails
 abbrev pub RefusesScript : (script : List ℕ) (number : ℕ) → Type 0
 RefusesScript script number = (number ≡ 99) ⊎ (IsNoScript script number ⊎ IsIllMade script number)
+
+-- an image is refused with this number: want of memory, or the first of its length, its form and its fitness to run
+-- that fails
+abbrev pub RefusesImage : (image : List ℕ) (number : ℕ) → Type 0
+RefusesImage image number = (number ≡ 99) ⊎ (IsLongImage image number ⊎ (IsNoImage image number ⊎ IsUnfit image number))
 
 -- a fault whose number is one of these, with an offset exactly where its number is shown with one
 abbrev pub IsFaultOf : (ℕ → Type 0) → DeskFault → Type 0

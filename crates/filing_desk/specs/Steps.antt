@@ -14,6 +14,11 @@ use Rattle.class_plan.specs.Document as documents
 use Rattle.sieve_meaning.specs.Reading.{program_of}
 use Rattle.sieve_meaning.specs.Meaning.{no_library}
 use Rattle.sieve_meaning.specs.Outcome as meaning
+use Rattle.filing_image.specs.Program.{Program, parts}
+use Rattle.filing_image.specs.Spelling.{spelling, Fits}
+use Rattle.filing_verify.specs.declared.fault.VerifyFault.{VerifyFault}
+use Rattle.filing_verify.specs.Well.{IsWell, Fails, verify_number}
+use Rattle.filing_table.specs.Ends.{HasOutcome}
 use Rattle.filing_desk.specs.Answers.{Answer, done, captured, refused}
 use Rattle.filing_desk.specs.Case.{case_of}
 use Rattle.filing_desk.specs.Faults.{refused_by, has_place}
@@ -29,6 +34,8 @@ pub data Command : Type 0 where
   file : (script message : List ℕ) → Command
   -- takes over the plan of a text
   set_plan : (text : List ℕ) → Command
+  -- runs an image on a message
+  try_image : (image message : List ℕ) → Command
 
 -- the greatest length of a message, in octets
 abbrev pub greatest_message : ℕ
@@ -111,6 +118,60 @@ pub record DropsPath (s : State) (text : List ℕ) (number : ℕ) : Type 0 where
 abbrev pub RefusesPlan : State → (text : List ℕ) (number : ℕ) → Type 0
 RefusesPlan s text number = (number ≡ 99) ⊎ (((greatest_plan < length text) × (number ≡ 58)) ⊎ (IsNoPlan text number ⊎ DropsPath s text number))
 
+-- the greatest length of an image, in octets
+abbrev pub greatest_image : ℕ
+greatest_image = 16777216
+
+-- the octets are the image of a program
+pub record IsImageOf (image : List ℕ) (program : Program) : Type 0 where
+  pub short : length image ≤ greatest_image
+  pub fits : Fits (parts program)
+  pub spells : image ≡ spelling (parts program)
+
+-- the octets are an image that may run
+pub record IsGoodImage (image : List ℕ) (program : Program) : Type 0 where
+  pub is_image : IsImageOf image program
+  pub well : IsWell program
+
+-- an image captures a message so: by its run in the message's case and the open classes of the plan
+pub record IsTried (s : State) (image message : List ℕ) (o : meaning.Outcome) : Type 0 where
+  pub program : Program
+  pub good : IsGoodImage image program
+  pub short : length message ≤ greatest_message
+  pub steps : ℕ
+  pub outcome : HasOutcome program (case_of message (is_open_in s)) steps o
+
+-- the octets are too many for an image
+pub record IsLongImage (image : List ℕ) (number : ℕ) : Type 0 where
+  pub long : greatest_image < length image
+  pub is_number : number ≡ 61
+
+-- the octets are no image
+pub record IsNoImage (image : List ℕ) (number : ℕ) : Type 0 where
+  pub short : length image ≤ greatest_image
+  pub no_image : (program : Program) → Fits (parts program) → image ≡ spelling (parts program) → ⊥
+  pub is_number : number ≡ 60
+
+-- the octets are an image that may not run, for this reason
+pub record IsUnfit (image : List ℕ) (number : ℕ) : Type 0 where
+  pub program : Program
+  pub is_image : IsImageOf image program
+  pub fault : VerifyFault
+  pub fails : Fails fault program
+  pub is_number : number ≡ verify_number fault
+
+-- the image may run, and the message is too long
+pub record IsTooLongToTry (image message : List ℕ) (number : ℕ) : Type 0 where
+  pub program : Program
+  pub good : IsGoodImage image program
+  pub long : greatest_message < length message
+  pub is_number : number ≡ 95
+
+-- a trial is refused with this number: want of memory, or the first of the image's length, its form, its fitness to
+-- run and the message's length that fails
+abbrev pub RefusesTrial : (image message : List ℕ) (number : ℕ) → Type 0
+RefusesTrial image message number = (number ≡ 99) ⊎ (IsLongImage image number ⊎ (IsNoImage image number ⊎ (IsUnfit image number ⊎ IsTooLongToTry image message number)))
+
 -- the answer to a call that has nothing to tell but that it was done
 abbrev pub settled : Result (Unit {0}) DeskFault → Answer
 settled (Ok u) = done
@@ -131,3 +192,6 @@ Step s (file script message) done new = ⊥
 Step s (set_plan text) done new = IsRevision s text new
 Step s (set_plan text) (refused n at) new = (new ≡ s) × (is_some at ≡ has_place n) × RefusesPlan s text n
 Step s (set_plan text) (captured o) new = ⊥
+Step s (try_image image message) (captured o) new = (new ≡ s) × IsTried s image message o
+Step s (try_image image message) (refused n at) new = (new ≡ s) × (is_some at ≡ has_place n) × RefusesTrial image message n
+Step s (try_image image message) done new = ⊥

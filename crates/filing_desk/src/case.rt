@@ -48,3 +48,29 @@ pub fn read_case<'a>(
         plan,
     })
 }
+
+impl filing_machine::Case for Case<'_> {
+    ghost use Rattle.filing_desk.specs.Case.{facts_of};
+
+    ghost facts = { facts_of };
+
+    fn size(&self) -> u64 {
+        self.size
+    }
+
+    fn field_count(&self) -> usize {
+        self.fields.len()
+    }
+
+    fn is_named(&self, field: usize, name: &[u8]) -> bool {
+        is_word(self.fields[field].name, name)
+    }
+
+    fn value(&self, field: usize) -> &[u8] {
+        &self.fields[field].value
+    }
+
+    fn is_open(&self, path: &[u8]) -> bool {
+        self.plan.is_open(path)
+    }
+}

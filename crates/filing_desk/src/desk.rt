@@ -7,14 +7,17 @@ ghost use Rattle.sieve_meaning.specs.Reading.{program_of};
 ghost use Rattle.sieve_meaning.specs.Meaning.{no_library};
 ghost use Rattle.sieve_meaning.specs.Outcome.{outcome_at, outcome};
 ghost use Rattle.filing_desk.specs.Case.{facts_of};
-ghost use Rattle.filing_desk.specs.Judging.{RefusesScript, IsFaultOf, outcome_view};
-ghost use Rattle.filing_desk.specs.Steps.{add_class, file, set_plan, Step, settled, filed, IsGood, RefusesPlan};
+ghost use Rattle.filing_desk.specs.Judging.{RefusesScript, RefusesImage, IsFaultOf, outcome_view};
+ghost use Rattle.filing_desk.specs.Steps.{add_class, file, set_plan, try_image, Step, settled, filed, IsGood, IsGoodImage, RefusesPlan};
 ghost use Rattle.filing_desk.specs.Faults.{refused_by};
 
 use crate::case::{Case, read_case};
-use crate::evaluate::{Filing, run, script_weight};
+use crate::evaluate::{Filing, run as run_script, script_weight};
 use crate::fault::DeskFault;
 use class_plan::{Plan, PlanFault};
+use filing_image::decode;
+use filing_machine::run;
+use filing_verify::{Verified, verify};
 use sieve_check::{Checked, check};
 use sieve_meaning::Paths;
 use sieve_syntax::Script;
@@ -27,6 +30,9 @@ pub const GREATEST_MESSAGE: usize = 8_388_608;
 
 /// The greatest length of a plan's text, in octets.
 const GREATEST_PLAN: usize = 1_048_576;
+
+/// The greatest length of an image, in octets.
+const GREATEST_IMAGE: usize = 16_777_216;
 
 /// The greatest weight of a script that is run.
 const GREATEST_WEIGHT: u64 = 60_000;
@@ -100,7 +106,7 @@ fn outcome_of(alloc: Global, case: &Case<'_>, script: &Script) -> Result<Outcome
         kept: false,
         cancelled: false,
     };
-    let ending = run(alloc, case, &script.commands, &mut filing)?;
+    let ending = run_script(alloc, case, &script.commands, &mut filing)?;
     let outcome = match ending.fault() {
         Some(fault) => faulty(alloc, fault)?,
         None => captured_classes(alloc, filing)?,
@@ -116,6 +122,21 @@ fn judge(alloc: Global, script: &[u8]) -> Result<Checked, DeskFault>
     let tree = parse(alloc, script)?;
     let checked = check(tree)?;
     Ok(checked)
+}
+
+/// The program of an image that may run.
+fn judge_image(alloc: Global, image: &[u8]) -> Result<Verified, DeskFault>
+    ensures good { IfOk result (λ v. IsGoodImage image.now v) }
+    ensures refused { IfErr result (IsFaultOf (RefusesImage image.now)) }
+{
+    if image.len() > GREATEST_IMAGE {
+        return Err(DeskFault::ImageTooLong);
+    }
+    let image = decode(alloc, image)?;
+    match verify(alloc, image) {
+        Ok(program) => Ok(program),
+        Err((fault, _)) => Err(DeskFault::from(fault)),
+    }
 }
 
 impl Desk {
@@ -163,6 +184,44 @@ impl Desk {
         ensures { (text : List ℕ) → 1048576 < length text → Step self.now (set_plan text) (refused_by result) self.now }
     {
         DeskFault::PlanTooLong
+    }
+
+    /// What an image captures a message in: a dry run that stores nothing. An image is refused by its length (61: more
+    /// than 16,777,216 octets), its form (60) and its code (62 to 66); then a message over 8,388,608 octets by 95; 99
+    /// is want of memory.
+    #[tactic(auto, unfolding(crate::specs::Steps::Step))]
+    pub fn try_image(&self, image: &[u8], message: &[u8]) -> Result<Outcome, DeskFault>
+        ensures { Step self.now (try_image image.now message.now) (filed result) self.now }
+    {
+        let program = judge_image(self.alloc, image)?;
+        if message.len() > GREATEST_MESSAGE {
+            return Err(DeskFault::MessageTooLong);
+        }
+        let case = read_case(self.alloc, message, &self.plan)?;
+        let ran = run(self.alloc, &program, &case)?;
+        Ok(Outcome {
+            classes: ran.classes,
+            fault: ran.fault,
+        })
+    }
+
+    /// What `try_image` answers to a message over its limit, which need not be at hand.
+    #[tactic(auto, unfolding(crate::specs::Steps::Step))]
+    pub fn try_image_too_long(&self, image: &[u8]) -> DeskFault
+        ensures { (message : List ℕ) → 8388608 < length message → Step self.now (try_image image.now message) (refused_by result) self.now }
+    {
+        match judge_image(self.alloc, image) {
+            Ok(_) => DeskFault::MessageTooLong,
+            Err(fault) => fault,
+        }
+    }
+
+    /// What `try_image` answers to an image over its limit of 16,777,216 octets, which need not be at hand.
+    #[tactic(auto, unfolding(crate::specs::Steps::Step))]
+    pub fn try_long_image(&self) -> DeskFault
+        ensures { (image message : List ℕ) → 16777216 < length image → Step self.now (try_image image message) (refused_by result) self.now }
+    {
+        DeskFault::ImageTooLong
     }
 
     /// What a script captures a message in: a dry run that stores nothing. A script is refused by its text (10 to 16,

@@ -4,6 +4,8 @@ ghost use Rattle.std.specs.Prelude.{◌≡◌};
 ghost use Rattle.filing_desk.specs.Faults.{refusal_of, has_place as has_place_of};
 
 use class_plan::PlanFault;
+use filing_image::FormFault;
+use filing_verify::VerifyFault;
 use sieve_check::CheckFault;
 use sieve_text::{TextFault, TextRefusal};
 use std::alloc::{AllocError, AllocFailed};
@@ -28,6 +30,12 @@ pub enum DeskFault {
     Plan(PlanFault),
     /// 58: the text of a plan has more than 1,048,576 octets.
     PlanTooLong,
+    /// 61: an image has more than 16,777,216 octets.
+    ImageTooLong,
+    /// 60: the octets are no image.
+    ImageForm,
+    /// 62 to 66: the image may not run.
+    Image(VerifyFault),
     /// 95: the message has more than 8,388,608 octets.
     MessageTooLong,
 }
@@ -93,6 +101,34 @@ impl From<PlanFault> for DeskFault {
     }
 }
 
+impl From<FormFault> for DeskFault {
+    ghost use Rattle.std.specs.Prelude.{◌≡◌};
+    ghost use Rattle.filing_desk.specs.Faults.{form_fault};
+
+    ghost from_gives = { λ e f. f ≡ form_fault e };
+
+    fn from(fault: FormFault) -> DeskFault {
+        match fault {
+            FormFault::NoMemory => DeskFault::NoMemory,
+            FormFault::BadForm => DeskFault::ImageForm,
+        }
+    }
+}
+
+impl From<VerifyFault> for DeskFault {
+    ghost use Rattle.std.specs.Prelude.{◌≡◌};
+    ghost use Rattle.filing_desk.specs.Faults.{verify_fault};
+
+    ghost from_gives = { λ e f. f ≡ verify_fault e };
+
+    fn from(fault: VerifyFault) -> DeskFault {
+        match fault {
+            VerifyFault::NoMemory => DeskFault::NoMemory,
+            fault => DeskFault::Image(fault),
+        }
+    }
+}
+
 /// Whether a refusal with this number is shown with its offset: 11 to 14, 16, 20 and 21.
 fn has_place(number: u8) -> bool
     ensures { result ≡ has_place_of number }
@@ -125,6 +161,18 @@ impl DeskFault {
             },
             DeskFault::PlanTooLong => Refusal {
                 number: 58,
+                offset: None,
+            },
+            DeskFault::ImageTooLong => Refusal {
+                number: 61,
+                offset: None,
+            },
+            DeskFault::ImageForm => Refusal {
+                number: 60,
+                offset: None,
+            },
+            DeskFault::Image(fault) => Refusal {
+                number: fault.number(),
                 offset: None,
             },
             DeskFault::MessageTooLong => Refusal {

@@ -3,7 +3,7 @@ use Rattle.std.proofs.Common.{◌≡◌, ℕ, ◌+◌, ◌-◌, ◌≤◌, ◌<�
 use Rattle.std.specs.Prelude.{nat_le}
 use Rattle.std.proofs.lemmas.List.{length-drop, drop-drop}
 use Rattle.std.proofs.lemmas.Bool.Decides.{nat_tests}
-use Rattle.filing_desk.specs.Steps.{Command, file}
+use Rattle.filing_desk.specs.Steps.{Command}
 use Rattle.filing_session.specs.Session.{Got, Stop, Call, with_payload, with_payloads}
 use Rattle.filing_session.specs.declared.session.Ending.TheVariants as ending
 
@@ -23,22 +23,22 @@ size_behind : (script : ℕ) (old mid : List ℕ) → mid ≡ drop script old �
 size_behind script old mid e = ap length e ∙ length-drop script old
 
 -- the first is cut
-pub first_cut : (script message : ℕ) (old : List ℕ) → length old < script → with_payloads script message old ≡ Stop ending.CutShort
-first_cut script message old cut = let no : nat_le (script + message) (length old) ≡ false = grind (arith, nat_tests) in rw no refl
+pub first_cut : (first second : ℕ) (command : List ℕ → List ℕ → Command) (old : List ℕ) → length old < first → with_payloads first second command old ≡ Stop ending.CutShort
+first_cut first second command old cut = let no : nat_le (first + second) (length old) ≡ false = grind (arith, nat_tests) in rw no refl
 
 -- both are there
-pub both_read : (script message : ℕ) (old mid new : List ℕ) → script ≤ length old → mid ≡ drop script old → message ≤ length mid → new ≡ drop message mid → with_payloads script message old ≡ Got (Call (file (take script old) (take message (drop script old)))) new
-both_read script message old mid new fits e more f =
-    let size = size_behind script old mid e in
-    let yes : nat_le (script + message) (length old) ≡ true = fits_both script message (length old) fits (omega (arith, size)) in
-    let rest : drop (script + message) old ≡ new = sym (f ∙ ap (drop message) e ∙ drop-drop message script old) in
-    rw yes (ap (λ r. Got (Call (file (take script old) (take message (drop script old)))) r) rest)
+pub both_read : (first second : ℕ) (command : List ℕ → List ℕ → Command) (old mid new : List ℕ) → first ≤ length old → mid ≡ drop first old → second ≤ length mid → new ≡ drop second mid → with_payloads first second command old ≡ Got (Call (command (take first old) (take second (drop first old)))) new
+both_read first second command old mid new fits e more f =
+    let size = size_behind first old mid e in
+    let yes : nat_le (first + second) (length old) ≡ true = fits_both first second (length old) fits (omega (arith, size)) in
+    let rest : drop (first + second) old ≡ new = sym (f ∙ ap (drop second) e ∙ drop-drop second first old) in
+    rw yes (ap (λ r. Got (Call (command (take first old) (take second (drop first old)))) r) rest)
 
 -- the second is cut
-pub second_cut : (script message : ℕ) (old mid : List ℕ) → mid ≡ drop script old → length mid < message → with_payloads script message old ≡ Stop ending.CutShort
-second_cut script message old mid e cut =
-    let size = size_behind script old mid e in
-    let no : nat_le (script + message) (length old) ≡ false = fits_one script message (length old) (omega (arith, size)) in
+pub second_cut : (first second : ℕ) (command : List ℕ → List ℕ → Command) (old mid : List ℕ) → mid ≡ drop first old → length mid < second → with_payloads first second command old ≡ Stop ending.CutShort
+second_cut first second command old mid e cut =
+    let size = size_behind first old mid e in
+    let no : nat_le (first + second) (length old) ≡ false = fits_one first second (length old) (omega (arith, size)) in
     rw no refl
 
 -- one payload alone

@@ -1,9 +1,9 @@
 -- The commands of a session's octets, the runs of a desk that they lead to, and the octets of its answers.
 use Rattle.std.specs.Prelude.{◌≡◌, ℕ, zero, suc, ◌+◌, List, [], ◌∷◌, ◌++◌, if◌then◌else◌, nat_le, None, length, take, drop, codes, flat_map}
 use Rattle.filing_desk.specs.Answers.{Answer, refused}
-use Rattle.filing_desk.specs.Steps.{State, Command, add_class, file, set_plan, Step}
+use Rattle.filing_desk.specs.Steps.{State, Command, add_class, file, set_plan, try_image, Step}
 use Rattle.filing_session.specs.Lines.{Line, Whole, TooLong, Cut, End, line_of}
-use Rattle.filing_session.specs.Words.{Asked, AddClass, File, SetPlan, Quit, Unknown, BadWord, asked}
+use Rattle.filing_session.specs.Words.{Asked, AddClass, File, SetPlan, Try, Quit, Unknown, BadWord, asked}
 use Rattle.filing_session.specs.Replies.{reply_octets}
 use Rattle.filing_session.specs.Streams.{IsBehind}
 use Rattle.filing_session.specs.declared.session.Ending.{Ending}
@@ -33,15 +33,16 @@ abbrev pub with_payload : (size : ℕ) → (List ℕ → Command) → (rest : Li
 with_payload size command rest = if nat_le size (length rest) then Got (Call (command (take size rest))) (drop size rest) else Stop ending.CutShort
 
 -- and a second one the first
-abbrev pub with_payloads : (script message : ℕ) → (rest : List ℕ) → Heard
-with_payloads script message rest =
-    if nat_le (script + message) (length rest) then Got (Call (file (take script rest) (take message (drop script rest)))) (drop (script + message) rest)
+abbrev pub with_payloads : (first second : ℕ) → (List ℕ → List ℕ → Command) → (rest : List ℕ) → Heard
+with_payloads first second command rest =
+    if nat_le (first + second) (length rest) then Got (Call (command (take first rest) (take second (drop first rest)))) (drop (first + second) rest)
     else Stop ending.CutShort
 
 abbrev pub heard_line : Asked → (rest : List ℕ) → Heard
 heard_line (AddClass path) rest = Got (Call (add_class path)) rest
-heard_line (File script message) rest = with_payloads script message rest
+heard_line (File script message) rest = with_payloads script message file rest
 heard_line (SetPlan text) rest = with_payload text set_plan rest
+heard_line (Try image message) rest = with_payloads image message try_image rest
 heard_line Quit rest = Stop ending.Quit
 heard_line Unknown rest = Got UnknownCommand rest
 heard_line BadWord rest = Got WrongWord rest

@@ -1,5 +1,5 @@
 -- Words of a command line, and what a line asks.
-use Rattle.std.specs.Prelude.{ℕ, List, [], ◌∷◌, Bool, ◌&&◌, not, ◌==◌, nat_lt, nat_le, if◌then◌else◌, Option, Some, None, length, slice_index, codes}
+use Rattle.std.specs.Prelude.{ℕ, ◌×◌, List, [], ◌∷◌, Bool, ◌&&◌, not, ◌==◌, nat_lt, nat_le, if◌then◌else◌, Option, Some, None, length, slice_index, codes}
 use Rattle.std.specs.Char.{is_ascii_digit}
 use Rattle.std.specs.List.{slice_split, list_all}
 use Rattle.std.specs.Str.{bytes_eq}
@@ -15,6 +15,8 @@ pub data Asked : Type 0 where
   File : (script message : ℕ) → Asked
   -- to take over a plan, a payload of this length
   SetPlan : (text : ℕ) → Asked
+  -- to run an image on a message, payloads of these lengths
+  Try : (image message : ℕ) → Asked
   -- to end
   Quit : Asked
   -- nothing: its first word is no command's
@@ -38,10 +40,21 @@ number_of greatest word = if is_decimal word && nat_le (digits_value 10 word) gr
 unfoldable pub length_of : List ℕ → Option ℕ
 length_of word = number_of 4294967295 word
 
-abbrev pub file_of_lengths : Option ℕ → Option ℕ → Asked
-file_of_lengths (Some script) (Some message) = File script message
-file_of_lengths (Some script) None = BadWord
-file_of_lengths None message = BadWord
+abbrev pub both : Option ℕ → Option ℕ → Option (ℕ × ℕ)
+both (Some first) (Some second) = Some (first, second)
+both (Some first) None = None
+both None second = None
+
+-- the lengths of two payloads: two words, and no third
+abbrev pub two_lengths : List (List ℕ) → Option (ℕ × ℕ)
+two_lengths [] = None
+two_lengths (first ∷ []) = None
+two_lengths (first ∷ second ∷ []) = both (length_of first) (length_of second)
+two_lengths (first ∷ second ∷ word ∷ words) = None
+
+abbrev pub asked_with : (ℕ → ℕ → Asked) → Option (ℕ × ℕ) → Asked
+asked_with ask (Some (first, second)) = ask first second
+asked_with ask None = BadWord
 
 -- after CLASS any one word, also an empty one, is a path
 abbrev pub class_of : List (List ℕ) → Asked
@@ -50,10 +63,10 @@ class_of (path ∷ []) = AddClass path
 class_of (path ∷ word ∷ words) = BadWord
 
 abbrev pub file_of : List (List ℕ) → Asked
-file_of [] = BadWord
-file_of (script ∷ []) = BadWord
-file_of (script ∷ message ∷ []) = file_of_lengths (length_of script) (length_of message)
-file_of (script ∷ message ∷ word ∷ words) = BadWord
+file_of words = asked_with File (two_lengths words)
+
+abbrev pub try_of : List (List ℕ) → Asked
+try_of words = asked_with Try (two_lengths words)
 
 abbrev pub plan_of_length : Option ℕ → Asked
 plan_of_length (Some text) = SetPlan text
@@ -74,6 +87,7 @@ asked_by (name ∷ words) =
     if bytes_eq name (codes "CLASS") then class_of words
     else if bytes_eq name (codes "FILE") then file_of words
     else if bytes_eq name (codes "PLAN") then plan_of words
+    else if bytes_eq name (codes "TRY") then try_of words
     else if bytes_eq name (codes "QUIT") then quit_of words
     else Unknown
 
@@ -85,6 +99,7 @@ abbrev pub asked_as : Request → Asked
 asked_as (ask.AddClass path) = AddClass path.now
 asked_as (ask.File script message) = File script message
 asked_as (ask.SetPlan text) = SetPlan text
+asked_as (ask.Try image message) = Try image message
 asked_as ask.Quit = Quit
 asked_as ask.Unknown = Unknown
 asked_as ask.BadWord = BadWord

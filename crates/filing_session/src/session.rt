@@ -2,7 +2,7 @@
 
 ghost use Rattle.std.specs.Prelude.{◌≡◌, ◌≢◌, ℕ, List, ◌≤◌, ◌++◌, IfOk, OnOk, OnErr, Ok, Err, None, IsErrOf};
 ghost use Rattle.filing_desk.specs.Answers.{refused as refused_answer};
-ghost use Rattle.filing_desk.specs.Steps.{add_class as class_command, file as file_command, set_plan as plan_command, Step};
+ghost use Rattle.filing_desk.specs.Steps.{add_class as class_command, file as file_command, set_plan as plan_command, try_image as try_command, Step};
 ghost use Rattle.filing_session.specs.Heard.{Answers, EndsOnlyAtEnd};
 ghost use Rattle.filing_session.specs.Payloads.{IsOf};
 ghost use Rattle.filing_session.specs.Replies.{answer_of};
@@ -27,6 +27,9 @@ const SCRIPT_OCTETS: usize = 262_144;
 
 /// How many octets a message has at most; a longer one is refused (95).
 const MESSAGE_OCTETS: usize = 8_388_608;
+
+/// How many octets an image has at most; a longer one is refused (61).
+const IMAGE_OCTETS: usize = 16_777_216;
 
 /// How many octets the text of a plan has at most; a longer one is refused (58).
 const PLAN_OCTETS: usize = 1_048_576;
@@ -113,7 +116,7 @@ fn read_and_file<S: Source>(
     script: usize,
     message: usize,
 ) -> Result<Said, ReadFault>
-    ensures said { S.tells → IfOk result (λ a. Answers desk.now (with_payloads script message (S.left source.old)) a desk.now (S.left source.new)) }
+    ensures said { S.tells → IfOk result (λ a. Answers desk.now (with_payloads script message file_command (S.left source.old)) a desk.now (S.left source.new)) }
     ensures ended { IfOk result (λ a. EndsOnlyAtEnd a (S.ends source.old) (S.ends source.new)) }
     ensures ends { S.ends source.old ≤ S.ends source.new }
     ensures troubles { S.troubles source.old ≤ S.troubles source.new }
@@ -126,6 +129,48 @@ fn read_and_file<S: Source>(
         return Ok(Said::End(Ending::CutShort));
     };
     Ok(Said::Reply(file(desk, &script, &message)))
+}
+
+/// Runs an image on a message. The image is judged before the message.
+fn try_image(desk: &Desk, image: &Payload, message: &Payload) -> Reply
+    ensures { (i m : List ℕ) → IsOf 16777216 image.now i → IsOf 8388608 message.now m → Step desk.now (try_command i m) (answer_of result) desk.now }
+{
+    let image = match image {
+        Payload::Whole(octets) => octets.as_slice(),
+        Payload::TooLong => return Reply::Refused(desk.try_long_image().refusal()),
+        Payload::NoMemory => return refused(99),
+    };
+    match message {
+        Payload::Whole(octets) => match desk.try_image(image, octets.as_slice()) {
+            Ok(outcome) => Reply::Captured(outcome),
+            Err(fault) => Reply::Refused(fault.refusal()),
+        },
+        Payload::TooLong => Reply::Refused(desk.try_image_too_long(image).refusal()),
+        Payload::NoMemory => refused(99),
+    }
+}
+
+/// Reads the two payloads of `TRY`, and runs the one on the other. Both are read before anything is judged.
+fn read_and_try<S: Source>(
+    alloc: Global,
+    source: &mut S,
+    desk: &Desk,
+    image: usize,
+    message: usize,
+) -> Result<Said, ReadFault>
+    ensures said { S.tells → IfOk result (λ a. Answers desk.now (with_payloads image message try_command (S.left source.old)) a desk.now (S.left source.new)) }
+    ensures ended { IfOk result (λ a. EndsOnlyAtEnd a (S.ends source.old) (S.ends source.new)) }
+    ensures ends { S.ends source.old ≤ S.ends source.new }
+    ensures troubles { S.troubles source.old ≤ S.troubles source.new }
+    ensures fault { OnErr result (Rises (S.troubles source.old) (S.troubles source.new)) }
+{
+    let Some(image) = read_payload(alloc, source, image, IMAGE_OCTETS)? else {
+        return Ok(Said::End(Ending::CutShort));
+    };
+    let Some(message) = read_payload(alloc, source, message, MESSAGE_OCTETS)? else {
+        return Ok(Said::End(Ending::CutShort));
+    };
+    Ok(Said::Reply(try_image(desk, &image, &message)))
 }
 
 /// Takes over a plan.
@@ -184,6 +229,13 @@ fn answer<S: Source>(
             source,
             desk,
             script as usize,
+            message as usize,
+        ),
+        Request::Try { image, message } => read_and_try(
+            alloc,
+            source,
+            desk,
+            image as usize,
             message as usize,
         ),
         Request::SetPlan { text } => read_and_set_plan(alloc, source, desk, text as usize),

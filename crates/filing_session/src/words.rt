@@ -3,7 +3,7 @@
 ghost use Rattle.std.specs.Prelude.{◌≡◌, ◌∷◌, [], IfSome, IfNone};
 ghost use Rattle.std.specs.Char.{is_ascii_digit};
 ghost use Rattle.std.specs.List.{list_all};
-ghost use Rattle.filing_session.specs.Words.{words_of, is_decimal, length_of, class_of, file_of, plan_of, quit_of, asked, asked_as};
+ghost use Rattle.filing_session.specs.Words.{words_of, is_decimal, length_of, class_of, two_lengths, file_of, try_of, plan_of, quit_of, asked, asked_as};
 ghost use Rattle.filing_session.specs.WordsLeft.{words_left};
 
 use std::str;
@@ -17,6 +17,8 @@ pub enum Request<'a> {
     File { script: u32, message: u32 },
     /// To take over a plan, a payload of this length in octets.
     SetPlan { text: u32 },
+    /// To run an image on a message, payloads of these lengths in octets.
+    Try { image: u32, message: u32 },
     /// To end the session.
     Quit,
     /// Nothing: the first word is no command's (70).
@@ -95,16 +97,36 @@ fn read_class<'a>(mut words: Words<'a>) -> Request<'a>
     }
 }
 
-/// What `FILE` asks with the words after it.
-fn read_file<'a>(mut words: Words<'a>) -> Request<'a>
-    ensures { asked_as result ≡ file_of (words_left words.entry) }
+/// The lengths of two payloads in octets: two words, and no third.
+fn read_two_lengths(mut words: Words<'_>) -> Option<(u32, u32)>
+    ensures { result ≡ two_lengths (words_left words.entry) }
 {
-    let (Some(script), Some(message), None) = (words.next(), words.next(), words.next()) else {
-        return Request::BadWord;
+    let (Some(first), Some(second), None) = (words.next(), words.next(), words.next()) else {
+        return None;
     };
-    match (read_length(script), read_length(message)) {
-        (Some(script), Some(message)) => Request::File { script, message },
-        _ => Request::BadWord,
+    match (read_length(first), read_length(second)) {
+        (Some(first), Some(second)) => Some((first, second)),
+        _ => None,
+    }
+}
+
+/// What `FILE` asks with the words after it.
+fn read_file<'a>(words: Words<'a>) -> Request<'a>
+    ensures { asked_as result ≡ file_of (words_left words) }
+{
+    match read_two_lengths(words) {
+        Some((script, message)) => Request::File { script, message },
+        None => Request::BadWord,
+    }
+}
+
+/// What `TRY` asks with the words after it.
+fn read_try<'a>(words: Words<'a>) -> Request<'a>
+    ensures { asked_as result ≡ try_of (words_left words) }
+{
+    match read_two_lengths(words) {
+        Some((image, message)) => Request::Try { image, message },
+        None => Request::BadWord,
     }
 }
 
@@ -146,6 +168,8 @@ pub fn read_request(line: &[u8]) -> Request<'_>
         read_file(words)
     } else if name == b"PLAN".as_slice() {
         read_plan(words)
+    } else if name == b"TRY".as_slice() {
+        read_try(words)
     } else if name == b"QUIT".as_slice() {
         read_quit(words)
     } else {

@@ -15,7 +15,7 @@ returns-clause-said g c = λ t.
     let Q : Option Payload → Type 0 = λ p. IsRead c.args.message 8388608 p mid new in
     let s = subst P c.in-Some.is (c.in_ok-script.ensures.octets t) in
     let m = subst Q c.in-Some-2.is (c.in_ok-message.ensures.octets t) in
-    let whole = both_read c.args.script c.args.message old mid new s.0 s.1 m.0 m.1 in
+    let whole = both_read c.args.script c.args.message file old mid new s.0 s.1 m.0 m.1 in
     let R : List ℕ → Type 0 = λ input. IsOf 8388608 c.in-Some-2.message (take c.args.message input) in (
       Call (file (take c.args.script old) (take c.args.message (drop c.args.script old))),
       whole,
