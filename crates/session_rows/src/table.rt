@@ -5,8 +5,9 @@
 //! - `times N TEXT` is input, N times;
 //! - `count A B TEXT` is input for each number from A to B, which stands in place of `{}`;
 //! - `script TEXT` and `more N TEXT` make a script, the second by adding TEXT N times;
-//! - `message TEXT` files that message by the script, with the line that tells their lengths, and `messages N TEXT` one of
-//!   TEXT N times;
+//! - `image HEX` is an image in the place of a script, its octets as two hexadecimal digits each, apart or not;
+//! - `message TEXT` files that message by the script, or tries the image on it, with the line that tells their lengths, and
+//!   `messages N TEXT` one of TEXT N times;
 //! - `want TEXT` is a line that is to be answered, and `wants N TEXT` N such lines.
 //!
 //! In TEXT `\n`, `\r`, `\s` (a space) and `\xHH` are octets, and a backslash before another octet is left out. Empty lines and
@@ -20,7 +21,10 @@ use std::alloc::{AllocError, Global};
 pub struct Case {
     name: String,
     input: Vec<u8>,
-    script: Vec<u8>,
+    /// The command that takes the program and a message.
+    command: &'static str,
+    /// The script or image.
+    program: Vec<u8>,
     wanted: Vec<u8>,
 }
 
@@ -30,7 +34,8 @@ impl Case {
         Ok(Case {
             name: String::from_str(alloc, name)?,
             input: Vec::new(alloc),
-            script: Vec::new(alloc),
+            command: "FILE",
+            program: Vec::new(alloc),
             wanted: Vec::new(alloc),
         })
     }
@@ -50,12 +55,18 @@ impl Case {
         self.wanted.as_slice()
     }
 
-    /// Files a message by the script.
+    /// Takes a script or an image, with the command for it.
+    fn set_program(&mut self, command: &'static str, program: Vec<u8>) {
+        self.command = command;
+        self.program = program;
+    }
+
+    /// Files a message by the script, or tries the image on it.
     fn file(&mut self, alloc: Global, message: &[u8]) -> Result<(), AllocError> {
-        let (script, message_length) = (self.script.len(), message.len());
-        let line = format!(in alloc; "FILE {script} {message_length}\n")?;
+        let (command, program, message_length) = (self.command, self.program.len(), message.len());
+        let line = format!(in alloc; "{command} {program} {message_length}\n")?;
         self.input.extend_from_slice(line.as_str().as_bytes())?;
-        self.input.extend_from_slice(self.script.as_slice())?;
+        self.input.extend_from_slice(self.program.as_slice())?;
         self.input.extend_from_slice(message)
     }
 }
@@ -114,6 +125,22 @@ fn octets_of(alloc: Global, text: &str) -> Result<Vec<u8>, AllocError> {
     Ok(octets)
 }
 
+/// The octets of hexadecimal digits; spaces between them are passed over.
+fn hex_octets(alloc: Global, text: &str) -> Result<Vec<u8>, AllocError> {
+    let mut octets = Vec::new(alloc);
+    let mut high: Option<u8> = None;
+    for digit in text.bytes().filter(|octet| *octet != b' ') {
+        high = match high {
+            None => Some(hex_value(digit)),
+            Some(value) => {
+                octets.push(value.wrapping_mul(16).wrapping_add(hex_value(digit)))?;
+                None
+            }
+        };
+    }
+    Ok(octets)
+}
+
 /// Adds octets so many times.
 fn repeat(octets: &mut Vec<u8>, times: usize, piece: &[u8]) -> Result<(), AllocError> {
     for _ in 0..times {
@@ -165,10 +192,11 @@ pub fn read_line(alloc: Global, case: &mut Case, line: &str) -> Result<()> {
             let (last, text) = numbered(text)?;
             count(alloc, &mut case.input, first, last, text)?;
         }
-        "script" => case.script = octets_of(alloc, text)?,
+        "script" => case.set_program("FILE", octets_of(alloc, text)?),
+        "image" => case.set_program("TRY", hex_octets(alloc, text)?),
         "more" => {
             let (times, text) = numbered(text)?;
-            repeat(&mut case.script, times, octets_of(alloc, text)?.as_slice())?;
+            repeat(&mut case.program, times, octets_of(alloc, text)?.as_slice())?;
         }
         "message" => {
             let message = octets_of(alloc, text)?;
