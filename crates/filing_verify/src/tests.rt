@@ -99,9 +99,7 @@ fn refuses_each_cut(rt: HostRuntime) {
 #[test]
 fn hands_the_image_on_or_back(rt: HostRuntime) -> Result<(), Fail> {
     let image = decode(rt.alloc(), &STOP)?;
-    let verified = verify(rt.alloc(), image)
-        .ok()
-        .ok_or("the image may run")?;
+    let verified = verify(rt.alloc(), image).ok().ok_or("the image may run")?;
     assert_eq!(rt; verified.budget(), 1);
     assert_eq!(rt; verified.image().code(), [Operation::Stop].as_slice());
     let octets = octets_of(rt.alloc(), 3, &[[11, 0, 0, 0]])?;
