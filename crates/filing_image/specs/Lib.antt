@@ -1,3 +1,4 @@
 pub mod Numbers
 pub mod Program
+pub mod Reading
 pub mod Spelling

@@ -2,7 +2,7 @@
 
 ghost use Rattle.std.specs.Prelude.{◌≡◌, ◌<◌, ◌^◌, length, map, All, slice_get, IfOk, Err, Some, IsTrue, ◌↔◌};
 ghost use Rattle.filing_image.specs.Program.{Program, Parts, parts, instruction_of};
-ghost use Rattle.filing_image.specs.Spelling.{IsShort, IsProgram, FitsInstruction};
+ghost use Rattle.filing_image.specs.Spelling.{IsShort, IsProgram, FitsInstruction, Fits};
 
 use crate::fault::FormFault;
 use crate::instruction::{Instruction, Operation};
@@ -24,7 +24,7 @@ impl Model for Image {
 
     ghost view = { λ i. record { budget = i.budget; texts = map (λ t. t.items) i.texts.items; numbers = i.numbers.items; slots = i.slots; code = i.code.items } };
 
-    ghost invariant = { λ i. (length i.texts.items < 2 ^ 16) × (length i.numbers.items < 2 ^ 16) × (length i.code.items < 2 ^ 16) × All (λ t. length t.items < 2 ^ 16) i.texts.items × All (λ n. n < 2 ^ 64) i.numbers.items × All FitsInstruction (map instruction_of i.code.items) };
+    ghost invariant = { λ i. (length i.texts.items < 2 ^ 16) × (length i.numbers.items < 2 ^ 16) × (length i.code.items < 2 ^ 16) × All (λ t. length t.items < 2 ^ 16) i.texts.items × All (λ n. n < 2 ^ 64) i.numbers.items × All FitsInstruction (map instruction_of i.code.items) × (i.budget < 2 ^ 32) × (i.slots < 2 ^ 16) };
 }
 
 impl Image {
@@ -104,6 +104,21 @@ impl Image {
         ensures short { length result.now < 2 ^ 16 }
     {
         &self.texts[place]
+    }
+
+    /// The texts, place 0 first.
+    pub(crate) fn texts(&self) -> &[Vec<u8>]
+        ensures value { map (λ t. t.items) result.now ≡ self.now.texts }
+        ensures short { All (λ t. length t.items < 2 ^ 16) result.now }
+    {
+        &self.texts
+    }
+
+    /// Nothing happens: each part of an image fits its octets.
+    pub(crate) fn fits(&self)
+        ensures { Fits (parts self.now) }
+    {
+        let _ = &self.budget;
     }
 }
 

@@ -20,3 +20,6 @@ mod shaping;
 pub use fault::VerifyFault;
 pub use judge::{Verified, verify};
 pub use kind::Kind;
+
+#[cfg(test)]
+mod tests;

@@ -1,4 +1,4 @@
-use Rattle.std.proofs.Common.{◌≡◌, ◌<◌, ◌^◌, length, All, Bool, true, false}
+use Rattle.std.proofs.Common.{◌≡◌, ◌<◌, ◌^◌, length, All, true}
 use Rattle.filing_image.proofs.Written.{All-of_map}
 use Rattle.filing_image.proofs.image.Image.new.Goals as goal
 

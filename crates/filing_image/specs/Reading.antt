@@ -1,0 +1,78 @@
+-- Reading from left to right: each reader answers a value and the octets after it, or None. It is what the readers of
+-- the code are told by; that it is the inverse of the spelling is proved of it.
+use Rattle.std.specs.Prelude.{◌≡◌, ℕ, zero, suc, List, [], ◌∷◌, length, take, drop, Option, Some, None, Result, Ok, Err, nat_lt, ◌==◌, ◌&&◌, if◌then◌else◌}
+use Rattle.std.specs.Int.{Width, w8, w16, w32, w64, byte_len, from_be_bytes}
+use Rattle.filing_image.specs.declared.fault.FormFault.{FormFault}
+use Rattle.filing_image.specs.declared.fault.FormFault.TheVariants.{NoMemory, BadForm}
+use Rattle.filing_image.specs.declared.instruction.Instruction.{Instruction}
+use Rattle.filing_image.specs.Program.{Parts}
+
+infixl 10 ◌>>=◌
+abbrev pub ◌>>=◌ : {A B : Type 0} → Option A → (A → Option B) → Option B
+(Some x) >>= f = f x
+None >>= f = None
+
+-- What a function returned, seen by view, is what reading gives, unless memory ran out.
+abbrev pub Gives : {X Y : Type 0} → (X → Y) → Result X FormFault → Option Y → Type 0
+Gives view (Ok x) read = read ≡ Some (view x)
+Gives view (Err BadForm) read = read ≡ None
+Gives view (Err NoMemory) read = Unit {0}
+
+abbrev pub number_at : Width → List ℕ → Option (ℕ × List ℕ)
+number_at w octets = if nat_lt (length octets) (byte_len w) then None else Some (from_be_bytes w (take (byte_len w) octets), drop (byte_len w) octets)
+
+unfoldable pub text_at : List ℕ → Option (List ℕ × List ℕ)
+text_at octets = do
+  n ← number_at w16 octets
+  if nat_lt (length n.1) n.0 then None else Some (take n.0 n.1, drop n.0 n.1)
+
+unfoldable pub instruction_at : List ℕ → Option (Instruction × List ℕ)
+instruction_at octets = do
+  op ← number_at w8 octets
+  a ← number_at w8 op.1
+  b ← number_at w16 a.1
+  Some (record { op = op.0; a = a.0; b = b.0 }, b.1)
+
+-- so many of a kind
+unfoldable pub many_at : {A : Type 0} → (List ℕ → Option (A × List ℕ)) → ℕ → List ℕ → Option (List A × List ℕ)
+many_at read zero octets = Some ([], octets)
+many_at read (suc n) octets = do
+  first ← read octets
+  others ← many_at read n first.1
+  Some (first.0 ∷ others.0, others.1)
+
+-- what follows the mark
+unfoldable pub marked : List ℕ → Option (List ℕ)
+marked (b0 ∷ b1 ∷ b2 ∷ b3 ∷ rest) = if (b0 == 0x53) && ((b1 == 0x46) && ((b2 == 0x49) && (b3 == 0x31))) then Some rest else None
+marked _ = None
+
+-- how many there are of each
+pub record Counts : Type 0 where
+  pub texts : ℕ
+  pub numbers : ℕ
+  pub slots : ℕ
+  pub instructions : ℕ
+
+unfoldable pub counts_at : List ℕ → Option (Counts × List ℕ)
+counts_at octets = do
+  texts ← number_at w16 octets
+  numbers ← number_at w16 texts.1
+  slots ← number_at w16 numbers.1
+  instructions ← number_at w16 slots.1
+  Some (record { texts = texts.0; numbers = numbers.0; slots = slots.0; instructions = instructions.0 }, instructions.1)
+
+unfoldable pub parts_at : List ℕ → Option (Parts × List ℕ)
+parts_at octets = do
+  rest ← marked octets
+  budget ← number_at w32 rest
+  counts ← counts_at budget.1
+  texts ← many_at text_at counts.0.texts counts.1
+  numbers ← many_at (number_at w64) counts.0.numbers texts.1
+  instructions ← many_at instruction_at counts.0.instructions numbers.1
+  Some (record { budget = budget.0; texts = texts.0; numbers = numbers.0; slots = counts.0.slots; instructions = instructions.0 }, instructions.1)
+
+-- all of the octets
+unfoldable pub all_of : List ℕ → Option Parts
+all_of octets = do
+  parts ← parts_at octets
+  if length parts.1 == 0 then Some parts.0 else None

@@ -1,0 +1,231 @@
+//! Images from octets.
+
+ghost use Rattle.std.specs.Prelude.{◌≡◌, ◌++◌, ℕ, List, map, IfOk, Err};
+ghost use Rattle.std.specs.Int.{w8, w16, w32, w64};
+ghost use Rattle.filing_image.specs.Program.{Program, Parts, parts};
+ghost use Rattle.filing_image.specs.Spelling.{spelling, Fits};
+ghost use Rattle.filing_image.specs.Reading.{Gives, number_at, text_at, instruction_at, many_at, marked, counts_at, Counts, parts_at, all_of};
+
+use crate::fault::FormFault;
+use crate::image::Image;
+use crate::instruction::Instruction;
+use std::alloc::Global;
+
+/// The image whose spelling the octets are, all of them. `BadForm`, 60, exactly where they are no image's spelling:
+/// another mark, fewer octets than the counts and lengths say, more of them, an instruction whose number is none of 1
+/// to 21, or a non-zero operand that its operation does not have. `NoMemory`, 99, where an allocation was refused.
+/// Time and memory are linear in the length.
+pub fn decode(alloc: Global, octets: &[u8]) -> Result<Image, FormFault>
+    // The octets are the image's spelling.
+    ensures found { IfOk result (λ i. octets.now ≡ spelling (parts i)) }
+    // Each part fits its octets.
+    ensures fits { IfOk result (λ i. Fits (parts i)) }
+    // They are no other program's.
+    ensures only { IfOk result (λ i. (p : Program) → Fits (parts p) → octets.now ≡ spelling (parts p) → i ≡ p) }
+    // No program's spelling is refused for its form.
+    ensures refused { result ≡ Err FormFault.BadForm → (p : Program) → Fits (parts p) → octets.now ≡ spelling (parts p) → ⊥ }
+{
+    let written = all(alloc, octets)?;
+    Image::new(
+        alloc,
+        written.budget,
+        written.texts,
+        written.numbers,
+        written.slots,
+        written.instructions,
+    )
+}
+
+/// No program's spelling begins another's. So no image's octets begin another image's, each image has the one spelling
+/// that `encode` gives, and octets spell one image: decoding what `encode` gave answers the same image, and encoding
+/// what `decode` answered gives the same octets.
+pub fn one_spelling()
+    ensures { (p q : Program) (x y : List ℕ) → Fits (parts p) → Fits (parts q) → spelling (parts p) ++ x ≡ spelling (parts q) ++ y → (p ≡ q) × (x ≡ y) }
+{}
+
+/// The parts as they were written.
+#[derive(Drop)]
+struct Written {
+    budget: u32,
+    texts: Vec<Vec<u8>>,
+    numbers: Vec<u64>,
+    slots: u16,
+    instructions: Vec<Instruction>,
+}
+
+#[tactic(auto, unfolding(crate::specs::Reading::all_of))]
+fn all(alloc: Global, octets: &[u8]) -> Result<Written, FormFault>
+    ensures { Gives (λ w. record { budget = w.budget; texts = map (λ t. t.items) w.texts.items; numbers = w.numbers.items; slots = w.slots; instructions = w.instructions.items }) result (all_of octets.now) }
+{
+    let (written, rest) = written_at(alloc, octets)?;
+    if !rest.is_empty() {
+        return Err(FormFault::BadForm);
+    }
+    Ok(written)
+}
+
+#[tactic(auto, unfolding(crate::specs::Reading::parts_at))]
+fn written_at(alloc: Global, octets: &[u8]) -> Result<(Written, &[u8]), FormFault>
+    ensures { Gives (λ x. (record { budget = x.0.budget; texts = map (λ t. t.items) x.0.texts.items; numbers = x.0.numbers.items; slots = x.0.slots; instructions = x.0.instructions.items }, x.1.now)) result (parts_at octets.now) }
+{
+    let rest = after_mark(octets)?;
+    let (budget, rest) = u32_at(rest)?;
+    let (heading, rest) = heading_of(rest)?;
+    let (texts, rest) = texts_of(alloc, heading.texts, rest)?;
+    let (numbers, rest) = numbers_of(alloc, heading.numbers, rest)?;
+    let (instructions, rest) = instructions_of(alloc, heading.instructions, rest)?;
+    let written = Written {
+        budget,
+        texts,
+        numbers,
+        slots: heading.slots,
+        instructions,
+    };
+    Ok((written, rest))
+}
+
+#[tactic(auto, unfolding(crate::specs::Reading::marked))]
+fn after_mark(octets: &[u8]) -> Result<&[u8], FormFault>
+    ensures { Gives (λ x. x.now) result (marked octets.now) }
+{
+    match octets {
+        [0x53, 0x46, 0x49, 0x31, rest @ ..] => Ok(rest),
+        _ => Err(FormFault::BadForm),
+    }
+}
+
+/// How many there are of each.
+#[derive(Clone, Copy)]
+struct Heading {
+    texts: u16,
+    numbers: u16,
+    slots: u16,
+    instructions: u16,
+}
+
+#[tactic(auto, unfolding(crate::specs::Reading::counts_at))]
+fn heading_of(octets: &[u8]) -> Result<(Heading, &[u8]), FormFault>
+    ensures { Gives (λ x. (record { texts = x.0.texts; numbers = x.0.numbers; slots = x.0.slots; instructions = x.0.instructions }, x.1.now)) result (counts_at octets.now) }
+{
+    let (texts, rest) = u16_at(octets)?;
+    let (numbers, rest) = u16_at(rest)?;
+    let (slots, rest) = u16_at(rest)?;
+    let (instructions, rest) = u16_at(rest)?;
+    let heading = Heading {
+        texts,
+        numbers,
+        slots,
+        instructions,
+    };
+    Ok((heading, rest))
+}
+
+fn texts_of(alloc: Global, count: u16, octets: &[u8]) -> Result<(Vec<Vec<u8>>, &[u8]), FormFault>
+    ensures { Gives (λ x. (map (λ t. t.items) x.0.items, x.1.now)) result (many_at text_at count octets.now) }
+{
+    let mut texts = Vec::new(alloc);
+    let mut rest = octets;
+    for _ in 0..count {
+        let (text, after) = text_of(alloc, rest)?;
+        texts.push(text)?;
+        rest = after;
+    }
+    Ok((texts, rest))
+}
+
+fn numbers_of(alloc: Global, count: u16, octets: &[u8]) -> Result<(Vec<u64>, &[u8]), FormFault>
+    ensures { Gives (λ x. (x.0.items, x.1.now)) result (many_at (number_at w64) count octets.now) }
+{
+    let mut numbers = Vec::new(alloc);
+    let mut rest = octets;
+    for _ in 0..count {
+        let (number, after) = u64_at(rest)?;
+        numbers.push(number)?;
+        rest = after;
+    }
+    Ok((numbers, rest))
+}
+
+fn instructions_of(
+    alloc: Global,
+    count: u16,
+    octets: &[u8],
+) -> Result<(Vec<Instruction>, &[u8]), FormFault>
+    ensures { Gives (λ x. (x.0.items, x.1.now)) result (many_at instruction_at count octets.now) }
+{
+    let mut instructions = Vec::new(alloc);
+    let mut rest = octets;
+    for _ in 0..count {
+        let (instruction, after) = instruction_of(rest)?;
+        instructions.push(instruction)?;
+        rest = after;
+    }
+    Ok((instructions, rest))
+}
+
+#[tactic(auto, unfolding(crate::specs::Reading::text_at))]
+fn text_of(alloc: Global, octets: &[u8]) -> Result<(Vec<u8>, &[u8]), FormFault>
+    ensures { Gives (λ x. (x.0.items, x.1.now)) result (text_at octets.now) }
+{
+    let (len, rest) = u16_at(octets)?;
+    let len = len as usize;
+    if rest.len() < len {
+        return Err(FormFault::BadForm);
+    }
+    let (text, rest) = rest.split_at(len);
+    Ok((Vec::from_slice(alloc, text)?, rest))
+}
+
+#[tactic(auto, unfolding(crate::specs::Reading::instruction_at))]
+fn instruction_of(octets: &[u8]) -> Result<(Instruction, &[u8]), FormFault>
+    ensures { Gives (λ x. (x.0, x.1.now)) result (instruction_at octets.now) }
+{
+    let (op, rest) = u8_at(octets)?;
+    let (a, rest) = u8_at(rest)?;
+    let (b, rest) = u16_at(rest)?;
+    Ok((Instruction { op, a, b }, rest))
+}
+
+fn u8_at(octets: &[u8]) -> Result<(u8, &[u8]), FormFault>
+    ensures { Gives (λ x. (x.0, x.1.now)) result (number_at w8 octets.now) }
+{
+    if octets.len() < 1 {
+        return Err(FormFault::BadForm);
+    }
+    let (front, rest) = octets.split_at(1);
+    Ok((u8::from_be_bytes([front[0]]), rest))
+}
+
+fn u16_at(octets: &[u8]) -> Result<(u16, &[u8]), FormFault>
+    ensures { Gives (λ x. (x.0, x.1.now)) result (number_at w16 octets.now) }
+{
+    if octets.len() < 2 {
+        return Err(FormFault::BadForm);
+    }
+    let (front, rest) = octets.split_at(2);
+    Ok((u16::from_be_bytes([front[0], front[1]]), rest))
+}
+
+fn u32_at(octets: &[u8]) -> Result<(u32, &[u8]), FormFault>
+    ensures { Gives (λ x. (x.0, x.1.now)) result (number_at w32 octets.now) }
+{
+    if octets.len() < 4 {
+        return Err(FormFault::BadForm);
+    }
+    let (front, rest) = octets.split_at(4);
+    let number = u32::from_be_bytes([front[0], front[1], front[2], front[3]]);
+    Ok((number, rest))
+}
+
+fn u64_at(octets: &[u8]) -> Result<(u64, &[u8]), FormFault>
+    ensures { Gives (λ x. (x.0, x.1.now)) result (number_at w64 octets.now) }
+{
+    if octets.len() < 8 {
+        return Err(FormFault::BadForm);
+    }
+    let (front, rest) = octets.split_at(8);
+    let number = u64::from_be_bytes([
+        front[0], front[1], front[2], front[3], front[4], front[5], front[6], front[7],
+    ]);
+    Ok((number, rest))
+}

@@ -1,0 +1,84 @@
+//! Images as text, for people and for tests.
+
+use crate::image::Image;
+use crate::instruction::Operation;
+use std::fmt;
+
+impl fmt::Display for Image {
+    /// A line for each instruction: its place, its name and its operands, with the text in quotes or the number in
+    /// place of the operand that names it, as `0 VALUES "subject"`.
+    fn fmt<W: fmt::Write>(&self, f: &mut fmt::Formatter<W>) -> fmt::Result {
+        for (place, operation) in self.code().iter().enumerate() {
+            write!(f, "{place} ")?;
+            f.write_str(name(*operation))?;
+            show_operands(self, *operation, f)?;
+            f.write_str("\n")?;
+        }
+        Ok(())
+    }
+}
+
+fn name(operation: Operation) -> &'static str {
+    match operation {
+        Operation::PushTrue => "TRUE",
+        Operation::PushFalse => "FALSE",
+        Operation::Not => "NOT",
+        Operation::Values(_) => "VALUES",
+        Operation::Join => "JOIN",
+        Operation::Match(_, _) => "MATCH",
+        Operation::Pop => "DROP",
+        Operation::Exists(_) => "EXISTS",
+        Operation::Size => "SIZE",
+        Operation::Number(_) => "NUM",
+        Operation::Less => "LESS",
+        Operation::Jump(_) => "JUMP",
+        Operation::JumpIf(_) => "JUMPT",
+        Operation::JumpUnless(_) => "JUMPF",
+        Operation::Marked(_) => "MARKED",
+        Operation::Mark(_) => "MARK",
+        Operation::File(_, _) => "FILE",
+        Operation::Keep => "KEEP",
+        Operation::Discard => "DISCARD",
+        Operation::Stop => "STOP",
+        Operation::Fault(_) => "FAULT",
+    }
+}
+
+fn show_operands<W: fmt::Write>(
+    image: &Image,
+    operation: Operation,
+    f: &mut fmt::Formatter<W>,
+) -> fmt::Result {
+    match operation {
+        Operation::Values(b) | Operation::Exists(b) => show_text(image, b, f),
+        Operation::Match(a, b) | Operation::File(a, b) => {
+            write!(f, " {a}")?;
+            show_text(image, b, f)
+        }
+        Operation::Number(b) => show_number(image, b, f),
+        Operation::Jump(b)
+        | Operation::JumpIf(b)
+        | Operation::JumpUnless(b)
+        | Operation::Marked(b)
+        | Operation::Mark(b) => write!(f, " {b}"),
+        Operation::Fault(a) => write!(f, " {a}"),
+        _ => Ok(()),
+    }
+}
+
+/// The text at a place, or the place where no text is there.
+fn show_text<W: fmt::Write>(image: &Image, place: u16, f: &mut fmt::Formatter<W>) -> fmt::Result {
+    if place as usize >= image.text_count() {
+        return write!(f, " text {place}");
+    }
+    let octets = image.text(place as usize).escape_ascii();
+    write!(f, " \"{octets}\"")
+}
+
+/// The number at a place, or the place where no number is there.
+fn show_number<W: fmt::Write>(image: &Image, place: u16, f: &mut fmt::Formatter<W>) -> fmt::Result {
+    match image.numbers().get(place as usize) {
+        Some(number) => write!(f, " {number}"),
+        None => write!(f, " number {place}"),
+    }
+}

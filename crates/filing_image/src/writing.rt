@@ -1,0 +1,96 @@
+//! Images as octets.
+
+ghost use Rattle.std.specs.Prelude.{◌≡◌, ◌<◌, ◌^◌, ◌++◌, length, map, All, OnOk, IfOk};
+ghost use Rattle.std.specs.List.{flat_map};
+ghost use Rattle.std.specs.Int.{w16, w32, w64, to_be_bytes};
+ghost use Rattle.filing_image.specs.Program.{parts, instruction_of};
+ghost use Rattle.filing_image.specs.Spelling.{spelling, mark, text, instruction, Fits};
+
+use crate::image::Image;
+use crate::instruction::{Instruction, Operation};
+use std::alloc::{AllocError, Global};
+
+/// The octets that begin each image.
+const MARK: [u8; 4] = [0x53, 0x46, 0x49, 0x31];
+
+/// The one spelling of an image: `decode` of it answers this image. Time and memory are linear in its length.
+pub fn encode(alloc: Global, image: &Image) -> Result<Vec<u8>, AllocError>
+    ensures spelled { IfOk result (λ v. v.items ≡ spelling (parts image.now)) }
+    // Each part fits its octets.
+    ensures fits { Fits (parts image.now) }
+{
+    image.fits();
+    let mut out = Vec::new(alloc);
+    out.extend_from_slice(&MARK)?;
+    out.extend_from_slice(&image.budget().to_be_bytes())?;
+    put_counts(&mut out, image)?;
+    put_texts(&mut out, image.texts())?;
+    put_numbers(&mut out, image.numbers())?;
+    put_code(&mut out, image.code())?;
+    Ok(out)
+}
+
+/// How many texts, numbers, slots and instructions there are.
+fn put_counts(out: &mut Vec<u8>, image: &Image) -> Result<(), AllocError>
+    ensures { OnOk result (out.new.items ≡ out.old.items ++ (to_be_bytes w16 (length image.now.texts) ++ (to_be_bytes w16 (length image.now.numbers) ++ (to_be_bytes w16 image.now.slots ++ to_be_bytes w16 (length image.now.code))))) }
+{
+    put_u16(out, image.text_count() as u16)?;
+    put_u16(out, image.numbers().len() as u16)?;
+    put_u16(out, image.slots())?;
+    put_u16(out, image.code().len() as u16)?;
+    Ok(())
+}
+
+fn put_u16(out: &mut Vec<u8>, number: u16) -> Result<(), AllocError>
+    ensures { OnOk result (out.new.items ≡ out.old.items ++ to_be_bytes w16 number) }
+{
+    out.extend_from_slice(&number.to_be_bytes())?;
+    Ok(())
+}
+
+fn put_texts(out: &mut Vec<u8>, texts: &[Vec<u8>]) -> Result<(), AllocError>
+    requires { All (λ t. length t.items < 2 ^ 16) texts.now }
+    ensures { OnOk result (out.new.items ≡ out.old.items ++ flat_map text (map (λ t. t.items) texts.now)) }
+{
+    for octets in texts {
+        put_text(out, octets)?;
+    }
+    Ok(())
+}
+
+fn put_text(out: &mut Vec<u8>, octets: &[u8]) -> Result<(), AllocError>
+    requires { length octets.now < 2 ^ 16 }
+    ensures { OnOk result (out.new.items ≡ out.old.items ++ text octets.now) }
+{
+    put_u16(out, octets.len() as u16)?;
+    out.extend_from_slice(octets)?;
+    Ok(())
+}
+
+fn put_numbers(out: &mut Vec<u8>, numbers: &[u64]) -> Result<(), AllocError>
+    ensures { OnOk result (out.new.items ≡ out.old.items ++ flat_map (to_be_bytes w64) numbers.now) }
+{
+    for number in numbers {
+        out.extend_from_slice(&number.to_be_bytes())?;
+    }
+    Ok(())
+}
+
+fn put_code(out: &mut Vec<u8>, code: &[Operation]) -> Result<(), AllocError>
+    ensures { OnOk result (out.new.items ≡ out.old.items ++ flat_map instruction (map instruction_of code.now)) }
+{
+    for operation in code {
+        put_instruction(out, operation.instruction())?;
+    }
+    Ok(())
+}
+
+fn put_instruction(out: &mut Vec<u8>, written: Instruction) -> Result<(), AllocError>
+    ensures { OnOk result (out.new.items ≡ out.old.items ++ instruction written) }
+{
+    let Instruction { op, a, b } = written;
+    out.extend_from_slice(&op.to_be_bytes())?;
+    out.extend_from_slice(&a.to_be_bytes())?;
+    put_u16(out, b)?;
+    Ok(())
+}
