@@ -1,0 +1,6 @@
+//! Runs verified filing programs on messages.
+#![tactic(auto)]
+
+mod case;
+
+pub use case::Case;
