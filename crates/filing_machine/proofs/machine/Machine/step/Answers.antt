@@ -1,4 +1,5 @@
 use Rattle.std.proofs.Common.{◌≡◌, ◌<◌, ◌≤◌, ◌+◌, ◌∙◌, ℕ, length, sym, ap, subst, arith, get_or, add-one}
+use Rattle.std.proofs.lemmas.Bool.{false≢true}
 use Rattle.filing_image.specs.declared.instruction.Operation.TheVariants.{PushTrue}
 use Rattle.filing_table.specs.Machine.{after_steps, step, act, Trap}
 use Rattle.filing_machine.specs.Seen.{state, run_at, IsModest}
@@ -114,4 +115,4 @@ returns-in_err-self-inside-clause-modest g c =
     λ modest.
         let there : IsModestAt p c.self.inside.at.place = subst (IsModestAt p) (sym (ap (λ (m : Stored). m.at.place) c.self.view_is)) modest in
         let here : IsModest (get_or p.code c.self.inside.at.place PushTrue) = modest_here p c.self.inside.at.place r.within there in
-        absurd (c.in_err-self-inside.ensures.modest (rw code-is here))
+        absurd (false≢true (c.in_err-self-inside.ensures.modest (rw code-is here)))
