@@ -1,6 +1,6 @@
 //! Sets of class paths.
 
-ghost use Rattle.std.specs.Prelude.{◌≡◌, [], ◌≤◌, length, insert, IfNone, IfSome, OnOk, OnErr};
+ghost use Rattle.std.specs.Prelude.{◌≡◌, [], ◌≤◌, length, insert, IfNone, IfSome, IfOk, OnOk, OnErr};
 ghost use Rattle.sieve_meaning.specs.Paths.{insert_path};
 
 use sieve_syntax::Text;
@@ -37,6 +37,17 @@ fn missing_place(items: &[Text], path: &[u8]) -> Option<usize>
     Some(items.len())
 }
 
+/// The same texts again.
+fn copies(alloc: Global, items: &[Text]) -> Result<Vec<Text>, AllocError>
+    ensures { IfOk result (λ v. v.items ≡ items.now) }
+{
+    let mut copied = Vec::with_capacity(alloc, items.len())?;
+    for item in items {
+        copied.push(item.copy(alloc)?)?;
+    }
+    Ok(copied)
+}
+
 impl Paths {
     /// No path; takes no memory.
     pub fn new(alloc: Global) -> Paths
@@ -58,6 +69,15 @@ impl Paths {
         let path = Text::from_vec(Vec::from_slice(alloc, path)?);
         self.items.insert(at, path)?;
         Ok(())
+    }
+
+    /// The same set again; the only error is want of memory. Time and memory are linear in the octets of the paths.
+    pub fn copy(&self, alloc: Global) -> Result<Paths, AllocError>
+        ensures { IfOk result (λ p. p ≡ self.now) }
+    {
+        Ok(Paths {
+            items: copies(alloc, self.items.as_slice())?,
+        })
     }
 
     /// The paths in byte order.

@@ -1,0 +1,54 @@
+-- A machine's state as the table machine has it.
+use Rattle.std.specs.Prelude.{ℕ, ◌<◌, ◌+◌, List, ◌∷◌, ◌++◌, map, All, Option, Some, None, length}
+use Rattle.filing_image.specs.declared.instruction.Operation.{Operation}
+use Rattle.filing_image.specs.declared.instruction.Operation.TheVariants.{Values, Join, File}
+use Rattle.sieve_meaning.specs.Case.{Facts}
+use Rattle.filing_table.specs.Machine.{Entry, T, L, N, State, Run, At, Over}
+use Rattle.filing_machine.specs.declared.state.Item.{Item}
+use Rattle.filing_machine.specs.declared.state.Item.TheVariants.{Truth, Fields, Count}
+use Rattle.filing_machine.specs.declared.state.Standing.{Standing}
+use Rattle.filing_machine.specs.Fields.{field_at}
+
+-- an item of the stack: a list of fields stands for the list of their values
+abbrev pub entry : Facts → Item → Entry
+entry c (Truth b) = T b
+entry c (Fields places) = L (map (λ place. (field_at c place).value) places)
+entry c (Count n) = N n
+
+abbrev pub state : Facts → Standing → State
+state c s = record {
+  place = s.place;
+  stack = map (entry c) s.stack;
+  filed = s.filed;
+  kept = s.kept;
+  cancelled = s.cancelled;
+  marks = s.marks;
+}
+
+-- before an instruction, or at the end with or without a fault
+abbrev pub run_at : Option (Option ℕ) → State → Run
+run_at None s = At s
+run_at (Some fault) s = Over fault s
+
+-- places of fields that the case has
+abbrev pub InCase : Facts → Item → Type 0
+InCase c (Truth b) = Unit {0}
+InCase c (Fields places) = All (λ place. place < length c.fields) places
+InCase c (Count n) = Unit {0}
+
+-- operations that take no memory
+abbrev pub IsModest : Operation → Type 0
+IsModest (Values b) = ⊥
+IsModest Join = ⊥
+IsModest (File a b) = ⊥
+IsModest _ = Unit {0}
+
+-- two lists on the top
+abbrev pub HasTwo : List Item → Type 0
+HasTwo (Fields ys ∷ Fields xs ∷ items) = Unit {0}
+HasTwo _ = ⊥
+
+-- the state with one list in their place
+abbrev pub joined : State → List Entry → State
+joined s (L ys ∷ L xs ∷ es) = record s { place = s.place + 1; stack = L (xs ++ ys) ∷ es }
+joined s _ = s

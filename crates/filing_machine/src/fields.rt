@@ -1,0 +1,99 @@
+//! Fields by name, and whether their values match a key.
+
+ghost use Rattle.std.specs.Prelude.{◌≡◌, ◌<◌, length, map, All, IfOk};
+ghost use Rattle.std.specs.List.{list_any};
+ghost use Rattle.sieve_meaning.specs.Truth.{has_field as has_field_of};
+ghost use Rattle.sieve_meaning.specs.Matching.{key_matches as key_matches_by};
+ghost use Rattle.filing_table.specs.Machine.{values_of, compared};
+ghost use Rattle.filing_machine.specs.Fields.{field_at};
+
+use crate::case::Case;
+use crate::places::FieldPlaces;
+use sieve_match::{Comparator, MatchType, key_matches};
+use std::alloc::{AllocError, Global};
+
+/// Whether a field of this name is there.
+pub fn has_field<C: Case>(case: &C, name: &[u8]) -> bool
+    ensures { result ≡ has_field_of (C.facts case.now) name.now }
+{
+    for field in 0..case.field_count() {
+        if case.is_named(field, name) {
+            return true;
+        }
+    }
+    false
+}
+
+/// The places of the fields of this name, in the order of the message.
+fn places_named<C: Case>(
+    alloc: Global,
+    case: &C,
+    name: &[u8],
+) -> Result<Vec<usize>, AllocError>
+    ensures values { IfOk result (λ v. map (λ place. (field_at (C.facts case.now) place).value) v.items ≡ values_of (C.facts case.now) name.now) }
+    ensures in_case { IfOk result (λ v. All (λ place. place < length (C.facts case.now).fields) v.items) }
+{
+    let mut fields = Vec::new(alloc);
+    for field in 0..case.field_count() {
+        if case.is_named(field, name) {
+            fields.push(field)?;
+        }
+    }
+    Ok(fields)
+}
+
+/// The fields of this name, in the order of the message.
+pub fn fields_named<C: Case>(
+    alloc: Global,
+    case: &C,
+    name: &[u8],
+) -> Result<FieldPlaces, AllocError>
+    ensures values { IfOk result (λ v. map (λ place. (field_at (C.facts case.now) place).value) v ≡ values_of (C.facts case.now) name.now) }
+    ensures in_case { IfOk result (λ v. All (λ place. place < length (C.facts case.now).fields) v) }
+{
+    let places = places_named(alloc, case, name)?;
+    Ok(FieldPlaces::from_vec(places))
+}
+
+/// Whether the value of one of the fields matches a key, by the number of the comparison: 0 `:is`, 2 `:contains`, 4
+/// `:matches` under `i;octet`, and one more for the same under `i;ascii-casemap`.
+pub fn any_matches<C: Case>(case: &C, fields: &FieldPlaces, comparison: u8, key: &[u8]) -> bool
+    requires { All (λ place. place < length (C.facts case.now).fields) fields.now }
+    ensures { result ≡ list_any (compared comparison key.now) (map (λ place. (field_at (C.facts case.now) place).value) fields.now) }
+{
+    let (match_type, comparator) = comparison_of(comparison);
+    any_value_matches(case, fields.as_slice(), match_type, comparator, key)
+}
+
+/// Whether the value of one of the fields matches a key.
+fn any_value_matches<C: Case>(
+    case: &C,
+    fields: &[usize],
+    match_type: MatchType,
+    comparator: Comparator,
+    key: &[u8],
+) -> bool
+    requires { All (λ place. place < length (C.facts case.now).fields) fields.now }
+    ensures { result ≡ list_any (key_matches_by match_type comparator key.now) (map (λ place. (field_at (C.facts case.now) place).value) fields.now) }
+{
+    for place in fields {
+        if key_matches(match_type, key, case.value(*place), comparator) {
+            return true;
+        }
+    }
+    false
+}
+
+/// The comparison of a number, the same for each number from 5 on.
+fn comparison_of(comparison: u8) -> (MatchType, Comparator)
+    ensures { compared comparison ≡ key_matches_by result.0 result.1 }
+{
+    match comparison {
+        0 => (MatchType::Is, Comparator::Octet),
+        1 => (MatchType::Is, Comparator::Casemap),
+        2 => (MatchType::Contains, Comparator::Octet),
+        3 => (MatchType::Contains, Comparator::Casemap),
+        4 => (MatchType::Matches, Comparator::Octet),
+        _ => (MatchType::Matches, Comparator::Casemap),
+    }
+}

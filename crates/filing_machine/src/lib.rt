@@ -1,0 +1,21 @@
+//! Runs verified filing programs on messages.
+//!
+//! A `Case` is what a run can learn of a message. A `Machine` makes one step of a run at a time, and `run` makes them
+//! all; both do what the table machine of `filing_table` does, instruction by instruction. No run of a verified program
+//! goes wrong, and each ends within its budget: `laws` has that of the table machine itself.
+#![tactic(auto)]
+
+mod act;
+mod case;
+mod fields;
+mod laws;
+mod machine;
+mod outcome;
+mod places;
+mod stack;
+mod state;
+
+pub use case::Case;
+pub use laws::every_run_ends;
+pub use machine::{Machine, run};
+pub use outcome::Outcome;

@@ -1,0 +1,129 @@
+//! The machine.
+
+ghost use Rattle.std.specs.Prelude.{◌≡◌, ◌≤◌, ◌+◌, IfOk, IsOk, OnErr, OnOk, None, is_some, true};
+ghost use Rattle.filing_image.specs.Program.{Program};
+ghost use Rattle.sieve_meaning.specs.Case.{Facts};
+ghost use Rattle.filing_table.specs.Machine.{At, step, start};
+ghost use Rattle.filing_table.specs.Ends.{HasOutcome};
+ghost use Rattle.filing_machine.specs.Runs.{seen, Stands, IsModestAt, answer, Leaves};
+
+use crate::act::act;
+use crate::case::Case;
+use crate::outcome::{Outcome, captured_classes};
+use crate::stack::Stack;
+use crate::state::Standing;
+use filing_verify::Verified;
+use sieve_meaning::Paths;
+use std::alloc::{AllocError, Global};
+use std::marker::Model;
+
+/// A run of a verified program. Contracts see its state, the end of the run where it has ended, and its steps so far.
+#[derive(Drop)]
+pub struct Machine {
+    alloc: Global,
+    at: Standing,
+    end: Option<Option<u8>>,
+    steps: u64,
+}
+
+impl Model for Machine {
+    ghost use Rattle.filing_machine.specs.Runs.{Stored};
+
+    ghost Value = { Stored };
+
+    ghost view = { λ m. record { at = m.at; end = m.end; steps = m.steps } };
+}
+
+impl Machine {
+    /// A machine before the first instruction of a program, with nothing done. It reserves the whole stack; the only
+    /// error is want of memory.
+    pub fn start(alloc: Global, _program: &Verified) -> Result<Machine, AllocError>
+        ensures start { IfOk result (λ m. (c : Facts) → seen c m ≡ At start) }
+        ensures fresh { IfOk result (λ m. m.steps ≡ 0) }
+        ensures running { IfOk result (λ m. m.end ≡ None) }
+        ensures stands { IfOk result (λ m. (c : Facts) → Stands _program.now c m) }
+    {
+        let stack = Stack::new(alloc)?;
+        let at = Standing {
+            place: 0,
+            stack,
+            filed: Paths::new(alloc),
+            kept: false,
+            cancelled: false,
+            marks: [false; 64],
+        };
+        Ok(Machine {
+            alloc,
+            at,
+            end: None,
+            steps: 0,
+        })
+    }
+
+    /// One step of the run. The caller sees to it that the machine has not ended, and that it stands in the run of this
+    /// program in this case, as after `start` and steps with these two. The only error is want of memory, which comes
+    /// at VALUES, JOIN and FILE alone, and the machine is then as before.
+    pub fn step<C: Case>(&mut self, program: &Verified, case: &C) -> Result<(), AllocError>
+        requires running { self.old.end ≡ None }
+        requires stands { Stands program.now (C.facts case.now) self.old }
+        ensures stands { Stands program.now (C.facts case.now) self.new }
+        ensures step { OnOk result (seen (C.facts case.now) self.new ≡ step program.now (C.facts case.now) (seen (C.facts case.now) self.old)) }
+        ensures count { OnOk result (self.new.steps ≡ self.old.steps + 1) }
+        ensures budget { self.new.steps ≤ program.now.budget }
+        ensures err { OnErr result (self.new ≡ self.old) }
+        ensures modest { IsModestAt program.now self.old.at.place → IsOk result }
+    {
+        let image = program.image();
+        let operation = image.code()[self.at.place];
+        self.end = act(self.alloc, operation, image, case, &mut self.at)?;
+        self.steps += 1;
+        Ok(())
+    }
+
+    /// Whether the run has ended.
+    pub fn is_ended(&self) -> bool
+        ensures { result ≡ is_some self.now.end }
+    {
+        self.end.is_some()
+    }
+
+    /// How many steps the run has made.
+    pub fn steps_done(&self) -> u64
+        ensures { result ≡ self.now.steps }
+    {
+        self.steps
+    }
+
+    /// What the run captured, and its length. The caller sees to it that the machine has ended. The only error is want
+    /// of memory.
+    pub fn outcome(&self) -> Result<Outcome, AllocError>
+        requires { is_some self.now.end ≡ true }
+        ensures leaves { IfOk result (λ o. Leaves self.now (answer o)) }
+        ensures steps { IfOk result (λ o. o.steps ≡ self.now.steps) }
+        ensures of_run { IfOk result (λ o. (p : Program) (c : Facts) → Stands p c self.now → HasOutcome p c o.steps (answer o)) }
+    {
+        let Some(fault) = self.end else {
+            unreachable!()
+        };
+        let classes = captured_classes(self.alloc, fault, &self.at)?;
+        Ok(Outcome {
+            classes,
+            fault,
+            steps: self.steps,
+        })
+    }
+}
+
+/// Runs a program in a case to its end: what the run captures, and its length, which is within the budget. The only
+/// error is want of memory.
+pub fn run<C: Case>(alloc: Global, program: &Verified, case: &C) -> Result<Outcome, AllocError>
+    ensures outcome { IfOk result (λ o. HasOutcome program.now (C.facts case.now) o.steps (answer o)) }
+    ensures budget { IfOk result (λ o. o.steps ≤ program.now.budget) }
+{
+    let mut machine = Machine::start(alloc, program)?;
+    while !machine.is_ended() {
+        machine.step(program, case)?;
+    }
+    let outcome = machine.outcome()?;
+    Ok(outcome)
+}

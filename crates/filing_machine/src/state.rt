@@ -1,0 +1,28 @@
+//! Where a machine stands.
+
+use crate::places::FieldPlaces;
+use crate::stack::Stack;
+use sieve_meaning::Paths;
+
+/// An item of the stack. A list of values is kept as the places of its fields.
+#[derive(Drop)]
+pub enum Item {
+    Truth(bool),
+    Fields(FieldPlaces),
+    Count(u64),
+}
+
+/// What a run has done so far.
+#[derive(Drop)]
+pub struct Standing {
+    /// The place of the next instruction.
+    pub place: usize,
+    pub stack: Stack,
+    /// The classes that the message was filed into.
+    pub filed: Paths,
+    pub kept: bool,
+    /// Whether the implicit keep is cancelled.
+    pub cancelled: bool,
+    /// Which slots are set.
+    pub marks: [bool; 64],
+}
