@@ -2,5 +2,8 @@
 #![tactic(auto)]
 
 mod case;
+mod values;
+mod whole;
 
 pub use case::Case;
+pub use whole::WholeCase;
