@@ -1,3 +1,4 @@
 pub mod Sound
 pub mod Ready
 pub mod Ends
+pub mod PathLemmas

@@ -1,3 +1,5 @@
 pub mod Fields
 pub mod Seen
 pub mod Runs
+pub mod Message
+pub mod Views

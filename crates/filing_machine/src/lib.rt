@@ -14,8 +14,11 @@ mod outcome;
 mod places;
 mod stack;
 mod state;
+mod values;
+mod whole;
 
 pub use case::Case;
 pub use laws::every_run_ends;
 pub use machine::{Machine, run};
 pub use outcome::Outcome;
+pub use whole::WholeCase;

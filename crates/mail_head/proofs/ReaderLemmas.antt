@@ -97,3 +97,10 @@ pub fed_ended : (r s : Reader) (message piece : List ℕ) (n : ℕ) → r ≡ re
 fed_ended r s message piece n e long en kept size refuses =
     let other : length (header_octets message) ≢ length message = λ same. long (ap (λ x. length x.kept) e ∙ same ∙ sym (ap (λ x. x.size) e)) in
     reader_is s (header_octets (message ++ piece)) (length (message ++ piece)) false (kept ∙ ap (λ x. x.kept) e ∙ sym (header_octets_ended message piece other)) (size ∙ omega (arith, ap (λ x. x.size) e, en, length-append message piece)) (refuses ∙ ap (λ x. x.refuses) e)
+
+-- the header so far, with the count of all octets that were fed
+pub head_so_far : (h : List (List ℕ × List ℕ) × ℕ) (r : Reader) (n : ℕ) (message : List ℕ) → r ≡ reader_of message → h.0 ≡ fields_of r.kept → n ≡ r.size → h.1 ≡ n → h ≡ (fields_of message, length message)
+head_so_far h r n message e ef en es =
+    let fields : h.0 ≡ fields_of message = ef ∙ ap (λ x. fields_of x.kept) e ∙ fields_of-kept message in
+    let size : h.1 ≡ length message = es ∙ en ∙ ap (λ x. x.size) e in
+    rw (← fields, ← size) refl

@@ -8,6 +8,7 @@ ghost use Rattle.mail_head.specs.Pieces.{header_octets, reader_of};
 use crate::fields::FieldPlace;
 use crate::owned::PieceHead;
 use crate::parts::{HeaderPart, header_part, line_end_count};
+use crate::reading::{Head, read_head};
 use std::alloc::{AllocError, Global};
 use std::marker::Model;
 use thiserror::Error;
@@ -91,6 +92,19 @@ impl HeadReader {
         }
         self.size += len;
         Ok(())
+    }
+
+    /// The header of the message that was fed so far, as slices of what the reader keeps; the reader stays as it is.
+    /// `TooLong` (1) comes only where a `feed` answered it, and then before any want of memory (`NoMemory`, 99).
+    pub fn head(&self, alloc: Global) -> Result<Head<'_>, HeadFault>
+        ensures head { (message : List ℕ) → self.now ≡ reader_of message → IfOk result (λ h. h ≡ (fields_of message, length message)) }
+        ensures too_long { IsErrOf result HeadFault.TooLong ↔ IsTrue self.now.refuses }
+    {
+        if !self.refuses {
+            let head = read_head(alloc, self.kept.as_slice())?;
+            return Ok(head.with_size(self.size));
+        }
+        Err(HeadFault::TooLong)
     }
 
     /// The header of the message that was fed. It takes no memory, and `TooLong` (1) comes only where a `feed`

@@ -37,6 +37,16 @@ impl<'a> Head<'a> {
     {
         self.size
     }
+
+    /// The same fields, of a message of so many octets.
+    pub(crate) fn with_size(self, size: u64) -> Head<'a>
+        ensures { result ≡ (self.entry.0, size) }
+    {
+        Head {
+            fields: self.fields,
+            size,
+        }
+    }
 }
 
 /// The header of a message: the fields of RFC 5322, section 2.2, read leniently, in order, as slices of `msg`, and
