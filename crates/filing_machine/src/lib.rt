@@ -2,8 +2,10 @@
 #![tactic(auto)]
 
 mod case;
+mod pieces;
 mod values;
 mod whole;
 
 pub use case::Case;
+pub use pieces::PieceCase;
 pub use whole::WholeCase;
