@@ -7,6 +7,7 @@ ghost use Rattle.filing_desk.specs.Case.{case_of, facts_of};
 use class_plan::Plan;
 use mail_head::read_head;
 use mail_words::value_of;
+use sieve_meaning::is_word;
 use std::alloc::{AllocError, Global};
 
 /// A field of the header with its value.

@@ -212,7 +212,7 @@ impl Desk {
     {
         match judge_image(self.alloc, image) {
             Ok(_) => DeskFault::MessageTooLong,
-            Err(fault) => fault,
+            Err(refusal) => refusal,
         }
     }
 

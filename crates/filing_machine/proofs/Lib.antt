@@ -1,4 +1,5 @@
 pub mod Sound
 pub mod Ready
 pub mod Ends
+pub mod Feeding
 pub mod PathLemmas

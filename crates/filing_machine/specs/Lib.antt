@@ -2,4 +2,5 @@ pub mod Fields
 pub mod Seen
 pub mod Runs
 pub mod Message
+pub mod Pieces
 pub mod Views

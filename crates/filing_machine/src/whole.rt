@@ -1,16 +1,21 @@
-//! A message that is at hand as a whole.
+//! A message and the open classes, as a run asks for them.
 
-ghost use Rattle.std.specs.Prelude.{◌≡◌, ◌≤◌, length, IfOk};
+ghost use Rattle.std.specs.Prelude.{◌≡◌, ◌≢◌, ◌≤◌, length, map, IfOk};
+ghost use Rattle.mail_head.specs.Pieces.{reader_of};
+ghost use Rattle.mail_head.specs.declared.pieces.HeadFault.TheVariants.{TooLong};
 ghost use Rattle.filing_machine.specs.Message.{case_of, facts_of, is_among};
-ghost use Rattle.filing_machine.specs.Views.{paths_in};
+ghost use Rattle.filing_machine.specs.Views.{paths_in, shown};
 
 use crate::case::Case;
-use crate::values::{NamedValue, named_values};
-use mail_head::read_head;
+use crate::values::{NamedValue, read_values};
+use mail_head::{HeadFault, HeadReader, MOST_OCTETS};
 use sieve_meaning::is_word;
 use std::alloc::{AllocError, Global};
 use std::collections::BTreeSet;
 use std::marker::Model;
+
+/// How many octets of a message that is at hand are read at a time.
+const PIECE: usize = 4096;
 
 /// A message and the open classes. It owns the names and the values of the header's fields, and nothing of the body.
 #[derive(Drop)]
@@ -31,7 +36,44 @@ impl Model for WholeCase {
     ghost view = { λ c. record { size = c.size; fields = map shown c.fields.items; paths = paths_in c.paths } };
 }
 
+/// A reader that was fed a message.
+fn fed_reader(alloc: Global, msg: &[u8]) -> Result<HeadReader, HeadFault>
+    ensures fed { IfOk result (λ r. r ≡ reader_of msg.now) }
+    ensures within { length msg.now ≤ MOST_OCTETS → result ≢ Err TooLong }
+{
+    let mut reader = HeadReader::new(alloc);
+    for piece in msg.chunks(PIECE) {
+        reader.feed(piece)?;
+    }
+    Ok(reader)
+}
+
+/// The want of memory that a fault is which isn't of a message's length.
+fn want_of_memory(fault: HeadFault) -> AllocError
+    requires { fault ≢ TooLong }
+{
+    match fault {
+        HeadFault::NoMemory => AllocError,
+        HeadFault::TooLong => unreachable!(),
+    }
+}
+
 impl WholeCase {
+    /// The case that keeps these parts.
+    pub(crate) fn from_parts(
+        size: u64,
+        fields: Vec<NamedValue>,
+        paths: BTreeSet<Vec<u8>>,
+    ) -> WholeCase
+        ensures { result ≡ record { size = size; fields = map shown fields.items; paths = paths_in paths } }
+    {
+        WholeCase {
+            size,
+            fields,
+            paths,
+        }
+    }
+
     /// The case of a message of at most 8,388,608 octets, which the caller keeps, and of the paths that are open. Its
     /// fields are those of the header (RFC 5322, section 2.2), in order, each with the value of its body; each value is
     /// decoded once, here. The only error is want of memory.
@@ -43,13 +85,18 @@ impl WholeCase {
         requires { length msg.now ≤ 8388608 }
         ensures { IfOk result (λ c. facts_of c ≡ case_of msg.now (is_among (paths_in paths))) }
     {
-        let head = read_head(alloc, msg)?;
-        let fields = named_values(alloc, head.fields())?;
-        Ok(WholeCase {
-            size: head.size(),
-            fields,
-            paths,
-        })
+        let reader = match fed_reader(alloc, msg) {
+            Ok(reader) => reader,
+            Err(fault) => return Err(want_of_memory(fault)),
+        };
+        match read_values(alloc, &reader) {
+            Ok((fields, size)) => Ok(WholeCase {
+                size,
+                fields,
+                paths,
+            }),
+            Err(fault) => Err(want_of_memory(fault)),
+        }
     }
 }
 

@@ -1,0 +1,12 @@
+-- A case whose message comes in pieces.
+use Rattle.std.specs.Prelude.{ℕ, List}
+use Rattle.mail_head.specs.Pieces.{Reader, reader_of}
+
+-- the reader of the header, and the paths that are open
+pub record Coming : Type 0 where
+  pub reader : Reader
+  pub paths : List (List ℕ)
+
+-- what came so far is this message
+abbrev pub coming : List ℕ → List (List ℕ) → Coming
+coming message paths = record { reader = reader_of message; paths = paths }
