@@ -112,7 +112,7 @@ fn read_two_lengths(mut words: Words<'_>) -> Option<(u32, u32)>
 
 /// What `FILE` asks with the words after it.
 fn read_file<'a>(words: Words<'a>) -> Request<'a>
-    ensures { asked_as result ≡ file_of (words_left words) }
+    ensures { asked_as result ≡ file_of (words_left words.entry) }
 {
     match read_two_lengths(words) {
         Some((script, message)) => Request::File { script, message },
@@ -122,7 +122,7 @@ fn read_file<'a>(words: Words<'a>) -> Request<'a>
 
 /// What `TRY` asks with the words after it.
 fn read_try<'a>(words: Words<'a>) -> Request<'a>
-    ensures { asked_as result ≡ try_of (words_left words) }
+    ensures { asked_as result ≡ try_of (words_left words.entry) }
 {
     match read_two_lengths(words) {
         Some((image, message)) => Request::Try { image, message },
