@@ -6,7 +6,7 @@ use Rattle.std.proofs.lemmas.Option.{slice_get_within}
 use Rattle.std.proofs.lemmas.Bool.{cases_lt}
 use Rattle.filing_image.specs.Program.{Program}
 use Rattle.filing_image.specs.declared.instruction.Operation.{Operation}
-use Rattle.filing_verify.specs.Flow.{target, goes_on, Follows, Leads, Path, Reached}
+use Rattle.filing_verify.specs.Flow.{target, goes_on, Follows, Path}
 use Rattle.filing_verify.specs.Well.{GoesForward}
 use Rattle.filing_verify.specs.Passes.{IsMarked, with_target, with_next, Marks}
 

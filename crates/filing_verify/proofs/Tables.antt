@@ -1,5 +1,5 @@
 -- Shapes are passed on to the successors.
-use Rattle.std.proofs.Common.{◌≡◌, ◌≢◌, ℕ, zero, suc, ◌+◌, ◌<◌, ◌≤◌, List, [], ◌∷◌, length, reverse, Bool, true, false, Option, Some, None, refl, sym, ap, ◌∙◌, subst, arith, inl, inr, ◌⊎◌}
+use Rattle.std.proofs.Common.{◌≡◌, ℕ, zero, suc, ◌+◌, ◌<◌, ◌≤◌, List, [], length, reverse, true, Option, Some, None, sym, ap, ◌∙◌, subst, arith, inl, inr, ◌⊎◌}
 use Rattle.std.specs.Prelude.{slice_get}
 use Rattle.std.proofs.lemmas.List.{reverse-reverse}
 use Rattle.std.proofs.lemmas.Option.{slice_get_within, slice_get_past}
@@ -7,7 +7,7 @@ use Rattle.std.proofs.lemmas.Bool.{cases_lt}
 use Rattle.filing_image.specs.Program.{Program}
 use Rattle.filing_image.specs.declared.instruction.Operation.{Operation}
 use Rattle.filing_verify.specs.declared.kind.Kind.{Kind}
-use Rattle.filing_verify.specs.Flow.{target, goes_on, Follows, Leads, Path, Reached}
+use Rattle.filing_verify.specs.Flow.{target, goes_on, Follows, Path}
 use Rattle.filing_verify.specs.Shapes.{after, IsFine, IsAssignment, HasShapes}
 use Rattle.filing_verify.specs.Well.{GoesForward}
 use Rattle.filing_verify.specs.Passes.{Has, FollowsBy, Takes, Clashes, Shaping}

@@ -2,7 +2,7 @@
 use Rattle.std.specs.Prelude.{◌≡◌, ℕ, ◌+◌, ◌≤◌, ◌<◌, ◌^◌, length, Some, slice_get, All}
 use Rattle.filing_image.specs.Program.{Program}
 use Rattle.filing_image.specs.declared.instruction.Operation.{Operation}
-use Rattle.filing_image.specs.declared.instruction.Operation.TheVariants.{PushTrue, PushFalse, Not, Values, Join, Match, Pop, Exists, Size, Number, Less, Jump, JumpIf, JumpUnless, Marked, Mark, File, Keep, Discard, Stop, Fault}
+use Rattle.filing_image.specs.declared.instruction.Operation.TheVariants.{Values, Match, Exists, Number, Jump, JumpIf, JumpUnless, Marked, Mark, File, Fault}
 use Rattle.filing_verify.specs.declared.fault.VerifyFault.{VerifyFault}
 use Rattle.filing_verify.specs.declared.fault.VerifyFault.TheVariants.{NoMemory, Operand, Backward, Stack, RunsOff, Budget}
 use Rattle.filing_verify.specs.Flow.{target, Leads, Path, Reached}

@@ -1,63 +1,81 @@
 //! The kinds of a stack's entries.
 
-ghost use Rattle.std.specs.Prelude.{◌≡◌, List, [], ◌∷◌, length, reverse, IfOk, OnOk, MatchOption, IsTrue, ◌↔◌};
+ghost use Rattle.std.specs.Prelude.{◌≡◌, ◌<◌, ◌≤◌, List, [], ◌∷◌, length, reverse, take, MatchOption, IsTrue, ◌↔◌};
 ghost use Rattle.filing_verify.specs.declared.kind.Kind.{Kind as KindType};
 
 use crate::kind::Kind;
-use std::alloc::{AllocError, Global};
 use std::marker::Model;
 
-/// The kinds of the entries, the topmost last.
+/// The kinds of at most 33 entries, one more than a stack may have, the topmost last. A shape owns no memory beside
+/// itself, so that a table with one for each place is one allocation.
 #[derive(Debug, Drop)]
 pub struct Shape {
-    kinds: Vec<Kind>,
+    kinds: [Kind; 33],
+    depth: usize,
 }
 
 impl Model for Shape {
     ghost Value = { List KindType };
 
-    ghost view = { λ s. reverse s.kinds.items };
+    ghost view = { λ s. reverse (take s.depth s.kinds) };
+
+    ghost invariant = { λ s. s.depth ≤ 33 };
 }
 
 impl Shape {
-    pub fn new(alloc: Global) -> Shape
+    pub fn new() -> Shape
         ensures { result ≡ [] }
     {
         Shape {
-            kinds: Vec::new(alloc),
+            kinds: [Kind::Truth; 33],
+            depth: 0,
         }
     }
 
-    pub fn copy(&self, alloc: Global) -> Result<Shape, AllocError>
-        ensures { IfOk result (λ s. s ≡ self.now) }
+    pub fn copy(&self) -> Shape
+        ensures { result ≡ self.now }
     {
-        let kinds = Vec::from_slice(alloc, &self.kinds)?;
-        Ok(Shape { kinds })
+        Shape {
+            kinds: self.kinds,
+            depth: self.depth,
+        }
     }
 
     pub fn is(&self, other: &Shape) -> bool
         ensures { IsTrue result ↔ self.now ≡ other.now }
     {
-        are_same(&self.kinds, &other.kinds)
+        are_same(self.entries(), other.entries())
     }
 
     pub fn depth(&self) -> usize
         ensures { result ≡ length self.now }
     {
-        self.kinds.len()
+        self.entries().len()
     }
 
-    pub fn push(&mut self, kind: Kind) -> Result<(), AllocError>
-        ensures { OnOk result (self.new ≡ kind ∷ self.old) }
+    /// The kinds of the entries that there are.
+    fn entries(&self) -> &[Kind]
+        ensures { reverse result.now ≡ self.now }
     {
-        self.kinds.push(kind)?;
-        Ok(())
+        &self.kinds[..self.depth]
+    }
+
+    pub fn push(&mut self, kind: Kind)
+        requires { length self.old < 33 }
+        ensures { self.new ≡ kind ∷ self.old }
+    {
+        self.kinds[self.depth] = kind;
+        self.depth += 1;
     }
 
     pub fn pop(&mut self) -> Option<Kind>
         ensures { MatchOption result (self.old ≡ []) (λ k. self.old ≡ k ∷ self.new) }
     {
-        self.kinds.pop()
+        if self.depth < 1 {
+            return None;
+        }
+        self.depth -= 1;
+        Some(self.kinds[self.depth])
     }
 }
 

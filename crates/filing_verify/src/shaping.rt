@@ -22,9 +22,9 @@ pub fn has_shapes(alloc: Global, image: &Image) -> Result<bool, AllocError>
     for _ in 0..place_count(image) {
         table.push(None)?;
     }
-    offer(alloc, &mut table, 0, &Shape::new(alloc))?;
+    offer(&mut table, 0, &Shape::new());
     for place in 0..place_count(image) {
-        if !pass_on(alloc, image, &mut table, place)? {
+        if !pass_on(image, &mut table, place) {
             return Ok(false);
         }
     }
@@ -32,90 +32,77 @@ pub fn has_shapes(alloc: Global, image: &Image) -> Result<bool, AllocError>
 }
 
 /// Passes the shape of a place, after its operation, on to its successors.
-fn pass_on(
-    alloc: Global,
-    image: &Image,
-    table: &mut [Option<Shape>],
-    place: usize,
-) -> Result<bool, AllocError>
+fn pass_on(image: &Image, table: &mut [Option<Shape>], place: usize) -> bool
     requires within { place < length image.now.code }
     requires forward { GoesForward image.now }
     requires so_far { Shaping image.now place table.old }
-    ensures passed { IfOk result (λ yes. yes ≡ true → Shaping image.now (place + 1) table.new) }
-    ensures refused { IfOk result (λ yes. yes ≡ false → HasShapes image.now → ⊥) }
+    ensures passed { result ≡ true → Shaping image.now (place + 1) table.new }
+    ensures refused { result ≡ false → HasShapes image.now → ⊥ }
 {
     let Some(shape) = &table[place] else {
-        return Ok(true);
+        return true;
     };
-    let mut shape = shape.copy(alloc)?;
+    let mut shape = shape.copy();
     let operation = operation_at(image, place);
-    if !apply(operation, &mut shape)? {
-        return Ok(false);
+    if !apply(operation, &mut shape) {
+        return false;
     }
     if shape.depth() > 32 {
-        return Ok(false);
+        return false;
     }
-    offer_successors(alloc, operation, table, place, &shape)
+    offer_successors(operation, table, place, &shape)
 }
 
 fn offer_successors(
-    alloc: Global,
     operation: Operation,
     table: &mut [Option<Shape>],
     place: usize,
     shape: &Shape,
-) -> Result<bool, AllocError>
+) -> bool
     requires { place < length table.old }
-    ensures taken { IfOk result (λ yes. yes ≡ true → Takes table.old (FollowsBy operation place) shape.now table.new) }
-    ensures refused { IfOk result (λ yes. yes ≡ false → Clashes table.old (FollowsBy operation place) shape.now) }
+    ensures taken { result ≡ true → Takes table.old (FollowsBy operation place) shape.now table.new }
+    ensures refused { result ≡ false → Clashes table.old (FollowsBy operation place) shape.now }
 {
     match target(operation) {
-        None => offer_next(alloc, operation, table, place, shape),
+        None => offer_next(operation, table, place, shape),
         Some(to) => {
-            if !offer(alloc, table, to, shape)? {
-                return Ok(false);
+            if !offer(table, to, shape) {
+                return false;
             }
-            offer_next(alloc, operation, table, place, shape)
+            offer_next(operation, table, place, shape)
         }
     }
 }
 
 fn offer_next(
-    alloc: Global,
     operation: Operation,
     table: &mut [Option<Shape>],
     place: usize,
     shape: &Shape,
-) -> Result<bool, AllocError>
+) -> bool
     requires { place < length table.old }
-    ensures taken { IfOk result (λ yes. yes ≡ true → Takes table.old (λ q. (goes_on operation ≡ true) × (q ≡ place + 1)) shape.now table.new) }
-    ensures refused { IfOk result (λ yes. yes ≡ false → Clashes table.old (λ q. (goes_on operation ≡ true) × (q ≡ place + 1)) shape.now) }
+    ensures taken { result ≡ true → Takes table.old (λ q. (goes_on operation ≡ true) × (q ≡ place + 1)) shape.now table.new }
+    ensures refused { result ≡ false → Clashes table.old (λ q. (goes_on operation ≡ true) × (q ≡ place + 1)) shape.now }
 {
     if !goes_on(operation) {
-        return Ok(true);
+        return true;
     }
-    offer(alloc, table, place + 1, shape)
+    offer(table, place + 1, shape)
 }
 
 /// Gives a place this shape, unless it has another.
-fn offer(
-    alloc: Global,
-    table: &mut [Option<Shape>],
-    at: usize,
-    shape: &Shape,
-) -> Result<bool, AllocError>
-    ensures taken { IfOk result (λ yes. yes ≡ true → Takes table.old (λ q. q ≡ at) shape.now table.new) }
-    ensures refused { IfOk result (λ yes. yes ≡ false → Clashes table.old (λ q. q ≡ at) shape.now) }
+fn offer(table: &mut [Option<Shape>], at: usize, shape: &Shape) -> bool
+    ensures taken { result ≡ true → Takes table.old (λ q. q ≡ at) shape.now table.new }
+    ensures refused { result ≡ false → Clashes table.old (λ q. q ≡ at) shape.now }
 {
     if at >= table.len() {
-        return Ok(true);
+        return true;
     }
     match &table[at] {
-        Some(other) => Ok(other.is(shape)),
+        Some(other) => other.is(shape),
         None => {
-            let copy = shape.copy(alloc)?;
-            table[at] = Some(copy);
-            Ok(true)
+            table[at] = Some(shape.copy());
+            true
         }
     }
 }

@@ -1,4 +1,4 @@
-use Rattle.std.proofs.Common.{◌≡◌, ℕ, arith, sym, ◌∙◌, length, get_or}
+use Rattle.std.proofs.Common.{◌≡◌, arith, sym, ◌∙◌, get_or}
 use Rattle.std.proofs.lemmas.Grind.{get_or_default_zero}
 use Rattle.filing_verify.specs.Passes.{Costs}
 use Rattle.filing_verify.proofs.Longest.{most, attained}

@@ -1,4 +1,4 @@
-use Rattle.std.proofs.Common.{◌≡◌, ap, ◌∙◌, arith, false, true, sym, Some}
+use Rattle.std.proofs.Common.{ap, ◌∙◌, arith, Some}
 use Rattle.std.proofs.lemmas.Option.{slice_get-get_or}
 use Rattle.filing_verify.specs.Passes.{IsMarked}
 use Rattle.filing_verify.proofs.Longest.{set_cost, unreached}

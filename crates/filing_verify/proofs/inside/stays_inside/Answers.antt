@@ -1,4 +1,4 @@
-use Rattle.std.proofs.Common.{◌<◌, length, arith, below_more}
+use Rattle.std.proofs.Common.{◌<◌, arith, below_more}
 use Rattle.std.proofs.lemmas.Option.{slice_get_within}
 use Rattle.filing_verify.proofs.inside.stays_inside.Goals as goal
 

@@ -1,4 +1,4 @@
-use Rattle.std.proofs.Common.{◌≡◌, ℕ, length, subst, arith}
+use Rattle.std.proofs.Common.{◌≡◌, length, arith}
 use Rattle.filing_verify.specs.Passes.{Marks}
 use Rattle.filing_verify.proofs.Marking.{complete, goes_forward}
 use Rattle.filing_verify.proofs.reach.reach.Goals as goal

@@ -1,4 +1,4 @@
-use Rattle.std.proofs.Common.{◌≡◌, ℕ, length, arith}
+use Rattle.std.proofs.Common.{◌≡◌, length, arith}
 use Rattle.filing_verify.specs.Passes.{Shaping}
 use Rattle.filing_verify.proofs.Tables.{has_shapes}
 use Rattle.filing_verify.proofs.shaping.has_shapes.Goals as goal

@@ -3,10 +3,7 @@ use Rattle.filing_verify.proofs.Tables.{reverse_same}
 use Rattle.filing_verify.proofs.shape.Shape.is.Goals as goal
 
 pub returns : goal.returns
-returns c =
-    let a = c.deref.ensures.value in
-    let b = c.deref-2.ensures.value in
-    rw (← c.self.view_is, ← c.other.view_is) (
-      λ t. ap reverse (sym a ∙ c.are_same.ensures.0 t ∙ b),
-      λ e. c.are_same.ensures.1 (a ∙ reverse_same e ∙ sym b),
-    )
+returns c = (
+  λ t. sym c.entries.ensures ∙ ap reverse (c.are_same.ensures.0 t) ∙ c.entries-2.ensures,
+  λ e. c.are_same.ensures.1 (reverse_same (c.entries.ensures ∙ e ∙ sym c.entries-2.ensures)),
+)
