@@ -170,8 +170,8 @@ module _ (p : Program) (c : Facts) (well : IsWell p) where
     goes_on_inside q (inl (g, e)) = elim (cases_lt q (length p.code)) [
       | inl a ↦ a
       | inr b ↦
-        let end : length p.code ≡ s.place + 1 = omega (arith, k.within) in
-        absurd (well.inside.inside s.place (n, k.path) (operation, here, inl (g, end)))
+          let end : length p.code ≡ s.place + 1 = omega (arith, k.within) in
+          absurd (well.inside.inside s.place (n, k.path) (operation, here, inl (g, end)))
     ]
     goes_on_inside q (inr to) = in_target p operation q in_range to
 

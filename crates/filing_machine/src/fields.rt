@@ -25,11 +25,7 @@ pub fn has_field<C: Case>(case: &C, name: &[u8]) -> bool
 }
 
 /// The places of the fields of this name, in the order of the message.
-fn places_named<C: Case>(
-    alloc: Global,
-    case: &C,
-    name: &[u8],
-) -> Result<Vec<usize>, AllocError>
+fn places_named<C: Case>(alloc: Global, case: &C, name: &[u8]) -> Result<Vec<usize>, AllocError>
     ensures values { IfOk result (λ v. map (λ place. (field_at (C.facts case.now) place).value) v.items ≡ values_of (C.facts case.now) name.now) }
     ensures in_case { IfOk result (λ v. All (λ place. place < length (C.facts case.now).fields) v.items) }
 {

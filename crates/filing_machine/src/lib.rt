@@ -19,3 +19,6 @@ pub use case::Case;
 pub use laws::every_run_ends;
 pub use machine::{Machine, run};
 pub use outcome::Outcome;
+
+#[cfg(test)]
+mod tests;

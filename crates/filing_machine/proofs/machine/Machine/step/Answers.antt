@@ -113,6 +113,6 @@ returns-in_err-self-inside-clause-modest g c =
     let r = ready p f _ c.image-image.ensures.well (rw (← c.self.view_is) at c.requires.running) stands in
     let code-is : c.code.result.now ≡ p.code = c.code.ensures.value ∙ ap (λ q. q.code) c.image-image.ensures.is in
     λ modest.
-        let there : IsModestAt p c.self.inside.at.place = subst (IsModestAt p) (sym (ap (λ (m : Stored). m.at.place) c.self.view_is)) modest in
-        let here : IsModest (get_or p.code c.self.inside.at.place PushTrue) = modest_here p c.self.inside.at.place r.within there in
-        absurd (false≢true (c.in_err-self-inside.ensures.modest (rw code-is here)))
+    let there : IsModestAt p c.self.inside.at.place = subst (IsModestAt p) (sym (ap (λ (m : Stored). m.at.place) c.self.view_is)) modest in
+    let here : IsModest (get_or p.code c.self.inside.at.place PushTrue) = modest_here p c.self.inside.at.place r.within there in
+    absurd (false≢true (c.in_err-self-inside.ensures.modest (rw code-is here)))
