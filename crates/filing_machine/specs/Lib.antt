@@ -1,4 +1,5 @@
 pub mod Fields
+pub mod Items
 pub mod Seen
 pub mod Runs
 pub mod Message

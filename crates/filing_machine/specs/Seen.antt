@@ -43,11 +43,6 @@ IsModest Join = ⊥
 IsModest (File a b) = ⊥
 IsModest _ = Unit {0}
 
--- two lists on the top
-abbrev pub HasTwo : List Item → Type 0
-HasTwo (Fields ys ∷ Fields xs ∷ items) = Unit {0}
-HasTwo _ = ⊥
-
 -- the state with one list in their place
 abbrev pub joined : State → List Entry → State
 joined s (L ys ∷ L xs ∷ es) = record s { place = s.place + 1; stack = L (xs ++ ys) ∷ es }

@@ -1,16 +1,20 @@
 //! One instruction of a run.
 
-ghost use Rattle.std.specs.Prelude.{◌≡◌, ◌≢◌, ◌<◌, ◌≤◌, ◌+◌, ◌^◌, ◌∷◌, length, map, IfOk, IsOk, OnErr, OnOk, Ok, None};
+ghost use Rattle.std.specs.Prelude.{◌≡◌, ◌≢◌, ◌<◌, ◌≤◌, ◌+◌, ◌^◌, ◌∷◌, length, map, if◌then◌else◌, slice_set, true, IfOk, IsOk, OnErr, OnOk, Ok, None};
 ghost use Rattle.std.specs.List.{AllByRecursion};
 ghost use Rattle.filing_verify.specs.Well.{InRange};
 ghost use Rattle.filing_table.specs.Machine.{act, file, Trap};
-ghost use Rattle.filing_machine.specs.Seen.{state, entry, run_at, InCase, IsModest, HasTwo, joined};
+ghost use Rattle.filing_machine.specs.Seen.{state, entry, run_at, InCase, IsModest, joined};
+ghost use Rattle.filing_machine.specs.Items.{HasTwo};
 
 use crate::case::Case;
 use crate::fields::{any_matches, fields_named, has_field};
 use crate::state::{Item, Standing};
 use filing_image::{Image, Operation};
 use std::alloc::{AllocError, Global};
+
+/// How a run ends: with a fault, 2 to 5 or 1 for a closed class, or with none.
+type End = Option<u8>;
 
 /// Does one instruction. It answers the end of the run, where that is one, with its fault.
 pub fn act<C: Case>(
@@ -19,7 +23,7 @@ pub fn act<C: Case>(
     image: &Image,
     case: &C,
     at: &mut Standing,
-) -> Result<Option<Option<u8>>, AllocError>
+) -> Result<Option<End>, AllocError>
     requires place { at.old.place < 2 ^ 62 }
     requires sound { act image.now (C.facts case.now) operation (state (C.facts case.now) at.old) ≢ Trap }
     requires in_case { AllByRecursion (InCase (C.facts case.now)) at.old.stack }
@@ -32,26 +36,19 @@ pub fn act<C: Case>(
     ensures modest { IsModest operation → IsOk result }
 {
     match operation {
-        Operation::PushTrue => push_on(at, Item::Truth(true)),
-        Operation::PushFalse => push_on(at, Item::Truth(false)),
-        Operation::Not => {
-            let Some(Item::Truth(b)) = at.stack.pop() else {
-                unreachable!()
-            };
-            push_on(at, Item::Truth(!b))
-        }
+        Operation::PushTrue => push_on(Item::Truth(true), at),
+        Operation::PushFalse => push_on(Item::Truth(false), at),
+        Operation::Not => push_on(Item::Truth(!at.stack.pop_truth()), at),
         Operation::Values(b) => {
             let fields = fields_named(alloc, case, image.text(b as usize))?;
-            push_on(at, Item::Fields(fields))
+            push_on(Item::Fields(fields), at)
         }
         Operation::Join => join(case, at),
         Operation::Match(a, b) => {
-            let Some(Item::Fields(fields)) = at.stack.pop() else {
-                unreachable!()
-            };
+            let fields = at.stack.pop_fields();
             let found = any_matches(case, &fields, a, image.text(b as usize));
             at.stack.push(Item::Fields(fields));
-            push_on(at, Item::Truth(found))
+            push_on(Item::Truth(found), at)
         }
         Operation::Pop => {
             let Some(_) = at.stack.pop() else {
@@ -59,51 +56,28 @@ pub fn act<C: Case>(
             };
             go_on(at)
         }
-        Operation::Exists(b) => push_on(at, Item::Truth(has_field(case, image.text(b as usize)))),
-        Operation::Size => push_on(at, Item::Count(case.size())),
-        Operation::Number(b) => push_on(at, Item::Count(image.numbers()[b as usize])),
+        Operation::Exists(b) => push_on(Item::Truth(has_field(case, image.text(b as usize))), at),
+        Operation::Size => push_on(Item::Count(case.size()), at),
+        Operation::Number(b) => push_on(Item::Count(image.numbers()[b as usize]), at),
         Operation::Less => {
-            let Some(Item::Count(second)) = at.stack.pop() else {
-                unreachable!()
-            };
-            let Some(Item::Count(first)) = at.stack.pop() else {
-                unreachable!()
-            };
-            push_on(at, Item::Truth(first < second))
+            let second = at.stack.pop_count();
+            push_on(Item::Truth(at.stack.pop_count() < second), at)
         }
-        Operation::Jump(b) => go_to(at, b),
-        Operation::JumpIf(b) => {
-            let Some(Item::Truth(yes)) = at.stack.pop() else {
-                unreachable!()
-            };
-            if yes { go_to(at, b) } else { go_on(at) }
-        }
-        Operation::JumpUnless(b) => {
-            let Some(Item::Truth(yes)) = at.stack.pop() else {
-                unreachable!()
-            };
-            if yes { go_on(at) } else { go_to(at, b) }
-        }
-        Operation::Marked(b) => push_on(at, Item::Truth(at.marks[b as usize])),
-        Operation::Mark(b) => {
-            at.marks[b as usize] = true;
-            go_on(at)
-        }
-        Operation::File(a, b) => file(alloc, case, at, a, image.text(b as usize)),
-        Operation::Keep => {
-            at.kept = true;
-            go_on(at)
-        }
-        Operation::Discard => {
-            at.cancelled = true;
-            go_on(at)
-        }
+        Operation::Jump(b) => jump_if(true, b, at),
+        Operation::JumpIf(b) => jump_if(at.stack.pop_truth(), b, at),
+        Operation::JumpUnless(b) => jump_if(!at.stack.pop_truth(), b, at),
+        Operation::Marked(b) => push_on(Item::Truth(at.marks[b as usize]), at),
+        Operation::Mark(b) => mark(b, at),
+        Operation::File(a, b) => file(alloc, case, a, image.text(b as usize), at),
+        Operation::Keep => keep(at),
+        Operation::Discard => discard(at),
         Operation::Stop => Ok(Some(None)),
         Operation::Fault(a) => Ok(Some(Some(a))),
     }
 }
 
-fn go_on(at: &mut Standing) -> Result<Option<Option<u8>>, AllocError>
+/// On to the next place.
+fn go_on(at: &mut Standing) -> Result<Option<End>, AllocError>
     requires { at.old.place < 2 ^ 62 }
     ensures to { result ≡ Ok None }
     ensures at { at.new ≡ record at.old { place = at.old.place + 1 } }
@@ -112,33 +86,69 @@ fn go_on(at: &mut Standing) -> Result<Option<Option<u8>>, AllocError>
     Ok(None)
 }
 
-fn go_to(at: &mut Standing, place: u16) -> Result<Option<Option<u8>>, AllocError>
+/// On to a place where this holds, else to the next one.
+fn jump_if(holds: bool, place: u16, at: &mut Standing) -> Result<Option<End>, AllocError>
+    requires { at.old.place < 2 ^ 62 }
     ensures to { result ≡ Ok None }
-    ensures at { at.new ≡ record at.old { place = place } }
+    ensures at { at.new ≡ record at.old { place = (if holds then place else at.old.place + 1) } }
 {
+    if !holds {
+        return go_on(at);
+    }
     at.place = place as usize;
     Ok(None)
 }
 
-fn push_on(at: &mut Standing, item: Item) -> Result<Option<Option<u8>>, AllocError>
+/// On to the next place with one more item on the top.
+fn push_on(item: Item, at: &mut Standing) -> Result<Option<End>, AllocError>
     requires place { at.old.place < 2 ^ 62 }
     requires room { length at.old.stack < 32 }
     ensures to { result ≡ Ok None }
     ensures at { at.new ≡ record at.old { place = at.old.place + 1; stack = item ∷ at.old.stack } }
 {
     at.stack.push(item);
-    at.place += 1;
-    Ok(None)
+    go_on(at)
+}
+
+/// Sets a slot.
+fn mark(slot: u16, at: &mut Standing) -> Result<Option<End>, AllocError>
+    requires place { at.old.place < 2 ^ 62 }
+    requires slot { slot < 64 }
+    ensures to { result ≡ Ok None }
+    ensures at { at.new ≡ record at.old { place = at.old.place + 1; marks = slice_set at.old.marks slot true } }
+{
+    at.marks[slot as usize] = true;
+    go_on(at)
+}
+
+/// Keeps the message.
+fn keep(at: &mut Standing) -> Result<Option<End>, AllocError>
+    requires { at.old.place < 2 ^ 62 }
+    ensures to { result ≡ Ok None }
+    ensures at { at.new ≡ record at.old { place = at.old.place + 1; kept = true } }
+{
+    at.kept = true;
+    go_on(at)
+}
+
+/// Cancels the implicit keep.
+fn discard(at: &mut Standing) -> Result<Option<End>, AllocError>
+    requires { at.old.place < 2 ^ 62 }
+    ensures to { result ≡ Ok None }
+    ensures at { at.new ≡ record at.old { place = at.old.place + 1; cancelled = true } }
+{
+    at.cancelled = true;
+    go_on(at)
 }
 
 /// Files the message under a path, where that is open.
 fn file<C: Case>(
     alloc: Global,
     case: &C,
-    at: &mut Standing,
     how: u8,
     path: &[u8],
-) -> Result<Option<Option<u8>>, AllocError>
+    at: &mut Standing,
+) -> Result<Option<End>, AllocError>
     requires { at.old.place < 2 ^ 62 }
     ensures does { IfOk result (λ end. file (C.facts case.now) (state (C.facts case.now) at.old) how path.now ≡ run_at end (state (C.facts case.now) at.new)) }
     ensures stack { at.new.stack ≡ at.old.stack }
@@ -155,7 +165,7 @@ fn file<C: Case>(
 }
 
 /// Makes one list of the two on the top.
-fn join<C: Case>(case: &C, at: &mut Standing) -> Result<Option<Option<u8>>, AllocError>
+fn join<C: Case>(case: &C, at: &mut Standing) -> Result<Option<End>, AllocError>
     requires place { at.old.place < 2 ^ 62 }
     requires two { HasTwo at.old.stack }
     requires in_case { AllByRecursion (InCase (C.facts case.now)) at.old.stack }
@@ -165,16 +175,12 @@ fn join<C: Case>(case: &C, at: &mut Standing) -> Result<Option<Option<u8>>, Allo
     ensures in_case { AllByRecursion (InCase (C.facts case.now)) at.new.stack }
     ensures err { OnErr result (at.new ≡ at.old) }
 {
-    let Some(Item::Fields(second)) = at.stack.pop() else {
-        unreachable!()
-    };
-    let Some(Item::Fields(mut first)) = at.stack.pop() else {
-        unreachable!()
-    };
+    let second = at.stack.pop_fields();
+    let mut first = at.stack.pop_fields();
     if let Err(e) = first.append(&second) {
         at.stack.push(Item::Fields(first));
         at.stack.push(Item::Fields(second));
         return Err(e);
     }
-    push_on(at, Item::Fields(first))
+    push_on(Item::Fields(first), at)
 }

@@ -24,3 +24,6 @@ pub use machine::{Machine, run};
 pub use outcome::Outcome;
 pub use pieces::PieceCase;
 pub use whole::WholeCase;
+
+#[cfg(test)]
+mod tests;

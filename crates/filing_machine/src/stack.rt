@@ -2,7 +2,9 @@
 
 ghost use Rattle.std.specs.Prelude.{◌≡◌, ◌≤◌, ◌<◌, List, [], ◌∷◌, length, reverse, IfOk, MatchOption, vec_capacity};
 ghost use Rattle.filing_machine.specs.declared.state.Item.{Item as ItemType};
+ghost use Rattle.filing_machine.specs.Items.{HasTruth, HasFields, HasCount};
 
+use crate::places::FieldPlaces;
 use crate::state::Item;
 use std::alloc::{AllocError, Global};
 use std::marker::Model;
@@ -46,5 +48,38 @@ impl Stack {
         ensures { MatchOption result (self.old ≡ []) (λ item. self.old ≡ item ∷ self.new) }
     {
         self.items.pop()
+    }
+
+    /// Takes the truth on the top away.
+    pub fn pop_truth(&mut self) -> bool
+        requires { HasTruth self.old }
+        ensures { self.old ≡ Item.Truth result ∷ self.new }
+    {
+        let Some(Item::Truth(truth)) = self.pop() else {
+            unreachable!()
+        };
+        truth
+    }
+
+    /// Takes the list of fields on the top away.
+    pub fn pop_fields(&mut self) -> FieldPlaces
+        requires { HasFields self.old }
+        ensures { self.old ≡ Item.Fields result ∷ self.new }
+    {
+        let Some(Item::Fields(fields)) = self.pop() else {
+            unreachable!()
+        };
+        fields
+    }
+
+    /// Takes the number on the top away.
+    pub fn pop_count(&mut self) -> u64
+        requires { HasCount self.old }
+        ensures { self.old ≡ Item.Count result ∷ self.new }
+    {
+        let Some(Item::Count(count)) = self.pop() else {
+            unreachable!()
+        };
+        count
     }
 }
