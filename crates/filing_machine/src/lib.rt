@@ -9,3 +9,6 @@ mod whole;
 pub use case::Case;
 pub use pieces::PieceCase;
 pub use whole::WholeCase;
+
+#[cfg(test)]
+mod tests;

@@ -1,0 +1,3 @@
+//! What no clause says: that calls succeed; and values from the standards.
+
+mod cases;
