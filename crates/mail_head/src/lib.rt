@@ -22,4 +22,6 @@ pub use pieces::{HeadFault, HeadReader, MOST_OCTETS};
 pub use reading::{Head, read_head};
 
 #[cfg(test)]
+mod examples;
+#[cfg(test)]
 mod tests;

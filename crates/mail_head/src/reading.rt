@@ -50,7 +50,7 @@ impl<'a> Head<'a> {
 }
 
 /// The header of a message: the fields of RFC 5322, section 2.2, read leniently, in order, as slices of `msg`, and
-/// the number of its octets. Nothing behind the header is read. Its one refusal is want of memory.
+/// the number of its octets, those behind the header included. Its one refusal is want of memory.
 pub fn read_head(alloc: Global, msg: &[u8]) -> Result<Head<'_>, AllocError>
     ensures { IfOk result (λ h. h ≡ (fields_of msg.now, length msg.now)) }
 {

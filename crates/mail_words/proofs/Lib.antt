@@ -4,5 +4,8 @@ pub mod CharsetLemmas
 pub mod QuotedLemmas
 pub mod WordLemmas
 pub mod SpellingLemmas
+pub mod EncodedLemmas
+pub mod MeaningLemmas
 pub mod ShownLemmas
 pub mod SpanLemmas
+pub mod DecidedLemmas

@@ -1,11 +1,11 @@
 -- The cut of a text has all words that stand in it, and no other.
-use Rattle.std.proofs.Common.{◌≡◌, ℕ, zero, suc, ◌+◌, ◌<◌, ◌≤◌, Bool, true, false, cond, eqb, List, [], ◌∷◌, ◌++◌, length, take, drop, refl, sym, ap, ◌∙◌, subst, arith, Option, Some, None, append_assoc, eqb-true, get_or}
+use Rattle.std.proofs.Common.{◌≡◌, ℕ, zero, suc, ◌<◌, ◌≤◌, Bool, true, false, cond, eqb, List, [], ◌∷◌, ◌++◌, length, take, drop, refl, sym, ap, ◌∙◌, subst, arith, Option, Some, None, append_assoc, eqb-true, get_or}
 use Rattle.std.proofs.lemmas.List.{append-nil, length-append, append_cancel_left}
 use Rattle.std.specs.Prelude.{option_map, nat_lt, not, ◌==◌}
 use Rattle.std.specs.List.{list_all, prefix_len}
 use Rattle.mail_words.specs.Words.{Word, spelling, IsWord, is_charset_octet, is_text_octet, is_encoding, precedes, can_follow, word_at, if_followed, followed_word_at, or_later, first_word}
-use Rattle.mail_words.specs.Value.{Cut, cut_at, cut_words, words_shown}
-use Rattle.mail_words.specs.Spans.{may_stand_behind, StandsIn, written, IsCutOf, IsShown, StandApart}
+use Rattle.mail_words.specs.Value.{Cut, cut_at, cut_words}
+use Rattle.mail_words.specs.Spans.{may_stand_behind, StandsIn, written, IsCutOf, StandApart}
 use Rattle.mail_words.proofs.SpellingLemmas.{and_parts, Found, first_word-stands}
 
 -- a run that a text begins with is the whole of it that passes
@@ -47,14 +47,14 @@ followed-written : (w : Word) (after : List ℕ) → IsWord w → can_follow aft
 followed-written w after h k = ap if_followed (word_at-spelling w after h) ∙ rw k refl
 
 -- a search finds a word no later than one that stands there
-abbrev NoLater : Option Found → ℕ → Type 0
+abbrev pub NoLater : Option Found → ℕ → Type 0
 NoLater o n = (f : Found) × (o ≡ Some f) × (length f.0 ≤ n)
 
 later_no : (o : Option (Word × List ℕ)) (b n : ℕ) (more : Option Found) → NoLater more n → NoLater (or_later o b more) (suc n)
 later_no (Some w) b n more h = (([], w.0, w.1), refl, omega arith)
 later_no None b n more h = ((b ∷ h.0.0, h.0.1, h.0.2), ap (option_map (λ f. (b ∷ f.0, f.1, f.2))) h.1, omega (arith, h.2))
 
-finds : (start : Bool) (text before : List ℕ) (w : Word) (after : List ℕ) → text ≡ before ++ (spelling w ++ after) → IsWord w → may_stand_behind start before ≡ true → can_follow after ≡ true → NoLater (first_word start text) (length before)
+pub finds : (start : Bool) (text before : List ℕ) (w : Word) (after : List ℕ) → text ≡ before ++ (spelling w ++ after) → IsWord w → may_stand_behind start before ≡ true → can_follow after ≡ true → NoLater (first_word start text) (length before)
 unfolding first_word
 finds start text [] w after e h begins ends =
     let found : followed_word_at (spelling w ++ after) ≡ Some (w, after) = followed-written w after h ends in
@@ -181,11 +181,11 @@ behind_more : (start : Bool) (ys : List ℕ) (b : ℕ) (bs : List ℕ) → may_s
 behind_more start [] b bs = refl
 behind_more start (y ∷ ys) b bs = behind_more (precedes y) ys b bs
 
-behind_word : (gap : List ℕ) (w : Word) (b : ℕ) (bs : List ℕ) → may_stand_behind true (gap ++ (spelling w ++ b ∷ bs)) ≡ may_stand_behind true (b ∷ bs)
+pub behind_word : (gap : List ℕ) (w : Word) (b : ℕ) (bs : List ℕ) → may_stand_behind true (gap ++ (spelling w ++ b ∷ bs)) ≡ may_stand_behind true (b ∷ bs)
 behind_word gap w b bs = ap (may_stand_behind true) (sym (append_assoc gap (spelling w) (b ∷ bs))) ∙ behind_more true (gap ++ spelling w) b bs
 
 -- a word that stands behind another
-lifted : (text gap : List ℕ) (w : Word) (after before : List ℕ) (u : Word) (rest : List ℕ) → StandsIn true text gap w after → StandsIn true after before u rest → StandsIn true text (gap ++ (spelling w ++ before)) u rest
+pub lifted : (text gap : List ℕ) (w : Word) (after before : List ℕ) (u : Word) (rest : List ℕ) → StandsIn true text gap w after → StandsIn true after before u rest → StandsIn true text (gap ++ (spelling w ++ before)) u rest
 lifted text gap w after [] u rest h k = absurd (not_at_end after u rest k.joined h.ends)
 lifted text gap w after (b ∷ bs) u rest h k = record {
   joined = h.joined ∙ ap (λ x. gap ++ (spelling w ++ x)) k.joined ∙ ap (λ x. gap ++ x) (sym (append_assoc (spelling w) (b ∷ bs) (spelling u ++ rest))) ∙ sym (append_assoc gap (spelling w ++ b ∷ bs) (spelling u ++ rest));
@@ -198,7 +198,7 @@ no_part : (front : List (List ℕ × Word)) (part : List ℕ × Word) (back : Li
 no_part [] part back e = absurd cc
 no_part (p ∷ front) part back e = absurd cc
 
-not_found : (text before : List ℕ) (w : Word) (after : List ℕ) → first_word true text ≡ None → StandsIn true text before w after → ⊥
+pub not_found : (text before : List ℕ) (w : Word) (after : List ℕ) → first_word true text ≡ None → StandsIn true text before w after → ⊥
 not_found text before w after e h =
     let found = finds true text before w after h.joined h.word h.begins h.ends in
     absurd (cc (e, found.1))
@@ -282,15 +282,8 @@ cut_step n more text h (Some f) e =
     let stands = first_word-stands true text f e in
     some_cut text f (cut_words n f.2) e (more f.2 (omega (arith, ap length stands.joined, length-append f.0 (spelling f.1 ++ f.2), length-append (spelling f.1) f.2)))
 
-cut_of : (n : ℕ) (text : List ℕ) → length text ≤ n → IsCutOf text (cut_words n text)
+pub cut_of : (n : ℕ) (text : List ℕ) → length text ≤ n → IsCutOf text (cut_words n text)
 unfolding cut_words first_word
 cut_of zero [] h = none_cut [] refl
 cut_of zero (b ∷ bs) h = absurd (omega arith)
 cut_of (suc n) text h = cut_step n (λ r k. cut_of n r k) text h (first_word true text) refl
-
--- what is shown of a text is what is shown of its cut
-pub words_shown-spans : (text : List ℕ) → IsShown text (words_shown text)
-words_shown-spans text = (cut_words (length text) text, cut_of (length text) text (omega arith), refl)
-
-pub spans_of : (text value : List ℕ) → value ≡ words_shown text → IsShown text value
-spans_of text value e = let P : List ℕ → Type 0 = λ v. IsShown text v in subst P (sym e) (words_shown-spans text)

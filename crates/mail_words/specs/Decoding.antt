@@ -1,4 +1,4 @@
--- The octets that the text of an encoded word stands for (RFC 2047, section 4).
+-- What an encoded word means, computed (RFC 2047, sections 3 and 4); `Meaning` says the same without computing it.
 use Rattle.std.specs.Prelude.{ℕ, ◌+◌, ◌-◌, ◌*◌, List, [], ◌∷◌, Option, Some, None, option_map, option_and_then, nat_le, ◌==◌, ◌&&◌, if◌then◌else◌}
 use Rattle.std.specs.Result.{result_ok}
 use Rattle.std.specs.Char.{to_ascii_lowercase}
@@ -31,7 +31,7 @@ q_octets Plain (b ∷ bs) = if b == 61 then q_octets Escape bs else option_map (
 q_octets Escape (b ∷ bs) = hex_value b >>= λ high. q_octets (Digit high) bs
 q_octets (Digit high) (b ∷ bs) = hex_value b >>= λ low. option_map (λ more. (high * 16 + low) ∷ more) (q_octets Plain bs)
 
--- the octets of B text (section 4.1): those whose padded encoding it is
+-- the octets of B text (section 4.1), which decodes to them
 abbrev pub b_octets : List ℕ → Option (List ℕ)
 b_octets text = result_ok (decode_of standard text)
 

@@ -1,8 +1,11 @@
 -- A text and what is shown of it, said by the spans of its words (RFC 2047, sections 2, 5 and 6.2): which words stand in
 -- the text, that it is cut at all of them and nowhere else, and what is shown of such a cut.
-use Rattle.std.specs.Prelude.{◌≡◌, ℕ, Bool, true, List, [], ◌∷◌, ◌++◌}
+use Rattle.std.specs.Prelude.{◌≡◌, ◌⊎◌, ℕ, Bool, true, List, [], ◌∷◌, ◌++◌, Option, Some, None, ◌↔◌}
+use Rattle.std.specs.List.{list_all}
+use Rattle.mail_words.specs.Unfolding.{is_blank}
 use Rattle.mail_words.specs.Words.{Word, spelling, IsWord, precedes, can_follow}
-use Rattle.mail_words.specs.Value.{Cut, shown_cut}
+use Rattle.mail_words.specs.Value.{Cut, words_shown}
+use Rattle.mail_words.specs.Meaning.{Means, IsGood}
 
 -- a word may stand behind these octets: there are none, where one may stand at the start, or the last of them is a blank
 -- or "("
@@ -28,9 +31,35 @@ pub record IsCutOf (text : List ℕ) (cut : Cut) : Type 0 where
   pub words : (front : List (List ℕ × Word)) (part : List ℕ × Word) (back : List (List ℕ × Word)) → cut.0 ≡ front ++ part ∷ back → StandsIn true text (written front part.0) part.1 (written back cut.1)
   pub all : (before : List ℕ) (w : Word) (after : List ℕ) → StandsIn true text before w after → (front : List (List ℕ × Word)) × (gap : List ℕ) × (back : List (List ℕ × Word)) × (cut.0 ≡ front ++ (gap, w) ∷ back) × (before ≡ written front gap)
 
--- what is shown of a text
+-- what is shown of a word: of a good one the text that it means, of another one the word as it is written
+abbrev pub IsWordShown : Word → List ℕ → Type 0
+IsWordShown w octets = Means w octets ⊎ ((IsGood w → ⊥) × (octets ≡ spelling w))
+
+-- the word before, if there is one, is good
+abbrev pub IsBehindGood : Option Word → Type 0
+IsBehindGood None = ⊥
+IsBehindGood (Some w) = IsGood w
+
+-- a gap is dropped: it is blanks alone and stands between two good words
+abbrev pub IsDropped : Option Word → List ℕ → Word → Type 0
+IsDropped before gap w = IsBehindGood before × (list_all is_blank gap ≡ true) × IsGood w
+
+-- what is shown of a gap: nothing where it is dropped, and otherwise all of it
+abbrev pub IsGapShown : Option Word → List ℕ → Word → List ℕ → Type 0
+IsGapShown before gap w octets = (IsDropped before gap w × (octets ≡ [])) ⊎ ((IsDropped before gap w → ⊥) × (octets ≡ gap))
+
+-- what is shown of gaps and words behind a word, and of what stands behind them
+abbrev pub IsShownBehind : Option Word → List (List ℕ × Word) → List ℕ → List ℕ → Type 0
+IsShownBehind before [] last value = value ≡ last
+IsShownBehind before (part ∷ parts) last value = (gap : List ℕ) × (word : List ℕ) × (rest : List ℕ) × IsGapShown before part.0 part.1 gap × IsWordShown part.1 word × IsShownBehind (Some part.1) parts last rest × (value ≡ gap ++ (word ++ rest))
+
+-- what is shown of a text: of its words and gaps, and of what stands behind them
 abbrev pub IsShown : List ℕ → List ℕ → Type 0
-IsShown text value = (cut : Cut) × IsCutOf text cut × (value ≡ shown_cut cut)
+IsShown text value = (cut : Cut) × IsCutOf text cut × IsShownBehind None cut.0 cut.1 value
+
+-- what is computed is shown of a text, and nothing else is
+abbrev pub ShownLaw : Type 0
+ShownLaw = (text value : List ℕ) → (value ≡ words_shown text) ↔ IsShown text value
 
 -- two words that stand in a text never overlap: the second begins behind the end of the first
 abbrev pub StandApart : List ℕ → Type 0

@@ -3,16 +3,21 @@
 //! `unfolding` makes one line of a folded body (RFC 5322, section 2.2.3) and takes the blanks off its ends. `words` finds
 //! the encoded words that stand in that line (RFC 2047, sections 2 and 5), `decoding` says what one stands for, by its
 //! encoding (`quoted` for Q, the crate `base64` for B) and its `charset`, and `value` puts the line together again.
+//!
+//! In `specs/`, `Spans` and `Meaning` say what the value is without computing it: which words stand in the line, what a good
+//! one means, and what is shown of words and gaps. `Words`, `Decoding` and `Value` compute it. `laws` has what ties the two.
 #![tactic(auto)]
 
 mod charset;
 mod decoding;
+mod laws;
 mod quoted;
 mod text;
 mod unfolding;
 mod value;
 mod words;
 
+pub use laws::{meaning_is_decided, value_is_decided, words_stand_apart};
 pub use value::value_of;
 
 #[cfg(test)]

@@ -32,7 +32,7 @@ fn hex_digit(octet: u8) -> Option<u8>
 pub fn decode_q(alloc: Global, text: &[u8]) -> Result<Option<Text>, AllocError>
     ensures { IfOk result (λ o. o ≡ q_octets Place.Plain text.now) }
 {
-    let mut octets = Vec::new(alloc);
+    let mut octets = Vec::with_capacity(alloc, text.len())?;
     let mut place = Place::Plain;
     for octet in text {
         place = match place {

@@ -68,9 +68,16 @@ fn decodes_the_vectors(rt: HostRuntime) -> Result<(), Fail> {
 
 #[test]
 fn keeps_what_is_no_good_word(rt: HostRuntime) -> Result<(), Fail> {
-    let rows: [&[u8]; 9] = [
+    let rows: [&[u8]; 16] = [
         b"x=?utf-8?q?a?=",
         b"=?utf-8?q?a?=x",
+        b")=?utf-8?q?a?=",
+        b"=?utf-8?q?a?=(",
+        b"=?utf-8?q?a=?=",
+        b"=?utf-8?x?a?=",
+        b"=?utf-8?b?Zh==?=",
+        b"=?iso-8859-0?q?a?=",
+        b"=?iso-8859-17?q?a?=",
         b"=?utf-8?q?=4?=",
         b"=?utf-8?q?=FF?=",
         b"=?utf-8?b?w7w?=",
@@ -87,8 +94,16 @@ fn keeps_what_is_no_good_word(rt: HostRuntime) -> Result<(), Fail> {
         b"a =?utf-8?q?=FF?=".as_slice()
     );
     assert_eq!(rt;
+        value_of(rt.alloc(), b"=?utf-8?q?a?= =?utf-8?q?=FF?= =?utf-8?q?b?=")?.as_slice(),
+        b"a =?utf-8?q?=FF?= b".as_slice()
+    );
+    assert_eq!(rt;
         value_of(rt.alloc(), b" =?us-ascii?q?_a_?= ")?.as_slice(),
         b" a ".as_slice()
+    );
+    assert_eq!(rt;
+        value_of(rt.alloc(), b"=?iso-8859-12?q?a?=")?.as_slice(),
+        b"a".as_slice()
     );
     assert_eq!(rt;
         value_of(rt.alloc(), b"=?utf-8?b?w7w=?=")?.as_slice(),

@@ -28,7 +28,7 @@ fn line_text(line: &[u8]) -> &[u8]
 pub fn unfold(alloc: Global, body: &[u8]) -> Result<Vec<u8>, AllocError>
     ensures { IfOk result (λ v. v.items ≡ unfolded body.now) }
 {
-    let mut line = Vec::new(alloc);
+    let mut line = Vec::with_capacity(alloc, body.len())?;
     let mut rest = body;
     while let Some(place) = memchr(b'\n', rest) {
         let (text, end) = rest.split_at(place);

@@ -1,9 +1,9 @@
 //! The value of a field.
 
-ghost use Rattle.std.specs.Prelude.{◌≡◌, [], ◌&&◌, IfOk, OnOk, if◌then◌else◌};
+ghost use Rattle.std.specs.Prelude.{◌≡◌, [], ◌&&◌, IfOk, if◌then◌else◌};
 ghost use Rattle.std.specs.List.{list_all};
-ghost use Rattle.mail_words.specs.Unfolding.{is_blank};
-ghost use Rattle.mail_words.specs.Spans.{IsShown, StandApart};
+ghost use Rattle.mail_words.specs.Unfolding.{is_blank, unfolded, trimmed};
+ghost use Rattle.mail_words.specs.Spans.{IsShown};
 ghost use Rattle.mail_words.specs.Value.{words_shown, value_of_body};
 
 use crate::decoding::decode;
@@ -30,14 +30,12 @@ fn shown_gap(gap: &[u8], after_good: bool) -> &[u8]
 }
 
 /// The text with its good words replaced by what they stand for, and without the blanks that alone stand between two
-/// of them. The clauses `spans` and `apart` are laws of the definitions: the words that are found are exactly those that
-/// stand in the text, and no two of them overlap.
+/// of them. Room for as many octets as the text has is taken at once: only words of ISO 8859-1 in B text can come out
+/// longer than they are written, by less than a half.
 fn show_words(alloc: Global, text: &[u8]) -> Result<Vec<u8>, AllocError>
-    ensures value { IfOk result (λ v. v.items ≡ words_shown text.now) }
-    ensures spans { IfOk result (λ v. IsShown text.now v.items) }
-    ensures apart { OnOk result (StandApart text.now) }
+    ensures { IfOk result (λ v. v.items ≡ words_shown text.now) }
 {
-    let mut shown = Vec::new(alloc);
+    let mut shown = Vec::with_capacity(alloc, text.len())?;
     let mut after_good = false;
     let mut rest = text;
     while let Some(standing) = next_word(rest) {
@@ -67,9 +65,13 @@ fn show_words(alloc: Global, text: &[u8]) -> Result<Vec<u8>, AllocError>
 /// A word stands at the value's start or behind a space, a tab or "(", and at its end or before a space, a tab or ")".
 /// Its encoding is B or Q and its charset us-ascii, utf-8 or iso-8859-1 to iso-8859-16; of the parts of ISO 8859 from 2 on
 /// only octets below 128 are read. Words have no limit on their length. The one refusal is want of memory.
+///
+/// The value is that computed by the definition (`value`), and is what is said of the words that stand in the unfolded and
+/// trimmed body, of what they mean and of the gaps between them (`spans`).
 #[tactic(auto, unfolding(crate::specs::Value::value_of_body))]
 pub fn value_of(alloc: Global, raw: &[u8]) -> Result<Vec<u8>, AllocError>
-    ensures { IfOk result (λ v. v.items ≡ value_of_body raw.now) }
+    ensures value { IfOk result (λ v. v.items ≡ value_of_body raw.now) }
+    ensures spans { IfOk result (λ v. IsShown (trimmed (unfolded raw.now)) v.items) }
 {
     if memchr(b'\n', raw).is_none() {
         return show_words(alloc, trim(raw));

@@ -3,7 +3,7 @@ use Rattle.mail_words.proofs.quoted.decode_q.Goals as goal
 use Rattle.mail_words.proofs.quoted.decode_q.Goals.{in-Plain, in-Plain-2+in_ok-push-in-Plain-2, then-octet-eq95, else-octet-eq95, in-Escape+in-Some, in-Digit+in-Some-hex_digit+in_ok-push-in-Some-hex_digit}
 
 pub loop-octet-init : goal.loop-octet-init
-loop-octet-init c = rw c.new-octets.ensures.items (Decoded-none c.args.text.now)
+loop-octet-init c = rw c.in_ok-octets.ensures.items (Decoded-none c.args.text.now)
 
 pub loop-octet-preserved : goal.loop-octet-preserved
 loop-octet-preserved c =

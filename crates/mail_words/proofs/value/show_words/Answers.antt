@@ -4,11 +4,10 @@ use Rattle.std.specs.List.{list_all}
 use Rattle.mail_words.specs.Unfolding.{is_blank}
 use Rattle.mail_words.specs.Decoding.{text_of}
 use Rattle.mail_words.proofs.ShownLemmas.{Showing-none, Showing-good, Showing-bad, Showing-done}
-use Rattle.mail_words.proofs.SpanLemmas.{spans_of, words_apart}
 use Rattle.mail_words.proofs.value.show_words.Goals as goal
 
 pub loop-standing-init : goal.loop-standing-init
-loop-standing-init c = rw c.new-shown.ensures.items (Showing-none c.args.text.now)
+loop-standing-init c = rw c.in_ok-shown.ensures.items (Showing-none c.args.text.now)
 
 pub loop-standing-preserved-in_ok-extend_from_slice-in-Some-2-2 :
     goal.loop-standing-preserved-in_ok-extend_from_slice-in-Some-2-2
@@ -23,11 +22,5 @@ loop-standing-preserved c =
     let kept : c.split_at.result.0.now ≡ take (length c.loop-standing.rest.now - length c.in-Some.standing.2) c.loop-standing.rest.now = c.split_at.ensures.front ∙ ap (λ x. take (length c.loop-standing.rest.now - length x) c.loop-standing.rest.now) c.behind-behind.ensures in
     rw (c.in_ok-extend_from_slice-in-None.ensures.items, c.behind-behind.ensures) (Showing-bad c.args.text.now c.loop-standing.shown.items c.loop-standing.rest.now c.in-Some.standing.0 c.in-Some.standing.2 c.split_at.result.0.now c.in-Some.standing.1 c.loop-standing.after_good c.loop-standing.invariant c.in-Some.ensures.first c.in-Some.ensures.spelled bad kept)
 
-pub returns-clause-value : goal.returns-clause-value
-returns-clause-value c = rw c.in_ok-extend_from_slice.ensures.items (Showing-done c.args.text.now c.loop-standing.shown.items c.loop-standing.rest.now c.loop-standing.after_good c.loop-standing.invariant c.in_default.ensures.first)
-
-pub returns-clause-spans : goal.returns-clause-spans
-returns-clause-spans c = spans_of c.args.text.now _ (rw c.in_ok-extend_from_slice.ensures.items (Showing-done c.args.text.now c.loop-standing.shown.items c.loop-standing.rest.now c.loop-standing.after_good c.loop-standing.invariant c.in_default.ensures.first))
-
-pub returns-clause-apart : goal.returns-clause-apart
-returns-clause-apart c = words_apart c.args.text.now
+pub returns : goal.returns
+returns c = rw c.in_ok-extend_from_slice.ensures.items (Showing-done c.args.text.now c.loop-standing.shown.items c.loop-standing.rest.now c.loop-standing.after_good c.loop-standing.invariant c.in_default.ensures.first)
