@@ -5,6 +5,7 @@
 
 mod inputs;
 mod measures;
+mod plans;
 
 use anyhow::Result;
 use measures::{Measure, measures};
@@ -28,10 +29,11 @@ fn main(rt: HostRuntime) -> Result<()> {
     let (octets, rounds) = numbers(&rt)?;
     for measure in measures() {
         let input = measure.input(rt.alloc(), octets.unwrap_or(FEW_OCTETS))?;
+        let plan = measure.plan(rt.alloc())?;
         let start = Instant::now(&rt)?;
         let mut answer = 0;
         for _ in 0..rounds.unwrap_or(1) {
-            answer = measure.run(rt.alloc(), input.as_slice())?;
+            answer = measure.run(rt.alloc(), input.as_slice(), &plan)?;
         }
         let spent = start.elapsed(&rt)?;
         let name = measure.name();

@@ -1,6 +1,8 @@
 //! What is measured.
 
 use crate::inputs::repeated;
+use crate::plans::{MOST_CLASSES, class_path, plan_of, plan_text, schedules, taken_over};
+use class_plan::Plan;
 use mail_head::{HeadReader, read_head};
 use mail_words::value_of;
 use sieve_match::{Comparator, contains, matches};
@@ -36,10 +38,16 @@ pub enum Measure {
     HardCasemap,
     /// `matches` of a pattern of five `*` in a value of `a`.
     Stars,
+    /// `Plan::from_toml` of a plan file, and `Plan::revise` by it.
+    PlanFile,
+    /// A thousand times `Plan::schedule_of` of a path of eight segments, in a plan of 9 classes.
+    ScheduleOfFew,
+    /// The same in a plan of 4,096 classes.
+    ScheduleOfMany,
 }
 
 /// Each measure, in the order in which they are told.
-pub fn measures() -> [Measure; 13] {
+pub fn measures() -> [Measure; 16] {
     [
         Measure::PlainLoop,
         Measure::Header,
@@ -54,6 +62,9 @@ pub fn measures() -> [Measure; 13] {
         Measure::HardOctet,
         Measure::HardCasemap,
         Measure::Stars,
+        Measure::PlanFile,
+        Measure::ScheduleOfFew,
+        Measure::ScheduleOfMany,
     ]
 }
 
@@ -86,6 +97,9 @@ impl Measure {
             Measure::HardOctet => "contains_hard_octet",
             Measure::HardCasemap => "contains_hard_casemap",
             Measure::Stars => "matches_stars",
+            Measure::PlanFile => "plan_file",
+            Measure::ScheduleOfFew => "schedule_of_few",
+            Measure::ScheduleOfMany => "schedule_of_many",
         }
     }
 
@@ -116,11 +130,24 @@ impl Measure {
                     octets,
                 )
             }
+            Measure::PlanFile => plan_text(alloc, octets),
+            Measure::ScheduleOfFew | Measure::ScheduleOfMany => {
+                Ok(class_path(alloc, 7)?.into_bytes())
+            }
+        }
+    }
+
+    /// The plan that is read, which is that of `unfiled` alone where none is.
+    pub fn plan(self, alloc: Global) -> Result<Plan, AllocError> {
+        match self {
+            Measure::ScheduleOfFew => plan_of(alloc, 8),
+            Measure::ScheduleOfMany => plan_of(alloc, MOST_CLASSES),
+            _ => Plan::new(alloc),
         }
     }
 
     /// Runs once; the answer is told so that the work is done.
-    pub fn run(self, alloc: Global, input: &[u8]) -> Result<usize, AllocError> {
+    pub fn run(self, alloc: Global, input: &[u8], plan: &Plan) -> Result<usize, AllocError> {
         match self {
             Measure::PlainLoop => Ok(sum(input)),
             Measure::Header | Measure::Body => Ok(read_head(alloc, input)?.fields().len()),
@@ -142,6 +169,8 @@ impl Measure {
             Measure::HardOctet => hard(alloc, input, Comparator::Octet),
             Measure::HardCasemap => hard(alloc, input, Comparator::Casemap),
             Measure::Stars => Ok(usize::from(matches(b"*a*a*a*a*b", input, Comparator::Octet))),
+            Measure::PlanFile => taken_over(alloc, input),
+            Measure::ScheduleOfFew | Measure::ScheduleOfMany => Ok(schedules(plan, input)),
         }
     }
 }

@@ -1,5 +1,5 @@
 -- Day numbers of the dates at hand.
-use Rattle.std.proofs.Common.{◌≡◌, ℕ, ◌≤◌, ◌<◌, min, ℤ, pos, negsuc, ◌+ℤ◌, ◌≤ℤ◌, ◌<ℤ◌, arith, refl, ◌∙◌}
+use Rattle.std.proofs.Common.{◌≡◌, ℕ, ◌≤◌, ◌<◌, ℤ, pos, negsuc, ◌+ℤ◌, ◌≤ℤ◌, ◌<ℤ◌, arith, refl, ◌∙◌}
 use Rattle.jiff.specs.Words.{epoch_day, IsEpochDay}
 use Rattle.jiff_core.specs.declared.civil.date.Date.{Date}
 use Rattle.jiff_core.specs.declared.span.Span.{Span}
@@ -11,9 +11,7 @@ use Rattle.jiff_core.proofs.DateLemmas.{epoch_day_range, civil}
 use Rattle.jiff_core.proofs.CalendarLemmas.{days_from_civil-day_count, day_count-lt_year}
 use Rattle.jiff_core.proofs.MarchLemmas.{day_count-early}
 use Rattle.jiff.proofs.SpanFacts.{date_add-days, can_add-days}
-use Rattle.std.specs.Int.{int_min}
 use Rattle.std.specs.Prelude.{unsigned_abs}
-use Rattle.std.proofs.lemmas.Int.{ints, clamps}
 use Rattle.class_plan.specs.Dates.{months_of}
 use Rattle.jiff_span.specs.Add.{date_add, CanAddToDate}
 
@@ -47,12 +45,13 @@ days-in d n year count =
     let top = day_count-2200 in
     (omega (arith, signed_arith), omega (arith, signed_arith))
 
+pub year_pos : (z : ℤ) → pos 1970 ≤ℤ z → z ≡ pos (unsigned_abs z)
+year_pos (pos n) h = refl
+year_pos (negsuc n) h = absurd (omega (arith, signed_arith))
+
 abs-below : (z : ℤ) → z ≤ℤ pos 2199 → pos 1970 ≤ℤ z → unsigned_abs z ≤ 2199
 abs-below (pos n) h k = omega (arith, signed_arith)
 abs-below (negsuc n) h k = absurd (omega (arith, signed_arith))
 
 pub months-below : (d : Date) (n : ℕ) → d.year ≤ℤ pos 2199 → pos 1970 ≤ℤ d.year → n ≤ 12000 → months_of d n < 38400
 months-below d n high low count = let year = abs-below d.year high low in omega (arith, d.month_in)
-
-pub min-of_signed : (r a b : ℕ) → pos r ≡ int_min (pos a) (pos b) → r ≡ min a b
-min-of_signed r a b e = omega (arith, ints, clamps, e)

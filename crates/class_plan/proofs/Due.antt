@@ -1,5 +1,5 @@
 -- Due dates: which day they are, and that they come after the capture day.
-use Rattle.std.proofs.Common.{◌≡◌, ℕ, ◌/◌, ◌≤◌, inl, inr, ℤ, pos, negsuc, ◌+ℤ◌, ◌≤ℤ◌, ◌<ℤ◌, Option, Some, None, unsigned_abs, arith, refl, sym, ◌∙◌}
+use Rattle.std.proofs.Common.{◌≡◌, ℕ, ◌/◌, ◌≤◌, inl, inr, pos, ◌+ℤ◌, ◌≤ℤ◌, ◌<ℤ◌, Option, Some, None, unsigned_abs, arith, refl, sym, ◌∙◌}
 use Rattle.jiff.specs.Words.{epoch_day}
 use Rattle.jiff_core.specs.declared.civil.date.Date.{Date}
 use Rattle.jiff_core.proofs.SignedLemmas.{signed_arith}
@@ -14,7 +14,7 @@ use Rattle.class_plan.specs.declared.schedules.Schedule.{Schedule}
 use Rattle.class_plan.specs.declared.schedules.Schedule.TheVariants.{Permanent, After}
 use Rattle.class_plan.specs.Schedules.{IsInRange}
 use Rattle.class_plan.specs.Dates.{IsCaptureDay, IsDue, IsEarlier, IsLater, IsSameDay, IsMonthsAfter, IsYearsAfter, months_of}
-use Rattle.class_plan.proofs.Days.{days_from_civil-zero}
+use Rattle.class_plan.proofs.Days.{days_from_civil-zero, year_pos}
 
 -- a smaller day number is that of an earlier date
 pub earlier-from_number : (d e : Date) → epoch_day d <ℤ epoch_day e → IsEarlier d e
@@ -46,10 +46,6 @@ due-only d (After n Months x) (Some a) (Some b) h k = months_only d n a b h k
 due-only d (After n Years x) (Some a) (Some b) h k = years_only d n a b h k
 due-only d (After n u x) None b h k = absurd h
 due-only d (After n u x) (Some a) None h k = absurd k
-
-year_pos : (z : ℤ) → pos 1970 ≤ℤ z → z ≡ pos (unsigned_abs z)
-year_pos (pos n) h = refl
-year_pos (negsuc n) h = absurd (omega (arith, signed_arith))
 
 months_earlier : (d : Date) (n : ℕ) (e : Date) → IsCaptureDay d → 1 ≤ n → IsMonthsAfter d n e → IsEarlier d e
 months_earlier d n e day some h =

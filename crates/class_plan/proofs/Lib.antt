@@ -18,6 +18,7 @@ pub mod Kept
 pub mod Cloned
 pub mod Ranges
 pub mod Days
+pub mod Months
 pub mod Printed
 pub mod Parted
 pub mod Reparted

@@ -33,11 +33,7 @@ fn months_after(day: Date, count: u32) -> Date
     requires count { count ≤ 12000 }
     ensures { IsMonthsAfter day count result }
 {
-    let months = day.year() as u32 * 12 + (day.month() as u32 - 1) + count;
-    let year = (months / 12) as i16;
-    let month = (months % 12 + 1) as i8;
-    let last = date(year, month, 1).days_in_month();
-    date(year, month, day.day().min(last))
+    day.saturating_add((count as i64).months())
 }
 
 /// The UTC date of a moment in seconds since 1970-01-01T00:00:00Z, or `None` for a moment after
