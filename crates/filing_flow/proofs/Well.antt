@@ -187,3 +187,6 @@ module _ (p : Program) (a : Flow) (is : IsCodeOf p a) (d : HasType (block a) [] 
     };
     within = record { least = omega arith; most = small; paths = λ n q path lt. omega (arith, path_later n q path, code_long) };
   }
+
+pub typed_is_well : TypedIsWell
+typed_is_well p a is d ok slots enough small = is_well p a is d ok slots enough small
