@@ -1,14 +1,14 @@
 -- The run of a program of code in blocks ends as the code does.
-use Rattle.std.proofs.Common.{◌≡◌, ℕ, zero, suc, ◌+◌, List, [], Option, refl, sym, ap, ◌∙◌, subst}
+use Rattle.std.proofs.Common.{◌≡◌, ℕ, zero, suc, ◌+◌, [], Option, refl, sym, ap, ◌∙◌, subst}
 use Rattle.filing_image.specs.Program.{Program}
 use Rattle.sieve_meaning.specs.Case.{Facts}
-use Rattle.filing_table.specs.Machine.{Entry, State, Run, At, Over, step, start, after_steps}
-use Rattle.filing_table.specs.Ends.{Ends, HasOutcome}
+use Rattle.filing_table.specs.Machine.{State, Run, At, step, start, after_steps}
+use Rattle.filing_table.specs.Ends.{HasOutcome}
 use Rattle.filing_table.proofs.Once.{first_end}
-use Rattle.filing_flow.specs.Structure.{Flow, size, IsSound}
-use Rattle.filing_flow.specs.Effect.{Filing, Exit, EndsRun, effect}
-use Rattle.filing_flow.specs.Whole.{first, whole, IsCodeOf, nothing_done, outcome_from, RunsAsItsCode}
-use Rattle.filing_flow.proofs.Follow.{steps, on, Comes, OverAt, Arrives, flow_runs}
+use Rattle.filing_flow.specs.Structure.{size}
+use Rattle.filing_flow.specs.Effect.{Filing, Exit, effect}
+use Rattle.filing_flow.specs.Whole.{first, whole, nothing_done, outcome_from, RunsAsItsCode}
+use Rattle.filing_flow.proofs.Follow.{steps, on, OverAt, Arrives, flow_runs}
 use Rattle.filing_flow.proofs.Well.{holds_all}
 
 steps_last : (p : Program) (c : Facts) (n : ℕ) (x : Run) → steps p c n (step p c x) ≡ step p c (steps p c n x)

@@ -1,5 +1,5 @@
 -- The machine does what structured code does.
-use Rattle.std.proofs.Common.{◌≡◌, ℕ, zero, suc, ◌+◌, ◌<◌, ◌≤◌, List, [], ◌∷◌, ◌++◌, length, Bool, true, false, not, ◌&&◌, cond, Option, Some, None, refl, sym, ap, ◌∙◌, subst, arith, length-append}
+use Rattle.std.proofs.Common.{◌≡◌, ℕ, zero, suc, ◌+◌, ◌<◌, ◌≤◌, List, [], ◌∷◌, ◌++◌, length, Bool, true, false, not, cond, Option, Some, refl, sym, ap, ◌∙◌, subst, arith}
 use Rattle.std.specs.Prelude.{slice_get, slice_index_or, nat_lt, nat_le, nat_eq, ◌||◌}
 use Rattle.std.specs.List.{list_any}
 use Rattle.filing_image.specs.declared.instruction.Operation.{Operation}
@@ -11,9 +11,9 @@ use Rattle.sieve_meaning.specs.Paths.{insert_path}
 use Rattle.filing_table.specs.Machine.{values_of, Entry, T, L, N, State, Run, At, Over, Trap, with_named, compared, on_stack, act, at_place, step}
 use Rattle.filing_table.specs.Machine as table
 use Rattle.filing_flow.specs.Structure.{Action, Push, Negate, ValuesOf, JoinTwo, MatchKey, Drop, HasField, PushSize, PushNumber, IsLess, IsMarked, SetMark, FileInto, SetKept, SetCancelled, End, Fail, Flow, nothing, action, sequence, block, leave, leave_if, size, IsSoundAction, IsSound}
-use Rattle.filing_flow.specs.Code.{Start, Piece, after, joined, only, action_piece, piece, end_at, jump_when}
+use Rattle.filing_flow.specs.Code.{Start, after, action_piece, piece, end_at, jump_when}
 use Rattle.filing_flow.specs.Effect.{Filing, Exit, FallsThrough, Leaves, EndsRun, Stuck, with_stack, filing, action_effect, and_then, caught, leaving, effect}
-use Rattle.filing_flow.proofs.Stands.{HasAt, Holds, holds_front, holds_back, long}
+use Rattle.filing_flow.proofs.Stands.{Holds, holds_front, holds_back, long}
 
 unfoldable pub steps : Program → Facts → ℕ → Run → Run
 steps p c zero x = x
@@ -94,7 +94,6 @@ module _ (p : Program) (c : Facts) where
   stacked : (f : Filing) (pc : ℕ) (es fs : List Entry) → Gives (with_stack f fs) (pc + 1) (table.with_stack (on f pc es) fs)
   stacked f pc es fs = elim (nat_lt 32 (length fs)) as (λ t. Gives (cond t Stuck (FallsThrough f fs)) (pc + 1) (cond t Trap (At (on f (pc + 1) fs)))) [ true ↦ tt | false ↦ refl ]
 
-
   le_is : (a b : ℕ) → a ≤ b → nat_le a b ≡ true
   le_is a b l = grind (arith)
 
@@ -156,7 +155,7 @@ module _ (p : Program) (c : Facts) where
       let end : s.place + length x.code + size b ≡ s.place + (size a + size b) = omega (arith, long a ends s) in
       let first : Arrives (effect c a f es) (s.place + length x.code) ends (At (on f s.place es)) = subst (λ (n : ℕ). Arrives (effect c a f es) n ends (At (on f s.place es))) mid (flow_runs a ends s f es ok.0 (holds_front p s x y h)) in
       arrives_both (effect c a f es) (effect c b) (s.place + length x.code) (s.place + (size a + size b)) ends (At (on f s.place es)) first
-          (λ g fs. subst (λ (n : ℕ). Arrives (effect c b g fs) n ends (At (on g (s.place + length x.code) fs))) end (flow_runs b ends (after s x) g fs ok.1 (holds_back p s x y h)))
+      (λ g fs. subst (λ (n : ℕ). Arrives (effect c b g fs) n ends (At (on g (s.place + length x.code) fs))) end (flow_runs b ends (after s x) g fs ok.1 (holds_back p s x y h)))
   flow_runs (block a) ends s f es ok h = arrives_caught (effect c a f es) (s.place + size a) ends (At (on f s.place es)) (flow_runs a ((s.place + size a) ∷ ends) s f es ok h)
   flow_runs (leave n) ends s f es ok h = by_one (stepped f s.place es (Jump (end_at ends n)) h.code.0)
   flow_runs (leave_if t n) ends s f es ok h = leaves_if t n ends s f es h.code.0

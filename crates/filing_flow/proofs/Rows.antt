@@ -1,17 +1,16 @@
 -- Small code in blocks, whose operations and whose doings are known: each line computes.
-use Rattle.std.proofs.Common.{◌≡◌, ℕ, List, [], ◌∷◌, Bool, true, false, Option, Some, None, codes, refl, arith}
+use Rattle.std.proofs.Common.{◌≡◌, ◌≤◌, [], ◌∷◌, true, false, Some, None, codes, refl, arith}
 use Rattle.std.specs.Str.{bytes_eq}
-use Rattle.filing_image.specs.declared.instruction.Operation.{Operation}
-use Rattle.filing_image.specs.declared.instruction.Operation.TheVariants.{PushTrue, PushFalse, Jump, JumpIf, JumpUnless, Exists, Values, Match, Pop, Number, Less, File, Keep, Discard, Stop}
+use Rattle.filing_image.specs.declared.instruction.Operation.TheVariants.{PushTrue, PushFalse, Jump, JumpIf, JumpUnless, Exists, Number, Keep, Stop}
 use Rattle.filing_image.specs.Program.{Program}
-use Rattle.filing_verify.specs.declared.kind.Kind.TheVariants.{Truth, Texts}
-use Rattle.sieve_meaning.specs.Case.{Facts, Field}
+use Rattle.filing_verify.specs.declared.kind.Kind.TheVariants.{Truth}
+use Rattle.sieve_meaning.specs.Case.{Facts}
 use Rattle.sieve_meaning.specs.Outcome.{Outcome, unfiled}
-use Rattle.filing_table.specs.Machine.{Entry, T, Run, At, Over, Trap, after_steps}
+use Rattle.filing_table.specs.Machine.{T, Run, Over, after_steps}
 use Rattle.filing_table.specs.Ends.{outcome_left}
-use Rattle.filing_flow.specs.Structure.{Flow, Push, Drop, MatchKey, ValuesOf, HasField, PushNumber, PushSize, IsLess, FileInto, SetKept, SetCancelled, End, nothing, action, sequence, block, leave, leave_if, size, IsSound}
-use Rattle.filing_flow.specs.Code.{Start, Piece, piece, end_at}
-use Rattle.filing_flow.specs.Effect.{Exit, FallsThrough, Leaves, EndsRun, Stuck, effect}
+use Rattle.filing_flow.specs.Structure.{Flow, Push, Drop, HasField, PushNumber, FileInto, SetKept, SetCancelled, End, action, sequence, block, leave, leave_if, size}
+use Rattle.filing_flow.specs.Code.{piece}
+use Rattle.filing_flow.specs.Effect.{FallsThrough, Leaves, EndsRun, Stuck, effect}
 use Rattle.filing_flow.specs.Types.{HasType}
 use Rattle.filing_flow.specs.Whole.{first, whole, nothing_done}
 
@@ -19,8 +18,8 @@ use Rattle.filing_flow.specs.Whole.{first, whole, nothing_done}
 abbrev both_there : Flow
 both_there =
     block (sequence
-      (block (sequence (action (HasField (codes "to"))) (sequence (leave_if false 0) (sequence (action (HasField (codes "cc"))) (sequence (leave_if false 0) (sequence (action (Push true)) (leave 1)))))))
-      (action (Push false)))
+    (block (sequence (action (HasField (codes "to"))) (sequence (leave_if false 0) (sequence (action (HasField (codes "cc"))) (sequence (leave_if false 0) (sequence (action (Push true)) (leave 1)))))))
+    (action (Push false)))
 
 both_there_code : (piece both_there [] first).code ≡ Exists 0 ∷ JumpUnless 6 ∷ Exists 1 ∷ JumpUnless 6 ∷ PushTrue ∷ Jump 7 ∷ PushFalse ∷ []
 both_there_code = refl
@@ -30,7 +29,6 @@ both_there_texts = refl
 
 both_there_size : size both_there ≡ 7
 both_there_size = refl
-
 
 -- behind other code, with its texts
 later_code : (piece both_there [] (record { place = 10; text = 3; number = 1 })).code ≡ Exists 3 ∷ JumpUnless 16 ∷ Exists 4 ∷ JumpUnless 16 ∷ PushTrue ∷ Jump 17 ∷ PushFalse ∷ []
@@ -92,11 +90,11 @@ both_there_typed =
     let none : 0 ≤ 32 = omega arith in
     let one : 1 ≤ 32 = omega arith in
     let less : 0 ≤ 31 = omega arith in
-    ([], ((Truth ∷ [], (refl, none, one), ([], (refl, less, refl), (Truth ∷ [], (refl, none, one), ([], (refl, less, refl), (Truth ∷ [], (refl, none, one), (one, refl)))))), (refl, none, one)))
+    ([], (Truth ∷ [], (refl, none, one), ([], (refl, less, refl), (Truth ∷ [], (refl, none, one), ([], (refl, less, refl), (Truth ∷ [], (refl, none, one), (one, refl)))))), (refl, none, one))
 
 -- a truth that is popped is not there for the next jump
 not_twice : HasType (sequence (leave_if true 0) (leave_if true 0)) ([] ∷ []) (Truth ∷ []) [] → ⊥
-not_twice h = let (m, (first_is, d, e), (second_is, g, k)) = h in absurd (cc (first_is, second_is, e))
+not_twice h = let (m, (first_is, d, e), (second_is, g, k)) = h in absurd (cc (first_is, second_is))
 
 -- RUNS
 

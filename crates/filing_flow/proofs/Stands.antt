@@ -1,10 +1,9 @@
 -- Pieces that stand in a program.
-use Rattle.std.proofs.Common.{◌≡◌, ℕ, zero, suc, ◌+◌, ◌<◌, ◌≤◌, List, [], ◌∷◌, ◌++◌, length, Bool, true, false, Option, Some, None, refl, sym, ap, ◌∙◌, subst, arith, length-append}
+use Rattle.std.proofs.Common.{◌≡◌, ℕ, ◌+◌, ◌≤◌, List, [], ◌∷◌, ◌++◌, length, true, false, Some, refl, subst, arith, length-append}
 use Rattle.std.specs.Prelude.{slice_get}
-use Rattle.filing_image.specs.declared.instruction.Operation.{Operation}
 use Rattle.filing_image.specs.Program.{Program}
 use Rattle.filing_flow.specs.Structure.{Action, Push, Negate, ValuesOf, JoinTwo, MatchKey, Drop, HasField, PushSize, PushNumber, IsLess, IsMarked, SetMark, FileInto, SetKept, SetCancelled, End, Fail, Flow, nothing, action, sequence, block, leave, leave_if, size}
-use Rattle.filing_flow.specs.Code.{Start, Piece, after, joined, only, action_piece, piece}
+use Rattle.filing_flow.specs.Code.{Start, Piece, after, joined, action_piece, piece}
 
 abbrev pub HasAt : {A : Type 0} → List A → ℕ → List A → Type 0
 HasAt xs pc [] = Unit {0}

@@ -1,14 +1,13 @@
 -- Structured code that has a type has shapes, and goes forward.
-use Rattle.std.proofs.Common.{◌≡◌, ℕ, zero, suc, ◌+◌, ◌<◌, ◌≤◌, List, [], ◌∷◌, ◌++◌, length, Bool, true, false, Option, Some, None, refl, sym, ap, ◌∙◌, subst, arith, inl, inr, ◌⊎◌, length-append}
+use Rattle.std.proofs.Common.{◌≡◌, ℕ, zero, suc, ◌+◌, ◌<◌, ◌≤◌, List, [], ◌∷◌, ◌++◌, length, Bool, true, false, Some, None, refl, sym, ap, ◌∙◌, subst, arith, inl, inr, length-append}
 use Rattle.filing_image.specs.declared.instruction.Operation.{Operation}
 use Rattle.filing_image.specs.declared.instruction.Operation.TheVariants.{PushTrue, PushFalse, Not, Values, Join, Match, Pop, Exists, Size, Number, Less, Jump, JumpIf, JumpUnless, Marked, Mark, File, Keep, Discard, Stop, Fault}
-use Rattle.filing_verify.specs.declared.kind.Kind.{Kind}
 use Rattle.filing_verify.specs.declared.kind.Kind.TheVariants.{Truth, Texts, Count}
 use Rattle.filing_image.specs.Program.{Program}
-use Rattle.filing_verify.specs.Flow.{target, goes_on, Follows}
+use Rattle.filing_verify.specs.Flow.{target, Follows}
 use Rattle.filing_verify.specs.Shapes as shapes
 use Rattle.filing_flow.specs.Structure.{Action, Push, Negate, ValuesOf, JoinTwo, MatchKey, Drop, HasField, PushSize, PushNumber, IsLess, IsMarked, SetMark, FileInto, SetKept, SetCancelled, End, Fail, Flow, nothing, action, sequence, block, leave, leave_if, size}
-use Rattle.filing_flow.specs.Code.{Start, Piece, after, joined, only, action_piece, piece, end_at, jump_when}
+use Rattle.filing_flow.specs.Code.{Start, after, action_piece, piece, end_at, jump_when}
 use Rattle.filing_flow.specs.Types.{Shape, action_after, shape_at, HasType}
 use Rattle.filing_flow.proofs.Stands.{long}
 
@@ -145,7 +144,7 @@ module _ (p : Program) (σ : ℕ → Shape) where
       let e1 : pc + length sa ≡ pc + size a = omega (arith, shapes_long a es i d.0 d.1) in
       let e2 : pc + (size a + size b) ≡ pc + size a + size b = omega arith in
       starts a es i d.0 d.1 pc (shaped_front σ pc sa sb h)
-        (starts b es d.0 o d.2 (pc + size a) (subst (λ (n : ℕ). ShapedAt σ n sb) e1 (shaped_back σ pc sa sb h)) (subst (λ (n : ℕ). σ n ≡ o) e2 end))
+      (starts b es d.0 o d.2 (pc + size a) (subst (λ (n : ℕ). ShapedAt σ n sb) e1 (shaped_back σ pc sa sb h)) (subst (λ (n : ℕ). σ n ≡ o) e2 end))
   starts (block a) es i o d pc h end = starts a (o ∷ es) i o d pc h end
   starts (leave n) es i o d pc h end = h.0
   starts (leave_if t n) es i o d pc h end = h.0
@@ -165,8 +164,8 @@ module _ (p : Program) (σ : ℕ → Shape) where
       let end' : σ (s.place + length x.code + size b) ≡ o = subst (λ (n : ℕ). σ n ≡ o) e2 end in
       let mid : σ (s.place + length x.code) ≡ d.0 = starts b es d.0 o d.2 (s.place + length x.code) hb end' in
       fine_both p σ s.place x.code (piece b ends (after s x)).code
-          (flow_fine a ends s es i d.0 d.1 (shaped_front σ s.place sa sb h) (subst (λ (n : ℕ). σ n ≡ d.0) e3 mid) (around_sooner (s.place + (size a + size b)) (s.place + size a) ends es (omega arith) around))
-          (flow_fine b ends (after s x) es d.0 o d.2 hb end' (around_sooner (s.place + (size a + size b)) (s.place + length x.code + size b) ends es (omega arith) around))
+      (flow_fine a ends s es i d.0 d.1 (shaped_front σ s.place sa sb h) (subst (λ (n : ℕ). σ n ≡ d.0) e3 mid) (around_sooner (s.place + (size a + size b)) (s.place + size a) ends es (omega arith) around))
+      (flow_fine b ends (after s x) es d.0 o d.2 hb end' (around_sooner (s.place + (size a + size b)) (s.place + length x.code + size b) ends es (omega arith) around))
   flow_fine (block a) ends s es i o d h end around = flow_fine a ((s.place + size a) ∷ ends) s (o ∷ es) i o d h end (around_block (s.place + size a) ends es o end around)
   flow_fine (leave n) ends s es i o d h end around =
       let to = around n i d.1 in

@@ -1,5 +1,5 @@
 -- A program of structured code is well formed.
-use Rattle.std.proofs.Common.{◌≡◌, ℕ, zero, suc, ◌+◌, ◌<◌, ◌≤◌, ◌^◌, List, [], ◌∷◌, ◌++◌, length, Bool, true, false, Option, Some, None, refl, sym, ap, ◌∙◌, subst, arith, inl, inr, ◌⊎◌, length-append, append_assoc, replicate}
+use Rattle.std.proofs.Common.{◌≡◌, ℕ, zero, suc, ◌+◌, ◌<◌, ◌≤◌, ◌^◌, List, [], ◌∷◌, ◌++◌, length, Bool, true, false, Some, refl, sym, ap, ◌∙◌, subst, arith, inl, inr, length-append, append_assoc, replicate}
 use Rattle.std.specs.Prelude.{slice_get, slice_index_or, All}
 use Rattle.std.proofs.lemmas.List.Elements.{All-nil, All-cons, All-append}
 use Rattle.std.proofs.lemmas.Option.{slice_get_within, get_or_from_slice_get}
@@ -7,17 +7,16 @@ use Rattle.std.proofs.lemmas.List.{get_or_past}
 use Rattle.filing_image.specs.declared.instruction.Operation.{Operation}
 use Rattle.filing_image.specs.declared.instruction.Operation.TheVariants.{Stop}
 use Rattle.filing_image.specs.Program.{Program}
-use Rattle.filing_verify.specs.declared.kind.Kind.{Kind}
 use Rattle.filing_verify.specs.declared.kind.Kind.TheVariants.{Truth}
-use Rattle.filing_verify.specs.Flow.{target, goes_on, Follows, Leads, Path, Reached}
+use Rattle.filing_verify.specs.Flow.{Path}
 use Rattle.filing_verify.specs.Shapes as shapes
-use Rattle.filing_verify.specs.Well.{InRange, AreInRange, GoesForward, StaysInside, IsWithin, IsWell}
+use Rattle.filing_verify.specs.Well.{InRange, IsWell}
 use Rattle.filing_flow.specs.Structure.{Action, Push, Negate, ValuesOf, JoinTwo, MatchKey, Drop, HasField, PushSize, PushNumber, IsLess, IsMarked, SetMark, FileInto, SetKept, SetCancelled, End, Fail, Flow, nothing, action, sequence, block, leave, leave_if, size, IsSoundAction, IsSound}
-use Rattle.filing_flow.specs.Code.{Start, Piece, after, joined, only, action_piece, piece, end_at, jump_when}
+use Rattle.filing_flow.specs.Code.{Start, Piece, after, only, action_piece, piece, end_at, jump_when}
 use Rattle.filing_flow.specs.Types.{Shape, shape_at, HasType}
 use Rattle.filing_flow.specs.Whole.{first, whole, IsCodeOf, TypedIsWell}
 use Rattle.filing_flow.proofs.Stands.{HasAt, has_front, has_back, Holds, holds_front, holds_back, long}
-use Rattle.filing_flow.proofs.Typed.{shapes_of, shapes_long, ShapedAt, FineAt, AllFine, fine_both, flow_fine, starts, Around, EndAt}
+use Rattle.filing_flow.proofs.Typed.{shapes_of, shapes_long, ShapedAt, FineAt, AllFine, fine_both, flow_fine, starts}
 
 get_seam : {A : Type 0} (pre : List A) (x : A) (xs : List A) → slice_get (pre ++ x ∷ xs) (length pre) ≡ Some x
 get_seam [] x xs = refl
@@ -86,8 +85,8 @@ module _ (p : Program) where
       let x = piece a ends s in
       let y = piece b ends (after s x) in
       All-append (InRange p) x.code y.code
-          (flow_in_range a ends s es i d.0 d.1 ok.0 (holds_front p s x y h) (omega arith) inside)
-          (flow_in_range b ends (after s x) es d.0 o d.2 ok.1 (holds_back p s x y h) (omega (arith, long a ends s)) inside)
+      (flow_in_range a ends s es i d.0 d.1 ok.0 (holds_front p s x y h) (omega arith) inside)
+      (flow_in_range b ends (after s x) es d.0 o d.2 ok.1 (holds_back p s x y h) (omega (arith, long a ends s)) inside)
   flow_in_range (block a) ends s es i o d ok h lt inside = flow_in_range a ((s.place + size a) ∷ ends) s (o ∷ es) i o d ok h lt (ends_block (s.place + size a) ends o es lt inside)
   flow_in_range (leave n) ends s es i o d ok h lt inside = one _ (inside n i d.1)
   flow_in_range (leave_if t n) ends s es i o d ok h lt inside = one _ (leave_if_in_range t (end_at ends n) (inside n o d.2))
@@ -167,17 +166,20 @@ module _ (p : Program) (a : Flow) (is : IsCodeOf p a) (d : HasType (block a) [] 
   in_range : All (InRange p) p.code
   in_range = subst (λ (xs : List Operation). All (InRange p) xs) (sym is.code)
       (All-append (InRange p) (piece (block a) [] first).code (Stop ∷ [])
-          (flow_in_range p (block a) [] first [] [] [] d ok (holds_front p first (piece (block a) [] first) (only (Stop ∷ [])) (holds_all p a is)) (omega (arith, code_long)) (λ n k e. absurd (cc e)))
-          (one p Stop tt))
+      (flow_in_range p (block a) [] first [] [] [] d ok (holds_front p first (piece (block a) [] first) (only (Stop ∷ [])) (holds_all p a is)) (omega (arith, code_long)) (λ n k e. absurd (cc e)))
+      (one p Stop tt))
 
   pub is_well : IsWell p
   is_well = record {
     in_range = record { slots = slots; each = in_range };
     forward = λ q r o reached at to. ((fine q o at).goes r (inr to)).0;
-    shaped = (σ, record {
-      start = starts_empty;
-      each = λ q o reached at. let f = fine q o at in record { result = f.result; finds = f.finds; shallow = f.shallow; shallow_after = f.shallow_after; passed_on = λ r follows lt. (f.goes r follows).1 };
-    });
+    shaped = (
+      σ,
+      record {
+        start = starts_empty;
+        each = λ q o reached at. let f = fine q o at in record { result = f.result; finds = f.finds; shallow = f.shallow; shallow_after = f.shallow_after; passed_on = λ r follows lt. (f.goes r follows).1 };
+      },
+    );
     inside = record {
       some = omega (arith, code_long);
       inside = λ q reached leads.
