@@ -1,6 +1,8 @@
 //! What is measured.
 
-use crate::inputs::repeated;
+use crate::inputs::{image_of_code, image_of_texts, repeated};
+use filing_image::decode;
+use filing_verify::verify;
 use mail_head::{HeadReader, read_head};
 use mail_words::value_of;
 use sieve_match::{Comparator, contains, matches};
@@ -36,10 +38,14 @@ pub enum Measure {
     HardCasemap,
     /// `matches` of a pattern of five `*` in a value of `a`.
     Stars,
+    /// `decode` and `verify` of an image of up to 65,535 instructions.
+    ImageCode,
+    /// `decode` and `verify` of an image of up to 65,535 texts.
+    ImageTexts,
 }
 
 /// Each measure, in the order in which they are told.
-pub fn measures() -> [Measure; 13] {
+pub fn measures() -> [Measure; 15] {
     [
         Measure::PlainLoop,
         Measure::Header,
@@ -54,6 +60,8 @@ pub fn measures() -> [Measure; 13] {
         Measure::HardOctet,
         Measure::HardCasemap,
         Measure::Stars,
+        Measure::ImageCode,
+        Measure::ImageTexts,
     ]
 }
 
@@ -86,6 +94,8 @@ impl Measure {
             Measure::HardOctet => "contains_hard_octet",
             Measure::HardCasemap => "contains_hard_casemap",
             Measure::Stars => "matches_stars",
+            Measure::ImageCode => "image_code",
+            Measure::ImageTexts => "image_texts",
         }
     }
 
@@ -105,6 +115,8 @@ impl Measure {
             Measure::HardOctet | Measure::HardCasemap | Measure::Stars => repeated(
                 alloc, b"", b"a", octets,
             ),
+            Measure::ImageCode => image_of_code(alloc, octets),
+            Measure::ImageTexts => image_of_texts(alloc, octets),
             Measure::PlainLoop
             | Measure::PlainValue
             | Measure::AbsentOctet
@@ -142,6 +154,7 @@ impl Measure {
             Measure::HardOctet => hard(alloc, input, Comparator::Octet),
             Measure::HardCasemap => hard(alloc, input, Comparator::Casemap),
             Measure::Stars => Ok(usize::from(matches(b"*a*a*a*a*b", input, Comparator::Octet))),
+            Measure::ImageCode | Measure::ImageTexts => Ok(parts_that_may_run(alloc, input)),
         }
     }
 }
@@ -169,4 +182,17 @@ fn hard(alloc: Global, input: &[u8], comparator: Comparator) -> Result<usize, Al
     let mut key = repeated(alloc, b"", b"a", 1000)?;
     key.push(b'b')?;
     Ok(usize::from(contains(key.as_slice(), input, comparator)))
+}
+
+/// How many texts and instructions an image has, or 0 where it may not run.
+fn parts_that_may_run(alloc: Global, input: &[u8]) -> usize {
+    let Ok(image) = decode(alloc, input) else {
+        return 0;
+    };
+    let parts = image.text_count() + image.code().len();
+    if verify(alloc, image).is_ok() {
+        parts
+    } else {
+        0
+    }
 }
