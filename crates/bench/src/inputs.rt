@@ -1,4 +1,4 @@
-//! Inputs that are made of a repeated text.
+//! Inputs that are made: of a repeated text, or images.
 
 use std::alloc::{AllocError, Global};
 
@@ -13,5 +13,43 @@ pub fn repeated(
     for _ in 0..octets / text.len().max(1) {
         input.extend_from_slice(text)?;
     }
+    Ok(input)
+}
+
+/// An image of TRUE and DROP in turn and a last STOP, of about so many octets, and of 65,535 instructions at most.
+pub fn image_of_code(alloc: Global, octets: usize) -> Result<Vec<u8>, AllocError> {
+    let pairs = (octets / 8).min(32_767) as u16;
+    let mut input = image_head(alloc, 65_535, 0, pairs * 2 + 1)?;
+    for _ in 0..pairs {
+        input.extend_from_slice(&[1, 0, 0, 0, 7, 0, 0, 0])?;
+    }
+    input.extend_from_slice(&[20, 0, 0, 0])?;
+    Ok(input)
+}
+
+/// An image of texts of 254 octets and one STOP, of about so many octets, and of 65,535 texts at most.
+pub fn image_of_texts(alloc: Global, octets: usize) -> Result<Vec<u8>, AllocError> {
+    let texts = (octets / 256).min(65_535) as u16;
+    let mut input = image_head(alloc, 1, texts, 1)?;
+    for _ in 0..texts {
+        input.extend_from_slice(&254u16.to_be_bytes())?;
+        input.extend_from_slice(&[b'a'; 254])?;
+    }
+    input.extend_from_slice(&[20, 0, 0, 0])?;
+    Ok(input)
+}
+
+/// What stands before the texts of an image without numbers and slots.
+fn image_head(
+    alloc: Global,
+    budget: u32,
+    texts: u16,
+    instructions: u16,
+) -> Result<Vec<u8>, AllocError> {
+    let mut input = Vec::from_slice(alloc, b"SFI1")?;
+    input.extend_from_slice(&budget.to_be_bytes())?;
+    input.extend_from_slice(&texts.to_be_bytes())?;
+    input.extend_from_slice(&[0, 0, 0, 0])?;
+    input.extend_from_slice(&instructions.to_be_bytes())?;
     Ok(input)
 }

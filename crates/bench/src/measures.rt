@@ -1,8 +1,10 @@
 //! What is measured.
 
-use crate::inputs::repeated;
+use crate::inputs::{image_of_code, image_of_texts, repeated};
 use crate::plans::{MOST_CLASSES, class_path, plan_of, plan_text, schedules, taken_over};
 use class_plan::Plan;
+use filing_image::decode;
+use filing_verify::verify;
 use mail_head::{HeadReader, read_head};
 use mail_words::value_of;
 use sieve_match::{Comparator, contains, matches};
@@ -44,10 +46,14 @@ pub enum Measure {
     ScheduleOfFew,
     /// The same in a plan of 4,096 classes.
     ScheduleOfMany,
+    /// `decode` and `verify` of an image of up to 65,535 instructions.
+    ImageCode,
+    /// `decode` and `verify` of an image of up to 65,535 texts.
+    ImageTexts,
 }
 
 /// Each measure, in the order in which they are told.
-pub fn measures() -> [Measure; 16] {
+pub fn measures() -> [Measure; 18] {
     [
         Measure::PlainLoop,
         Measure::Header,
@@ -65,6 +71,8 @@ pub fn measures() -> [Measure; 16] {
         Measure::PlanFile,
         Measure::ScheduleOfFew,
         Measure::ScheduleOfMany,
+        Measure::ImageCode,
+        Measure::ImageTexts,
     ]
 }
 
@@ -100,6 +108,8 @@ impl Measure {
             Measure::PlanFile => "plan_file",
             Measure::ScheduleOfFew => "schedule_of_few",
             Measure::ScheduleOfMany => "schedule_of_many",
+            Measure::ImageCode => "image_code",
+            Measure::ImageTexts => "image_texts",
         }
     }
 
@@ -119,6 +129,8 @@ impl Measure {
             Measure::HardOctet | Measure::HardCasemap | Measure::Stars => repeated(
                 alloc, b"", b"a", octets,
             ),
+            Measure::ImageCode => image_of_code(alloc, octets),
+            Measure::ImageTexts => image_of_texts(alloc, octets),
             Measure::PlainLoop
             | Measure::PlainValue
             | Measure::AbsentOctet
@@ -171,6 +183,7 @@ impl Measure {
             Measure::Stars => Ok(usize::from(matches(b"*a*a*a*a*b", input, Comparator::Octet))),
             Measure::PlanFile => taken_over(alloc, input),
             Measure::ScheduleOfFew | Measure::ScheduleOfMany => Ok(schedules(plan, input)),
+            Measure::ImageCode | Measure::ImageTexts => Ok(parts_that_may_run(alloc, input)),
         }
     }
 }
@@ -198,4 +211,17 @@ fn hard(alloc: Global, input: &[u8], comparator: Comparator) -> Result<usize, Al
     let mut key = repeated(alloc, b"", b"a", 1000)?;
     key.push(b'b')?;
     Ok(usize::from(contains(key.as_slice(), input, comparator)))
+}
+
+/// How many texts and instructions an image has, or 0 where it may not run.
+fn parts_that_may_run(alloc: Global, input: &[u8]) -> usize {
+    let Ok(image) = decode(alloc, input) else {
+        return 0;
+    };
+    let parts = image.text_count() + image.code().len();
+    if verify(alloc, image).is_ok() {
+        parts
+    } else {
+        0
+    }
 }

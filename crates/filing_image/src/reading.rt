@@ -1,6 +1,6 @@
 //! Images from octets.
 
-ghost use Rattle.std.specs.Prelude.{◌≡◌, ◌++◌, ℕ, List, map, IfOk, Err};
+ghost use Rattle.std.specs.Prelude.{◌≡◌, List, map, IfOk, Err};
 ghost use Rattle.std.specs.Int.{w8, w16, w32, w64};
 ghost use Rattle.filing_image.specs.Program.{Program, Parts, parts};
 ghost use Rattle.filing_image.specs.Spelling.{spelling, Fits};
@@ -35,13 +35,6 @@ pub fn decode(alloc: Global, octets: &[u8]) -> Result<Image, FormFault>
         written.instructions,
     )
 }
-
-/// No program's spelling begins another's. So no image's octets begin another image's, each image has the one spelling
-/// that `encode` gives, and octets spell one image: decoding what `encode` gave answers the same image, and encoding
-/// what `decode` answered gives the same octets.
-pub fn one_spelling()
-    ensures { (p q : Program) (x y : List ℕ) → Fits (parts p) → Fits (parts q) → spelling (parts p) ++ x ≡ spelling (parts q) ++ y → (p ≡ q) × (x ≡ y) }
-{}
 
 /// The parts as they were written.
 #[derive(Drop)]
