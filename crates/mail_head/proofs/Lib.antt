@@ -6,3 +6,4 @@ pub mod PieceLemmas
 pub mod FeedLemmas
 pub mod PartLemmas
 pub mod ReaderLemmas
+pub mod SpanLemmas

@@ -4,3 +4,4 @@ pub mod Pieces
 pub mod Places
 pub mod Parts
 pub mod Readers
+pub mod Spans

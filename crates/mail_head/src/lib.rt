@@ -7,9 +7,13 @@
 //! `read_head` reads a whole message, `HeadReader` one that comes in pieces; both give the same fields. `lines` cuts a
 //! header into logical lines, `fields` takes one apart, and `reading` puts both together. `parts` says what a piece adds
 //! to the header of those before it, `pieces` has the reader, and `owned` the header that it gives.
+//!
+//! In `specs/`, `Spans` says what the fields are by the spans that a message is cut into, and `Lines` and `Fields` compute
+//! them. `laws` has what ties the two.
 #![tactic(auto)]
 
 mod fields;
+mod laws;
 mod lines;
 mod owned;
 mod parts;
@@ -17,6 +21,7 @@ mod pieces;
 mod reading;
 
 pub use fields::Field;
+pub use laws::fields_are_decided;
 pub use owned::PieceHead;
 pub use pieces::{HeadFault, HeadReader, MOST_OCTETS};
 pub use reading::{Head, read_head};
