@@ -1,5 +1,5 @@
 //! Capture days and due dates, by the proleptic Gregorian calendar of the crate `jiff`.
-ghost use Rattle.std.specs.Prelude.{◌≡◌, ℕ, pos, ◌/◌, ◌≤◌, ◌<◌, ◌+ℤ◌, ◌<ℤ◌, Option, MatchOption, IfSome};
+ghost use Rattle.std.specs.Prelude.{◌≡◌, ℕ, pos, ◌/◌, ◌≤◌, ◌<◌, ◌+ℤ◌, ◌<ℤ◌, Option, Some, MatchOption, IfSome};
 ghost use Rattle.jiff.specs.Words.{epoch_day, IsBetween};
 ghost use Rattle.jiff_core.specs.declared.civil.date.Date.{Date};
 ghost use Rattle.class_plan.specs.Schedules.{IsInRange};
@@ -81,9 +81,10 @@ pub fn day_number(day: Date) -> i64
 }
 
 /// The date with a day number, in days since 1970-01-01, or `None` for a number outside 1970 to
-/// 9999.
+/// 9999. No other date has that number.
 pub fn date_of(number: i64) -> Option<Date>
-    ensures { MatchOption result (¬ (IsBetween (pos 0) (pos 2932896) number)) (λ d. IsBetween (pos 0) (pos 2932896) number × (epoch_day d ≡ number)) }
+    ensures date { MatchOption result (¬ (IsBetween (pos 0) (pos 2932896) number)) (λ d. IsBetween (pos 0) (pos 2932896) number × (epoch_day d ≡ number)) }
+    ensures only { (e : Date) → epoch_day e ≡ number → IsBetween (pos 0) (pos 2932896) number → IsSameDay (Some e) result }
 {
     if number < 0 || number > LAST_DAY {
         return None;
