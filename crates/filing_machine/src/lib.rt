@@ -11,4 +11,4 @@ pub use pieces::PieceCase;
 pub use whole::WholeCase;
 
 #[cfg(test)]
-mod tests;
+mod message_tests;

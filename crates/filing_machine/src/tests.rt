@@ -1,3 +1,0 @@
-//! What no clause says: that calls succeed; and values from the standards.
-
-mod cases;
