@@ -26,4 +26,6 @@ pub use pieces::PieceCase;
 pub use whole::WholeCase;
 
 #[cfg(test)]
+mod message_tests;
+#[cfg(test)]
 mod tests;

@@ -1,7 +1,5 @@
 //! Short programs, each operation in one of them at least, in a case with a message of the greatest size.
 
-mod cases;
-
 ghost use Rattle.std.specs.Prelude.{[], ◌∷◌, ◌||◌, codes};
 ghost use Rattle.std.specs.Str.{bytes_eq};
 
