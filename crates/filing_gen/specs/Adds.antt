@@ -1,7 +1,7 @@
 -- What is written so far, and what a piece of code adds to it.
-use Rattle.std.specs.Prelude.{◌≡◌, ℕ, ◌+◌, ◌≤◌, ◌<◌, ◌^◌, List, [], ◌++◌, length, map}
-use Rattle.filing_flow.specs.Structure.{Flow, size}
-use Rattle.filing_flow.specs.Code.{Start, Piece, piece, end_at}
+use Rattle.std.specs.Prelude.{◌≡◌, ℕ, ◌+◌, ◌<◌, ◌^◌, List, ◌++◌, length, map}
+use Rattle.filing_flow.specs.Structure.{Flow}
+use Rattle.filing_flow.specs.Code.{Start, Piece, piece}
 use Rattle.filing_gen.specs.declared.output.Output.{Output}
 
 -- where the next piece begins
