@@ -1,0 +1,2 @@
+mod Emitted
+mod EmittedTests
