@@ -1,2 +1,5 @@
 pub mod Structured
 pub mod Adds
+pub mod Includes
+pub mod Alike
+pub mod Correct
