@@ -1,0 +1,89 @@
+-- What code in blocks does, by the state and the stack that it finds, with no places.
+use Rattle.std.specs.Prelude.{ℕ, zero, suc, List, ◌∷◌, ◌++◌, length, Bool, true, false, not, ◌||◌, nat_lt, nat_eq, if◌then◌else◌, Option, Some, None, slice_set, slice_index_or}
+use Rattle.std.specs.List.{list_any}
+use Rattle.sieve_meaning.specs.Case.{Facts}
+use Rattle.sieve_meaning.specs.Truth.{has_field}
+use Rattle.sieve_meaning.specs.Paths.{Paths, insert_path}
+use Rattle.filing_table.specs.Machine.{Entry, T, L, N, compared, values_of}
+use Rattle.filing_flow.specs.Structure.{Action, Push, Negate, ValuesOf, JoinTwo, MatchKey, Drop, HasField, PushSize, PushNumber, IsLess, IsMarked, SetMark, FileInto, SetKept, SetCancelled, End, Fail, Flow, nothing, action, sequence, block, leave, leave_if}
+
+-- what a run has done so far: the state of the table machine but for its place and its stack
+pub record Filing : Type 0 where
+  -- the set of the paths that were filed
+  pub filed : Paths
+  pub kept : Bool
+  pub cancelled : Bool
+  -- whether each slot is set
+  pub marks : List Bool
+
+-- how code is left
+pub data Exit : Type 0 where
+  -- it comes to its end, with this stack
+  FallsThrough : Filing → List Entry → Exit
+  -- it jumps to the end of the block with this number around
+  Leaves : ℕ → Filing → List Entry → Exit
+  -- the run ends, with or without a fault
+  EndsRun : Option ℕ → Filing → Exit
+  -- an operand is missing, or the stack is deeper than 32
+  Stuck : Exit
+
+abbrev pub with_stack : Filing → List Entry → Exit
+with_stack f es = if nat_lt 32 (length es) then Stuck else FallsThrough f es
+
+-- files under a path, where it is open, and is fault 1 where not; 0 cancels the implicit keep, and 1 is a copy
+abbrev pub filing : Facts → Filing → List Entry → ℕ → List ℕ → Exit
+filing c f es a path = if c.is_open path then FallsThrough (record f { filed = insert_path path f.filed; cancelled = f.cancelled || nat_eq a 0 }) es else EndsRun (Some 1) f
+
+abbrev pub action_effect : Facts → Action → Filing → List Entry → Exit
+action_effect c (Push b) f es = with_stack f (T b ∷ es)
+action_effect c Negate f (T b ∷ es) = with_stack f (T (not b) ∷ es)
+action_effect c Negate f _ = Stuck
+action_effect c (ValuesOf name) f es = with_stack f (L (values_of c name) ∷ es)
+action_effect c JoinTwo f (L ys ∷ L xs ∷ es) = with_stack f (L (xs ++ ys) ∷ es)
+action_effect c JoinTwo f _ = Stuck
+action_effect c (MatchKey a key) f (L xs ∷ es) = with_stack f (T (list_any (compared a key) xs) ∷ L xs ∷ es)
+action_effect c (MatchKey a key) f _ = Stuck
+action_effect c Drop f (e ∷ es) = with_stack f es
+action_effect c Drop f _ = Stuck
+action_effect c (HasField name) f es = with_stack f (T (has_field c name) ∷ es)
+action_effect c PushSize f es = with_stack f (N c.size ∷ es)
+action_effect c (PushNumber n) f es = with_stack f (N n ∷ es)
+action_effect c IsLess f (N y ∷ N x ∷ es) = with_stack f (T (nat_lt x y) ∷ es)
+action_effect c IsLess f _ = Stuck
+action_effect c (IsMarked b) f es = with_stack f (T (slice_index_or f.marks b false) ∷ es)
+action_effect c (SetMark b) f es = FallsThrough (record f { marks = slice_set f.marks b true }) es
+action_effect c (FileInto a path) f es = filing c f es a path
+action_effect c SetKept f es = FallsThrough (record f { kept = true }) es
+action_effect c SetCancelled f es = FallsThrough (record f { cancelled = true }) es
+action_effect c End f es = EndsRun None f
+action_effect c (Fail n) f es = EndsRun (Some n) f
+
+abbrev pub and_then : Exit → (Filing → List Entry → Exit) → Exit
+and_then (FallsThrough f es) go = go f es
+and_then (Leaves n f es) go = Leaves n f es
+and_then (EndsRun e f) go = EndsRun e f
+and_then Stuck go = Stuck
+
+-- how a block is left: a jump to its end comes to its end
+abbrev pub caught : Exit → Exit
+caught (Leaves zero f es) = FallsThrough f es
+caught (Leaves (suc n) f es) = Leaves n f es
+caught (FallsThrough f es) = FallsThrough f es
+caught (EndsRun e f) = EndsRun e f
+caught Stuck = Stuck
+
+-- a jump where the truth on the top, which it pops, is this one
+abbrev pub leaving : Bool → ℕ → Filing → List Entry → Exit
+leaving true n f (T true ∷ es) = Leaves n f es
+leaving true n f (T false ∷ es) = FallsThrough f es
+leaving false n f (T true ∷ es) = FallsThrough f es
+leaving false n f (T false ∷ es) = Leaves n f es
+leaving _ n f _ = Stuck
+
+abbrev pub effect : Facts → Flow → Filing → List Entry → Exit
+effect c nothing f es = FallsThrough f es
+effect c (action o) f es = action_effect c o f es
+effect c (sequence a b) f es = and_then (effect c a f es) (effect c b)
+effect c (block a) f es = caught (effect c a f es)
+effect c (leave n) f es = Leaves n f es
+effect c (leave_if t n) f es = leaving t n f es

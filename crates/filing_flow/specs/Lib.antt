@@ -1,0 +1,5 @@
+pub mod Structure
+pub mod Code
+pub mod Effect
+pub mod Types
+pub mod Whole

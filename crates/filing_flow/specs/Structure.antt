@@ -1,0 +1,74 @@
+-- Code in blocks: code without places, as in WebAssembly. A jump names how many blocks it leaves, and goes to the end
+-- of the last of them, so that it goes forward.
+use Rattle.std.specs.Prelude.{ℕ, ◌+◌, ◌<◌, ◌≤◌, List, Bool}
+
+-- one operation that is no jump, with the text or the number that it names and not the place of it
+pub data Action : Type 0 where
+  -- pushes a truth
+  Push : Bool → Action
+  -- the truth on the top becomes its opposite
+  Negate : Action
+  -- pushes the values of the fields of a name
+  ValuesOf : List ℕ → Action
+  -- the two lists on the top become one
+  JoinTwo : Action
+  -- pushes whether a value of the list on the top matches a key, by the number of the comparison
+  MatchKey : ℕ → List ℕ → Action
+  -- pops an entry
+  Drop : Action
+  -- pushes whether a field of a name is there
+  HasField : List ℕ → Action
+  -- pushes the message's octets
+  PushSize : Action
+  PushNumber : ℕ → Action
+  -- the two numbers on the top become whether the first pushed is less
+  IsLess : Action
+  -- pushes whether a slot is set
+  IsMarked : ℕ → Action
+  SetMark : ℕ → Action
+  -- files under a path: 0 cancels the implicit keep, and 1 is a copy
+  FileInto : ℕ → List ℕ → Action
+  SetKept : Action
+  SetCancelled : Action
+  -- ends the run
+  End : Action
+  -- ends the run with a fault
+  Fail : ℕ → Action
+
+pub data Flow : Type 0 where
+  nothing : Flow
+  action : Action → Flow
+  -- the one, and then the other
+  sequence : Flow → Flow → Flow
+  -- a jump out of it goes to its end
+  block : Flow → Flow
+  -- to the end of the block with this number around; the innermost has 0
+  leave : ℕ → Flow
+  -- the same where the truth on the top, which it pops, is this one, and else on
+  leave_if : Bool → ℕ → Flow
+
+-- how many operations
+abbrev pub size : Flow → ℕ
+size nothing = 0
+size (action o) = 1
+size (sequence a b) = size a + size b
+size (block a) = size a
+size (leave n) = 1
+size (leave_if t n) = 1
+
+-- operands that the operation takes, in a program of so many slots
+abbrev pub IsSoundAction : ℕ → Action → Type 0
+IsSoundAction slots (MatchKey a key) = a ≤ 5
+IsSoundAction slots (IsMarked b) = b < slots
+IsSoundAction slots (SetMark b) = b < slots
+IsSoundAction slots (FileInto a path) = a ≤ 1
+IsSoundAction slots (Fail n) = (2 ≤ n) × (n ≤ 5)
+IsSoundAction slots _ = Unit {0}
+
+abbrev pub IsSound : ℕ → Flow → Type 0
+IsSound slots nothing = Unit {0}
+IsSound slots (action o) = IsSoundAction slots o
+IsSound slots (sequence a b) = IsSound slots a × IsSound slots b
+IsSound slots (block a) = IsSound slots a
+IsSound slots (leave n) = Unit {0}
+IsSound slots (leave_if t n) = Unit {0}
