@@ -1,1 +1,4 @@
 pub mod Truths
+pub mod Means
+pub mod Types
+pub mod Compiled

@@ -1,11 +1,11 @@
 -- The code of a script does what the script means.
-use Rattle.std.proofs.Common.{◌≡◌, ℕ, zero, suc, List, [], ◌∷◌, Bool, true, false, not, ◌||◌, ◌&&◌, cond, Option, Some, None, refl, sym, ap, ◌∙◌}
+use Rattle.std.proofs.Common.{◌≡◌, ℕ, zero, suc, List, [], ◌∷◌, Bool, true, false, not, ◌||◌, ◌&&◌, cond, Option, Some, None, refl, sym, ap, ◌∙◌, subst}
 use Rattle.std.specs.Prelude.{nat_eq}
 use Rattle.sieve_meaning.specs.Case.{Facts}
 use Rattle.sieve_meaning.specs.Paths.{Paths, insert_path}
 use Rattle.sieve_meaning.specs.Truth.{truth}
 use Rattle.sieve_meaning.specs.Program.{Test, Include, Command, require, keep, discard, stop, return, file_into, branch, include, Commands, no_command, command_then, Branches, no_branch, otherwise, if_then}
-use Rattle.sieve_meaning.specs.Meaning.{ScriptName, Filing, Ending, GoesOn, Returns, Stops, Faults, Included, filing, run, run_one, run_branches, and_then, included, including, unless_entered, unless_missing, no_library, main_names, script_named, is_among}
+use Rattle.sieve_meaning.specs.Meaning.{ScriptName, Filing, Ending, GoesOn, Returns, Stops, Faults, Included, filing, run, run_one, run_branches, and_then, included, including, ended, entering, unless_entered, unless_missing, no_library, main_names, script_named, is_among}
 use Rattle.filing_table.specs.Machine.{Entry, T}
 use Rattle.filing_flow.specs.Structure.{Flow, FileInto, action, sequence, leave, leave_if, nothing, Fail}
 use Rattle.filing_flow.specs.Effect.{Exit, FallsThrough, Leaves, EndsRun, effect, caught}
@@ -93,9 +93,11 @@ missing_means : (c : Facts) (known_as : Option (List ℕ)) (chain : List ScriptN
     → Alike (main_alone known_as) n (including no_library chain enter i f) (effect c (missing_flow known_as i) s [])
 missing_means c known_as chain enter i n f s r =
     let once = i.once && is_among f.entered (script_named i) in
-    let e : including no_library chain enter i f ≡ cond once (GoesOn f) (cond i.optional (GoesOn f) (Faults 2 f)) = unless_judged once i.optional f _ in
-    rw e (rw (r.marks) (missing_judged c known_as i n f s (i.once && is_among (main_names known_as) (script_named i)) i.optional r))
+    let same : once ≡ (i.once && is_among (main_names known_as) (script_named i)) = ap (λ (names : List ScriptName). i.once && is_among names (script_named i)) r.marks in
+    let e : including no_library chain enter i f ≡ cond (i.once && is_among (main_names known_as) (script_named i)) (GoesOn f) (cond i.optional (GoesOn f) (Faults 2 f)) =
+        unless_judged once i.optional f _ ∙ ap (λ b. cond b (GoesOn f) (cond i.optional (GoesOn f) (Faults 2 f))) same in
+    subst (λ (x : Ending). Alike (main_alone known_as) n x (effect c (missing_flow known_as i) s [])) (sym e) (missing_judged c known_as i n f s (i.once && is_among (main_names known_as) (script_named i)) i.optional r)
 
 -- where no script can be included
 pub missing_agrees : (c : Facts) (known_as : Option (List ℕ)) → Agrees c (main_alone known_as) (missing_flow known_as) (included c no_library 7 (main_names known_as))
-missing_agrees c known_as i n f s r = missing_means c known_as (main_names known_as) _ i n f s r
+missing_agrees c known_as i n f s r = missing_means c known_as (main_names known_as) (λ script g. ended (run c (included c no_library 6 (script_named i ∷ main_names known_as)) script (entering (script_named i) g))) i n f s r
