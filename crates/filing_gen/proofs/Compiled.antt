@@ -1,7 +1,9 @@
 -- The program of a script's code may run, and has the script's outcome in every case.
 use Rattle.std.proofs.Common.{◌≡◌, ℕ, ◌+◌, ◌<◌, ◌≤◌, ◌^◌, List, [], ◌∷◌, Bool, Option, Some, None, refl, ap, ◌∙◌, subst, arith}
 use Rattle.filing_image.specs.Program.{Program}
-use Rattle.filing_verify.specs.Well.{IsWell}
+use Rattle.filing_verify.specs.Well.{IsWell, Fails}
+use Rattle.filing_verify.specs.declared.fault.VerifyFault.{VerifyFault}
+use Rattle.filing_verify.specs.declared.fault.VerifyFault.TheVariants as faults
 use Rattle.filing_table.specs.Ends.{HasOutcome}
 use Rattle.filing_flow.specs.Structure.{Flow, action, block, size, End}
 use Rattle.filing_flow.specs.Effect.{Exit, EndsRun, effect, caught}
@@ -18,7 +20,11 @@ use Rattle.sieve_meaning.specs.Weight.{linked_weight, included_weight}
 use Rattle.filing_gen.specs.Structured.{flow, script_flow}
 use Rattle.filing_gen.specs.Includes.{missing_flow}
 use Rattle.filing_gen.specs.Alike.{Related, filing_at, exit_of, Alike}
+use Rattle.filing_gen.specs.Adds.{IsCode, IsImageOf}
+use Rattle.filing_gen.specs.Emission.{commands_long}
+use Rattle.filing_gen.specs.declared.output.Output.{Output}
 use Rattle.filing_gen.specs.Correct.{IsCompiled}
+use Rattle.filing_gen.proofs.Turns.{flow_long}
 use Rattle.filing_gen.proofs.Means.{flow_means, main_alone, missing_agrees}
 use Rattle.filing_gen.proofs.Types.{flow_typed, flow_small, flow_sound, missing_typed, missing_small, missing_sound}
 
@@ -74,3 +80,26 @@ well p known_as main is slots budget small =
 
 pub compiled : (p : Program) (known_as : Option (List ℕ)) (main : Commands) → IsCodeOf p (alone known_as main) → IsWell p → p.budget ≡ linked_weight no_library known_as main → IsCompiled no_library known_as main p
 compiled p known_as main is good budget = record { budget = budget; well = good; outcomes = has_outcome p known_as main is }
+
+-- what was written is the program
+code_of : (o : Output) (p : Program) (a : Flow) (b : ℕ) → IsCode o a → IsImageOf b o p → IsCodeOf p a
+code_of o p a b is made = record { texts = made.texts ∙ is.texts; numbers = made.numbers ∙ is.numbers; code = made.code ∙ is.code }
+
+pub built_well : (o : Output) (p : Program) (known_as : Option (List ℕ)) (main : Commands) (b : ℕ) → IsCode o (alone known_as main) → IsImageOf b o p → b ≡ linked_weight no_library known_as main → b ≤ 60000 → IsWell p
+built_well o p known_as main b is made weight small =
+    well p known_as main (code_of o p (alone known_as main) b is made) (omega (arith, made.slots)) (made.budget_is ∙ weight) (omega (arith, weight, small))
+
+pub built : (o : Output) (p : Program) (known_as : Option (List ℕ)) (main : Commands) (b : ℕ) → IsCode o (alone known_as main) → IsImageOf b o p → IsWell p → b ≡ linked_weight no_library known_as main → IsCompiled no_library known_as main p
+built o p known_as main b is made good weight = compiled p known_as main (code_of o p (alone known_as main) b is made) good (made.budget_is ∙ weight)
+
+pub room : (known_as : Option (List ℕ)) (main : Commands) → linked_weight no_library known_as main ≤ 60000 → commands_long (λ i. size (missing_flow known_as i)) main + 1 < 2 ^ 16
+room known_as main small = omega (arith, small, script_small known_as main, flow_long (missing_flow known_as) 0 main)
+
+-- a program that may run is refused for want of memory alone
+pub refused_for_memory : (p : Program) → IsWell p → (f : VerifyFault) → Fails f p → f ≡ faults.NoMemory
+refused_for_memory p good faults.NoMemory h = refl
+refused_for_memory p good faults.Operand h = absurd (h good.in_range)
+refused_for_memory p good faults.Backward h = absurd (h.1 good.forward)
+refused_for_memory p good faults.Stack h = absurd (h.2 good.shaped)
+refused_for_memory p good faults.RunsOff h = absurd (h.3 good.inside)
+refused_for_memory p good faults.Budget h = absurd (h.4 good.within)

@@ -5,7 +5,7 @@ use Rattle.sieve_meaning.specs.Case.{Facts}
 use Rattle.sieve_meaning.specs.Paths.{Paths, insert_path}
 use Rattle.sieve_meaning.specs.Truth.{truth}
 use Rattle.sieve_meaning.specs.Program.{Test, Include, Command, require, keep, discard, stop, return, file_into, branch, include, Commands, no_command, command_then, Branches, no_branch, otherwise, if_then}
-use Rattle.sieve_meaning.specs.Meaning.{ScriptName, Filing, Ending, GoesOn, Returns, Stops, Faults, Included, filing, run, run_one, run_branches, and_then, included, including, ended, entering, unless_entered, unless_missing, no_library, main_names, script_named, is_among}
+use Rattle.sieve_meaning.specs.Meaning.{ScriptName, Filing, Ending, GoesOn, Returns, Stops, Faults, Included, filing, run, run_one, run_branches, and_then, included, including, ended, entering, unless_active, unless_entered, unless_missing, no_library, main_names, script_named, is_among}
 use Rattle.filing_table.specs.Machine.{Entry, T}
 use Rattle.filing_flow.specs.Structure.{Flow, FileInto, action, sequence, leave, leave_if, nothing, Fail}
 use Rattle.filing_flow.specs.Effect.{Exit, FallsThrough, Leaves, EndsRun, effect, caught}
@@ -95,7 +95,7 @@ missing_means c known_as chain enter i n f s r =
     let once = i.once && is_among f.entered (script_named i) in
     let same : once ≡ (i.once && is_among (main_names known_as) (script_named i)) = ap (λ (names : List ScriptName). i.once && is_among names (script_named i)) r.marks in
     let e : including no_library chain enter i f ≡ cond (i.once && is_among (main_names known_as) (script_named i)) (GoesOn f) (cond i.optional (GoesOn f) (Faults 2 f)) =
-        unless_judged once i.optional f _ ∙ ap (λ b. cond b (GoesOn f) (cond i.optional (GoesOn f) (Faults 2 f))) same in
+        unless_judged once i.optional f (λ script. unless_active (is_among chain (script_named i)) (enter script)) ∙ ap (λ b. cond b (GoesOn f) (cond i.optional (GoesOn f) (Faults 2 f))) same in
     subst (λ (x : Ending). Alike (main_alone known_as) n x (effect c (missing_flow known_as i) s [])) (sym e) (missing_judged c known_as i n f s (i.once && is_among (main_names known_as) (script_named i)) i.optional r)
 
 -- where no script can be included

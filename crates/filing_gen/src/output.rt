@@ -1,8 +1,9 @@
 //! What was written so far.
 
 ghost use Rattle.std.specs.Prelude.{◌≡◌, ◌+◌, [], ◌∷◌, length, OnOk};
-ghost use Rattle.filing_flow.specs.Code.{only, with_text};
-ghost use Rattle.filing_gen.specs.Adds.{Adds};
+ghost use Rattle.filing_flow.specs.Structure.{Push};
+ghost use Rattle.filing_flow.specs.Code.{only, with_text, with_number, action_piece};
+ghost use Rattle.filing_gen.specs.Adds.{Adds, end_of};
 
 use filing_image::Operation;
 use std::alloc::{AllocError, Global};
@@ -42,4 +43,17 @@ pub fn put_with(
     out.texts.push(copy)?;
     out.code.push(operation)?;
     Ok(())
+}
+
+/// Writes the operation that pushes a truth.
+pub fn put_truth(out: &mut Output, truth: bool) -> Result<(), AllocError>
+    ensures adds { OnOk result (Adds out.old out.new (action_piece (Push truth) (end_of out.old))) }
+    ensures code { OnOk result (length out.new.code.items ≡ length out.old.code.items + 1) }
+    ensures texts { OnOk result (length out.new.texts.items ≡ length out.old.texts.items) }
+    ensures numbers { OnOk result (length out.new.numbers.items ≡ length out.old.numbers.items) }
+{
+    if truth {
+        return put(out, Operation::PushTrue);
+    }
+    put(out, Operation::PushFalse)
 }
