@@ -1,28 +1,24 @@
 -- The code of tests, from the parts that were added.
-use Rattle.std.proofs.Common.{◌≡◌, ℕ, ◌+◌, ◌*◌, ◌<◌, ◌≤◌, ◌^◌, List, [], ◌∷◌, length, map, Bool, true, false, not, refl, sym, ap, ◌∙◌, subst, arith, drop, get_or, codes, inl, inr, ◌⊎◌, Box, Global}
-use Rattle.filing_image.specs.declared.instruction.Operation.TheVariants.{Values, Join, Match, Exists, Jump, JumpIf, JumpUnless, Pop, PushTrue, PushFalse}
+use Rattle.std.proofs.Common.{◌≡◌, ℕ, ◌+◌, ◌*◌, ◌<◌, List, [], ◌∷◌, length, map, Bool, true, false, refl, sym, ap, ◌∙◌, subst, arith, drop, get_or, codes, Box, Global}
+use Rattle.filing_image.specs.declared.instruction.Operation.TheVariants.{Join, Jump, Pop, PushTrue, PushFalse}
 use Rattle.sieve_syntax.specs.Arguments.{strings_of, first_of, others_of}
-use Rattle.sieve_syntax.specs.Tree.{TestTree, test, InnerTests, one_test}
+use Rattle.sieve_syntax.specs.Tree.{TestTree, InnerTests, one_test}
 use Rattle.sieve_syntax.specs.View.{tests_step, test_step, row_of, listed_of, test_of, inner_of}
 use Rattle.sieve_syntax.specs.declared.tree.Argument.{Argument}
 use Rattle.sieve_syntax.specs.declared.tree.StringList.{StringList}
 use Rattle.sieve_syntax.specs.declared.tree.Test.{Test}
-use Rattle.sieve_syntax.specs.declared.tree.Tests.TheViews.{out-Test, roll-Tests}
-use Rattle.sieve_syntax.specs.declared.tree.Tests.TheFolds.{fold_out-Test, fold-roll-Tests}
+use Rattle.sieve_syntax.specs.declared.tree.Tests.TheViews.{roll-Tests}
+use Rattle.sieve_syntax.specs.declared.tree.Tests.TheFolds.{fold-roll-Tests}
 use Rattle.sieve_syntax.specs.declared.tree.Tests.TheOpen.{Tests-F}
 use Rattle.sieve_syntax.specs.declared.tree.Tests.TheVariants.{One}
 use Rattle.sieve_meaning.specs.declared.matching.Comparator.{Comparator}
 use Rattle.sieve_meaning.specs.declared.matching.MatchType.{MatchType}
-use Rattle.sieve_meaning.specs.declared.words.TestWord.{TestWord}
-use Rattle.sieve_meaning.specs.declared.words.TestWord.TheVariants as words
-use Rattle.sieve_meaning.specs.Words.{test_word}
-use Rattle.sieve_meaning.specs.Program.{Tests, no_test, test_then}
-use Rattle.sieve_meaning.specs.Reading.{test_in, only_in, tests_in, row_in, test_named, string_lists, exists_of, header_of, match_type, comparator_from, has_tag, number_in, size_of}
+use Rattle.sieve_meaning.specs.Reading.{test_in, tests_in, row_in, string_lists, exists_of, header_of, match_type, comparator_from, has_tag, number_in, size_of}
 use Rattle.filing_flow.specs.Structure.{Flow, nothing, action, sequence, block, leave, leave_if, size, HasField, MatchKey, ValuesOf, JoinTwo, Push, PushNumber, PushSize, IsLess, Drop}
-use Rattle.filing_flow.specs.Code.{Start, Piece, only, with_text, action_piece, jump_when, piece, end_at}
+use Rattle.filing_flow.specs.Code.{only, action_piece, jump_when, end_at}
 use Rattle.filing_gen.specs.Structured.{comparison, names_flow, keys_flow, values_flow, either, header_flow, tests_flow, test_flow}
 use Rattle.filing_gen.specs.declared.output.Output.{Output}
-use Rattle.filing_gen.specs.Adds.{Adds, Emits, HasRoom, end_of}
+use Rattle.filing_gen.specs.Adds.{Adds, Emits, end_of}
 use Rattle.filing_gen.proofs.Emitted.{emits_sequence, emits_assoc, emits_block, emits_nothing, Leads, leads_more, leads_both, turn, To, Anywhere}
 
 -- SIZES

@@ -1,9 +1,2 @@
-pub mod Truths
-pub mod Means
-pub mod Types
-pub mod Compiled
-pub mod Emitted
-pub mod EmittedTests
-pub mod Turns
-pub mod Written
-pub mod WeightLemmas
+mod Emitted
+mod EmittedTests

@@ -33,12 +33,7 @@ fn comparison_number(how: MatchType, comparator: Comparator) -> u8
 }
 
 /// `Exists name` and `JumpUnless missing`.
-fn emit_name(
-    alloc: Global,
-    out: &mut Output,
-    name: &[u8],
-    missing: u16,
-) -> Result<(), AllocError>
+fn emit_name(alloc: Global, out: &mut Output, name: &[u8], missing: u16) -> Result<(), AllocError>
     requires { length out.old.texts.items < 2 ^ 16 }
     ensures adds { OnOk result ((ends : List ℕ) → end_at ends 0 ≡ missing → Emits out.old out.new (sequence (action (HasField name.now)) (leave_if false 0)) ends) }
     ensures code { OnOk result (length out.new.code.items ≡ length out.old.code.items + 2) }
@@ -92,11 +87,7 @@ fn emit_none_missing(out: &mut Output) -> Result<(), AllocError>
 }
 
 /// `exists`: whether a field is there for each name.
-fn emit_exists(
-    alloc: Global,
-    out: &mut Output,
-    arguments: &[Argument],
-) -> Result<(), AllocError>
+fn emit_exists(alloc: Global, out: &mut Output, arguments: &[Argument]) -> Result<(), AllocError>
     requires { HasRoom out.old (size (test_flow (exists_of (string_lists false arguments.now)))) }
     ensures adds { OnOk result ((ends : List ℕ) → Emits out.old out.new (test_flow (exists_of (string_lists false arguments.now))) ends) }
 {
@@ -246,11 +237,7 @@ fn emit_some_match(
 }
 
 /// `header`: whether some field has one of the names, and its value matches one of the keys.
-fn emit_header(
-    alloc: Global,
-    out: &mut Output,
-    arguments: &[Argument],
-) -> Result<(), AllocError>
+fn emit_header(alloc: Global, out: &mut Output, arguments: &[Argument]) -> Result<(), AllocError>
     requires { HasRoom out.old (size (test_flow (header_of (match_type_of arguments.now) (comparator_from false arguments.now) (string_lists false arguments.now)))) }
     ensures adds { OnOk result ((ends : List ℕ) → Emits out.old out.new (test_flow (header_of (match_type_of arguments.now) (comparator_from false arguments.now) (string_lists false arguments.now))) ends) }
 {
@@ -322,12 +309,7 @@ pub fn emit_only(alloc: Global, out: &mut Output, tests: &Tests) -> Result<(), A
 /// `allof`, which stops at a false test, and `anyof`, which stops at a true one:
 /// for each test its code and a jump to stopped; the other truth, `Jump end`; stopped: the truth that stops; end.
 #[cycle(emission)]
-fn emit_row(
-    alloc: Global,
-    out: &mut Output,
-    tests: &Tests,
-    stop: bool,
-) -> Result<(), AllocError>
+fn emit_row(alloc: Global, out: &mut Output, tests: &Tests, stop: bool) -> Result<(), AllocError>
     requires { HasRoom out.old (size (either (not stop) stop (tests_flow stop (tests_in (inner_of tests.now))))) }
     ensures adds { OnOk result ((ends : List ℕ) → Emits out.old out.new (either (not stop) stop (tests_flow stop (tests_in (inner_of tests.now)))) ends) }
 {

@@ -1,5 +1,5 @@
-use Rattle.std.proofs.Common.{◌≡◌, ap, sym, ◌∙◌, map, zero-add}
-use Rattle.sieve_syntax.specs.View.{test_of, inner_of}
+use Rattle.std.proofs.Common.{ap, sym, ◌∙◌, map, zero-add}
+use Rattle.sieve_syntax.specs.View.{test_of}
 use Rattle.sieve_syntax.proofs.Views.{inner_of-Listed}
 use Rattle.filing_flow.specs.Structure.{Flow, size}
 use Rattle.filing_gen.proofs.EmittedTests.{row_flow, flow-listed}
