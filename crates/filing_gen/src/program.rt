@@ -1,8 +1,9 @@
 //! From a checked script to an image that may run.
 
-ghost use Rattle.std.specs.Prelude.{◌≡◌, ◌↔◌, ◌+◌, ◌<◌, ◌^◌, map, Err, IfOk, IfErr};
+ghost use Rattle.std.specs.Prelude.{◌≡◌, ◌↔◌, ◌+◌, ◌<◌, ◌≤◌, ◌^◌, map, Err, IfOk, IfErr};
 ghost use Rattle.std.specs.Option.{option_map};
 ghost use Rattle.sieve_syntax.specs.View.{command_of, commands_of, tree_of};
+ghost use Rattle.sieve_meaning.specs.Meaning.{no_library};
 ghost use Rattle.sieve_meaning.specs.Outcome.{greatest_weight};
 ghost use Rattle.sieve_meaning.specs.Reading.{program_of};
 ghost use Rattle.sieve_meaning.specs.Weight.{linked_weight};
@@ -26,7 +27,7 @@ use crate::weight::script_weight;
 use filing_image::{Image, Instruction, Operation};
 use filing_verify::{Verified, VerifyFault, verify};
 use sieve_check::Checked;
-use sieve_syntax::Command;
+use sieve_syntax::{Command, Script};
 use std::alloc::{AllocError, Global};
 
 /// The greatest weight of a script that is run.
@@ -94,6 +95,25 @@ fn verified(alloc: Global, image: Image) -> Result<Verified, GenFault>
     }
 }
 
+/// The image of a script of this weight, which is at most 60,000.
+fn build(
+    alloc: Global,
+    script: &Script,
+    known_as: Option<&[u8]>,
+    weight: u32,
+) -> Result<Verified, GenFault>
+    requires weight { weight ≡ linked_weight no_library (option_map (λ s. s.now) known_as) (program_of (tree_of script.now)) }
+    requires small { weight ≤ greatest_weight }
+    ensures compiled { IfOk result (λ v. IsCompiled no_library (option_map (λ s. s.now) known_as.entry) (program_of (tree_of script.now)) v) }
+    ensures refused { IfErr result (λ f. f ≡ NoMemory) }
+{
+    let linker = Unlinked { known_as };
+    let out = emit_program(alloc, &linker, &script.commands)?;
+    let image = image_of(alloc, weight, out)?;
+    let verified = verified(alloc, image)?;
+    Ok(verified)
+}
+
 /// The image of a checked script, which may be known by a personal name, and of the scripts that it includes. It
 /// declares the script's weight as its budget in steps, it is one that may run, and in every case its run ends with
 /// the outcome of what the script means. `TooLarge`, 5, exactly where the weight is above 60,000; `NoMemory`, 99, where
@@ -112,9 +132,5 @@ pub fn compile(
     if weight > GREATEST_WEIGHT {
         return Err(GenFault::TooLarge);
     }
-    let linker = Unlinked { known_as };
-    let out = emit_program(alloc, &linker, &script.commands)?;
-    let image = image_of(alloc, weight as u32, out)?;
-    let verified = verified(alloc, image)?;
-    Ok(verified)
+    build(alloc, script, known_as, weight as u32)
 }
