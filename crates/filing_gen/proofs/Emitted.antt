@@ -34,13 +34,13 @@ emits_sequence x y z a b ends e f =
     let p = piece a ends (end_of x) in
     adds_then x y z p (piece b ends (after (end_of x) p)) e (subst (λ (s : Start). Adds y z (piece b ends s)) (end_is x y p e) f)
 
-after_joined : (s : Start) (p q : Piece) → after s (joined p q) ≡ after (after s p) q
+pub after_joined : (s : Start) (p q : Piece) → after s (joined p q) ≡ after (after s p) q
 after_joined s p q = same_start _ _
     (omega (arith, length-append p.code q.code))
     (omega (arith, length-append p.texts q.texts))
     (omega (arith, length-append p.numbers q.numbers))
 
-joined_assoc : (p q r : Piece) → joined (joined p q) r ≡ joined p (joined q r)
+pub joined_assoc : (p q r : Piece) → joined (joined p q) r ≡ joined p (joined q r)
 joined_assoc p q r = same_piece _ _ (append_assoc p.texts q.texts r.texts) (append_assoc p.numbers q.numbers r.numbers) (append_assoc p.code q.code r.code)
 
 piece_assoc : (a b c : Flow) (ends : List ℕ) (s : Start) → piece (sequence (sequence a b) c) ends s ≡ piece (sequence a (sequence b c)) ends s

@@ -1,7 +1,9 @@
 -- What is written so far, and what a piece of code adds to it.
-use Rattle.std.specs.Prelude.{◌≡◌, ℕ, ◌+◌, ◌<◌, ◌^◌, List, ◌++◌, length, map}
+use Rattle.std.specs.Prelude.{◌≡◌, ℕ, ◌+◌, ◌<◌, ◌^◌, List, [], ◌++◌, length, map}
 use Rattle.filing_flow.specs.Structure.{Flow}
 use Rattle.filing_flow.specs.Code.{Start, Piece, piece}
+use Rattle.filing_flow.specs.Whole.{first, whole}
+use Rattle.filing_image.specs.Program.{Program}
 use Rattle.filing_gen.specs.declared.output.Output.{Output}
 
 -- where the next piece begins
@@ -21,3 +23,17 @@ Emits old new a ends = Adds old new (piece a ends (end_of old))
 -- There is room for so many operations, and a text or number for each.
 abbrev pub HasRoom : Output → ℕ → Type 0
 HasRoom o n = (length o.code.items + n < 2 ^ 16) × (length o.texts.items + n < 2 ^ 16) × (length o.numbers.items + n < 2 ^ 16)
+
+-- The code of a whole script, and the end of the run, were written.
+pub record IsCode (o : Output) (a : Flow) : Type 0 where
+  pub texts : map (λ t. t.items) o.texts.items ≡ (piece (whole a) [] first).texts
+  pub numbers : o.numbers.items ≡ (piece (whole a) [] first).numbers
+  pub code : o.code.items ≡ (piece (whole a) [] first).code
+
+-- The program is what was written, with this budget and no slot.
+pub record IsImageOf (budget : ℕ) (o : Output) (p : Program) : Type 0 where
+  pub budget_is : p.budget ≡ budget
+  pub slots : p.slots ≡ 0
+  pub texts : p.texts ≡ map (λ t. t.items) o.texts.items
+  pub numbers : p.numbers ≡ o.numbers.items
+  pub code : p.code ≡ o.code.items
