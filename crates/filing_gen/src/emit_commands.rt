@@ -37,7 +37,12 @@ fn emit_file(alloc: Global, out: &mut Output, arguments: &[Argument]) -> Result<
 {
     let text = out.texts.len() as u16;
     let how = copy_code(has_tag(arguments, b"copy"));
-    put_with(alloc, out, first_text(arguments), Operation::File(how, text))
+    put_with(
+        alloc,
+        out,
+        first_text(arguments),
+        Operation::File(how, text),
+    )
 }
 
 /// A command that has no block. `keep`, `discard` and `stop` are one operation each, and `return` jumps to a place
@@ -145,8 +150,8 @@ fn end_of_branches<L: Linker>(
 {
     match word {
         CommandWord::If => {
-            (place + (part_size(linker, command, Part::Branch) + branches_size(linker, behind)))
-                as u16
+            (place
+                + (part_size(linker, command, Part::Branch) + branches_size(linker, behind))) as u16
         }
         _ => end,
     }
