@@ -1,23 +1,22 @@
 -- The program of a script's code may run, and has the script's outcome in every case.
-use Rattle.std.proofs.Common.{◌≡◌, ℕ, ◌+◌, ◌<◌, ◌≤◌, ◌^◌, List, [], ◌∷◌, Bool, Option, Some, None, refl, ap, ◌∙◌, subst, arith}
+use Rattle.std.proofs.Common.{◌≡◌, ℕ, ◌+◌, ◌<◌, ◌≤◌, ◌^◌, List, [], ◌∷◌, Option, Some, None, refl, ap, ◌∙◌, subst, arith}
 use Rattle.filing_image.specs.Program.{Program}
 use Rattle.filing_verify.specs.Well.{IsWell, Fails}
 use Rattle.filing_verify.specs.declared.fault.VerifyFault.{VerifyFault}
 use Rattle.filing_verify.specs.declared.fault.VerifyFault.TheVariants as faults
 use Rattle.filing_table.specs.Ends.{HasOutcome}
-use Rattle.filing_flow.specs.Structure.{Flow, action, block, size, End}
+use Rattle.filing_flow.specs.Structure.{Flow, action, size, End}
 use Rattle.filing_flow.specs.Effect.{Exit, EndsRun, effect, caught}
 use Rattle.filing_flow.specs.Effect as code
 use Rattle.filing_flow.specs.Whole.{whole, IsCodeOf, nothing_done, outcome_from}
 use Rattle.filing_flow.proofs.Well.{typed_is_well}
 use Rattle.filing_flow.proofs.Ended.{program_ends}
 use Rattle.sieve_meaning.specs.Case.{Facts}
-use Rattle.sieve_meaning.specs.Paths.{Paths}
 use Rattle.sieve_meaning.specs.Program.{Commands}
-use Rattle.sieve_meaning.specs.Meaning.{Ending, GoesOn, Returns, Stops, Faults, included, run, meaning, opening, main_names, no_library}
+use Rattle.sieve_meaning.specs.Meaning.{Ending, GoesOn, Returns, Stops, Faults, included, meaning, opening, main_names, no_library}
 use Rattle.sieve_meaning.specs.Outcome.{Outcome, outcome_at, outcome_of}
 use Rattle.sieve_meaning.specs.Weight.{linked_weight, included_weight}
-use Rattle.filing_gen.specs.Structured.{flow, script_flow}
+use Rattle.filing_gen.specs.Structured.{script_flow}
 use Rattle.filing_gen.specs.Includes.{missing_flow}
 use Rattle.filing_gen.specs.Alike.{Related, filing_at, exit_of, Alike}
 use Rattle.filing_gen.specs.Adds.{IsCode, IsImageOf}
@@ -56,7 +55,7 @@ alone known_as main = script_flow (missing_flow known_as) main
 script_means : (c : Facts) (known_as : Option (List ℕ)) (main : Commands) → Alike (main_alone known_as) 0 (meaning c no_library known_as main) (effect c (alone known_as main) nothing_done [])
 script_means c known_as main =
     flow_means c (main_alone known_as) (missing_flow known_as) (included c no_library 7 (main_names known_as)) (missing_agrees c known_as) 0 main (opening known_as) nothing_done
-        (record { filed = refl; kept = refl; cancelled = refl; marks = refl })
+    (record { filed = refl; kept = refl; cancelled = refl; marks = refl })
 
 pub has_outcome : (p : Program) (known_as : Option (List ℕ)) (main : Commands) → IsCodeOf p (alone known_as main) → (c : Facts) → (n : ℕ) × HasOutcome p c n (outcome_of (meaning c no_library known_as main))
 has_outcome p known_as main is c =
@@ -76,7 +75,7 @@ script_small known_as main =
 pub well : (p : Program) (known_as : Option (List ℕ)) (main : Commands) → IsCodeOf p (alone known_as main) → p.slots ≤ 64 → p.budget ≡ linked_weight no_library known_as main → linked_weight no_library known_as main < 2 ^ 16 → IsWell p
 well p known_as main is slots budget small =
     typed_is_well p (alone known_as main) is (flow_typed (missing_flow known_as) (missing_typed known_as) 0 main ([] ∷ []) refl)
-        (flow_sound p.slots (missing_flow known_as) (missing_sound p.slots known_as) 0 main) slots (omega (arith, script_small known_as main)) (omega arith)
+    (flow_sound p.slots (missing_flow known_as) (missing_sound p.slots known_as) 0 main) slots (omega (arith, script_small known_as main)) (omega arith)
 
 pub compiled : (p : Program) (known_as : Option (List ℕ)) (main : Commands) → IsCodeOf p (alone known_as main) → IsWell p → p.budget ≡ linked_weight no_library known_as main → IsCompiled no_library known_as main p
 compiled p known_as main is good budget = record { budget = budget; well = good; outcomes = has_outcome p known_as main is }

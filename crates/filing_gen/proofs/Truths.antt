@@ -1,5 +1,5 @@
 -- The code of a test pushes the test's truth.
-use Rattle.std.proofs.Common.{◌≡◌, ℕ, suc, List, [], ◌∷◌, ◌++◌, map, Bool, true, false, not, ◌&&◌, ◌||◌, cond, refl, sym, ap, ◌∙◌, append_assoc, append-nil}
+use Rattle.std.proofs.Common.{◌≡◌, ℕ, List, [], ◌∷◌, ◌++◌, map, Bool, true, false, not, ◌&&◌, ◌||◌, cond, refl, sym, ap, ◌∙◌, append_assoc, append-nil}
 use Rattle.std.specs.List.{list_any, list_all, flat_map, filter}
 use Rattle.std.proofs.lemmas.List.Folds.{list_any-append}
 use Rattle.sieve_meaning.specs.declared.matching.Comparator.{Comparator}
@@ -10,8 +10,8 @@ use Rattle.sieve_meaning.specs.Matching.{key_matches}
 use Rattle.sieve_meaning.specs.Case.{Facts, Field, is_named}
 use Rattle.sieve_meaning.specs.Truth.{has_field, header_truth, truth, all_true, some_true}
 use Rattle.sieve_meaning.specs.Program.{Test, always, negated, all_of, any_of, has_all, over, under, header, Tests, no_test, test_then}
-use Rattle.filing_table.specs.Machine.{Entry, T, L, N, compared, values_of}
-use Rattle.filing_flow.specs.Structure.{Push, ValuesOf, Drop, Flow, nothing, action, sequence, block, leave}
+use Rattle.filing_table.specs.Machine.{Entry, T, L, compared, values_of}
+use Rattle.filing_flow.specs.Structure.{Push, Drop, Flow, action, sequence, leave}
 use Rattle.filing_flow.specs.Effect.{Filing, Exit, FallsThrough, Leaves, effect, caught}
 use Rattle.filing_flow.specs.Effect as effects
 use Rattle.filing_gen.specs.Structured.{comparison, either, values_flow, keys_flow, names_flow, header_flow, test_flow, tests_flow}
@@ -63,7 +63,7 @@ any_values : (p : List ℕ → Bool) (name : List ℕ) (fs : List Field) → lis
 any_values p name [] = refl
 any_values p name (f ∷ fs) =
     elim (is_named name f) as (λ b. list_any p (map (λ f. f.value) (cond b (f ∷ filter (is_named name) fs) (filter (is_named name) fs))) ≡ ((b && p f.value) || list_any (λ f. is_named name f && p f.value) fs))
-        [ true ↦ ap (λ b. p f.value || b) (any_values p name fs) | false ↦ any_values p name fs ]
+    [ true ↦ ap (λ b. p f.value || b) (any_values p name fs) | false ↦ any_values p name fs ]
 
 compared_is : (m : MatchType) (c : Comparator) (key value : List ℕ) → compared (comparison m c) key value ≡ key_matches m c key value
 compared_is match_types.Is comparators.Octet key value = refl
@@ -88,8 +88,8 @@ module _ (c : Facts) where
       any_same (λ key. list_any (compared a key) (flat_map (values_of c) names)) (λ key. list_any (λ f. list_any (λ name. is_named name f) names && compared a key f.value) c.fields) keys (λ key. key_truth a names key)
       ∙ any_swap (λ key f. list_any (λ name. is_named name f) names && compared a key f.value) keys c.fields
       ∙ any_same (λ f. list_any (λ key. list_any (λ name. is_named name f) names && compared a key f.value) keys) (λ f. list_any (λ name. is_named name f) names && list_any (λ key. key_matches m o key f.value) keys) c.fields
-          (λ f. any_and (list_any (λ name. is_named name f) names) (λ key. compared a key f.value) keys
-              ∙ ap (λ b. list_any (λ name. is_named name f) names && b) (any_same (λ key. compared a key f.value) (λ key. key_matches m o key f.value) keys (λ key. compared_is m o key f.value)))
+      (λ f. any_and (list_any (λ name. is_named name f) names) (λ key. compared a key f.value) keys
+      ∙ ap (λ b. list_any (λ name. is_named name f) names && b) (any_same (λ key. compared a key f.value) (λ key. key_matches m o key f.value) keys (λ key. compared_is m o key f.value)))
 
   -- TESTS
 

@@ -98,12 +98,12 @@ first_of_block x y z a r f e ends is h k =
     let grown = grows x y a (e ∷ ends) h in
     let same : length y.code.items + size r ≡ e = omega (arith, grown.code, is) in
     let k1 : Adds y z (joined (piece r (e ∷ ends) (end_of y)) (piece f ends (after (end_of y) (piece r (e ∷ ends) (end_of y))))) =
-        subst (λ (n : ℕ). Adds y z (joined (piece r (n ∷ ends) (end_of y)) (piece f ends (after (end_of y) (piece r (n ∷ ends) (end_of y)))))) same k in
+    subst (λ (n : ℕ). Adds y z (joined (piece r (n ∷ ends) (end_of y)) (piece f ends (after (end_of y) (piece r (n ∷ ends) (end_of y)))))) same k in
     let k2 : Adds y z (joined q (piece f ends (after (after s p) q))) =
-        subst (λ (v : Start). Adds y z (joined (piece r (e ∷ ends) v) (piece f ends (after v (piece r (e ∷ ends) v))))) (end_is x y p h) k1 in
+    subst (λ (v : Start). Adds y z (joined (piece r (e ∷ ends) v) (piece f ends (after v (piece r (e ∷ ends) v))))) (end_is x y p h) k1 in
     let k3 : Adds x z (joined p (joined q (piece f ends (after (after s p) q)))) = adds_then x y z p (joined q (piece f ends (after (after s p) q))) h k2 in
     let k4 : Adds x z (joined (joined p q) (piece f ends (after s (joined p q)))) =
-        subst (λ (w : Piece). Adds x z w) (sym (ap (λ (t : Start). joined (joined p q) (piece f ends t)) (after_joined s p q) ∙ joined_assoc p q (piece f ends (after (after s p) q)))) k3 in
+    subst (λ (w : Piece). Adds x z w) (sym (ap (λ (t : Start). joined (joined p q) (piece f ends t)) (after_joined s p q) ∙ joined_assoc p q (piece f ends (after (after s p) q)))) k3 in
     subst (λ (n : ℕ). Adds x z (joined (piece (sequence a r) (n ∷ ends) s) (piece f ends (after s (piece (sequence a r) (n ∷ ends) s))))) is k4
 
 -- no branches were open
@@ -300,13 +300,13 @@ commands_turn g back old now new word is_open end xs i x whole h is lt named par
     let fields = command_of-fields x in
     let c = command f.name f.arguments (inner_of f.tests) (ending_of f.ending) in
     let h2 : Remains g back old now is_open end (trees.command_then c more) whole =
-        subst (λ (cs : CommandTrees). Remains g back old now is_open end cs whole) (ap (λ (ys : List TreeCommand). commands_of (map command_of ys)) (turn xs i x is lt) ∙ ap (λ (k : CommandTree). trees.command_then k more) fields) h in
+    subst (λ (cs : CommandTrees). Remains g back old now is_open end cs whole) (ap (λ (ys : List TreeCommand). commands_of (map command_of ys)) (turn xs i x is lt) ∙ ap (λ (k : CommandTree). trees.command_then k more) fields) h in
     let said2 : next ≡ chain_end word (length now.code.items + (part_long (λ j. size (g j)) Branch c + branches_long (λ j. size (g j)) (branches_of more))) end =
-        subst (λ (k : CommandTree). next ≡ chain_end word (length now.code.items + (part_long (λ j. size (g j)) Branch k + branches_long (λ j. size (g j)) (branches_of more))) end) fields said in
+    subst (λ (k : CommandTree). next ≡ chain_end word (length now.code.items + (part_long (λ j. size (g j)) Branch k + branches_long (λ j. size (g j)) (branches_of more))) end) fields said in
     let e2 : EmitsPart g back (part_of word is_open) next c now new =
-        subst (λ (k : CommandTree). EmitsPart g back (part_of word is_open) next k now new) fields (subst (λ (p : Part). EmitsPart g back p next (command_of x) now new) told e) in
+    subst (λ (k : CommandTree). EmitsPart g back (part_of word is_open) next k now new) fields (subst (λ (p : Part). EmitsPart g back p next (command_of x) now new) told e) in
     subst (λ (b : Bool). Remains g back old new b next more whole) (sym (branches ∙ ap is_branch told))
-        (remains_turn g back old now new word is_open end f.name f.arguments (inner_of f.tests) (ending_of f.ending) more whole h2 named next said2 e2)
+    (remains_turn g back old now new word is_open end f.name f.arguments (inner_of f.tests) (ending_of f.ending) more whole h2 named next said2 e2)
 
 pub commands_last : (g : Include → Flow) (back : ℕ) (old now : Output) (is_open : Bool) (end : ℕ) (xs : List TreeCommand) (i : ℕ) (whole : Commands) → Remains g back old now is_open end (commands_of (map command_of (drop i xs))) whole → length xs ≤ i
     → (n : ℕ) (ends : List ℕ) → end_at ends n ≡ back → Emits old now (flow g n whole) ends

@@ -1,5 +1,5 @@
 -- The code of a script has a type, sound operands, and at most weight many operations.
-use Rattle.std.proofs.Common.{◌≡◌, ℕ, zero, suc, ◌+◌, ◌*◌, ◌≤◌, List, [], ◌∷◌, length, Bool, true, false, cond, Option, Some, None, refl, arith}
+use Rattle.std.proofs.Common.{◌≡◌, ℕ, suc, ◌+◌, ◌*◌, ◌≤◌, List, [], ◌∷◌, length, Bool, true, false, cond, Option, Some, refl, arith}
 use Rattle.filing_verify.specs.declared.kind.Kind.TheVariants.{Truth, Texts, Count}
 use Rattle.filing_flow.specs.Structure.{Push, ValuesOf, Drop, Fail, Flow, nothing, action, sequence, block, leave, size, IsSound}
 use Rattle.filing_flow.specs.Types.{Shape, HasType, shape_at}
@@ -31,12 +31,19 @@ either_typed past out a es d = ([], ([], d, (Truth ∷ [], (refl, omega arith, o
 
 header_typed : (a : ℕ) (n : List ℕ) (ns ks : List (List ℕ)) (es : List Shape)
     → HasType (block (sequence (block (sequence (sequence (action (ValuesOf n)) (values_flow ns)) (sequence (keys_flow a ks) (sequence (action Drop) (sequence (action (Push false)) (leave 1)))))) (sequence (action Drop) (action (Push true))))) es [] (Truth ∷ [])
-header_typed a n ns ks es =
-    (Texts ∷ []
-    , (Texts ∷ [], (Texts ∷ [], (refl, omega arith, omega arith), values_typed ns ((Texts ∷ []) ∷ (Truth ∷ []) ∷ es))
-      , (Texts ∷ [], keys_typed a ks ((Truth ∷ []) ∷ es)
-        , ([], (refl, omega arith, omega arith), (Truth ∷ [], (refl, omega arith, omega arith), (omega arith, refl)))))
-    , ([], (refl, omega arith, omega arith), (refl, omega arith, omega arith)))
+header_typed a n ns ks es = (
+  Texts ∷ [],
+  (
+    Texts ∷ [],
+    (Texts ∷ [], (refl, omega arith, omega arith), values_typed ns ((Texts ∷ []) ∷ (Truth ∷ []) ∷ es)),
+    (
+      Texts ∷ [],
+      keys_typed a ks ((Truth ∷ []) ∷ es),
+      ([], (refl, omega arith, omega arith), (Truth ∷ [], (refl, omega arith, omega arith), (omega arith, refl))),
+    ),
+  ),
+  ([], (refl, omega arith, omega arith), (refl, omega arith, omega arith)),
+)
 
 mutual
   test_typed : (t : Test) (es : List Shape) → HasType (test_flow t) es [] (Truth ∷ [])

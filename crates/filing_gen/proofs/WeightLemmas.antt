@@ -1,7 +1,7 @@
 -- Weights added up.
 use Rattle.std.proofs.Common.{◌≡◌, ℕ, ◌+◌, ◌≤◌, ◌<◌, get_or, add-one, List, [], ◌∷◌, Bool, true, false, Option, None, map, drop, length, refl, sym, ap, ◌∙◌, arith}
-use Rattle.std.specs.Prelude.{min, ◌-◌, ◌^◌}
-use Rattle.sieve_syntax.specs.Tree.{TestTree, CommandTree, command, CommandTrees, no_commands, command_then, InnerTests, EndingTree}
+use Rattle.std.specs.Prelude.{◌-◌, ◌^◌}
+use Rattle.sieve_syntax.specs.Tree.{TestTree, command, CommandTrees, no_commands, command_then, InnerTests, EndingTree}
 use Rattle.std.proofs.Math.Seq.{drop-cons}
 use Rattle.std.proofs.lemmas.List.{at_drop_all}
 use Rattle.sieve_syntax.specs.View.{row_of, listed_of, test_of, inner_of, command_of, commands_of, ending_of}
@@ -13,12 +13,12 @@ use Rattle.sieve_syntax.specs.declared.tree.Argument.{Argument}
 use Rattle.sieve_meaning.specs.declared.words.CommandWord.{CommandWord}
 use Rattle.sieve_meaning.specs.declared.words.CommandWord.TheVariants as words
 use Rattle.sieve_meaning.specs.Words.{command_word}
-use Rattle.sieve_meaning.specs.Reading.{only_in, block_in, program_of, branches_of, test_in, tests_in, row_in}
+use Rattle.sieve_meaning.specs.Reading.{program_of, test_in, tests_in, row_in}
 use Rattle.sieve_meaning.specs.Program as program
 use Rattle.sieve_meaning.specs.Program.{Include, Commands, Branches}
 use Rattle.sieve_meaning.specs.Meaning.{no_library, main_names}
 use Rattle.sieve_meaning.specs.Weight.{test_weight, tests_weight, weight, weight_one, branches_weight, included_weight, linked_weight}
-use Rattle.filing_gen.specs.Weights.{most, weight_from, weight_in, own_weight, follows_after, command_weight}
+use Rattle.filing_gen.specs.Weights.{most, weight_from, weight_in, follows_after, command_weight}
 
 -- the weights of the tests of a list
 abbrev pub sum_of : List TestTree → ℕ

@@ -1,5 +1,5 @@
 -- Operations that are written alike are the same.
-use Rattle.std.proofs.Common.{◌≡◌, ℕ, List, [], ◌∷◌, map, refl, sym, ap, ◌∙◌}
+use Rattle.std.proofs.Common.{◌≡◌, List, [], ◌∷◌, map, refl, sym, ap, ◌∙◌}
 use Rattle.std.specs.Prelude.{◌==◌, if◌then◌else◌}
 use Rattle.filing_image.specs.declared.instruction.Instruction.{Instruction}
 use Rattle.filing_image.specs.declared.instruction.Operation.{Operation}

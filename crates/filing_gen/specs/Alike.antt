@@ -1,6 +1,6 @@
 -- Runs of a script and of its code, side by side. What the marks of the code say of the scripts that were entered is
 -- left open.
-use Rattle.std.specs.Prelude.{◌≡◌, ℕ, List, [], Bool, Option, Some, None}
+use Rattle.std.specs.Prelude.{◌≡◌, ℕ, List, [], Bool, Some, None}
 use Rattle.sieve_meaning.specs.Case.{Facts}
 use Rattle.sieve_meaning.specs.Program.{Include}
 use Rattle.sieve_meaning.specs.Meaning.{ScriptName, Filing, Ending, GoesOn, Returns, Stops, Faults, Included}

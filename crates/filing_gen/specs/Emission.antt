@@ -1,6 +1,6 @@
 -- Commands of the tree, as their code is written from left to right.
 use Rattle.std.specs.Prelude.{◌≡◌, ℕ, suc, ◌+◌, List, ◌∷◌, Bool, true, false, codes}
-use Rattle.sieve_syntax.specs.Tree.{CommandTree, command, CommandTrees, command_then as tree_then}
+use Rattle.sieve_syntax.specs.Tree.{CommandTree, command, CommandTrees}
 use Rattle.sieve_syntax.specs.declared.tree.Argument.{Argument}
 use Rattle.sieve_meaning.specs.declared.words.CommandWord.{CommandWord}
 use Rattle.sieve_meaning.specs.declared.words.CommandWord.TheVariants as words

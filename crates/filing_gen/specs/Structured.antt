@@ -42,8 +42,8 @@ names_flow (n ∷ ns) = sequence (action (HasField n)) (sequence (leave_if false
 abbrev pub header_flow : ℕ → List ℕ → List (List ℕ) → List ℕ → List (List ℕ) → Flow
 header_flow a n ns k ks =
     block (sequence
-      (block (sequence (sequence (action (ValuesOf n)) (values_flow ns)) (sequence (keys_flow a (k ∷ ks)) (sequence (action Drop) (sequence (action (Push false)) (leave 1))))))
-      (sequence (action Drop) (action (Push true))))
+    (block (sequence (sequence (action (ValuesOf n)) (values_flow ns)) (sequence (keys_flow a (k ∷ ks)) (sequence (action Drop) (sequence (action (Push false)) (leave 1))))))
+    (sequence (action Drop) (action (Push true))))
 
 abbrev mutual
   pub test_flow : Test → Flow

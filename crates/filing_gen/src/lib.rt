@@ -24,3 +24,6 @@ mod weight;
 pub use fault::GenFault;
 pub use library::Library;
 pub use program::compile;
+
+#[cfg(test)]
+mod tests;

@@ -7,8 +7,8 @@ ghost use Rattle.sieve_meaning.specs.Reading.{include_of};
 ghost use Rattle.filing_gen.specs.Adds.{Emits, HasRoom};
 
 use crate::output::Output;
-use std::alloc::{AllocError, Global};
 use sieve_syntax::Argument;
+use std::alloc::{AllocError, Global};
 
 /// What stands for the includes of a script, by their arguments.
 pub trait Linker {
@@ -21,7 +21,12 @@ pub trait Linker {
         ensures { result ≡ size (flow_of self.now (include_of arguments.now)) };
 
     /// Writes the code of an include.
-    fn emit(&self, alloc: Global, out: &mut Output, arguments: &[Argument]) -> Result<(), AllocError>
+    fn emit(
+        &self,
+        alloc: Global,
+        out: &mut Output,
+        arguments: &[Argument],
+    ) -> Result<(), AllocError>
         requires { HasRoom out.old (size (flow_of self.now (include_of arguments.now))) }
         ensures adds { OnOk result ((ends : List ℕ) → Emits out.old out.new (flow_of self.now (include_of arguments.now)) ends) };
 }

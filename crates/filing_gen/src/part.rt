@@ -22,13 +22,7 @@ pub fn part_in(word: CommandWord, is_open: bool) -> Part
 {
     match word {
         CommandWord::If => Part::Branch,
-        CommandWord::ElsIf => {
-            if is_open {
-                Part::Branch
-            } else {
-                Part::Plain
-            }
-        }
+        CommandWord::ElsIf => { if is_open { Part::Branch } else { Part::Plain } }
         CommandWord::Else => {
             if is_open {
                 Part::Otherwise

@@ -6,13 +6,13 @@ ghost use Rattle.sieve_meaning.specs.Meaning.{main_names, is_among, script_named
 ghost use Rattle.sieve_meaning.specs.Reading.{include_of};
 ghost use Rattle.filing_gen.specs.Includes.{is_passed as is_passed_of, missing_flow};
 
+use crate::arguments::first_text;
 use crate::linker::Linker;
 use crate::output::{Output, put};
 use filing_image::Operation;
-use crate::arguments::first_text;
 use sieve_meaning::reading::has_tag;
-use std::alloc::{AllocError, Global};
 use sieve_syntax::Argument;
+use std::alloc::{AllocError, Global};
 
 /// No script can be included; the main script may have a personal name.
 #[derive(Drop)]
@@ -49,7 +49,12 @@ impl Linker for Unlinked<'_> {
     }
 
     /// Nothing, or the fault of a missing script.
-    fn emit(&self, _alloc: Global, out: &mut Output, arguments: &[Argument]) -> Result<(), AllocError> {
+    fn emit(
+        &self,
+        _alloc: Global,
+        out: &mut Output,
+        arguments: &[Argument],
+    ) -> Result<(), AllocError> {
         if is_passed(self.known_as, arguments) {
             return Ok(());
         }

@@ -18,4 +18,4 @@ pub returns-clause-compiled : goal.returns-clause-compiled
 returns-clause-compiled c =
     let good = built_well c.in_ok-out.out c.in_ok-image.image (option_map (λ (s : Bor (List ℕ)). s.now) c.args.known_as) (program_of (tree_of c.args.script.now)) c.args.weight c.in_ok-out.ensures c.in_ok-image.ensures.made c.requires.weight c.requires.small in
     subst (λ (p : Program). IsCompiled no_library (option_map (λ (s : Bor (List ℕ)). s.now) c.args.known_as) (program_of (tree_of c.args.script.now)) p) (sym c.in_ok-verified.ensures.same)
-        (built c.in_ok-out.out c.in_ok-image.image (option_map (λ (s : Bor (List ℕ)). s.now) c.args.known_as) (program_of (tree_of c.args.script.now)) c.args.weight c.in_ok-out.ensures c.in_ok-image.ensures.made good c.requires.weight)
+    (built c.in_ok-out.out c.in_ok-image.image (option_map (λ (s : Bor (List ℕ)). s.now) c.args.known_as) (program_of (tree_of c.args.script.now)) c.args.weight c.in_ok-out.ensures c.in_ok-image.ensures.made good c.requires.weight)

@@ -1,4 +1,4 @@
-use Rattle.std.proofs.Common.{◌≡◌, ap, ◌∙◌, map}
+use Rattle.std.proofs.Common.{ap, ◌∙◌, map}
 use Rattle.filing_image.specs.Program.{Parts, instruction_of}
 use Rattle.filing_gen.proofs.Written.{written_once}
 use Rattle.filing_gen.proofs.program.image_of.Goals as goal

@@ -1,4 +1,4 @@
-use Rattle.std.proofs.Common.{◌≡◌, ◌+◌, ◌<◌, ◌^◌, rules, map, sym, ap, ◌∙◌, arith}
+use Rattle.std.proofs.Common.{◌<◌, ◌^◌, rules, map, sym, ap, ◌∙◌, arith}
 use Rattle.sieve_syntax.specs.View.{command_of, commands_of, ending_of}
 use Rattle.sieve_syntax.specs.declared.tree.Ending.{Ending}
 use Rattle.sieve_syntax.specs.declared.tree.Ending.TheViews.{the_lemmas}

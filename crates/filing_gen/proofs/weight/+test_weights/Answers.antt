@@ -1,5 +1,5 @@
 use Rattle.std.proofs.Common.{sym, ap, ◌∙◌, map, zero-add, arith}
-use Rattle.sieve_syntax.specs.View.{test_of, inner_of}
+use Rattle.sieve_syntax.specs.View.{test_of}
 use Rattle.sieve_syntax.proofs.Views.{inner_of-Listed}
 use Rattle.filing_gen.specs.Weights.{most}
 use Rattle.filing_gen.proofs.WeightLemmas.{sum_of, weight-listed, tests_turn, tests_end}

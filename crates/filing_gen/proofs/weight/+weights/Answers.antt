@@ -1,4 +1,4 @@
-use Rattle.std.proofs.Common.{sym, ap, ◌∙◌, arith, false, map}
+use Rattle.std.proofs.Common.{sym, ap, ◌∙◌, arith, map}
 use Rattle.sieve_syntax.specs.View.{command_of, commands_of}
 use Rattle.sieve_syntax.proofs.Views.{ending_of-Block}
 use Rattle.sieve_meaning.specs.Words.{command_word}

@@ -1,7 +1,6 @@
-use Rattle.std.proofs.Common.{arith, None, ◌∙◌, ap, sym}
+use Rattle.std.proofs.Common.{arith}
 use Rattle.sieve_syntax.specs.View.{tree_of}
 use Rattle.sieve_meaning.specs.Reading.{program_of}
-use Rattle.filing_gen.specs.Weights.{most}
 use Rattle.filing_gen.proofs.WeightLemmas.{weight_from-false, weight_unnamed}
 use Rattle.filing_gen.proofs.weight.script_weight.Goals as goal
 
