@@ -1,5 +1,5 @@
 -- The run of a verified program ends within its budget.
-use Rattle.std.proofs.Common.{◌≡◌, ℕ, ◌+◌, ◌<◌, ◌≤◌, Option, Some, None, refl, sym, ap, ◌∙◌, arith, inl, inr, Bool}
+use Rattle.std.proofs.Common.{◌≡◌, ℕ, ◌+◌, ◌≤◌, Option, Some, None, refl, sym, ap, ◌∙◌, arith, inl, inr, Bool}
 use Rattle.std.proofs.lemmas.Bool.{cases_lt}
 use Rattle.filing_image.specs.Program.{Program}
 use Rattle.filing_verify.specs.Well.{IsWell}
@@ -10,7 +10,7 @@ use Rattle.filing_table.specs.Machine.{State, Run, At, Over, Trap, after_steps}
 use Rattle.filing_table.specs.Ends.{Ends, outcome_left, HasOutcome}
 use Rattle.filing_table.proofs.Once.{first_end}
 use Rattle.filing_machine.specs.Seen.{state, run_at}
-use Rattle.filing_machine.specs.Runs.{Stored, seen, Stands}
+use Rattle.filing_machine.specs.Runs.{Stored, Stands}
 use Rattle.filing_machine.proofs.Sound.{keeps, in_budget, never_traps}
 
 over_is_not_at : (f : Option ℕ) (s t : State) → Over f s ≡ At t → ⊥

@@ -1,7 +1,5 @@
 -- A machine that stands in its run may make a step.
-use Rattle.std.proofs.Common.{◌≡◌, ◌≢◌, ℕ, suc, ◌+◌, ◌<◌, ◌≤◌, length, Option, Some, None, sym, ap, ◌∙◌, subst, arith, get_or, refl, inl, inr}
-use Rattle.std.specs.Prelude.{slice_get}
-use Rattle.std.specs.List.{AllByRecursion}
+use Rattle.std.proofs.Common.{◌≡◌, ◌≢◌, ℕ, ◌+◌, ◌<◌, ◌≤◌, length, Option, None, sym, ap, ◌∙◌, arith, get_or, inl, inr}
 use Rattle.std.proofs.lemmas.Bool.{cases_lt}
 use Rattle.std.proofs.lemmas.List.{length-map}
 use Rattle.std.proofs.lemmas.Option.{slice_get-get_or}
@@ -9,8 +7,8 @@ use Rattle.filing_image.specs.Program.{Program}
 use Rattle.filing_image.specs.declared.instruction.Operation.TheVariants.{PushTrue}
 use Rattle.filing_verify.specs.Well.{InRange, IsWell}
 use Rattle.sieve_meaning.specs.Case.{Facts}
-use Rattle.filing_table.specs.Machine.{State, Run, At, Over, Trap, act, step, after_steps}
-use Rattle.filing_machine.specs.Seen.{state, entry, run_at, InCase, IsModest}
+use Rattle.filing_table.specs.Machine.{State, At, Trap, act, step, after_steps}
+use Rattle.filing_machine.specs.Seen.{state, entry, run_at, IsModest}
 use Rattle.filing_machine.specs.Runs.{Stored, seen, Stands, IsModestAt}
 use Rattle.filing_machine.proofs.Sound.{keeps, sound, ranges, depth, in_budget, steps_to}
 

@@ -1,5 +1,5 @@
 -- A machine in a run of a program in a case.
-use Rattle.std.specs.Prelude.{◌≡◌, ℕ, ◌<◌, List, Option, Some, slice_get}
+use Rattle.std.specs.Prelude.{◌≡◌, ℕ, ◌<◌, Option, Some, slice_get}
 use Rattle.std.specs.List.{AllByRecursion}
 use Rattle.filing_image.specs.Program.{Program}
 use Rattle.filing_image.specs.declared.instruction.Operation.{Operation}

@@ -1,4 +1,4 @@
-use Rattle.std.proofs.Common.{◌≡◌, arith}
+use Rattle.std.proofs.Common.{arith}
 use Rattle.filing_machine.proofs.machine.run.Goals as goal
 
 pub loop-machine-init : goal.loop-machine-init

@@ -1,4 +1,4 @@
-use Rattle.std.proofs.Common.{◌≡◌, ◌≤◌, ◌-◌}
+use Rattle.std.proofs.Common.{◌≤◌, ◌-◌}
 use Rattle.filing_machine.specs.Runs.{Stands}
 use Rattle.filing_machine.proofs.machine.run.Given as goal
 

@@ -1,4 +1,4 @@
-use Rattle.std.proofs.Common.{◌≡◌, subst, sym, refl}
+use Rattle.std.proofs.Common.{subst, sym, refl}
 use Rattle.sieve_meaning.specs.Outcome.{Outcome}
 use Rattle.filing_machine.specs.Runs.{Stands, Stored, Leaves}
 use Rattle.filing_machine.proofs.Ends.{answer_is, outcome_here}

@@ -1,10 +1,10 @@
-use Rattle.std.proofs.Common.{◌≡◌, ◌<◌, ◌≤◌, ◌+◌, ◌∙◌, ℕ, length, sym, ap, subst, arith, get_or, add-one}
+use Rattle.std.proofs.Common.{◌≡◌, ◌∙◌, length, sym, ap, subst, arith, get_or, add-one}
 use Rattle.std.proofs.lemmas.Bool.{false≢true}
 use Rattle.filing_image.specs.declared.instruction.Operation.TheVariants.{PushTrue}
-use Rattle.filing_table.specs.Machine.{after_steps, step, act, Trap}
+use Rattle.filing_table.specs.Machine.{step}
 use Rattle.filing_machine.specs.Seen.{state, run_at, IsModest}
 use Rattle.filing_machine.specs.Runs.{Stands, Stored, seen, IsModestAt}
-use Rattle.filing_machine.proofs.Ready.{Ready, ready, one_more, modest_here}
+use Rattle.filing_machine.proofs.Ready.{ready, one_more, modest_here}
 use Rattle.filing_machine.proofs.machine.Machine.step.Goals as goal
 
 pub offset_bounds-code-self-inside : goal.offset_bounds-code-self-inside
