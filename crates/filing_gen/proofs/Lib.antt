@@ -1,0 +1,9 @@
+mod Truths
+mod Means
+mod Types
+mod Compiled
+mod Emitted
+mod EmittedTests
+mod Turns
+mod Written
+mod WeightLemmas

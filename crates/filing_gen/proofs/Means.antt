@@ -1,0 +1,103 @@
+-- The code of a script does what the script means.
+use Rattle.std.proofs.Common.{◌≡◌, ℕ, zero, suc, List, [], ◌∷◌, Bool, true, false, not, ◌||◌, ◌&&◌, cond, Option, Some, None, refl, sym, ap, ◌∙◌, subst}
+use Rattle.std.specs.Prelude.{nat_eq}
+use Rattle.sieve_meaning.specs.Case.{Facts}
+use Rattle.sieve_meaning.specs.Paths.{Paths, insert_path}
+use Rattle.sieve_meaning.specs.Truth.{truth}
+use Rattle.sieve_meaning.specs.Program.{Test, Include, Command, require, keep, discard, stop, return, file_into, branch, include, Commands, no_command, command_then, Branches, no_branch, otherwise, if_then}
+use Rattle.sieve_meaning.specs.Meaning.{ScriptName, Filing, Ending, GoesOn, Returns, Stops, Faults, Included, filing, run, run_one, run_branches, and_then, included, including, ended, entering, unless_active, unless_entered, unless_missing, no_library, main_names, script_named, is_among}
+use Rattle.filing_table.specs.Machine.{Entry, T}
+use Rattle.filing_flow.specs.Structure.{Flow, FileInto, action, sequence, leave, leave_if, nothing, Fail}
+use Rattle.filing_flow.specs.Effect.{Exit, FallsThrough, Leaves, EndsRun, effect, caught}
+use Rattle.filing_flow.specs.Effect as code
+use Rattle.filing_gen.specs.Structured.{test_flow, flow, flow_one, branches_flow, copy_number}
+use Rattle.filing_gen.specs.Alike.{Marking, Related, filing_at, exit_of, Alike, Agrees}
+use Rattle.filing_gen.specs.Includes.{is_passed, missing_flow}
+use Rattle.filing_gen.proofs.Truths.{test_means}
+
+
+module _ (c : Facts) (marking : Marking) where
+  then_means : (n : ℕ) (e : Ending) (x : Exit) (a : Flow) (go : Filing → Ending) → Alike marking n e x
+      → ((f : Filing) (s : code.Filing) → Related marking f s → Alike marking n (go f) (effect c a s [])) → Alike marking n (and_then e go) (code.and_then x (effect c a))
+  then_means n (GoesOn f) x a go h k = let y = k f h.filing h.related in record { filing = y.filing; related = y.related; exit = ap (λ z. code.and_then z (effect c a)) h.exit ∙ y.exit }
+  then_means n (Returns f) x a go h k = record { filing = h.filing; related = h.related; exit = ap (λ z. code.and_then z (effect c a)) h.exit }
+  then_means n (Stops f) x a go h k = record { filing = h.filing; related = h.related; exit = ap (λ z. code.and_then z (effect c a)) h.exit }
+  then_means n (Faults i f) x a go h k = record { filing = h.filing; related = h.related; exit = ap (λ z. code.and_then z (effect c a)) h.exit }
+
+  -- past the end of all branches
+  caught_means : (n : ℕ) (e : Ending) (x : Exit) → Alike marking (suc n) e x → Alike marking n e (caught x)
+  caught_means n (GoesOn f) x h = record { filing = h.filing; related = h.related; exit = ap caught h.exit }
+  caught_means n (Returns f) x h = record { filing = h.filing; related = h.related; exit = ap caught h.exit }
+  caught_means n (Stops f) x h = record { filing = h.filing; related = h.related; exit = ap caught h.exit }
+  caught_means n (Faults i f) x h = record { filing = h.filing; related = h.related; exit = ap caught h.exit }
+
+  -- from the block of a true test to the end of all branches
+  abbrev taken : (code.Filing → List Entry → Exit) → Exit → Exit
+  taken go x = caught (code.and_then (caught (code.and_then x (effect c (leave 1)))) go)
+
+  taken_means : (n : ℕ) (e : Ending) (x : Exit) (go : code.Filing → List Entry → Exit) → Alike marking (suc (suc n)) e x → Alike marking n e (taken go x)
+  taken_means n (GoesOn f) x go h = record { filing = h.filing; related = h.related; exit = ap (taken go) h.exit }
+  taken_means n (Returns f) x go h = record { filing = h.filing; related = h.related; exit = ap (taken go) h.exit }
+  taken_means n (Stops f) x go h = record { filing = h.filing; related = h.related; exit = ap (taken go) h.exit }
+  taken_means n (Faults i f) x go h = record { filing = h.filing; related = h.related; exit = ap (taken go) h.exit }
+
+  cancels : (copy : Bool) → nat_eq (copy_number copy) 0 ≡ not copy
+  cancels true = refl
+  cancels false = refl
+
+  file_means : (n : ℕ) (copy : Bool) (path : List ℕ) (f : Filing) (s : code.Filing) → Related marking f s → Alike marking n (filing c copy path f) (effect c (action (FileInto (copy_number copy) path)) s [])
+  file_means n copy path f s r =
+      let now : code.Filing = record s { filed = insert_path path s.filed; cancelled = s.cancelled || nat_eq (copy_number copy) 0 } in
+      elim (c.is_open path) as (λ b. Alike marking n (cond b (GoesOn (record f { filed = insert_path path f.filed; cancelled = f.cancelled || not copy })) (Faults 1 f)) (cond b (FallsThrough now []) (EndsRun (Some 1) s)))
+          [ true ↦ record { filing = now; related = record { filed = ap (λ (p : Paths). insert_path path p) r.filed; kept = r.kept; cancelled = ap (λ b. b || nat_eq (copy_number copy) 0) r.cancelled ∙ ap (λ b. f.cancelled || b) (cancels copy); marks = r.marks }; exit = refl }
+          | false ↦ record { filing = s; related = r; exit = refl } ]
+
+  module _ (g : Include → Flow) (h : Included) (agree : Agrees c marking g h) where
+    mutual
+      pub flow_means : (n : ℕ) (xs : Commands) (f : Filing) (s : code.Filing) → Related marking f s → Alike marking n (run c h xs f) (effect c (flow g n xs) s [])
+      flow_means n no_command f s r = record { filing = s; related = r; exit = refl }
+      flow_means n (command_then x xs) f s r = then_means n (run_one c h x f) (effect c (flow_one g n x) s []) (flow g n xs) (run c h xs) (one_means n x f s r) (λ f s r. flow_means n xs f s r)
+
+      one_means : (n : ℕ) (x : Command) (f : Filing) (s : code.Filing) → Related marking f s → Alike marking n (run_one c h x f) (effect c (flow_one g n x) s [])
+      one_means n require f s r = record { filing = s; related = r; exit = refl }
+      one_means n keep f s r = record { filing = record s { kept = true }; related = record { filed = r.filed; kept = refl; cancelled = r.cancelled; marks = r.marks }; exit = refl }
+      one_means n discard f s r = record { filing = record s { cancelled = true }; related = record { filed = r.filed; kept = r.kept; cancelled = refl; marks = r.marks }; exit = refl }
+      one_means n stop f s r = record { filing = s; related = r; exit = refl }
+      one_means n return f s r = record { filing = s; related = r; exit = refl }
+      one_means n (file_into copy path) f s r = file_means n copy path f s r
+      one_means n (branch bs) f s r = branches_means n bs f s r
+      one_means n (include i) f s r = agree i n f s r
+
+      branches_means : (n : ℕ) (bs : Branches) (f : Filing) (s : code.Filing) → Related marking f s → Alike marking n (run_branches c h bs f) (caught (effect c (branches_flow g (suc n) bs) s []))
+      branches_means n no_branch f s r = record { filing = s; related = r; exit = refl }
+      branches_means n (otherwise xs) f s r = caught_means n (run c h xs f) (effect c (flow g (suc n) xs) s []) (flow_means (suc n) xs f s r)
+      branches_means n (if_then t xs bs) f s r = rw (test_means c t s) (elim (truth c t) as (λ b. Alike marking n (cond b (run c h xs f) (run_branches c h bs f)) (caught (code.and_then (caught (code.and_then (code.leaving false 0 s (T b ∷ [])) (effect c (sequence (flow g (suc (suc n)) xs) (leave 1))))) (effect c (branches_flow g (suc n) bs)))))
+          [ true ↦ taken_means n (run c h xs f) (effect c (flow g (suc (suc n)) xs) s []) (effect c (branches_flow g (suc n) bs)) (flow_means (suc (suc n)) xs f s r)
+          | false ↦ branches_means n bs f s r ])
+
+-- no script is entered but the main one
+abbrev pub main_alone : Option (List ℕ) → Marking
+main_alone known_as entered marks = entered ≡ main_names known_as
+
+missing_judged : (c : Facts) (known_as : Option (List ℕ)) (i : Include) (n : ℕ) (f : Filing) (s : code.Filing) (once optional : Bool) → Related (main_alone known_as) f s
+    → Alike (main_alone known_as) n (cond once (GoesOn f) (cond optional (GoesOn f) (Faults 2 f))) (effect c (cond (once || optional) nothing (action (Fail 2))) s [])
+missing_judged c known_as i n f s true optional r = record { filing = s; related = r; exit = refl }
+missing_judged c known_as i n f s false true r = record { filing = s; related = r; exit = refl }
+missing_judged c known_as i n f s false false r = record { filing = s; related = r; exit = refl }
+
+unless_judged : (once optional : Bool) (f : Filing) (go : Commands → Filing → Ending) → unless_entered once (unless_missing None optional go) f ≡ cond once (GoesOn f) (cond optional (GoesOn f) (Faults 2 f))
+unless_judged true optional f go = refl
+unless_judged false optional f go = refl
+
+missing_means : (c : Facts) (known_as : Option (List ℕ)) (chain : List ScriptName) (enter : Commands → Filing → Ending) (i : Include) (n : ℕ) (f : Filing) (s : code.Filing) → Related (main_alone known_as) f s
+    → Alike (main_alone known_as) n (including no_library chain enter i f) (effect c (missing_flow known_as i) s [])
+missing_means c known_as chain enter i n f s r =
+    let once = i.once && is_among f.entered (script_named i) in
+    let same : once ≡ (i.once && is_among (main_names known_as) (script_named i)) = ap (λ (names : List ScriptName). i.once && is_among names (script_named i)) r.marks in
+    let e : including no_library chain enter i f ≡ cond (i.once && is_among (main_names known_as) (script_named i)) (GoesOn f) (cond i.optional (GoesOn f) (Faults 2 f)) =
+        unless_judged once i.optional f (λ script. unless_active (is_among chain (script_named i)) (enter script)) ∙ ap (λ b. cond b (GoesOn f) (cond i.optional (GoesOn f) (Faults 2 f))) same in
+    subst (λ (x : Ending). Alike (main_alone known_as) n x (effect c (missing_flow known_as i) s [])) (sym e) (missing_judged c known_as i n f s (i.once && is_among (main_names known_as) (script_named i)) i.optional r)
+
+-- where no script can be included
+pub missing_agrees : (c : Facts) (known_as : Option (List ℕ)) → Agrees c (main_alone known_as) (missing_flow known_as) (included c no_library 7 (main_names known_as))
+missing_agrees c known_as i n f s r = missing_means c known_as (main_names known_as) (λ script g. ended (run c (included c no_library 6 (script_named i ∷ main_names known_as)) script (entering (script_named i) g))) i n f s r

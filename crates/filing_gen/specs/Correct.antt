@@ -1,0 +1,29 @@
+-- What a compiler owes.
+use Rattle.std.specs.Prelude.{◌≡◌, ℕ, List, Option}
+use Rattle.filing_image.specs.Program.{Program}
+use Rattle.filing_verify.specs.Well.{IsWell}
+use Rattle.filing_table.specs.Ends.{HasOutcome}
+use Rattle.sieve_meaning.specs.Case.{Facts}
+use Rattle.sieve_meaning.specs.Program.{Commands}
+use Rattle.sieve_meaning.specs.Meaning.{Library, no_library, meaning}
+use Rattle.filing_gen.specs.declared.library.Library.{Library as OwnLibrary}
+use Rattle.sieve_meaning.specs.Outcome.{outcome_of}
+use Rattle.sieve_meaning.specs.Weight.{linked_weight}
+use Rattle.filing_gen.specs.declared.fault.GenFault.{GenFault}
+use Rattle.filing_gen.specs.declared.fault.GenFault.TheVariants.{TooLarge, NoMemory}
+
+-- the scripts of a library, which has none so far
+abbrev pub library_of : OwnLibrary → Library
+library_of l = no_library
+
+-- The image of a main script, which may have a name: it declares the script's weight as its budget, it may run, and in
+-- every case it ends with the outcome of what the script means.
+pub record IsCompiled (lib : Library) (known_as : Option (List ℕ)) (main : Commands) (p : Program) : Type 0 where
+  pub budget : p.budget ≡ linked_weight lib known_as main
+  pub well : IsWell p
+  pub outcomes : (facts : Facts) → (n : ℕ) × HasOutcome p facts n (outcome_of (meaning facts lib known_as main))
+
+-- the numbers by which faults are told
+abbrev pub gen_number : GenFault → ℕ
+gen_number TooLarge = 5
+gen_number NoMemory = 99

@@ -1,0 +1,27 @@
+//! What stands for an include.
+
+ghost use Rattle.std.specs.Prelude.{◌≡◌, ◌<◌, ◌^◌, ℕ, List, OnOk};
+ghost use Rattle.filing_flow.specs.Structure.{Flow, size};
+ghost use Rattle.sieve_meaning.specs.Program.{Include};
+ghost use Rattle.sieve_meaning.specs.Reading.{include_of};
+ghost use Rattle.filing_gen.specs.Adds.{Emits, HasRoom};
+
+use crate::output::Output;
+use std::alloc::{AllocError, Global};
+use sieve_syntax::Argument;
+
+/// What stands for the includes of a script, by their arguments.
+pub trait Linker {
+    /// The code of each include.
+    ghost flow_of: { Self → Include → Flow };
+
+    /// How many operations the code of an include takes.
+    fn size(&self, arguments: &[Argument]) -> usize
+        requires { size (flow_of self.now (include_of arguments.now)) < 2 ^ 16 }
+        ensures { result ≡ size (flow_of self.now (include_of arguments.now)) };
+
+    /// Writes the code of an include.
+    fn emit(&self, alloc: Global, out: &mut Output, arguments: &[Argument]) -> Result<(), AllocError>
+        requires { HasRoom out.old (size (flow_of self.now (include_of arguments.now))) }
+        ensures adds { OnOk result ((ends : List ℕ) → Emits out.old out.new (flow_of self.now (include_of arguments.now)) ends) };
+}

@@ -1,0 +1,136 @@
+//! From a checked script to an image that may run.
+
+ghost use Rattle.std.specs.Prelude.{◌≡◌, ◌↔◌, ◌+◌, ◌<◌, ◌≤◌, ◌^◌, map, Err, IfOk, IfErr};
+ghost use Rattle.std.specs.Option.{option_map};
+ghost use Rattle.sieve_syntax.specs.View.{command_of, commands_of, tree_of};
+ghost use Rattle.sieve_meaning.specs.Meaning.{no_library};
+ghost use Rattle.sieve_meaning.specs.Outcome.{greatest_weight};
+ghost use Rattle.sieve_meaning.specs.Reading.{program_of};
+ghost use Rattle.sieve_meaning.specs.Weight.{linked_weight};
+ghost use Rattle.filing_image.specs.Program.{instruction_of};
+ghost use Rattle.filing_verify.specs.Well.{IsWell};
+ghost use Rattle.filing_flow.specs.Structure.{size};
+ghost use Rattle.filing_gen.specs.Structured.{script_flow};
+ghost use Rattle.filing_gen.specs.Adds.{IsCode, IsImageOf};
+ghost use Rattle.filing_gen.specs.Emission.{commands_long};
+ghost use Rattle.filing_gen.specs.Correct.{IsCompiled, library_of};
+ghost use Rattle.filing_gen.specs.declared.fault.GenFault.TheVariants.{NoMemory, TooLarge};
+
+use crate::emit_commands::emit_commands;
+use crate::fault::GenFault;
+use crate::library::Library;
+use crate::linker::Linker;
+use crate::output::{Output, put};
+use crate::size_commands::commands_size;
+use crate::unlinked::Unlinked;
+use crate::weight::script_weight;
+use filing_image::{Image, Instruction, Operation};
+use filing_verify::{Verified, VerifyFault, verify};
+use sieve_check::Checked;
+use sieve_syntax::{Command, Script};
+use std::alloc::{AllocError, Global};
+
+/// The greatest weight of a script that is run.
+const GREATEST_WEIGHT: u64 = 60_000;
+
+/// A script, and the end of the run behind it, to which a `return` of the script goes.
+fn emit_program<L: Linker>(
+    alloc: Global,
+    linker: &L,
+    main: &Vec<Command>,
+) -> Result<Output, AllocError>
+    requires { commands_long (λ i. size (L.flow_of linker.now i)) (program_of (commands_of (map command_of main.now.items))) + 1 < 2 ^ 16 }
+    ensures { IfOk result (λ o. IsCode o (script_flow (L.flow_of linker.now) (program_of (commands_of (map command_of main.now.items))))) }
+{
+    let mut out = Output {
+        texts: Vec::new(alloc),
+        numbers: Vec::new(alloc),
+        code: Vec::new(alloc),
+    };
+    let end = commands_size(linker, main) as u16;
+    emit_commands(alloc, linker, &mut out, main, end)?;
+    put(&mut out, Operation::Stop)?;
+    Ok(out)
+}
+
+/// The operations as they are written.
+fn instructions(alloc: Global, code: &[Operation]) -> Result<Vec<Instruction>, AllocError>
+    ensures { IfOk result (λ v. v.items ≡ map instruction_of code.now) }
+{
+    let mut instructions = Vec::new(alloc);
+    for operation in code {
+        instructions.push(operation.instruction())?;
+    }
+    Ok(instructions)
+}
+
+/// The image of what was written, with no slot. It has a form unless a string is too long for it.
+fn image_of(alloc: Global, budget: u32, out: Output) -> Result<Image, GenFault>
+    ensures made { IfOk result (λ i. IsImageOf budget out i) }
+    ensures refused { IfErr result (λ f. f ≡ NoMemory) }
+{
+    let instructions = instructions(alloc, &out.code)?;
+    match Image::new(alloc, budget, out.texts, out.numbers, 0, instructions) {
+        Ok(image) => Ok(image),
+        Err(_) => Err(GenFault::NoMemory),
+    }
+}
+
+/// An image that may run, of one that is known to be well formed.
+fn verified(alloc: Global, image: Image) -> Result<Verified, GenFault>
+    requires { IsWell image }
+    ensures same { IfOk result (λ v. v ≡ image) }
+    ensures refused { IfErr result (λ f. f ≡ NoMemory) }
+{
+    match verify(alloc, image) {
+        Ok(verified) => Ok(verified),
+        Err((fault, _)) => match fault {
+            VerifyFault::NoMemory => Err(GenFault::NoMemory),
+            VerifyFault::Operand
+            | VerifyFault::Backward
+            | VerifyFault::Stack
+            | VerifyFault::RunsOff
+            | VerifyFault::Budget => unreachable!(),
+        },
+    }
+}
+
+/// The image of a script of this weight, which is at most 60,000.
+fn build(
+    alloc: Global,
+    script: &Script,
+    known_as: Option<&[u8]>,
+    weight: u32,
+) -> Result<Verified, GenFault>
+    requires weight { weight ≡ linked_weight no_library (option_map (λ s. s.now) known_as) (program_of (tree_of script.now)) }
+    requires small { weight ≤ greatest_weight }
+    ensures compiled { IfOk result (λ v. IsCompiled no_library (option_map (λ s. s.now) known_as.entry) (program_of (tree_of script.now)) v) }
+    ensures refused { IfErr result (λ f. f ≡ NoMemory) }
+{
+    let linker = Unlinked { known_as };
+    let out = emit_program(alloc, &linker, &script.commands)?;
+    let image = image_of(alloc, weight, out)?;
+    let verified = verified(alloc, image)?;
+    Ok(verified)
+}
+
+/// The image of a checked script, which may be known by a personal name, and of the scripts that it includes. It
+/// declares the script's weight as its budget in steps, it is one that may run, and in every case its run ends with
+/// the outcome of what the script means. `TooLarge`, 5, exactly where the weight is above 60,000; `NoMemory`, 99, where
+/// an allocation was refused. Time and memory are linear in the weight.
+pub fn compile(
+    alloc: Global,
+    main: &Checked,
+    known_as: Option<&[u8]>,
+    library: &Library,
+) -> Result<Verified, GenFault>
+    ensures compiled { IfOk result (λ v. IsCompiled (library_of library.now) (option_map (λ s. s.now) known_as.entry) (program_of (tree_of main.now.script)) v) }
+    ensures too_large { result ≡ Err TooLarge ↔ greatest_weight < linked_weight (library_of library.now) (option_map (λ s. s.now) known_as.entry) (program_of (tree_of main.now.script)) }
+{
+    let script = main.script();
+    let weight = script_weight(script);
+    if weight > GREATEST_WEIGHT {
+        return Err(GenFault::TooLarge);
+    }
+    build(alloc, script, known_as, weight as u32)
+}
