@@ -1,6 +1,6 @@
 //! The code of commands, one after the other.
 
-ghost use Rattle.std.specs.Prelude.{◌≡◌, ◌+◌, ◌<◌, ◌^◌, ℕ, List, map, codes, OnOk, false};
+ghost use Rattle.std.specs.Prelude.{◌≡◌, ◌+◌, ◌<◌, ◌≤◌, ◌^◌, ℕ, List, length, drop, map, codes, OnOk, false};
 ghost use Rattle.sieve_syntax.specs.View.{command_of, commands_of, ending_of};
 ghost use Rattle.sieve_meaning.specs.Reading.{block_in, program_of, branches_of, has_tag as has_tag_of, first_string, string_lists};
 ghost use Rattle.sieve_meaning.specs.declared.words.CommandWord.TheVariants as words;
@@ -152,6 +152,14 @@ fn end_of_branches<L: Linker>(
     }
 }
 
+/// The commands from a place on.
+fn commands_from(commands: &Vec<Command>, place: usize) -> &[Command]
+    requires { place ≤ length commands.now.items }
+    ensures { result.now ≡ drop place commands.now.items }
+{
+    &commands[place..]
+}
+
 /// Commands, one after the other; `return` jumps to the place `back`.
 #[cycle(emission)]
 pub fn emit_commands<L: Linker>(
@@ -171,7 +179,8 @@ pub fn emit_commands<L: Linker>(
         index += 1;
         let word = command_word(command.name.as_slice());
         let part = part_in(word, is_open);
-        end = end_of_branches(linker, out.code.len(), word, command, &commands[index..], end);
+        let behind = commands_from(commands, index);
+        end = end_of_branches(linker, out.code.len(), word, command, behind, end);
         emit_part(alloc, linker, out, command, part, end, back)?;
         is_open = is_branch(part);
     }

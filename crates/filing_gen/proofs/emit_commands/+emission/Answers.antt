@@ -56,9 +56,10 @@ emit_commands-overflow_add-index g t c = omega (arith, c.loop-command.invariant,
 pub emit_commands-loop-command-preserved : goal.emit_commands-loop-command-preserved
 emit_commands-loop-command-preserved g t c =
     let here : c.len.result ≡ length c.loop-command.out.code.items = c.len.ensures ∙ c.loop-command.out.code.ok.0 in
-    let behind : drop (c.loop-command.index + 1) c.deref.result.now ≡ drop (c.loop-command.command-index + 1) c.deref-command-items.result.now =
-        ap (λ k. drop (k + 1) c.deref.result.now) c.loop-command.invariant.1 ∙ ap (λ (l : List Command). drop (c.loop-command.command-index + 1) l) (c.deref.ensures.value ∙ sym c.deref-command-items.ensures.value) in
-    let said = c.end_of_branches-end.ensures ∙ ap (λ k. chain_end c.command_word-word.result (k + (part_long (λ i. size (g.L.Linker.flow_of c.args.linker.now i)) Branch (command_of c.command-item.result) + branches_long (λ i. size (g.L.Linker.flow_of c.args.linker.now i)) (branches_of (commands_of (map command_of (drop (c.loop-command.index + 1) c.deref.result.now)))))) c.loop-command.end) here
+    let behind : c.commands_from-behind.result.now ≡ drop (c.loop-command.command-index + 1) c.deref-command-items.result.now =
+        c.commands_from-behind.ensures ∙ ap (λ k. drop (k + 1) c.args.commands.now.items) c.loop-command.invariant.1 ∙ ap (λ (l : List Command). drop (c.loop-command.command-index + 1) l) (sym c.deref-command-items.ensures.value) in
+    let told : c.end_of_branches-end.result ≡ chain_end c.command_word-word.result (c.len.result + (part_long (λ i. size (g.L.Linker.flow_of c.args.linker.now i)) Branch (command_of c.command-item.result) + branches_long (λ i. size (g.L.Linker.flow_of c.args.linker.now i)) (branches_of (commands_of (map command_of c.commands_from-behind.result.now))))) c.loop-command.end = c.end_of_branches-end.ensures in
+    let said = told ∙ ap (λ k. chain_end c.command_word-word.result (k + (part_long (λ i. size (g.L.Linker.flow_of c.args.linker.now i)) Branch (command_of c.command-item.result) + branches_long (λ i. size (g.L.Linker.flow_of c.args.linker.now i)) (branches_of (commands_of (map command_of c.commands_from-behind.result.now))))) c.loop-command.end) here
         ∙ ap (λ (l : List Command). chain_end c.command_word-word.result (length c.loop-command.out.code.items + (part_long (λ i. size (g.L.Linker.flow_of c.args.linker.now i)) Branch (command_of c.command-item.result) + branches_long (λ i. size (g.L.Linker.flow_of c.args.linker.now i)) (branches_of (commands_of (map command_of l))))) c.loop-command.end) behind in
     (commands_turn (g.L.Linker.flow_of c.args.linker.now) c.args.back c.args.out.now c.loop-command.out c.emit_part.new.out c.command_word-word.result c.loop-command.is_open c.loop-command.end c.deref-command-items.result.now c.loop-command.command-index c.command-item.result _
         c.loop-command.invariant.0 c.command-item.is c.loop-command-test.true (ap (λ n. command_word n) (sym c.as_slice.ensures) ∙ sym c.command_word-word.ensures) c.part_in-part.result c.part_in-part.ensures c.end_of_branches-end.result
@@ -70,10 +71,10 @@ emit_commands-returns g t c = record { adds = commands_last (g.L.Linker.flow_of 
 pub emit_commands-end_of_branches-end-requires : goal.emit_commands-end_of_branches-end-requires
 emit_commands-end_of_branches-end-requires g t c =
     let here : c.len.result ≡ length c.loop-command.out.code.items = c.len.ensures ∙ c.loop-command.out.code.ok.0 in
-    let behind : drop (c.loop-command.index + 1) c.deref.result.now ≡ drop (c.loop-command.command-index + 1) c.deref-command-items.result.now =
-        ap (λ k. drop (k + 1) c.deref.result.now) c.loop-command.invariant.1 ∙ ap (λ (l : List Command). drop (c.loop-command.command-index + 1) l) (c.deref.ensures.value ∙ sym c.deref-command-items.ensures.value) in
+    let behind : c.commands_from-behind.result.now ≡ drop (c.loop-command.command-index + 1) c.deref-command-items.result.now =
+        c.commands_from-behind.ensures ∙ ap (λ k. drop (k + 1) c.args.commands.now.items) c.loop-command.invariant.1 ∙ ap (λ (l : List Command). drop (c.loop-command.command-index + 1) l) (sym c.deref-command-items.ensures.value) in
     let same = ap (λ (l : List Command). branches_long (λ i. size (g.L.Linker.flow_of c.args.linker.now i)) (branches_of (commands_of (map command_of l)))) behind in
-    record { room = λ begins. omega (arith, c.requires, here, same, c.loop-command.invariant.0.code, chain_room (λ i. size (g.L.Linker.flow_of c.args.linker.now i)) c.command_word-word.result c.loop-command.is_open c.deref-command-items.result.now c.loop-command.command-index c.command-item.result c.command-item.is c.loop-command-test.true (ap (λ n. command_word n) (sym c.as_slice.ensures) ∙ sym c.command_word-word.ensures) begins) }
+    record { room = λ begins. let fits : c.len.result + (part_long (λ i. size (g.L.Linker.flow_of c.args.linker.now i)) Branch (command_of c.command-item.result) + branches_long (λ i. size (g.L.Linker.flow_of c.args.linker.now i)) (branches_of (commands_of (map command_of c.commands_from-behind.result.now)))) < 2 ^ 16 = omega (arith, c.requires, here, same, c.loop-command.invariant.0.code, chain_room (λ i. size (g.L.Linker.flow_of c.args.linker.now i)) c.command_word-word.result c.loop-command.is_open c.deref-command-items.result.now c.loop-command.command-index c.command-item.result c.command-item.is c.loop-command-test.true (ap (λ n. command_word n) (sym c.as_slice.ensures) ∙ sym c.command_word-word.ensures) begins) in fits }
 
 pub emit_commands-emit_part-requires : goal.emit_commands-emit_part-requires
 emit_commands-emit_part-requires g t c κs within =
