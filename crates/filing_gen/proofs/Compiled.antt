@@ -1,11 +1,12 @@
 -- The program of a script's code may run, and has the script's outcome in every case.
-use Rattle.std.proofs.Common.{◌≡◌, ℕ, ◌+◌, ◌<◌, ◌≤◌, ◌^◌, List, [], ◌∷◌, Option, Some, None, refl, ap, ◌∙◌, subst, arith}
+use Rattle.std.proofs.Common.{◌≡◌, ℕ, ◌+◌, ◌<◌, ◌≤◌, ◌^◌, List, [], ◌∷◌, Option, Some, None, false, refl, sym, ap, ◌∙◌, subst, arith}
+use Rattle.std.proofs.lemmas.List.{length-replicate, get_or-replicate}
 use Rattle.filing_image.specs.Program.{Program}
 use Rattle.filing_verify.specs.Well.{IsWell, Fails}
 use Rattle.filing_verify.specs.declared.fault.VerifyFault.{VerifyFault}
 use Rattle.filing_verify.specs.declared.fault.VerifyFault.TheVariants as faults
 use Rattle.filing_table.specs.Ends.{HasOutcome}
-use Rattle.filing_flow.specs.Structure.{Flow, action, size, End}
+use Rattle.filing_flow.specs.Structure.{Flow, action, size, End, IsSound}
 use Rattle.filing_flow.specs.Effect.{Exit, EndsRun, effect, caught}
 use Rattle.filing_flow.specs.Effect as code
 use Rattle.filing_flow.specs.Whole.{whole, IsCodeOf, nothing_done, outcome_from}
@@ -13,19 +14,21 @@ use Rattle.filing_flow.proofs.Well.{typed_is_well}
 use Rattle.filing_flow.proofs.Ended.{program_ends}
 use Rattle.sieve_meaning.specs.Case.{Facts}
 use Rattle.sieve_meaning.specs.Program.{Commands}
-use Rattle.sieve_meaning.specs.Meaning.{Ending, GoesOn, Returns, Stops, Faults, included, meaning, opening, main_names, no_library}
+use Rattle.sieve_meaning.specs.Meaning.{Ending, GoesOn, Returns, Stops, Faults, included, meaning, opening, main_names, no_library, Library}
 use Rattle.sieve_meaning.specs.Outcome.{Outcome, outcome_at, outcome_of}
 use Rattle.sieve_meaning.specs.Weight.{linked_weight, included_weight}
 use Rattle.filing_gen.specs.Structured.{script_flow}
-use Rattle.filing_gen.specs.Includes.{missing_flow}
-use Rattle.filing_gen.specs.Alike.{Related, filing_at, exit_of, Alike}
+use Rattle.filing_gen.specs.Linked.{Slots, linked_flow, HasSlots, Marked, no_slots}
+use Rattle.filing_gen.specs.Alike.{Marking, Related, filing_at, exit_of, Alike}
 use Rattle.filing_gen.specs.Adds.{IsCode, IsImageOf}
 use Rattle.filing_gen.specs.Emission.{commands_long}
 use Rattle.filing_gen.specs.declared.output.Output.{Output}
 use Rattle.filing_gen.specs.Correct.{IsCompiled}
 use Rattle.filing_gen.proofs.Turns.{flow_long}
-use Rattle.filing_gen.proofs.Means.{flow_means, main_alone, missing_agrees}
-use Rattle.filing_gen.proofs.Types.{flow_typed, flow_small, flow_sound, missing_typed, missing_small, missing_sound}
+use Rattle.filing_gen.proofs.Means.{flow_means}
+use Rattle.filing_gen.proofs.Includes.{included_agrees}
+use Rattle.filing_gen.proofs.IncludesTypes.{included_typed, included_small, included_sound}
+use Rattle.filing_gen.proofs.Types.{flow_typed, flow_small, flow_sound}
 
 -- how the run ends after a script's ending
 abbrev fault_of : Ending → Option ℕ
@@ -46,53 +49,57 @@ outcome_is (Returns f) = refl
 outcome_is (Stops f) = refl
 outcome_is (Faults n f) = refl
 
-same_outcome : (known_as : Option (List ℕ)) (e : Ending) (g : code.Filing) → Related (main_alone known_as) (filing_at e) g → outcome_from (fault_of e) g ≡ outcome_of e
-same_outcome known_as e g r = rw (r.filed, r.kept, r.cancelled) (outcome_is e)
+same_outcome : (marking : Marking) (e : Ending) (g : code.Filing) → Related marking (filing_at e) g → outcome_from (fault_of e) g ≡ outcome_of e
+same_outcome marking e g r = rw (r.filed, r.kept, r.cancelled) (outcome_is e)
 
-abbrev pub alone : Option (List ℕ) → Commands → Flow
-alone known_as main = script_flow (missing_flow known_as) main
+abbrev pub main_flow : Library → Slots → Option (List ℕ) → Commands → Flow
+main_flow lib slot known_as main = script_flow (linked_flow lib slot known_as) main
 
-script_means : (c : Facts) (known_as : Option (List ℕ)) (main : Commands) → Alike (main_alone known_as) 0 (meaning c no_library known_as main) (effect c (alone known_as main) nothing_done [])
-script_means c known_as main =
-    flow_means c (main_alone known_as) (missing_flow known_as) (included c no_library 7 (main_names known_as)) (missing_agrees c known_as) 0 main (opening known_as) nothing_done
-    (record { filed = refl; kept = refl; cancelled = refl; marks = refl })
+module _ (lib : Library) (slot : Slots) (count : ℕ) (has : HasSlots lib slot count) (known_as : Option (List ℕ)) (main : Commands) where
+  script_means : (c : Facts) → Alike (Marked lib slot (main_names known_as) (main_names known_as)) 0 (meaning c lib known_as main) (effect c (main_flow lib slot known_as main) nothing_done [])
+  script_means c =
+      flow_means c (Marked lib slot (main_names known_as) (main_names known_as)) (linked_flow lib slot known_as) (included c lib 7 (main_names known_as)) (included_agrees c lib slot count has (main_names known_as) 7 (main_names known_as) (λ s h. h)) 0 main (opening known_as) nothing_done
+      (record { filed = refl; kept = refl; cancelled = refl; marks = record { long = length-replicate 64 false; active = λ s h. h; found = λ s x at out. get_or-replicate 64 (slot s) false false (let l = has.inside s x at in omega (arith, l, has.few)) ∙ sym out; missing = λ s none. refl } })
 
-pub has_outcome : (p : Program) (known_as : Option (List ℕ)) (main : Commands) → IsCodeOf p (alone known_as main) → (c : Facts) → (n : ℕ) × HasOutcome p c n (outcome_of (meaning c no_library known_as main))
-has_outcome p known_as main is c =
-    let m = meaning c no_library known_as main in
-    let a = alone known_as main in
-    let h = script_means c known_as main in
-    let ends : effect c (whole a) nothing_done [] ≡ EndsRun (fault_of m) h.filing = ap (λ (x : Exit). code.and_then (caught x) (effect c (action End))) h.exit ∙ end_means c m h.filing in
-    let sound = flow_sound p.slots (missing_flow known_as) (missing_sound p.slots known_as) 0 main in
-    let found = program_ends p c a (fault_of m) h.filing is sound ends in
-    (found.0, subst (λ (o : Outcome). HasOutcome p c found.0 o) (same_outcome known_as m h.filing h.related) found.1)
+  sound : IsSound count (main_flow lib slot known_as main)
+  sound = flow_sound count (linked_flow lib slot known_as) (included_sound count lib slot has (main_names known_as) 7 (main_names known_as)) 0 main
 
-pub script_small : (known_as : Option (List ℕ)) (main : Commands) → size (alone known_as main) + 1 ≤ linked_weight no_library known_as main
-script_small known_as main =
-    let w = included_weight no_library 7 (main_names known_as) in
-    omega (arith, flow_small (missing_flow known_as) w (missing_small known_as w) 0 main)
+  has_outcome : (p : Program) → IsCodeOf p (main_flow lib slot known_as main) → p.slots ≡ count → (c : Facts) → (n : ℕ) × HasOutcome p c n (outcome_of (meaning c lib known_as main))
+  has_outcome p is slots c =
+      let m = meaning c lib known_as main in
+      let a = main_flow lib slot known_as main in
+      let h = script_means c in
+      let ends : effect c (whole a) nothing_done [] ≡ EndsRun (fault_of m) h.filing = ap (λ (x : Exit). code.and_then (caught x) (effect c (action End))) h.exit ∙ end_means c m h.filing in
+      let good : IsSound p.slots a = subst (λ (k : ℕ). IsSound k a) (sym slots) sound in
+      let found = program_ends p c a (fault_of m) h.filing is good ends in
+      (found.0, subst (λ (o : Outcome). HasOutcome p c found.0 o) (same_outcome (Marked lib slot (main_names known_as) (main_names known_as)) m h.filing h.related) found.1)
 
-pub well : (p : Program) (known_as : Option (List ℕ)) (main : Commands) → IsCodeOf p (alone known_as main) → p.slots ≤ 64 → p.budget ≡ linked_weight no_library known_as main → linked_weight no_library known_as main < 2 ^ 16 → IsWell p
-well p known_as main is slots budget small =
-    typed_is_well p (alone known_as main) is (flow_typed (missing_flow known_as) (missing_typed known_as) 0 main ([] ∷ []) refl)
-    (flow_sound p.slots (missing_flow known_as) (missing_sound p.slots known_as) 0 main) slots (omega (arith, script_small known_as main)) (omega arith)
+  script_small : size (main_flow lib slot known_as main) + 1 ≤ linked_weight lib known_as main
+  script_small = omega (arith, flow_small (linked_flow lib slot known_as) (included_weight lib 7 (main_names known_as)) (included_small lib slot (main_names known_as) 7 (main_names known_as)) 0 main)
 
-pub compiled : (p : Program) (known_as : Option (List ℕ)) (main : Commands) → IsCodeOf p (alone known_as main) → IsWell p → p.budget ≡ linked_weight no_library known_as main → IsCompiled no_library known_as main p
-compiled p known_as main is good budget = record { budget = budget; well = good; outcomes = has_outcome p known_as main is }
+  well : (p : Program) → IsCodeOf p (main_flow lib slot known_as main) → p.slots ≡ count → p.budget ≡ linked_weight lib known_as main → linked_weight lib known_as main < 2 ^ 16 → IsWell p
+  well p is slots budget small =
+      let good : IsSound p.slots (main_flow lib slot known_as main) = subst (λ (k : ℕ). IsSound k (main_flow lib slot known_as main)) (sym slots) sound in
+      typed_is_well p (main_flow lib slot known_as main) is (flow_typed (linked_flow lib slot known_as) (included_typed lib slot (main_names known_as) 7 (main_names known_as)) 0 main ([] ∷ []) refl)
+      good (omega (arith, slots, has.few)) (omega (arith, budget, script_small)) (omega (arith, budget, small))
 
--- what was written is the program
-code_of : (o : Output) (p : Program) (a : Flow) (b : ℕ) → IsCode o a → IsImageOf b o p → IsCodeOf p a
-code_of o p a b is made = record { texts = made.texts ∙ is.texts; numbers = made.numbers ∙ is.numbers; code = made.code ∙ is.code }
+  -- what was written is the program
+  code_of : (o : Output) (p : Program) (a : Flow) (b : ℕ) → IsCode o a → IsImageOf b count o p → IsCodeOf p a
+  code_of o p a b is made = record { texts = made.texts ∙ is.texts; numbers = made.numbers ∙ is.numbers; code = made.code ∙ is.code }
 
-pub built_well : (o : Output) (p : Program) (known_as : Option (List ℕ)) (main : Commands) (b : ℕ) → IsCode o (alone known_as main) → IsImageOf b o p → b ≡ linked_weight no_library known_as main → b ≤ 60000 → IsWell p
-built_well o p known_as main b is made weight small =
-    well p known_as main (code_of o p (alone known_as main) b is made) (omega (arith, made.slots)) (made.budget_is ∙ weight) (omega (arith, weight, small))
+  pub built_well : (o : Output) (p : Program) (b : ℕ) → IsCode o (main_flow lib slot known_as main) → IsImageOf b count o p → b ≡ linked_weight lib known_as main → b ≤ 60000 → IsWell p
+  built_well o p b is made weight small =
+      well p (code_of o p (main_flow lib slot known_as main) b is made) made.slots (made.budget_is ∙ weight) (omega (arith, weight, small))
 
-pub built : (o : Output) (p : Program) (known_as : Option (List ℕ)) (main : Commands) (b : ℕ) → IsCode o (alone known_as main) → IsImageOf b o p → IsWell p → b ≡ linked_weight no_library known_as main → IsCompiled no_library known_as main p
-built o p known_as main b is made good weight = compiled p known_as main (code_of o p (alone known_as main) b is made) good (made.budget_is ∙ weight)
+  pub built : (o : Output) (p : Program) (b : ℕ) → IsCode o (main_flow lib slot known_as main) → IsImageOf b count o p → IsWell p → b ≡ linked_weight lib known_as main → IsCompiled lib known_as main p
+  built o p b is made good weight = record { budget = made.budget_is ∙ weight; well = good; outcomes = has_outcome p (code_of o p (main_flow lib slot known_as main) b is made) made.slots }
 
-pub room : (known_as : Option (List ℕ)) (main : Commands) → linked_weight no_library known_as main ≤ 60000 → commands_long (λ i. size (missing_flow known_as i)) main + 1 < 2 ^ 16
-room known_as main small = omega (arith, small, script_small known_as main, flow_long (missing_flow known_as) 0 main)
+  pub room : linked_weight lib known_as main ≤ 60000 → commands_long (λ i. size (linked_flow lib slot known_as i)) main + 1 < 2 ^ 16
+  room small = omega (arith, small, script_small, flow_long (linked_flow lib slot known_as) 0 main)
+
+-- no script needs a slot
+pub none_there : HasSlots no_library no_slots 0
+none_there = record { few = omega arith; inside = λ s x at. absurd (cc at); own = λ s t x y at there e. absurd (cc at) }
 
 -- a program that may run is refused for want of memory alone
 pub refused_for_memory : (p : Program) → IsWell p → (f : VerifyFault) → Fails f p → f ≡ faults.NoMemory

@@ -7,3 +7,5 @@ mod EmittedTests
 mod Turns
 mod Written
 mod WeightLemmas
+mod Includes
+mod IncludesTypes

@@ -1,18 +1,17 @@
 -- The code of a script does what the script means.
-use Rattle.std.proofs.Common.{◌≡◌, ℕ, suc, List, [], ◌∷◌, Bool, true, false, not, ◌||◌, ◌&&◌, cond, Option, Some, None, refl, sym, ap, ◌∙◌, subst}
+use Rattle.std.proofs.Common.{Some, ◌≡◌, ℕ, suc, List, [], ◌∷◌, Bool, true, false, not, ◌||◌, cond, refl, ap, ◌∙◌}
 use Rattle.std.specs.Prelude.{nat_eq}
 use Rattle.sieve_meaning.specs.Case.{Facts}
 use Rattle.sieve_meaning.specs.Paths.{Paths, insert_path}
 use Rattle.sieve_meaning.specs.Truth.{truth}
 use Rattle.sieve_meaning.specs.Program.{Include, Command, require, keep, discard, stop, return, file_into, branch, include, Commands, no_command, command_then, Branches, no_branch, otherwise, if_then}
-use Rattle.sieve_meaning.specs.Meaning.{ScriptName, Filing, Ending, GoesOn, Returns, Stops, Faults, Included, filing, run, run_one, run_branches, and_then, included, including, ended, entering, unless_active, unless_entered, unless_missing, no_library, main_names, script_named, is_among}
+use Rattle.sieve_meaning.specs.Meaning.{Filing, Ending, GoesOn, Returns, Stops, Faults, Included, filing, run, run_one, run_branches, and_then}
 use Rattle.filing_table.specs.Machine.{Entry, T}
-use Rattle.filing_flow.specs.Structure.{Flow, FileInto, action, sequence, leave, nothing, Fail}
+use Rattle.filing_flow.specs.Structure.{Flow, FileInto, action, sequence, leave}
 use Rattle.filing_flow.specs.Effect.{Exit, FallsThrough, Leaves, EndsRun, effect, caught}
 use Rattle.filing_flow.specs.Effect as code
 use Rattle.filing_gen.specs.Structured.{flow, flow_one, branches_flow, copy_number}
 use Rattle.filing_gen.specs.Alike.{Marking, Related, Alike, Agrees}
-use Rattle.filing_gen.specs.Includes.{missing_flow}
 use Rattle.filing_gen.proofs.Truths.{test_means}
 
 module _ (c : Facts) (marking : Marking) where
@@ -75,30 +74,3 @@ module _ (c : Facts) (marking : Marking) where
         | true ↦ taken_means n (run c h xs f) (effect c (flow g (suc (suc n)) xs) s []) (effect c (branches_flow g (suc n) bs)) (flow_means (suc (suc n)) xs f s r)
         | false ↦ branches_means n bs f s r
       ])
-
--- no script is entered but the main one
-abbrev pub main_alone : Option (List ℕ) → Marking
-main_alone known_as entered marks = entered ≡ main_names known_as
-
-missing_judged : (c : Facts) (known_as : Option (List ℕ)) (i : Include) (n : ℕ) (f : Filing) (s : code.Filing) (once optional : Bool) → Related (main_alone known_as) f s
-    → Alike (main_alone known_as) n (cond once (GoesOn f) (cond optional (GoesOn f) (Faults 2 f))) (effect c (cond (once || optional) nothing (action (Fail 2))) s [])
-missing_judged c known_as i n f s true optional r = record { filing = s; related = r; exit = refl }
-missing_judged c known_as i n f s false true r = record { filing = s; related = r; exit = refl }
-missing_judged c known_as i n f s false false r = record { filing = s; related = r; exit = refl }
-
-unless_judged : (once optional : Bool) (f : Filing) (go : Commands → Filing → Ending) → unless_entered once (unless_missing None optional go) f ≡ cond once (GoesOn f) (cond optional (GoesOn f) (Faults 2 f))
-unless_judged true optional f go = refl
-unless_judged false optional f go = refl
-
-missing_means : (c : Facts) (known_as : Option (List ℕ)) (chain : List ScriptName) (enter : Commands → Filing → Ending) (i : Include) (n : ℕ) (f : Filing) (s : code.Filing) → Related (main_alone known_as) f s
-    → Alike (main_alone known_as) n (including no_library chain enter i f) (effect c (missing_flow known_as i) s [])
-missing_means c known_as chain enter i n f s r =
-    let once = i.once && is_among f.entered (script_named i) in
-    let same : once ≡ (i.once && is_among (main_names known_as) (script_named i)) = ap (λ (names : List ScriptName). i.once && is_among names (script_named i)) r.marks in
-    let e : including no_library chain enter i f ≡ cond (i.once && is_among (main_names known_as) (script_named i)) (GoesOn f) (cond i.optional (GoesOn f) (Faults 2 f)) =
-    unless_judged once i.optional f (λ script. unless_active (is_among chain (script_named i)) (enter script)) ∙ ap (λ b. cond b (GoesOn f) (cond i.optional (GoesOn f) (Faults 2 f))) same in
-    subst (λ (x : Ending). Alike (main_alone known_as) n x (effect c (missing_flow known_as i) s [])) (sym e) (missing_judged c known_as i n f s (i.once && is_among (main_names known_as) (script_named i)) i.optional r)
-
--- where no script can be included
-pub missing_agrees : (c : Facts) (known_as : Option (List ℕ)) → Agrees c (main_alone known_as) (missing_flow known_as) (included c no_library 7 (main_names known_as))
-missing_agrees c known_as i n f s r = missing_means c known_as (main_names known_as) (λ script g. ended (run c (included c no_library 6 (script_named i ∷ main_names known_as)) script (entering (script_named i) g))) i n f s r

@@ -1,7 +1,7 @@
 -- The code of a script has a type, sound operands, and at most weight many operations.
-use Rattle.std.proofs.Common.{◌≡◌, ℕ, suc, ◌+◌, ◌*◌, ◌≤◌, List, [], ◌∷◌, length, Bool, true, false, cond, Option, Some, refl, arith}
+use Rattle.std.proofs.Common.{◌≡◌, ℕ, suc, ◌+◌, ◌*◌, ◌≤◌, List, [], ◌∷◌, length, Bool, true, false, Some, refl, arith}
 use Rattle.filing_verify.specs.declared.kind.Kind.TheVariants.{Truth, Texts, Count}
-use Rattle.filing_flow.specs.Structure.{Push, ValuesOf, Drop, Fail, Flow, nothing, action, sequence, block, leave, size, IsSound}
+use Rattle.filing_flow.specs.Structure.{Push, ValuesOf, Drop, Flow, action, sequence, block, leave, size, IsSound}
 use Rattle.filing_flow.specs.Types.{Shape, HasType, shape_at}
 use Rattle.sieve_meaning.specs.declared.matching.Comparator.{Comparator}
 use Rattle.sieve_meaning.specs.declared.matching.Comparator.TheVariants as comparators
@@ -10,7 +10,6 @@ use Rattle.sieve_meaning.specs.declared.matching.MatchType.TheVariants as match_
 use Rattle.sieve_meaning.specs.Program.{Test, always, negated, all_of, any_of, has_all, over, under, header, Tests, no_test, test_then, Include, Command, require, keep, discard, stop, return, file_into, branch, include, Commands, no_command, command_then, Branches, no_branch, otherwise, if_then}
 use Rattle.sieve_meaning.specs.Weight.{test_weight, tests_weight, weight, weight_one, branches_weight}
 use Rattle.filing_gen.specs.Structured.{comparison, either, values_flow, keys_flow, names_flow, test_flow, tests_flow, copy_number, flow, flow_one, branches_flow}
-use Rattle.filing_gen.specs.Includes.{is_passed, missing_flow}
 
 -- TYPES
 
@@ -85,9 +84,6 @@ module _ (g : Include → Flow) (typed : IncludesTyped g) where
     branches_typed n (if_then t xs bs) es at =
         ([], (Truth ∷ [], test_typed t ([] ∷ [] ∷ es), ([], (refl, omega arith, refl), ([], flow_typed (suc (suc n)) xs ([] ∷ [] ∷ es) at, (omega arith, refl)))), branches_typed n bs es at)
 
-pub missing_typed : (known_as : Option (List ℕ)) → IncludesTyped (missing_flow known_as)
-missing_typed known_as i es = elim (is_passed known_as i) as (λ b. HasType (cond b nothing (action (Fail 2))) es [] []) [ true ↦ refl | false ↦ (refl, omega arith, omega arith) ]
-
 -- SIZES
 
 values_small : (ns : List (List ℕ)) → size (values_flow ns) ≤ 2 * length ns
@@ -140,9 +136,6 @@ module _ (g : Include → Flow) (w : Include → ℕ) (small : IncludesSmall g w
     branches_small n no_branch = omega arith
     branches_small n (otherwise xs) = omega (arith, flow_small n xs)
     branches_small n (if_then t xs bs) = omega (arith, test_small t, flow_small (suc n) xs, branches_small n bs)
-
-pub missing_small : (known_as : Option (List ℕ)) (w : Include → ℕ) → IncludesSmall (missing_flow known_as) w
-missing_small known_as w i = elim (is_passed known_as i) as (λ b. size (cond b nothing (action (Fail 2))) ≤ 4 + w i) [ true ↦ omega arith | false ↦ omega arith ]
 
 -- OPERANDS
 
@@ -209,6 +202,3 @@ module _ (slots : ℕ) where
       branches_sound n no_branch = tt
       branches_sound n (otherwise xs) = flow_sound n xs
       branches_sound n (if_then t xs bs) = ((test_sound t, (tt, (flow_sound (suc n) xs, tt))), branches_sound n bs)
-
-  pub missing_sound : (known_as : Option (List ℕ)) → IncludesSound (missing_flow known_as)
-  missing_sound known_as i = elim (is_passed known_as i) as (λ b. IsSound slots (cond b nothing (action (Fail 2)))) [ true ↦ tt | false ↦ (omega arith, omega arith) ]

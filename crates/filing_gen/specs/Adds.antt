@@ -30,10 +30,10 @@ pub record IsCode (o : Output) (a : Flow) : Type 0 where
   pub numbers : o.numbers.items ≡ (piece (whole a) [] first).numbers
   pub code : o.code.items ≡ (piece (whole a) [] first).code
 
--- The program is what was written, with this budget and no slot.
-pub record IsImageOf (budget : ℕ) (o : Output) (p : Program) : Type 0 where
+-- The program is what was written, with this budget and so many slots.
+pub record IsImageOf (budget count : ℕ) (o : Output) (p : Program) : Type 0 where
   pub budget_is : p.budget ≡ budget
-  pub slots : p.slots ≡ 0
+  pub slots : p.slots ≡ count
   pub texts : p.texts ≡ map (λ t. t.items) o.texts.items
   pub numbers : p.numbers ≡ o.numbers.items
   pub code : p.code ≡ o.code.items

@@ -1,7 +1,7 @@
 pub mod Structured
 pub mod Adds
-pub mod Includes
 pub mod Alike
 pub mod Emission
 pub mod Correct
 pub mod Weights
+pub mod Linked

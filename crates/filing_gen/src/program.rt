@@ -66,7 +66,7 @@ fn instructions(alloc: Global, code: &[Operation]) -> Result<Vec<Instruction>, A
 
 /// The image of what was written, with no slot. It has a form unless a string is too long for it.
 fn image_of(alloc: Global, budget: u32, out: Output) -> Result<Image, GenFault>
-    ensures made { IfOk result (λ i. IsImageOf budget out i) }
+    ensures made { IfOk result (λ i. IsImageOf budget 0 out i) }
     ensures refused { IfErr result (λ f. f ≡ NoMemory) }
 {
     let instructions = instructions(alloc, &out.code)?;

@@ -2,9 +2,9 @@
 
 ghost use Rattle.std.specs.Prelude.{◌≡◌};
 ghost use Rattle.std.specs.Option.{option_map};
-ghost use Rattle.sieve_meaning.specs.Meaning.{main_names, is_among, script_named};
+ghost use Rattle.sieve_meaning.specs.Meaning.{no_library, main_names, is_among, script_named};
 ghost use Rattle.sieve_meaning.specs.Reading.{include_of};
-ghost use Rattle.filing_gen.specs.Includes.{is_passed as is_passed_of, missing_flow};
+ghost use Rattle.filing_gen.specs.Linked.{is_passed as is_passed_of, linked_flow, no_slots};
 
 use crate::arguments::first_text;
 use crate::linker::Linker;
@@ -32,14 +32,14 @@ fn names_main(known_as: Option<&[u8]>, arguments: &[Argument]) -> bool
 
 /// Whether an include does nothing: it is optional, or it asks for once and names the main script, which was entered.
 fn is_passed(known_as: Option<&[u8]>, arguments: &[Argument]) -> bool
-    ensures { result ≡ is_passed_of (option_map (λ s. s.now) known_as.entry) (include_of arguments.now) }
+    ensures { result ≡ is_passed_of (main_names (option_map (λ s. s.now) known_as.entry)) (include_of arguments.now) }
 {
     (has_tag(arguments, b"once") && names_main(known_as, arguments))
         || has_tag(arguments, b"optional")
 }
 
 impl Linker for Unlinked<'_> {
-    ghost flow_of = { λ s. missing_flow (option_map (λ n. n.now) s.known_as) };
+    ghost flow_of = { λ s. linked_flow no_library no_slots (option_map (λ n. n.now) s.known_as) };
 
     fn size(&self, arguments: &[Argument]) -> usize {
         if is_passed(self.known_as, arguments) {

@@ -1,0 +1,101 @@
+-- The code of includes has a type, sound operands, and at most weight many operations.
+use Rattle.std.proofs.Common.{◌≡◌, ℕ, zero, suc, ◌+◌, ◌≤◌, ◌<◌, List, [], ◌∷◌, Bool, true, false, Option, Some, None, refl, arith}
+use Rattle.filing_verify.specs.declared.kind.Kind.TheVariants.{Truth}
+use Rattle.filing_flow.specs.Structure.{SetMark, Fail, Flow, action, sequence, block, size, IsSound}
+use Rattle.filing_flow.specs.Types.{Shape, HasType}
+use Rattle.sieve_meaning.specs.Program.{Include, Commands}
+use Rattle.sieve_meaning.specs.Meaning.{ScriptName, script_named, is_among, Library}
+use Rattle.sieve_meaning.specs.Weight.{weight, included_weight, unless_missing, unless_active}
+use Rattle.filing_gen.specs.Structured.{flow}
+use Rattle.filing_gen.specs.Linked.{Slots, once_flow, active_flow, found_flow, including_flow, included_flow, HasSlots, is_passed}
+use Rattle.filing_gen.proofs.Types.{flow_typed, flow_small, flow_sound, IncludesTyped, IncludesSmall, IncludesSound}
+
+-- TYPES
+
+once_typed : (once : Bool) (slot : ℕ) (a : Flow) (es : List Shape) → ((es : List Shape) → HasType a es [] []) → HasType (once_flow once slot a) es [] []
+once_typed true slot a es h = (Truth ∷ [], (refl, omega arith, omega arith), ([], (refl, omega arith, refl), h ([] ∷ es)))
+once_typed false slot a es h = h es
+
+active_typed : (active once : Bool) (a : Flow) (es : List Shape) → HasType a es [] [] → HasType (active_flow active once a) es [] []
+active_typed true true a es h = refl
+active_typed true false a es h = (refl, omega arith, omega arith)
+active_typed false once a es h = h
+
+found_typed : (o : Option Commands) (passed : Bool) (go : Commands → Flow) (es : List Shape) → ((x : Commands) → HasType (go x) es [] []) → HasType (found_flow o passed go) es [] []
+found_typed None true go es h = refl
+found_typed None false go es h = (refl, omega arith, omega arith)
+found_typed (Some x) passed go es h = h x
+
+including_typed : (lib : Library) (slot : Slots) (main chain : List ScriptName) (a : Commands → Flow) (i : Include) → ((x : Commands) (es : List Shape) → HasType (a x) es [] []) → (es : List Shape) → HasType (including_flow lib slot main chain a i) es [] []
+including_typed lib slot main chain a i h es =
+    found_typed (lib.find (script_named i)) (is_passed main i) _ es
+    (λ x. active_typed (is_among chain (script_named i)) i.once _ es (once_typed i.once (slot (script_named i)) (a x) es (h x)))
+
+pub included_typed : (lib : Library) (slot : Slots) (main : List ScriptName) (left : ℕ) (chain : List ScriptName) → IncludesTyped (included_flow lib slot main left chain)
+included_typed lib slot main zero chain i es = including_typed lib slot main chain (λ script. action (Fail 4)) i (λ x es. (refl, omega arith, omega arith)) es
+included_typed lib slot main (suc left) chain i es =
+    including_typed lib slot main chain (λ script. block (sequence (action (SetMark (slot (script_named i)))) (flow (included_flow lib slot main left (script_named i ∷ chain)) 0 script))) i
+    (λ x es. ([], (refl, omega arith, omega arith), flow_typed (included_flow lib slot main left (script_named i ∷ chain)) (included_typed lib slot main left (script_named i ∷ chain)) zero x ([] ∷ es) refl)) es
+
+-- SIZES
+
+once_small : (once : Bool) (slot n : ℕ) (a : Flow) → size a ≤ n → size (once_flow once slot a) ≤ n + 2
+once_small true slot n a h = omega (arith, h)
+once_small false slot n a h = omega (arith, h)
+
+active_small : (active once : Bool) (a : Flow) (n : ℕ) → size a ≤ 4 + n → size (active_flow active once a) ≤ 4 + unless_active active n
+active_small true true a n h = omega arith
+active_small true false a n h = omega arith
+active_small false once a n h = h
+
+found_small : (o : Option Commands) (passed : Bool) (go : Commands → Flow) (w : Commands → ℕ) → ((x : Commands) → size (go x) ≤ 4 + w x) → size (found_flow o passed go) ≤ 4 + unless_missing o w
+found_small None true go w h = omega arith
+found_small None false go w h = omega arith
+found_small (Some x) passed go w h = h x
+
+-- where an entry takes at most two operations and what it adds to the weight
+including_small : (lib : Library) (slot : Slots) (main chain : List ScriptName) (a : Commands → Flow) (w : Commands → ℕ) (i : Include) → ((x : Commands) → size (a x) ≤ 2 + w x)
+    → size (including_flow lib slot main chain a i) ≤ 4 + unless_missing (lib.find (script_named i)) (λ script. unless_active (is_among chain (script_named i)) (w script))
+including_small lib slot main chain a w i h =
+    found_small (lib.find (script_named i)) (is_passed main i) (λ script. active_flow (is_among chain (script_named i)) i.once (once_flow i.once (slot (script_named i)) (a script)))
+    (λ script. unless_active (is_among chain (script_named i)) (w script))
+    (λ x. active_small (is_among chain (script_named i)) i.once (once_flow i.once (slot (script_named i)) (a x)) (w x) (omega (arith, once_small i.once (slot (script_named i)) (2 + w x) (a x) (h x))))
+
+nothing_there : (o : Option Commands) (b : Bool) → unless_missing o (λ script. unless_active b 0) ≡ 0
+nothing_there None b = refl
+nothing_there (Some x) true = refl
+nothing_there (Some x) false = refl
+
+pub included_small : (lib : Library) (slot : Slots) (main : List ScriptName) (left : ℕ) (chain : List ScriptName) → IncludesSmall (included_flow lib slot main left chain) (included_weight lib left chain)
+included_small lib slot main zero chain i =
+    omega (arith, including_small lib slot main chain (λ script. action (Fail 4)) (λ x. 0) i (λ x. omega arith), nothing_there (lib.find (script_named i)) (is_among chain (script_named i)))
+included_small lib slot main (suc left) chain i =
+    including_small lib slot main chain (λ script. block (sequence (action (SetMark (slot (script_named i)))) (flow (included_flow lib slot main left (script_named i ∷ chain)) 0 script))) (λ script. weight (included_weight lib left (script_named i ∷ chain)) script) i
+    (λ x. omega (arith, flow_small (included_flow lib slot main left (script_named i ∷ chain)) (included_weight lib left (script_named i ∷ chain)) (included_small lib slot main left (script_named i ∷ chain)) 0 x))
+
+-- OPERANDS
+
+once_sound : (count : ℕ) (once : Bool) (slot : ℕ) (a : Flow) → slot < count → IsSound count a → IsSound count (once_flow once slot a)
+once_sound count true slot a lt h = (lt, (tt, h))
+once_sound count false slot a lt h = h
+
+active_sound : (count : ℕ) (active once : Bool) (a : Flow) → IsSound count a → IsSound count (active_flow active once a)
+active_sound count true true a h = tt
+active_sound count true false a h = (omega arith, omega arith)
+active_sound count false once a h = h
+
+found_sound : (count : ℕ) (lib : Library) (s : ScriptName) (o : Option Commands) → lib.find s ≡ o → (passed : Bool) (go : Commands → Flow) → ((x : Commands) → lib.find s ≡ Some x → IsSound count (go x)) → IsSound count (found_flow o passed go)
+found_sound count lib s None at true go h = tt
+found_sound count lib s None at false go h = (omega arith, omega arith)
+found_sound count lib s (Some x) at passed go h = h x at
+
+including_sound : (count : ℕ) (lib : Library) (slot : Slots) → HasSlots lib slot count → (main chain : List ScriptName) (a : Commands → Flow) (i : Include) → ((x : Commands) → slot (script_named i) < count → IsSound count (a x)) → IsSound count (including_flow lib slot main chain a i)
+including_sound count lib slot has main chain a i h =
+    found_sound count lib (script_named i) (lib.find (script_named i)) refl (is_passed main i) (λ script. active_flow (is_among chain (script_named i)) i.once (once_flow i.once (slot (script_named i)) (a script)))
+    (λ x at. active_sound count (is_among chain (script_named i)) i.once (once_flow i.once (slot (script_named i)) (a x)) (once_sound count i.once (slot (script_named i)) (a x) (has.inside (script_named i) x at) (h x (has.inside (script_named i) x at))))
+
+pub included_sound : (count : ℕ) (lib : Library) (slot : Slots) → HasSlots lib slot count → (main : List ScriptName) (left : ℕ) (chain : List ScriptName) → IncludesSound count (included_flow lib slot main left chain)
+included_sound count lib slot has main zero chain i = including_sound count lib slot has main chain (λ script. action (Fail 4)) i (λ x lt. (omega arith, omega arith))
+included_sound count lib slot has main (suc left) chain i =
+    including_sound count lib slot has main chain (λ script. block (sequence (action (SetMark (slot (script_named i)))) (flow (included_flow lib slot main left (script_named i ∷ chain)) 0 script))) i
+    (λ x lt. (lt, flow_sound count (included_flow lib slot main left (script_named i ∷ chain)) (included_sound count lib slot has main left (script_named i ∷ chain)) 0 x))
