@@ -117,7 +117,7 @@ fn build(
 /// The image of a checked script, which may be known by a personal name, and of the scripts that it includes. It
 /// declares the script's weight as its budget in steps, it is one that may run, and in every case its run ends with
 /// the outcome of what the script means. `TooLarge`, 5, exactly where the weight is above 60,000; `NoMemory`, 99, where
-/// an allocation was refused. Time and memory are linear in the weight.
+/// an allocation was refused, or a string is too long for an image. Time and memory are linear in the weight.
 pub fn compile(
     alloc: Global,
     main: &Checked,
