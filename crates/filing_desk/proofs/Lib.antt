@@ -1,5 +1,2 @@
 pub mod StepLemmas
-pub mod TruthLemmas
-pub mod RunLemmas
-pub mod WeightLemmas
 pub mod OutcomeLemmas

@@ -3,5 +3,3 @@ pub mod Faults
 pub mod Steps
 pub mod Judging
 pub mod Case
-pub mod Runs
-pub mod Weights

@@ -20,7 +20,7 @@ use Rattle.filing_verify.specs.declared.fault.VerifyFault.{VerifyFault}
 use Rattle.filing_verify.specs.Well.{IsWell, Fails, verify_number}
 use Rattle.filing_table.specs.Ends.{HasOutcome}
 use Rattle.filing_desk.specs.Answers.{Answer, done, captured, refused}
-use Rattle.filing_desk.specs.Case.{case_of}
+use Rattle.filing_machine.specs.Message.{case_of}
 use Rattle.filing_desk.specs.Faults.{refused_by, has_place}
 use Rattle.filing_desk.specs.declared.fault.DeskFault.{DeskFault}
 use Rattle.filing_desk.specs.declared.desk.Outcome.{Outcome}

@@ -2,7 +2,8 @@
 
 ghost use Rattle.std.specs.Prelude.{◌≡◌, ℕ, List, Bool, map, IfOk};
 ghost use Rattle.class_plan.specs.Plans.{is_open_in};
-ghost use Rattle.filing_desk.specs.Case.{case_of, facts_of};
+ghost use Rattle.filing_machine.specs.Message.{case_of};
+ghost use Rattle.filing_desk.specs.Case.{facts_of};
 
 use class_plan::Plan;
 use mail_head::read_head;

@@ -10,17 +10,18 @@ ghost use Rattle.filing_desk.specs.Case.{facts_of};
 ghost use Rattle.filing_desk.specs.Judging.{RefusesScript, RefusesImage, IsFaultOf, outcome_view};
 ghost use Rattle.filing_desk.specs.Steps.{add_class, file, set_plan, try_image, Step, settled, filed, IsGood, IsGoodImage, RefusesPlan};
 ghost use Rattle.filing_desk.specs.Faults.{refused_by};
+ghost use Rattle.filing_desk.specs.declared.fault.DeskFault.TheVariants.{NoMemory};
+ghost use Rattle.filing_table.specs.Ends.{HasOutcome};
 
 use crate::case::{Case, read_case};
-use crate::evaluate::{Filing, run as run_script, script_weight};
 use crate::fault::DeskFault;
 use class_plan::{Plan, PlanFault};
+use filing_gen::{GenFault, Library, compile};
 use filing_image::decode;
 use filing_machine::run;
 use filing_verify::{Verified, verify};
 use sieve_check::{Checked, check};
 use sieve_meaning::Paths;
-use sieve_syntax::Script;
 use sieve_text::{ScanRefusal, TextRefusal, parse};
 use std::alloc::{AllocError, Global};
 use std::marker::Model;
@@ -33,9 +34,6 @@ const GREATEST_PLAN: usize = 1_048_576;
 
 /// The greatest length of an image, in octets.
 const GREATEST_IMAGE: usize = 16_777_216;
-
-/// The greatest weight of a script that is run.
-const GREATEST_WEIGHT: u64 = 60_000;
 
 /// The default class.
 const UNFILED: &[u8] = b"unfiled";
@@ -75,43 +73,33 @@ fn faulty(alloc: Global, fault: u8) -> Result<Outcome, AllocError>
     })
 }
 
-/// The classes of a run that ended without a fault (RFC 5228, section 2.10.2).
-fn captured_classes(alloc: Global, filing: Filing) -> Result<Outcome, AllocError>
-    ensures { IfOk result (λ o. outcome_view o ≡ outcome_at None filing.filed filing.kept filing.cancelled) }
+/// The outcome of an image's run in a case.
+fn run_image(alloc: Global, program: &Verified, case: &Case<'_>) -> Result<Outcome, AllocError>
+    ensures { IfOk result (λ o. (n : ℕ) × HasOutcome program.now (facts_of case.now) n (outcome_view o)) }
 {
-    let Filing {
-        filed: mut classes,
-        kept,
-        cancelled,
-    } = filing;
-    if kept || !cancelled {
-        classes.insert(alloc, UNFILED)?;
-    }
+    let ran = run(alloc, program, case)?;
     Ok(Outcome {
-        classes,
-        fault: None,
+        classes: ran.classes,
+        fault: ran.fault,
     })
 }
 
-/// The outcome of a script in a case, its weight judged first.
-fn outcome_of(alloc: Global, case: &Case<'_>, script: &Script) -> Result<Outcome, AllocError>
-    ensures { IfOk result (λ o. outcome_view o ≡ outcome (facts_of case.now) no_library None (program_of (tree_of script.now))) }
+/// The outcome of a script in a case: that of the run of its image, or fault 5 where the script is too heavy for one.
+fn outcome_of(alloc: Global, case: &Case<'_>, script: &Checked) -> Result<Outcome, DeskFault>
+    ensures outcome { IfOk result (λ o. outcome_view o ≡ outcome (facts_of case.now) no_library None (program_of (tree_of script.now.script))) }
+    ensures refused { IfErr result (λ f. f ≡ NoMemory) }
 {
-    if script_weight(script) > GREATEST_WEIGHT {
-        let outcome = faulty(alloc, 5)?;
-        return Ok(outcome);
+    match compile(alloc, script, None, &Library::new()) {
+        Ok(program) => {
+            let outcome = run_image(alloc, &program, case)?;
+            Ok(outcome)
+        }
+        Err(GenFault::TooLarge) => {
+            let outcome = faulty(alloc, 5)?;
+            Ok(outcome)
+        }
+        Err(GenFault::NoMemory) => Err(DeskFault::NoMemory),
     }
-    let mut filing = Filing {
-        filed: Paths::new(alloc),
-        kept: false,
-        cancelled: false,
-    };
-    let ending = run_script(alloc, case, &script.commands, &mut filing)?;
-    let outcome = match ending.fault() {
-        Some(fault) => faulty(alloc, fault)?,
-        None => captured_classes(alloc, filing)?,
-    };
-    Ok(outcome)
 }
 
 /// The checked script of a text.
@@ -198,11 +186,8 @@ impl Desk {
             return Err(DeskFault::MessageTooLong);
         }
         let case = read_case(self.alloc, message, &self.plan)?;
-        let ran = run(self.alloc, &program, &case)?;
-        Ok(Outcome {
-            classes: ran.classes,
-            fault: ran.fault,
-        })
+        let outcome = run_image(self.alloc, &program, &case)?;
+        Ok(outcome)
     }
 
     /// What `try_image` answers to a message over its limit, which need not be at hand.
@@ -236,7 +221,7 @@ impl Desk {
             return Err(DeskFault::MessageTooLong);
         }
         let case = read_case(self.alloc, message, &self.plan)?;
-        let outcome = outcome_of(self.alloc, &case, checked.script())?;
+        let outcome = outcome_of(self.alloc, &case, &checked)?;
         Ok(outcome)
     }
 

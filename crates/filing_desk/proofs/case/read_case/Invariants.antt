@@ -1,5 +1,6 @@
 use Rattle.std.proofs.Common.{◌≡◌, map, take}
-use Rattle.filing_desk.specs.Case.{field_in, shown}
+use Rattle.filing_machine.specs.Message.{field_in}
+use Rattle.filing_desk.specs.Case.{shown}
 use Rattle.filing_desk.proofs.case.read_case.Given as goal
 
 abbrev pub invariant-loop-field : goal.invariant-loop-field

@@ -1,8 +1,0 @@
-use Rattle.std.proofs.Common.{◌≡◌, false, drop, map}
-use Rattle.sieve_syntax.specs.View.{command_of, commands_of}
-use Rattle.filing_desk.specs.Case.{facts_of}
-use Rattle.filing_desk.specs.Runs.{runs_from, filing_of}
-use Rattle.filing_desk.proofs.evaluate.commands.+running.Given as goal
-
-abbrev pub invariant-run-loop-command : goal.invariant-run-loop-command
-invariant-run-loop-command l = runs_from (facts_of l.case) l.is_open (commands_of (map command_of (drop l.command-index l.command-items))) (filing_of l.filing) ≡ runs_from (facts_of l.fn.case) false (commands_of (map command_of l.fn.commands.items)) (filing_of l.initial.filing)
