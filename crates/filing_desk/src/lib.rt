@@ -5,7 +5,6 @@
 
 mod case;
 mod desk;
-mod evaluate;
 mod fault;
 
 pub use desk::{Desk, GREATEST_MESSAGE, Outcome};
