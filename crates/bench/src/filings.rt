@@ -1,9 +1,12 @@
 //! Scripts, messages and sessions, and what is measured on them.
 
 use crate::inputs::repeated;
+use filing_desk::Desk;
 use filing_gen::{Library, compile};
 use filing_image::decode;
 use filing_machine::{Case, WholeCase};
+use filing_session::memory::{MemorySink, MemorySource};
+use filing_session::serve;
 use filing_verify::{Verified, verify};
 use sieve_check::check;
 use sieve_text::parse;
@@ -38,8 +41,8 @@ Content-Transfer-Encoding: 8bit\r\n\r\n";
 /// A line of a message's body, of 64 octets.
 const MESSAGE_LINE: &[u8] = b"Please find below what we have delivered in the last month ...\r\n";
 
-/// The octets of a message.
-const MESSAGE_OCTETS: usize = 2_048;
+/// The octets of a message, to a line.
+const MESSAGE_OCTETS: usize = 2_100;
 
 /// The octets of the greatest message.
 const GREATEST_MESSAGE: usize = 8_388_608;
@@ -65,6 +68,24 @@ pub fn script_of_tests(alloc: Global, octets: usize, most: usize) -> Result<Vec<
         SCRIPT_FRONT,
         SCRIPT_TEST,
         tests.saturating_mul(SCRIPT_TEST.len()),
+    )
+}
+
+/// A session that opens the script's class and files a message by it for every 100 octets that are asked for, and
+/// 10,000 times at most.
+pub fn session_of_filings(alloc: Global, octets: usize) -> Result<Vec<u8>, AllocError> {
+    let message = message(alloc)?;
+    let (script_len, message_len) = (INVOICE_SCRIPT.len(), message.len());
+    let line = format!(in alloc; "FILE {script_len} {message_len}\n")?;
+    let mut command = line.into_bytes();
+    command.extend_from_slice(INVOICE_SCRIPT)?;
+    command.extend_from_slice(&message)?;
+    let times = (octets / 100).min(10_000);
+    repeated(
+        alloc,
+        b"CLASS finance\n",
+        &command,
+        times.saturating_mul(command.len()),
     )
 }
 
@@ -110,4 +131,14 @@ pub fn weight_of(alloc: Global, script: &[u8]) -> usize {
 /// The weights of a script that is compiled a thousand times.
 pub fn weights_of(alloc: Global, script: &[u8]) -> usize {
     (0..TIMES).fold(0usize, |sum, _| sum.wrapping_add(weight_of(alloc, script)))
+}
+
+/// The octets that a session is answered, or 0 where it is given up.
+pub fn octets_answered(alloc: Global, session: &[u8]) -> Result<usize, AllocError> {
+    let mut desk = Desk::new(alloc)?;
+    let mut sink = MemorySink::new(alloc);
+    match serve(alloc, &mut MemorySource::new(session), &mut sink, &mut desk) {
+        Ok(()) => Ok(sink.as_slice().len()),
+        Err(_) => Ok(0),
+    }
 }

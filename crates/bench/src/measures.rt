@@ -1,7 +1,8 @@
 //! What is measured.
 
 use crate::filings::{
-    INVOICE_SCRIPT, fields_of_cases, judged, message, script_of_tests, weight_of, weights_of,
+    INVOICE_SCRIPT, fields_of_cases, judged, message, octets_answered, script_of_tests,
+    session_of_filings, weight_of, weights_of,
 };
 use crate::inputs::{image_of_code, image_of_steps, image_of_texts, repeated};
 use crate::plans::{class_path, plan_text, schedules, taken_over};
@@ -63,10 +64,12 @@ pub enum Measure {
     HalfScript,
     /// The same of a script of up to 2,000 header tests.
     LongScript,
+    /// `serve` of a session that files that message by that script up to 10,000 times.
+    Filings,
 }
 
 /// Each measure, in the order in which they are told.
-pub fn measures() -> [Measure; 24] {
+pub fn measures() -> [Measure; 25] {
     [
         Measure::PlainLoop,
         Measure::Header,
@@ -92,6 +95,7 @@ pub fn measures() -> [Measure; 24] {
         Measure::ShortScript,
         Measure::HalfScript,
         Measure::LongScript,
+        Measure::Filings,
     ]
 }
 
@@ -138,6 +142,7 @@ impl Measure {
             Measure::ShortScript => "compile_short_1000",
             Measure::HalfScript => "compile_1000_tests",
             Measure::LongScript => "compile_2000_tests",
+            Measure::Filings => "serve_filings",
         }
     }
 
@@ -178,6 +183,7 @@ impl Measure {
             Measure::ShortScript => Vec::from_slice(alloc, INVOICE_SCRIPT),
             Measure::HalfScript => script_of_tests(alloc, octets / 2, 1_000),
             Measure::LongScript => script_of_tests(alloc, octets, 2_000),
+            Measure::Filings => session_of_filings(alloc, octets),
             _ => message(alloc),
         }
     }
@@ -226,6 +232,7 @@ impl Measure {
             Measure::Cases => fields_of_cases(alloc, input),
             Measure::ShortScript => Ok(weights_of(alloc, input)),
             Measure::HalfScript | Measure::LongScript => Ok(weight_of(alloc, input)),
+            Measure::Filings => octets_answered(alloc, input),
             _ => Ok(parts_that_may_run(alloc, input)),
         }
     }
