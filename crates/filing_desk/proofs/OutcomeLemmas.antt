@@ -1,8 +1,7 @@
 -- Outcomes of scripts, by their weight and by the runs of their images.
-use Rattle.std.proofs.Common.{◌≡◌, ℕ, ◌<◌, ◌≤◌, ◌+◌, [], Option, true, false, refl, sym, ◌∙◌, arith}
-use Rattle.std.proofs.Math.Nat.{lt_of_not-le}
-use Rattle.std.specs.Prelude.{nat_lt, Some, None}
-use Rattle.std.proofs.lemmas.Bool.{lt-ltb, le-ltb}
+use Rattle.std.proofs.Common.{◌≡◌, ℕ, ◌<◌, ◌≤◌, [], true, false, inl, inr, refl, sym, ◌∙◌}
+use Rattle.std.specs.Prelude.{Some, None, Ok, Err}
+use Rattle.std.proofs.lemmas.Bool.{cases_lt, lt-ltb, le-ltb}
 use Rattle.filing_image.specs.Program.{Program}
 use Rattle.filing_table.specs.Ends.{HasOutcome}
 use Rattle.filing_table.proofs.Once.{one_outcome}
@@ -12,6 +11,12 @@ use Rattle.sieve_meaning.specs.Program.{Commands}
 use Rattle.sieve_meaning.specs.Meaning.{no_library, meaning}
 use Rattle.sieve_meaning.specs.Outcome.{Outcome, greatest_weight, outcome, outcome_at, outcome_of}
 use Rattle.sieve_meaning.specs.Weight.{linked_weight}
+
+pub ok_is_no_fault : {A B : Type 0} (a : A) (b : B) → Ok a ≡ Err b → ⊥
+ok_is_no_fault a b e = cc
+
+pub not_over : (w : ℕ) → (greatest_weight < w → ⊥) → w ≤ greatest_weight
+not_over w light = elim (cases_lt greatest_weight w) [ inl over ↦ absurd (light over) | inr within ↦ within ]
 
 -- a script that is too heavy
 pub outcome_of_heavy : (facts : Facts) (main : Commands) → greatest_weight < linked_weight no_library None main → outcome_at (Some 5) [] false false ≡ outcome facts no_library None main
