@@ -33,7 +33,3 @@ pub outcome_of_run : (facts : Facts) (main : Commands) (p : Program) (n : ℕ) (
 outcome_of_run facts main p n o compiled within ran =
     let (m, meant) = compiled.outcomes facts in
     one_outcome p facts n m o (outcome_of (meaning facts no_library None main)) ran meant ∙ sym (outcome_of_light facts main within)
-
--- what is not above the greatest weight is within it
-pub within_of_not_over : (w : ℕ) → (greatest_weight < w → ⊥) → w ≤ greatest_weight
-within_of_not_over w refuted = let short : w < greatest_weight + 1 = lt_of_not-le (λ h. refuted (omega (arith, h))) in omega (arith, short)
