@@ -3,12 +3,15 @@
 //! beside that of a plain loop over the octets. `./bench` at the top runs the built program.
 #![tactic(auto)]
 
+mod filings;
 mod inputs;
 mod measures;
 mod plans;
+mod settings;
 
 use anyhow::Result;
 use measures::{Measure, measures};
+use settings::Setting;
 use std::env;
 use std::rt::Env;
 use std::time::Instant;
@@ -29,11 +32,11 @@ fn main(rt: HostRuntime) -> Result<()> {
     let (octets, rounds) = numbers(&rt)?;
     for measure in measures() {
         let input = measure.input(rt.alloc(), octets.unwrap_or(FEW_OCTETS))?;
-        let plan = measure.plan(rt.alloc())?;
+        let setting = Setting::of(rt.alloc(), measure, input.as_slice())?;
         let start = Instant::now(&rt)?;
         let mut answer = 0;
         for _ in 0..rounds.unwrap_or(1) {
-            answer = measure.run(rt.alloc(), input.as_slice(), &plan)?;
+            answer = measure.run(rt.alloc(), input.as_slice(), &setting)?;
         }
         let spent = start.elapsed(&rt)?;
         let name = measure.name();

@@ -1,10 +1,12 @@
 //! What is measured.
 
-use crate::inputs::{image_of_code, image_of_texts, repeated};
-use crate::plans::{MOST_CLASSES, class_path, plan_of, plan_text, schedules, taken_over};
-use class_plan::Plan;
-use filing_image::decode;
-use filing_verify::verify;
+use crate::filings::{
+    INVOICE_SCRIPT, fields_of_cases, judged, message, octets_answered, script_of_tests,
+    session_of_filings, weight_of, weights_of,
+};
+use crate::inputs::{image_of_code, image_of_steps, image_of_texts, repeated};
+use crate::plans::{class_path, plan_text, schedules, taken_over};
+use crate::settings::Setting;
 use mail_head::{HeadReader, read_head};
 use mail_words::value_of;
 use sieve_match::{Comparator, contains, matches};
@@ -50,10 +52,24 @@ pub enum Measure {
     ImageCode,
     /// `decode` and `verify` of an image of up to 65,535 texts.
     ImageTexts,
+    /// `run` of an image of up to 59,991 instructions, each of which is one step.
+    Steps,
+    /// A thousand times `run` of a script of one header test, on a message of 2 KB.
+    Runs,
+    /// A thousand times `WholeCase::read` of that message.
+    Cases,
+    /// A thousand times `parse`, `check` and `compile` of that script.
+    ShortScript,
+    /// The same, once, of a script of up to 1,000 header tests.
+    HalfScript,
+    /// The same of a script of up to 2,000 header tests.
+    LongScript,
+    /// `serve` of a session that files that message by that script up to 10,000 times.
+    Filings,
 }
 
 /// Each measure, in the order in which they are told.
-pub fn measures() -> [Measure; 18] {
+pub fn measures() -> [Measure; 25] {
     [
         Measure::PlainLoop,
         Measure::Header,
@@ -73,12 +89,22 @@ pub fn measures() -> [Measure; 18] {
         Measure::ScheduleOfMany,
         Measure::ImageCode,
         Measure::ImageTexts,
+        Measure::Steps,
+        Measure::Runs,
+        Measure::Cases,
+        Measure::ShortScript,
+        Measure::HalfScript,
+        Measure::LongScript,
+        Measure::Filings,
     ]
 }
 
 /// A field of 80 octets with its line end.
 const FIELD: &[u8] =
     b"X-Field: the quick brown fox jumps over the lazy dog and then it goes home....\r\n";
+
+/// Text without anything that is looked for.
+const PROSE: &[u8] = b"the quick brown fox jumps over the lazy dog ";
 
 /// Text of 75 octets with an encoded word.
 const WORDS: &[u8] =
@@ -110,6 +136,13 @@ impl Measure {
             Measure::ScheduleOfMany => "schedule_of_many",
             Measure::ImageCode => "image_code",
             Measure::ImageTexts => "image_texts",
+            Measure::Steps => "run_steps",
+            Measure::Runs => "run_short_1000",
+            Measure::Cases => "read_case_1000",
+            Measure::ShortScript => "compile_short_1000",
+            Measure::HalfScript => "compile_1000_tests",
+            Measure::LongScript => "compile_2000_tests",
+            Measure::Filings => "serve_filings",
         }
     }
 
@@ -129,37 +162,34 @@ impl Measure {
             Measure::HardOctet | Measure::HardCasemap | Measure::Stars => repeated(
                 alloc, b"", b"a", octets,
             ),
-            Measure::ImageCode => image_of_code(alloc, octets),
-            Measure::ImageTexts => image_of_texts(alloc, octets),
             Measure::PlainLoop
             | Measure::PlainValue
             | Measure::AbsentOctet
-            | Measure::AbsentCasemap => {
-                repeated(
-                    alloc,
-                    b"",
-                    b"the quick brown fox jumps over the lazy dog ",
-                    octets,
-                )
-            }
+            | Measure::AbsentCasemap => repeated(alloc, b"", PROSE, octets),
+            _ => self.filing_input(alloc, octets),
+        }
+    }
+
+    /// An input of a measure of plans, images, scripts or sessions.
+    fn filing_input(self, alloc: Global, octets: usize) -> Result<Vec<u8>, AllocError> {
+        match self {
             Measure::PlanFile => plan_text(alloc, octets),
             Measure::ScheduleOfFew | Measure::ScheduleOfMany => {
                 Ok(class_path(alloc, 7)?.into_bytes())
             }
-        }
-    }
-
-    /// The plan that is read, which is that of `unfiled` alone where none is.
-    pub fn plan(self, alloc: Global) -> Result<Plan, AllocError> {
-        match self {
-            Measure::ScheduleOfFew => plan_of(alloc, 8),
-            Measure::ScheduleOfMany => plan_of(alloc, MOST_CLASSES),
-            _ => Plan::new(alloc),
+            Measure::ImageCode => image_of_code(alloc, octets),
+            Measure::ImageTexts => image_of_texts(alloc, octets),
+            Measure::Steps => image_of_steps(alloc, octets),
+            Measure::ShortScript => Vec::from_slice(alloc, INVOICE_SCRIPT),
+            Measure::HalfScript => script_of_tests(alloc, octets / 2, 1_000),
+            Measure::LongScript => script_of_tests(alloc, octets, 2_000),
+            Measure::Filings => session_of_filings(alloc, octets),
+            _ => message(alloc),
         }
     }
 
     /// Runs once; the answer is told so that the work is done.
-    pub fn run(self, alloc: Global, input: &[u8], plan: &Plan) -> Result<usize, AllocError> {
+    pub fn run(self, alloc: Global, input: &[u8], setting: &Setting) -> Result<usize, AllocError> {
         match self {
             Measure::PlainLoop => Ok(sum(input)),
             Measure::Header | Measure::Body => Ok(read_head(alloc, input)?.fields().len()),
@@ -182,8 +212,28 @@ impl Measure {
             Measure::HardCasemap => hard(alloc, input, Comparator::Casemap),
             Measure::Stars => Ok(usize::from(matches(b"*a*a*a*a*b", input, Comparator::Octet))),
             Measure::PlanFile => taken_over(alloc, input),
-            Measure::ScheduleOfFew | Measure::ScheduleOfMany => Ok(schedules(plan, input)),
-            Measure::ImageCode | Measure::ImageTexts => Ok(parts_that_may_run(alloc, input)),
+            Measure::ScheduleOfFew | Measure::ScheduleOfMany => {
+                Ok(schedules(&setting.plan, input))
+            }
+            _ => self.run_filing(alloc, input, setting),
+        }
+    }
+
+    /// Runs a measure of images, scripts or sessions once.
+    fn run_filing(
+        self,
+        alloc: Global,
+        input: &[u8],
+        setting: &Setting,
+    ) -> Result<usize, AllocError> {
+        match self {
+            Measure::Steps => setting.steps(alloc, 1),
+            Measure::Runs => setting.steps(alloc, 1_000),
+            Measure::Cases => fields_of_cases(alloc, input),
+            Measure::ShortScript => Ok(weights_of(alloc, input)),
+            Measure::HalfScript | Measure::LongScript => Ok(weight_of(alloc, input)),
+            Measure::Filings => octets_answered(alloc, input),
+            _ => Ok(parts_that_may_run(alloc, input)),
         }
     }
 }
@@ -215,13 +265,8 @@ fn hard(alloc: Global, input: &[u8], comparator: Comparator) -> Result<usize, Al
 
 /// How many texts and instructions an image has, or 0 where it may not run.
 fn parts_that_may_run(alloc: Global, input: &[u8]) -> usize {
-    let Ok(image) = decode(alloc, input) else {
+    let Some(program) = judged(alloc, input) else {
         return 0;
     };
-    let parts = image.text_count() + image.code().len();
-    if verify(alloc, image).is_ok() {
-        parts
-    } else {
-        0
-    }
+    program.image().text_count() + program.image().code().len()
 }

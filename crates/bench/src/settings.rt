@@ -1,0 +1,54 @@
+//! What measures work on beside their inputs.
+
+use crate::filings::{INVOICE_SCRIPT, case_of, compiled, judged, message};
+use crate::measures::Measure;
+use crate::plans::{MOST_CLASSES, plan_of};
+use class_plan::Plan;
+use filing_machine::{WholeCase, run};
+use filing_verify::Verified;
+use std::alloc::{AllocError, Global};
+
+/// What is there before a measure runs.
+#[derive(Drop)]
+pub struct Setting {
+    /// The plan that is read, which is that of `unfiled` alone where none is.
+    pub plan: Plan,
+    /// The program that is run, and its case.
+    program: Option<Verified>,
+    case: Option<WholeCase>,
+}
+
+impl Setting {
+    /// What a measure works on, whose input this is.
+    pub fn of(alloc: Global, measure: Measure, input: &[u8]) -> Result<Setting, AllocError> {
+        let plan = match measure {
+            Measure::ScheduleOfFew => plan_of(alloc, 8)?,
+            Measure::ScheduleOfMany => plan_of(alloc, MOST_CLASSES)?,
+            _ => Plan::new(alloc)?,
+        };
+        let program = match measure {
+            Measure::Steps => judged(alloc, input),
+            Measure::Runs => compiled(alloc, INVOICE_SCRIPT),
+            _ => None,
+        };
+        let case = case_of(alloc, &message(alloc)?)?;
+        Ok(Setting {
+            plan,
+            program,
+            case,
+        })
+    }
+
+    /// The steps of so many runs of the program, which are 0 where there is none.
+    pub fn steps(&self, alloc: Global, runs: usize) -> Result<usize, AllocError> {
+        let (Some(program), Some(case)) = (&self.program, &self.case) else {
+            return Ok(0);
+        };
+        let mut steps = 0usize;
+        for _ in 0..runs {
+            let outcome = run(alloc, program, case)?;
+            steps = steps.wrapping_add(outcome.steps as usize);
+        }
+        Ok(steps)
+    }
+}
