@@ -24,10 +24,10 @@ const BODIES: [&str; 12] = [
     "=?UTF-8?Q?ab?=",
 ];
 
-/// A message of up to four fields and up to 55 octets behind its header.
+/// A message of up to six fields and up to 55 octets behind its header.
 pub fn message(alloc: Global, chance: &mut Chance) -> Result<String, AllocError> {
     let mut message = String::new(alloc);
-    for _ in 0..chance.below(5) {
+    for _ in 0..chance.below(7) {
         message.push_str(chance.pick(&NAMES))?;
         message.push_str(": ")?;
         message.push_str(chance.pick(&BODIES))?;

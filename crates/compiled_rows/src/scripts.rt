@@ -10,7 +10,7 @@ const REQUIRE: &str = "require [\"fileinto\", \"copy\", \"include\"]; ";
 /// How deep tests stand in tests, and blocks in blocks.
 const TEST_DEPTH: u8 = 2;
 
-const BLOCK_DEPTH: u8 = 3;
+const BLOCK_DEPTH: u8 = 2;
 
 /// Names of fields; no message has the last.
 const NAMES: [&str; 6] = ["subject", "Subject", "x-tag", "X-TAG", "from", "x-none"];
@@ -190,10 +190,11 @@ fn push_command(chance: &mut Chance, script: &mut String, depth: u8) -> Result<(
     push_plain_command(chance, script)
 }
 
-/// A script of one to four commands.
+/// A script of branches and up to three further commands.
 pub fn script(alloc: Global, chance: &mut Chance) -> Result<String, AllocError> {
     let mut script = String::from_str(alloc, REQUIRE)?;
-    for _ in 0..=chance.below(4) {
+    push_branches(chance, &mut script, BLOCK_DEPTH)?;
+    for _ in 0..chance.below(4) {
         push_command(chance, &mut script, BLOCK_DEPTH)?;
     }
     Ok(script)
