@@ -7,9 +7,10 @@ use std::alloc::{AllocError, Global};
 /// What each script may use.
 const REQUIRE: &str = "require [\"fileinto\", \"copy\", \"include\"]; ";
 
-/// How deep tests stand in tests, and blocks in blocks.
+/// How deep tests stand in tests.
 const TEST_DEPTH: u8 = 2;
 
+/// How deep blocks stand in the blocks of a command.
 const BLOCK_DEPTH: u8 = 2;
 
 /// Names of fields; no message has the last.
@@ -30,7 +31,7 @@ const COMPARATORS: [&str; 3] = [
 
 const LIMITS: [&str; 2] = [":over ", ":under "];
 
-/// Octets of messages, near those that messages have.
+/// Numbers of octets; messages have 2 to about 150.
 const SIZES: [&str; 7] = ["0", "2", "20", "40", "60", "80", "1K"];
 
 fn push_string(script: &mut String, text: &str) -> Result<(), AllocError> {
