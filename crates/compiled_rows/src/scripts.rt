@@ -31,7 +31,7 @@ const COMPARATORS: [&str; 3] = [
 
 const LIMITS: [&str; 2] = [":over ", ":under "];
 
-/// Numbers of octets; messages have 2 to about 150.
+/// Numbers of octets; messages have 2 to about 200.
 const SIZES: [&str; 7] = ["0", "2", "20", "40", "60", "80", "1K"];
 
 fn push_string(script: &mut String, text: &str) -> Result<(), AllocError> {
