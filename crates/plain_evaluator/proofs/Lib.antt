@@ -1,0 +1,3 @@
+pub mod TruthLemmas
+pub mod RunLemmas
+pub mod OutcomeLemmas

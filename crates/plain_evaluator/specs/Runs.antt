@@ -1,0 +1,83 @@
+-- Runs of a script that can include none, as the evaluator goes over its commands.
+use Rattle.std.specs.Prelude.{◌≡◌, ℕ, List, [], Bool, true, false, codes, if◌then◌else◌, Option, Some, None}
+use Rattle.sieve_syntax.specs.Tree.{CommandTree, command, CommandTrees, no_commands, command_then, EndingTree, semicolon, block}
+use Rattle.sieve_syntax.specs.declared.tree.Argument.{Argument}
+use Rattle.sieve_meaning.specs.Case.{Facts}
+use Rattle.sieve_meaning.specs.declared.words.CommandWord.{CommandWord}
+use Rattle.sieve_meaning.specs.declared.words.CommandWord.TheVariants as words
+use Rattle.sieve_meaning.specs.Program.{Test, Commands, Branches}
+use Rattle.sieve_meaning.specs.Truth.{truth}
+use Rattle.sieve_meaning.specs.Reading.{only_in, block_in, command_named, program_of, branches_of, string_lists, first_string, has_tag, include_of}
+use Rattle.sieve_meaning.specs.Meaning.{Included, included, no_library, run, run_branches, and_then, filing}
+use Rattle.sieve_meaning.specs.Meaning as meaning
+use Rattle.plain_evaluator.specs.declared.commands.Filing.{Filing}
+use Rattle.plain_evaluator.specs.declared.commands.Ending.{Ending}
+use Rattle.plain_evaluator.specs.declared.commands.Ending.TheVariants as endings
+use Rattle.plain_evaluator.specs.declared.commands.Part.{Part}
+use Rattle.plain_evaluator.specs.declared.commands.Part.TheVariants.{Branch, Otherwise, Plain}
+
+-- what an `include` does where no script is there
+abbrev pub without_includes : Facts → Included
+without_includes facts = included facts no_library 7 []
+
+-- what the code's state of a run stands for
+abbrev pub filing_of : Filing → meaning.Filing
+filing_of f = record { filed = f.filed; kept = f.kept; cancelled = f.cancelled; entered = [] }
+
+abbrev pub ending_at : Ending → Filing → meaning.Ending
+ending_at endings.GoesOn f = meaning.GoesOn (filing_of f)
+ending_at endings.Returns f = meaning.Returns (filing_of f)
+ending_at endings.Stops f = meaning.Stops (filing_of f)
+ending_at (endings.Faults n) f = meaning.Faults n (filing_of f)
+
+-- the number of a fault that a run ended in
+abbrev pub fault_of : Ending → Option ℕ
+fault_of endings.GoesOn = None
+fault_of endings.Returns = None
+fault_of endings.Stops = None
+fault_of (endings.Faults n) = Some n
+
+-- Commands are run. An `elsif` or `else` at their front is open where no test of the branches before it was
+-- true, and is passed over otherwise.
+unfoldable pub runs_from : Facts → (is_open : Bool) → CommandTrees → meaning.Filing → meaning.Ending
+runs_from facts true cs f = and_then (run_branches facts (without_includes facts) (branches_of cs) f) (run facts (without_includes facts) (program_of cs))
+runs_from facts false cs f = run facts (without_includes facts) (program_of cs) f
+
+-- `fileinto` with these arguments
+abbrev pub filing_into : Facts → List Argument → meaning.Filing → meaning.Ending
+filing_into facts args f = filing facts (has_tag (codes "copy") args) (first_string (string_lists false args)) f
+
+-- `include` with these arguments
+abbrev pub including : Facts → List Argument → meaning.Filing → meaning.Ending
+including facts args f = without_includes facts (include_of args) f
+
+-- what a command is to the branches before it
+abbrev pub part_of : CommandWord → Bool → Part
+part_of words.If is_open = Branch
+part_of words.ElsIf true = Branch
+part_of words.ElsIf false = Plain
+part_of words.Else true = Otherwise
+part_of words.Else false = Plain
+part_of word is_open = Plain
+
+-- not `if`, which needs its test and block
+abbrev pub IsNoIf : CommandWord → Type 0
+IsNoIf words.If = ⊥
+IsNoIf word = Unit {0}
+
+-- A command with this word and these arguments ends so, whatever test, block, branches and further commands
+-- stand with it; an `elsif` or `else` is passed over.
+abbrev pub PlainlyEnds : Facts → CommandWord → List Argument → meaning.Filing → meaning.Ending → Type 0
+PlainlyEnds facts word args f e = (t : Test) (inner : Commands) (rest : Branches) (more : Commands) → run facts (without_includes facts) (command_named word args t inner rest more) f ≡ and_then e (run facts (without_includes facts) more)
+
+-- a command before further ones leads to this ending, and leaves the branches behind it open or not
+abbrev pub Leads : Facts → Bool → CommandTree → meaning.Filing → meaning.Ending → Bool → Type 0
+Leads facts is_open c f e opens = (more : CommandTrees) → runs_from facts is_open (command_then c more) f ≡ and_then e (runs_from facts opens more)
+
+abbrev pub commands_in : EndingTree → CommandTrees
+commands_in semicolon = no_commands
+commands_in (block cs) = cs
+
+-- a test and a block that are taken where the test is true lead to this ending
+abbrev pub BranchLeads : Facts → CommandTree → meaning.Filing → meaning.Ending → Bool → Type 0
+BranchLeads facts (command name args inner finish) f e opens = (more : CommandTrees) → (if truth facts (only_in inner) then and_then (run facts (without_includes facts) (block_in finish) f) (runs_from facts false more) else runs_from facts true more f) ≡ and_then e (runs_from facts opens more)
