@@ -23,6 +23,7 @@ impl Model for Shape {
 }
 
 impl Shape {
+    /// No entry.
     pub fn new() -> Shape
         ensures { result ≡ [] }
     {
@@ -32,6 +33,7 @@ impl Shape {
         }
     }
 
+    /// The same kinds again.
     pub fn copy(&self) -> Shape
         ensures { result ≡ self.now }
     {
@@ -41,12 +43,14 @@ impl Shape {
         }
     }
 
+    /// Whether the kinds are those of another shape.
     pub fn is(&self, other: &Shape) -> bool
         ensures { IsTrue result ↔ self.now ≡ other.now }
     {
         are_same(self.entries(), other.entries())
     }
 
+    /// How many entries there are.
     pub fn depth(&self) -> usize
         ensures { result ≡ length self.now }
     {
@@ -60,6 +64,7 @@ impl Shape {
         &self.kinds[..self.depth]
     }
 
+    /// Puts an entry on top. The caller keeps the depth below 33.
     pub fn push(&mut self, kind: Kind)
         requires { length self.old < 33 }
         ensures { self.new ≡ kind ∷ self.old }
@@ -68,6 +73,7 @@ impl Shape {
         self.depth += 1;
     }
 
+    /// Takes the topmost entry off, or none where there is none.
     pub fn pop(&mut self) -> Option<Kind>
         ensures { MatchOption result (self.old ≡ []) (λ k. self.old ≡ k ∷ self.new) }
     {
