@@ -47,9 +47,6 @@ const MESSAGE_OCTETS: usize = 2_100;
 /// The octets of the greatest message.
 const GREATEST_MESSAGE: usize = 8_388_608;
 
-/// How often a short work is done in one run.
-const TIMES: usize = 1_000;
-
 /// A message of 2 KB that the script of one test files.
 pub fn message(alloc: Global) -> Result<Vec<u8>, AllocError> {
     repeated(
@@ -113,10 +110,10 @@ pub fn case_of(alloc: Global, message: &[u8]) -> Result<Option<WholeCase>, Alloc
     Ok(Some(case))
 }
 
-/// The fields of the cases of a message that is read a thousand times.
-pub fn fields_of_cases(alloc: Global, message: &[u8]) -> Result<usize, AllocError> {
+/// The fields of the cases of a message that is read so many times.
+pub fn fields_of_cases(alloc: Global, message: &[u8], times: usize) -> Result<usize, AllocError> {
     let mut fields = 0usize;
-    for _ in 0..TIMES {
+    for _ in 0..times {
         let case = case_of(alloc, message)?;
         fields = fields.wrapping_add(case.map_or(0, |case| case.field_count()));
     }
@@ -128,9 +125,9 @@ pub fn weight_of(alloc: Global, script: &[u8]) -> usize {
     compiled(alloc, script).map_or(0, |program| program.budget() as usize)
 }
 
-/// The weights of a script that is compiled a thousand times.
-pub fn weights_of(alloc: Global, script: &[u8]) -> usize {
-    (0..TIMES).fold(0usize, |sum, _| sum.wrapping_add(weight_of(alloc, script)))
+/// The weights of a script that is compiled so many times.
+pub fn weights_of(alloc: Global, script: &[u8], times: usize) -> usize {
+    (0..times).fold(0usize, |sum, _| sum.wrapping_add(weight_of(alloc, script)))
 }
 
 /// The octets that a session is answered, or 0 where it is given up.

@@ -1,51 +1,65 @@
-//! Measures the parts of Mailfile on inputs that it makes: `bench` alone runs each measure once on a small input and
-//! tells its name, `bench OCTETS ROUNDS` runs each so often on an input of so many octets and tells the time of each,
-//! beside that of a plain loop over the octets. `./bench` at the top runs the built program.
+//! Measures the parts of Mailfile on inputs that it makes. `bench` alone runs each measure once on a small input and
+//! tells what it answered. `bench OCTETS ROUNDS` runs each so often on an input of so many octets and on one of half as
+//! many, and tells the least time of each, beside that of a plain pass over the same input. `./bench` at the top runs
+//! the built program and writes the table.
 #![tactic(auto)]
 
+mod baselines;
 mod filings;
 mod inputs;
 mod measures;
 mod plans;
+mod rows;
 mod settings;
+mod timing;
 
 use anyhow::Result;
-use measures::{Measure, measures};
-use settings::Setting;
+use rows::{Asked, ROWS, Row};
 use std::env;
 use std::rt::Env;
-use std::time::Instant;
+use timing::{Timing, answer_of, timing_of};
 
 /// The octets of an input where none are asked for.
 const FEW_OCTETS: usize = 4_096;
 
-/// The words of the command line as numbers, the program's name left out.
-fn numbers(rt: &(impl Env + Alloc)) -> Result<(Option<usize>, Option<u32>)> {
+/// The octets of an input and the rounds that are asked for, if both are.
+fn asked_for(rt: &(impl Env + Alloc)) -> Result<Option<(usize, u32)>> {
     let mut words = env::args(rt)?;
     let _ = words.next();
     let octets = words.next().and_then(|word| word.parse().ok());
     let rounds = words.next().and_then(|word| word.parse().ok());
-    Ok((octets, rounds))
+    Ok(octets.zip(rounds))
+}
+
+/// Tells what a row took: its title, what was asked, the octets and nanoseconds of a run, those of a run on half as
+/// much, the name and nanoseconds of the plain pass, and what was answered, with tabs between them.
+fn tell(rt: &impl Print, row: &Row, whole: Timing, half: Timing) -> Result<()> {
+    let (title, baseline) = (row.title, row.baseline.name());
+    let (word, number) = match row.asked {
+        Asked::Rate(rate) => ("rate", rate),
+        Asked::Time(time) => ("time", time),
+        Asked::Growth(growth) => ("growth", growth),
+        Asked::Nothing => ("nothing", 0),
+    };
+    let (octets, spent, plain) = (whole.octets, whole.measure, whole.baseline);
+    let (half_octets, half_spent) = (half.octets, half.measure);
+    let answers = whole.answers.wrapping_add(half.answers);
+    print!(rt; "{title}\t{word}\t{number}\t{octets}\t{spent}\t")?;
+    println!(rt; "{half_octets}\t{half_spent}\t{baseline}\t{plain}\t{answers}")?;
+    Ok(())
 }
 
 fn main(rt: HostRuntime) -> Result<()> {
-    let (octets, rounds) = numbers(&rt)?;
-    for measure in measures() {
-        let input = measure.input(rt.alloc(), octets.unwrap_or(FEW_OCTETS))?;
-        let setting = Setting::of(rt.alloc(), measure, input.as_slice())?;
-        let start = Instant::now(&rt)?;
-        let mut answer = 0;
-        for _ in 0..rounds.unwrap_or(1) {
-            answer = measure.run(rt.alloc(), input.as_slice(), &setting)?;
-        }
-        let spent = start.elapsed(&rt)?;
-        let name = measure.name();
-        if let Some(rounds) = rounds {
-            let (octets, nanoseconds) = (input.len(), spent.as_nanos());
-            println!(rt; "{name} {octets} {rounds} {nanoseconds} {answer}")?;
-        } else {
-            println!(rt; "{name} ran: {answer}")?;
-        }
+    let asked_for = asked_for(&rt)?;
+    for row in &ROWS {
+        let Some((octets, rounds)) = asked_for else {
+            let (title, answer) = (row.title, answer_of(rt.alloc(), row, FEW_OCTETS)?);
+            println!(rt; "{title}: {answer}")?;
+            continue;
+        };
+        let whole = timing_of(&rt, row, octets, rounds)?;
+        let half = timing_of(&rt, row, octets / 2, rounds)?;
+        tell(&rt, row, whole, half)?;
     }
     Ok(())
 }

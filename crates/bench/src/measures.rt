@@ -1,4 +1,4 @@
-//! What is measured.
+//! What is measured: the input of each measure, and one run of it.
 
 use crate::filings::{
     INVOICE_SCRIPT, fields_of_cases, judged, message, octets_answered, script_of_tests,
@@ -16,8 +16,6 @@ use std::alloc::{AllocError, Global};
 /// A part of Mailfile on one kind of input.
 #[derive(Clone, Copy, Debug, PartialEq, Eq)]
 pub enum Measure {
-    /// A plain loop that adds up the octets, to compare with.
-    PlainLoop,
     /// `read_head` of a header in fields of 80 octets.
     Header,
     /// `read_head` of a small header before a long body.
@@ -32,6 +30,8 @@ pub enum Measure {
     Beginnings,
     /// `parse` of a script of header tests.
     Script,
+    /// `parse` of a text that it refuses.
+    Hostile(HostileText),
     /// `contains` of a key that is not there, by octets.
     AbsentOctet,
     /// `contains` of a key that is not there, without case.
@@ -68,36 +68,25 @@ pub enum Measure {
     Filings,
 }
 
-/// Each measure, in the order in which they are told.
-pub fn measures() -> [Measure; 25] {
-    [
-        Measure::PlainLoop,
-        Measure::Header,
-        Measure::Body,
-        Measure::Pieces,
-        Measure::PlainValue,
-        Measure::EncodedValue,
-        Measure::Beginnings,
-        Measure::Script,
-        Measure::AbsentOctet,
-        Measure::AbsentCasemap,
-        Measure::HardOctet,
-        Measure::HardCasemap,
-        Measure::Stars,
-        Measure::PlanFile,
-        Measure::ScheduleOfFew,
-        Measure::ScheduleOfMany,
-        Measure::ImageCode,
-        Measure::ImageTexts,
-        Measure::Steps,
-        Measure::Runs,
-        Measure::Cases,
-        Measure::ShortScript,
-        Measure::HalfScript,
-        Measure::LongScript,
-        Measure::Filings,
-    ]
+/// A text that is refused, of one thing repeated.
+#[derive(Clone, Copy, Debug, PartialEq, Eq)]
+pub enum HostileText {
+    /// `(` alone.
+    Brackets,
+    /// `[` alone.
+    ListBrackets,
+    /// `if not ` alone.
+    Negations,
+    /// `"` alone.
+    Quotes,
+    /// `{` alone.
+    Braces,
+    /// Digits alone.
+    Digits,
 }
+
+/// How often a short work is done in one run.
+const TIMES: usize = 1_000;
 
 /// A field of 80 octets with its line end.
 const FIELD: &[u8] =
@@ -115,34 +104,15 @@ const TESTS: &[u8] =
     b"if header :contains [\"subject\", \"x-subject\"] \"invoice\" { fileinto \"finance\"; }\r\n";
 
 impl Measure {
-    /// The measure's name.
-    pub fn name(self) -> &'static str {
+    /// How often a run does its work.
+    pub fn times(self) -> usize {
         match self {
-            Measure::PlainLoop => "plain_loop",
-            Measure::Header => "read_head_fields",
-            Measure::Body => "read_head_body",
-            Measure::Pieces => "head_reader_pieces",
-            Measure::PlainValue => "value_of_plain",
-            Measure::EncodedValue => "value_of_words",
-            Measure::Beginnings => "value_of_beginnings",
-            Measure::Script => "parse_script",
-            Measure::AbsentOctet => "contains_absent_octet",
-            Measure::AbsentCasemap => "contains_absent_casemap",
-            Measure::HardOctet => "contains_hard_octet",
-            Measure::HardCasemap => "contains_hard_casemap",
-            Measure::Stars => "matches_stars",
-            Measure::PlanFile => "plan_file",
-            Measure::ScheduleOfFew => "schedule_of_few",
-            Measure::ScheduleOfMany => "schedule_of_many",
-            Measure::ImageCode => "image_code",
-            Measure::ImageTexts => "image_texts",
-            Measure::Steps => "run_steps",
-            Measure::Runs => "run_short_1000",
-            Measure::Cases => "read_case_1000",
-            Measure::ShortScript => "compile_short_1000",
-            Measure::HalfScript => "compile_1000_tests",
-            Measure::LongScript => "compile_2000_tests",
-            Measure::Filings => "serve_filings",
+            Measure::ScheduleOfFew
+            | Measure::ScheduleOfMany
+            | Measure::Runs
+            | Measure::Cases
+            | Measure::ShortScript => TIMES,
+            _ => 1,
         }
     }
 
@@ -157,15 +127,20 @@ impl Measure {
                 alloc,
                 b"require \"fileinto\";\r\n",
                 TESTS,
-                octets.min(262_000),
+                (octets / 4).min(262_000),
+            ),
+            Measure::Hostile(text) => repeated(
+                alloc,
+                b"",
+                text.repeated(),
+                (octets / 4).min(262_144),
             ),
             Measure::HardOctet | Measure::HardCasemap | Measure::Stars => repeated(
                 alloc, b"", b"a", octets,
             ),
-            Measure::PlainLoop
-            | Measure::PlainValue
-            | Measure::AbsentOctet
-            | Measure::AbsentCasemap => repeated(alloc, b"", PROSE, octets),
+            Measure::PlainValue | Measure::AbsentOctet | Measure::AbsentCasemap => repeated(
+                alloc, b"", PROSE, octets,
+            ),
             _ => self.filing_input(alloc, octets),
         }
     }
@@ -191,13 +166,14 @@ impl Measure {
     /// Runs once; the answer is told so that the work is done.
     pub fn run(self, alloc: Global, input: &[u8], setting: &Setting) -> Result<usize, AllocError> {
         match self {
-            Measure::PlainLoop => Ok(sum(input)),
             Measure::Header | Measure::Body => Ok(read_head(alloc, input)?.fields().len()),
             Measure::Pieces => fields_in_pieces(alloc, input),
             Measure::PlainValue | Measure::EncodedValue | Measure::Beginnings => Ok(value_of(
                 alloc, input,
             )?.len()),
-            Measure::Script => Ok(parse(alloc, input).map_or(0, |script| script.commands.len())),
+            Measure::Script | Measure::Hostile(_) => Ok(parse(alloc, input).map_or(0, |script| {
+                script.commands.len()
+            })),
             Measure::AbsentOctet => Ok(usize::from(contains(
                 b"lazy cat",
                 input,
@@ -213,7 +189,7 @@ impl Measure {
             Measure::Stars => Ok(usize::from(matches(b"*a*a*a*a*b", input, Comparator::Octet))),
             Measure::PlanFile => taken_over(alloc, input),
             Measure::ScheduleOfFew | Measure::ScheduleOfMany => {
-                Ok(schedules(&setting.plan, input))
+                Ok(schedules(&setting.plan, input, TIMES))
             }
             _ => self.run_filing(alloc, input, setting),
         }
@@ -228,9 +204,9 @@ impl Measure {
     ) -> Result<usize, AllocError> {
         match self {
             Measure::Steps => setting.steps(alloc, 1),
-            Measure::Runs => setting.steps(alloc, 1_000),
-            Measure::Cases => fields_of_cases(alloc, input),
-            Measure::ShortScript => Ok(weights_of(alloc, input)),
+            Measure::Runs => setting.steps(alloc, TIMES),
+            Measure::Cases => fields_of_cases(alloc, input, TIMES),
+            Measure::ShortScript => Ok(weights_of(alloc, input, TIMES)),
             Measure::HalfScript | Measure::LongScript => Ok(weight_of(alloc, input)),
             Measure::Filings => octets_answered(alloc, input),
             _ => Ok(parts_that_may_run(alloc, input)),
@@ -238,11 +214,18 @@ impl Measure {
     }
 }
 
-/// The sum of the octets, wrapped.
-fn sum(input: &[u8]) -> usize {
-    input
-        .iter()
-        .fold(0usize, |sum, octet| sum.wrapping_add(usize::from(*octet)))
+impl HostileText {
+    /// What is repeated.
+    fn repeated(self) -> &'static [u8] {
+        match self {
+            HostileText::Brackets => b"(",
+            HostileText::ListBrackets => b"[",
+            HostileText::Negations => b"if not ",
+            HostileText::Quotes => b"\"",
+            HostileText::Braces => b"{",
+            HostileText::Digits => b"1",
+        }
+    }
 }
 
 /// How many fields a message has, read from pieces of 4,096 octets.

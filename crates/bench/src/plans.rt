@@ -59,9 +59,9 @@ pub fn taken_over(alloc: Global, text: &[u8]) -> Result<usize, AllocError> {
     Ok(plan.class_count())
 }
 
-/// Reads the schedule of a path a thousand times, and tells how often there was one.
-pub fn schedules(plan: &Plan, path: &[u8]) -> usize {
-    (0..1_000)
+/// Reads the schedule of a path so many times, and tells how often there was one.
+pub fn schedules(plan: &Plan, path: &[u8], times: usize) -> usize {
+    (0..times)
         .filter(|_| plan.schedule_of(path).is_some())
         .count()
 }

@@ -1,0 +1,50 @@
+//! Plain passes over an input, to compare a measure with: on a slow machine both are slow.
+
+use memchr::memchr;
+use std::alloc::{AllocError, Global};
+
+/// A plain pass over the octets of an input.
+#[derive(Clone, Copy, Debug, PartialEq, Eq)]
+pub enum Baseline {
+    /// Adds up the octets.
+    Sum,
+    /// Copies the octets into a vector of their own.
+    Copy,
+    /// Looks for an octet that is not there, by `memchr`.
+    Search,
+}
+
+/// An octet that no input of a search has.
+const ABSENT: u8 = 0;
+
+impl Baseline {
+    /// What it is called in the table.
+    pub fn name(self) -> &'static str {
+        match self {
+            Baseline::Sum => "sum",
+            Baseline::Copy => "copy",
+            Baseline::Search => "search",
+        }
+    }
+
+    /// Passes over the octets so many times; the answer is told so that the work is done.
+    pub fn run(self, alloc: Global, input: &[u8], times: usize) -> Result<usize, AllocError> {
+        let mut answer = 0usize;
+        for _ in 0..times {
+            let passed = match self {
+                Baseline::Sum => sum(input),
+                Baseline::Copy => Vec::from_slice(alloc, input)?.len(),
+                Baseline::Search => memchr(ABSENT, input).unwrap_or(input.len()),
+            };
+            answer = answer.wrapping_add(passed);
+        }
+        Ok(answer)
+    }
+}
+
+/// The sum of the octets, wrapped.
+fn sum(input: &[u8]) -> usize {
+    input
+        .iter()
+        .fold(0usize, |sum, octet| sum.wrapping_add(usize::from(*octet)))
+}

@@ -1,0 +1,220 @@
+//! The table that is measured, as data: what, what was asked of it, and the plain pass beside it.
+
+use crate::baselines::Baseline;
+use crate::measures::{HostileText, Measure};
+
+/// What was asked of a measure.
+#[derive(Clone, Copy, Debug, PartialEq, Eq)]
+pub enum Asked {
+    /// At least so many millions of octets a second.
+    Rate(u32),
+    /// At most so many milliseconds a run.
+    Time(u32),
+    /// At most so many tenths of the time of a run on half the octets.
+    Growth(u32),
+    /// Nothing; it is measured to be compared with another.
+    Nothing,
+}
+
+/// At most two and a half times as long on twice the octets.
+const LINEAR: Asked = Asked::Growth(25);
+
+/// At most one and a half times as long on twice the octets.
+const CONSTANT: Asked = Asked::Growth(15);
+
+/// A row of the table.
+#[derive(Clone, Copy)]
+pub struct Row {
+    /// What is measured.
+    pub measure: Measure,
+    /// Its name in the table.
+    pub title: &'static str,
+    /// What was asked of it.
+    pub asked: Asked,
+    /// What it is compared with, over the same input and as often.
+    pub baseline: Baseline,
+}
+
+/// Each row, in the order of a message's way.
+pub const ROWS: [Row; 30] = [
+    Row {
+        measure: Measure::Header,
+        title: "`read_head`, a header in fields of 80 octets",
+        asked: Asked::Rate(500),
+        baseline: Baseline::Sum,
+    },
+    Row {
+        measure: Measure::Body,
+        title: "`read_head`, a small header before a long body",
+        asked: CONSTANT,
+        baseline: Baseline::Sum,
+    },
+    Row {
+        measure: Measure::Pieces,
+        title: "`HeadReader`, pieces of 4,096 octets",
+        asked: Asked::Rate(300),
+        baseline: Baseline::Copy,
+    },
+    Row {
+        measure: Measure::PlainValue,
+        title: "`value_of`, no encoded words",
+        asked: Asked::Rate(500),
+        baseline: Baseline::Copy,
+    },
+    Row {
+        measure: Measure::EncodedValue,
+        title: "`value_of`, a word in every 75 octets",
+        asked: Asked::Rate(100),
+        baseline: Baseline::Copy,
+    },
+    Row {
+        measure: Measure::Beginnings,
+        title: "`value_of`, beginnings of words alone",
+        asked: LINEAR,
+        baseline: Baseline::Copy,
+    },
+    Row {
+        measure: Measure::Script,
+        title: "`parse`, header tests",
+        asked: Asked::Rate(50),
+        baseline: Baseline::Sum,
+    },
+    Row {
+        measure: Measure::Hostile(HostileText::Brackets),
+        title: "`parse`, refused: `(` alone",
+        asked: LINEAR,
+        baseline: Baseline::Sum,
+    },
+    Row {
+        measure: Measure::Hostile(HostileText::ListBrackets),
+        title: "`parse`, refused: `[` alone",
+        asked: LINEAR,
+        baseline: Baseline::Sum,
+    },
+    Row {
+        measure: Measure::Hostile(HostileText::Negations),
+        title: "`parse`, refused: `if not ` alone",
+        asked: LINEAR,
+        baseline: Baseline::Sum,
+    },
+    Row {
+        measure: Measure::Hostile(HostileText::Quotes),
+        title: "`parse`, refused: `\"` alone",
+        asked: LINEAR,
+        baseline: Baseline::Sum,
+    },
+    Row {
+        measure: Measure::Hostile(HostileText::Braces),
+        title: "`parse`, refused: `{` alone",
+        asked: LINEAR,
+        baseline: Baseline::Sum,
+    },
+    Row {
+        measure: Measure::Hostile(HostileText::Digits),
+        title: "`parse`, refused: digits alone",
+        asked: LINEAR,
+        baseline: Baseline::Sum,
+    },
+    Row {
+        measure: Measure::AbsentOctet,
+        title: "`contains`, absent key, `i;octet`",
+        asked: Asked::Rate(2_000),
+        baseline: Baseline::Search,
+    },
+    Row {
+        measure: Measure::AbsentCasemap,
+        title: "`contains`, absent key, `i;ascii-casemap`",
+        asked: Asked::Rate(500),
+        baseline: Baseline::Sum,
+    },
+    Row {
+        measure: Measure::HardOctet,
+        title: "`contains`, 1,000 `a` and a `b` in `a`, `i;octet`",
+        asked: Asked::Time(20),
+        baseline: Baseline::Search,
+    },
+    Row {
+        measure: Measure::HardCasemap,
+        title: "`contains`, the same, `i;ascii-casemap`",
+        asked: Asked::Time(20),
+        baseline: Baseline::Sum,
+    },
+    Row {
+        measure: Measure::Stars,
+        title: "`matches`, `*a*a*a*a*b` in `a`",
+        asked: Asked::Time(20),
+        baseline: Baseline::Sum,
+    },
+    Row {
+        measure: Measure::PlanFile,
+        title: "`Plan::from_toml` and `revise`, 4,096 classes",
+        asked: Asked::Time(100),
+        baseline: Baseline::Sum,
+    },
+    Row {
+        measure: Measure::ScheduleOfFew,
+        title: "`schedule_of`, 1,000 times, eight segments, 9 classes",
+        asked: Asked::Nothing,
+        baseline: Baseline::Sum,
+    },
+    Row {
+        measure: Measure::ScheduleOfMany,
+        title: "`schedule_of`, 1,000 times, eight segments, 4,096 classes",
+        asked: Asked::Nothing,
+        baseline: Baseline::Sum,
+    },
+    Row {
+        measure: Measure::ImageCode,
+        title: "`decode` and `verify`, 65,535 instructions",
+        asked: Asked::Time(10),
+        baseline: Baseline::Copy,
+    },
+    Row {
+        measure: Measure::ImageTexts,
+        title: "`decode` and `verify`, texts of 254 octets",
+        asked: LINEAR,
+        baseline: Baseline::Copy,
+    },
+    Row {
+        measure: Measure::Steps,
+        title: "`run`, 59,991 steps without `VALUES` and `MATCH`",
+        asked: Asked::Time(1),
+        baseline: Baseline::Sum,
+    },
+    Row {
+        measure: Measure::Runs,
+        title: "`run` of the script below, 1,000 times, message of 2 KB",
+        asked: Asked::Time(3),
+        baseline: Baseline::Sum,
+    },
+    Row {
+        measure: Measure::Cases,
+        title: "`WholeCase::read` of that message, 1,000 times",
+        asked: Asked::Nothing,
+        baseline: Baseline::Copy,
+    },
+    Row {
+        measure: Measure::ShortScript,
+        title: "`parse`, `check` and `compile` of the script, 1,000 times",
+        asked: Asked::Time(20),
+        baseline: Baseline::Sum,
+    },
+    Row {
+        measure: Measure::HalfScript,
+        title: "the same, once, 1,000 header tests of weight 17,005",
+        asked: LINEAR,
+        baseline: Baseline::Sum,
+    },
+    Row {
+        measure: Measure::LongScript,
+        title: "the same, once, 2,000 header tests of weight 34,005",
+        asked: Asked::Time(5),
+        baseline: Baseline::Sum,
+    },
+    Row {
+        measure: Measure::Filings,
+        title: "`serve`, 10,000 `FILE` of the script with that message",
+        asked: Asked::Time(200),
+        baseline: Baseline::Copy,
+    },
+];
