@@ -1,11 +1,11 @@
 -- Where a class is added.
-use Rattle.std.proofs.Common.{◌≡◌, ℕ, ◌<◌, nat_le, Bool, true, false, not, List, length, Some, None, Ok, ap, sym, subst, arith, refl}
+use Rattle.std.proofs.Common.{◌≡◌, ℕ, ◌<◌, nat_le, Bool, true, false, not, List, length, None, Ok, ap, sym, subst, arith, refl}
 use Rattle.std.proofs.lemmas.Bool.Decides.{nat_tests}
 use Rattle.class_plan.specs.declared.faults.PlanFault.{PlanFault}
 use Rattle.class_plan.specs.declared.faults.PlanFault.TheVariants.{BadPath, ParentMissing, TooManyClasses}
 use Rattle.class_plan.specs.Paths.{is_path, has_parent_in}
 use Rattle.class_plan.specs.Plans.{Listing, has}
-use Rattle.class_plan.specs.Faults.{first_fault, HoldsNone, IsSmallest, judged, answer}
+use Rattle.class_plan.specs.Faults.{first_fault, HoldsNone, judged, answer}
 use Rattle.class_plan.specs.Changes.{speaks_against}
 use Rattle.class_plan.proofs.Judged.{Says, first-says}
 
@@ -19,9 +19,6 @@ below_full n h = grind (arith, nat_tests)
 -- nothing speaks against the path
 pub none-holds : (h : PlanFault → Bool) → None ≡ first_fault h → HoldsNone h
 none-holds h e = subst (Says h) (sym e) (first-says h)
-
-pub smallest-holds : (h : PlanFault → Bool) (f : PlanFault) → Some f ≡ first_fault h → IsSmallest h f
-smallest-holds h f e = subst (Says h) (sym e) (first-says h)
 
 pub judged-ok : {A : Type 0} (h : PlanFault → Bool) (a : A) → None ≡ first_fault h → judged h a ≡ Ok a
 judged-ok h a e = ap (λ o. answer o a) (sym e)

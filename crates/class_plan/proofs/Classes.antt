@@ -65,16 +65,6 @@ pub entries-all : (vs : List Value) (i : ℕ) (out : List Entry) → length vs �
 unfolding entries_of
 entries-all vs i out h so = sym (so ∙ rw (drop_all i vs h) (ap (λ xs. Some xs) (append-nil out)))
 
-same_map : (x : Option (List Entry)) → x ≡ option_map (λ more. [] ++ more) x
-same_map None = refl
-same_map (Some es) = refl
-
-pub entries-none : (vs : List Value) → entries_of (items_view vs) ≡ option_map (λ more. [] ++ more) (entries_of (items_view vs))
-entries-none vs = same_map _
-
-pub listed-array : (o : Option Data) (d : Data) (x : Option (List Entry)) → Some d ≡ o → x ≡ listed_of (Some d) → x ≡ listed_of o
-listed-array o d x a b = rw (← a) b
-
 abbrev pub entry : List ℕ → Bool → Stated → Entry
 entry p o t = record { path = p; is_open = o; stated = t }
 

@@ -1,13 +1,9 @@
 -- Counts, digit by digit.
-use Rattle.std.proofs.Common.{◌≡◌, ℕ, ◌+◌, ◌-◌, ◌*◌, ◌<◌, ◌≢◌, nat_le, true, false, ◌&&◌, List, [], ◌∷◌, length, drop, get_or, None, arith}
+use Rattle.std.proofs.Common.{◌≡◌, ℕ, ◌+◌, ◌-◌, ◌*◌, ◌<◌, nat_le, false, ◌&&◌, List, [], ◌∷◌, length, drop, get_or, None, arith}
 use Rattle.std.proofs.lemmas.List.{drop_more}
-use Rattle.std.proofs.lemmas.Bool.Decides.{nat_tests}
 use Rattle.std.proofs.lemmas.Bool.{cases_Bool}
 use Rattle.std.proofs.Common.{inl, inr}
-use Rattle.class_plan.specs.Texts.{count_of, count_from, IsLargeOrNone}
-
-pub number-more : (cs : List ℕ) (i n : ℕ) → i < length cs → (nat_le 48 (get_or cs i 0) && nat_le (get_or cs i 0) 57) ≡ true → count_from n (drop i cs) ≡ count_from (n * 10 + (get_or cs i 0 - 48)) (drop (i + 1) cs)
-number-more cs i n h d = rw (drop_more cs i 0 h, d)
+use Rattle.class_plan.specs.Texts.{count_from, IsLargeOrNone}
 
 pub number-bad : (cs : List ℕ) (i n : ℕ) → i < length cs → (nat_le 48 (get_or cs i 0) && nat_le (get_or cs i 0) 57) ≡ false → count_from n (drop i cs) ≡ None
 number-bad cs i n h d = rw (drop_more cs i 0 h, d)
@@ -18,7 +14,3 @@ number-large n (c ∷ cs) h = elim (cases_Bool (nat_le 48 c && nat_le c 57)) [
   | inl is ↦ rw is (number-large (n * 10 + (c - 48)) cs (omega arith))
   | inr not ↦ rw not tt
 ]
-
-pub number-start : (cs : List ℕ) → 0 < length cs → get_or cs 0 0 ≢ 48 → count_of cs ≡ count_from 0 cs
-number-start [] h ne = absurd (omega arith)
-number-start (c ∷ cs) h ne = grind (arith, nat_tests)

@@ -45,10 +45,6 @@ count_push a (x ∷ xs) d m h e = elim (cases_Bool (is_digit x)) [
   | inr other ↦ let k : None ≡ Some m = rw other at e in absurd (cc)
 ]
 
-and_true : (a : Bool) → (a && true) ≡ a
-and_true true = refl
-and_true false = refl
-
 digits_push : (ds : List ℕ) (d : ℕ) → d < 10 → list_all is_digit ds ≡ true → list_all is_digit (ds ++ (48 + d) ∷ []) ≡ true
 digits_push [] d h e = rw (digit_test d h)
 digits_push (x ∷ xs) d h e = elim (cases_Bool (is_digit x)) [

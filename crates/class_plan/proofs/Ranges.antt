@@ -1,12 +1,11 @@
 -- The schedules that a plan answers are in range.
-use Rattle.std.proofs.Common.{◌≡◌, ℕ, Bool, true, false, cond, List, [], ◌∷◌, Option, Some, None, option_map, option_and_then, unwrap_or, subst}
+use Rattle.std.proofs.Common.{◌≡◌, ℕ, Bool, true, false, cond, List, [], ◌∷◌, Option, Some, None, option_map, option_and_then, unwrap_or}
 use Rattle.std.proofs.lemmas.List.Elements.{recursion_from_All}
 use Rattle.std.specs.Str.{bytes_eq}
 use Rattle.std.specs.List.{AllByRecursion}
 use Rattle.class_plan.specs.declared.schedules.Schedule.{Schedule}
-use Rattle.class_plan.specs.Paths.{ancestors}
 use Rattle.class_plan.specs.Schedules.{IsInRange, IsInRangeIfAny}
-use Rattle.class_plan.specs.Plans.{Row, Listing, found, has, own_at, first_own, schedule_at, IsClass, IsPlan}
+use Rattle.class_plan.specs.Plans.{Row, Listing, found, own_at, first_own, IsClass, IsPlan}
 
 own_head : (b : Bool) (x : Row) (o : Option Row) → IsInRangeIfAny x.schedule → IsInRangeIfAny (option_and_then (λ r. r.schedule) o) → IsInRangeIfAny (option_and_then (λ r. r.schedule) (cond b (Some x) o))
 own_head true x o h k = h
@@ -26,14 +25,6 @@ or_else (Some t) s h k = h
 pub first-range : (p : Listing) → IsPlan p → (qs : List (List ℕ)) → IsInRange (first_own p qs)
 first-range p h [] = h.root
 first-range p h (q ∷ qs) = or_else (own_at p.rows q) (first_own p qs) (own-range p h q) (first-range p h qs)
-
-schedule_if : (b : Bool) (s t : Schedule) → IsInRange s → Some t ≡ cond b (Some s) None → IsInRange t
-schedule_if true s t h e = let k : s ≡ t = cc in subst IsInRange k h
-schedule_if false s t h e = absurd (cc)
-
--- the schedule of a class is in range
-pub schedule-range : (p : Listing) → IsPlan p → (q : List ℕ) (s : Schedule) → Some s ≡ schedule_at p q → IsInRange s
-schedule-range p h q s e = schedule_if (has p.rows q) (first_own p (q ∷ ancestors q)) s (first-range p h (q ∷ ancestors q)) e
 
 pub own-found : (o : Option Row) (s : Option Schedule) → Some s ≡ option_map (λ r. r.schedule) o → s ≡ option_and_then (λ r. r.schedule) o
 own-found None s h = absurd (cc)

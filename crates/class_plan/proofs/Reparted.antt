@@ -1,5 +1,5 @@
 -- The parts of a plan give that plan.
-use Rattle.std.proofs.Common.{◌≡◌, ℕ, ◌≤◌, nat_le, nat_lt, Bool, true, false, not, ◌&&◌, ◌||◌, cond, if◌then◌else◌, List, [], ◌∷◌, ◌++◌, map, length, Option, Some, None, is_some, option_map, unwrap_or, Ok, Less, Greater, is_eq, refl, ap, sym, subst, ◌∙◌, arith, append_assoc, inl, inr}
+use Rattle.std.proofs.Common.{◌≡◌, ℕ, ◌≤◌, nat_le, nat_lt, Bool, true, false, not, ◌&&◌, ◌||◌, if◌then◌else◌, List, [], ◌∷◌, ◌++◌, map, length, Option, Some, None, is_some, option_map, unwrap_or, Ok, Less, Greater, is_eq, refl, ap, sym, subst, ◌∙◌, arith, append_assoc, inl, inr}
 use Rattle.std.proofs.lemmas.Bool.{cases_Bool}
 use Rattle.std.proofs.lemmas.Bool.Decides.{nat_tests}
 use Rattle.std.proofs.lemmas.Cmp.{nat_list_cmp_total}
@@ -89,9 +89,6 @@ flip_eq p q false e = elim (cases_Bool (bytes_eq q p)) [
   | inl is ↦ let k : bytes_eq p q ≡ true = (bytes_eq-Decides p q).1 (sym ((bytes_eq-Decides q p).0 is)) in absurd (let x : true ≡ false = sym k ∙ e in (cc))
   | inr other ↦ other
 ]
-
-opens_head : (x : Row) (o : Option Row) → unwrap_or (option_map (λ r. r.is_open) (cond true (Some x) o)) false ≡ true → x.is_open ≡ true
-opens_head x o h = h
 
 and_false : (a : Bool) → (a && false) ≡ false
 and_false true = refl

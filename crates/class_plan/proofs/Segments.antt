@@ -1,6 +1,6 @@
 -- Paths, octet by octet.
 use Rattle.std.proofs.Common.{◌≡◌, ℕ, suc, ◌+◌, ◌<◌, ◌≤◌, ◌==◌, nat_le, Bool, true, false, ◌&&◌, List, [], ◌∷◌, ◌++◌, length, drop, get_or, refl, ap, ◌∙◌, arith, inl, inr, length-append}
-use Rattle.std.proofs.lemmas.List.{drop_more, drop_all}
+use Rattle.std.proofs.lemmas.List.{drop_more}
 use Rattle.std.proofs.lemmas.Bool.{cases_Bool}
 use Rattle.std.proofs.lemmas.Bool.Decides.{nat_tests}
 use Rattle.std.specs.List.{list_all}
@@ -90,9 +90,3 @@ next-other p now i n h c m =
 pub next-long : (p now : List ℕ) (i n : ℕ) → i < length p → (get_or p i 0 == 47) ≡ false → 40 ≤ length now → goes_on n now (drop i p) ≡ false
 next-long p now i n h c m =
     next-mark p now i n h c ∙ ap (λ b. nat_le (n + length (segments_from (now ++ get_or p i 0 ∷ []) (drop (i + 1) p))) 8 && b) (too_long (now ++ get_or p i 0 ∷ []) (drop (i + 1) p) (omega (arith, length-append now (get_or p i 0 ∷ [])))) ∙ and_false (nat_le (n + length (segments_from (now ++ get_or p i 0 ∷ []) (drop (i + 1) p))) 8)
-
-pub end-whole : (p now : List ℕ) (i n run : ℕ) → length p ≤ i → Begun now run → 1 ≤ run → run ≤ 40 → n ≤ 7 → goes_on n now (drop i p) ≡ true
-end-whole p now i n run h b low high few = rw (drop_all i p h, whole now run b low high) (grind (arith, nat_tests))
-
-pub end-empty : (p now : List ℕ) (i n : ℕ) → length p ≤ i → Begun now 0 → goes_on n now (drop i p) ≡ false
-end-empty p now i n h b = rw (drop_all i p h, short now b.long) (and_false (nat_le (n + 1) 8))

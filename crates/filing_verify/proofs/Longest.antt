@@ -1,8 +1,8 @@
 -- The longest path, from the last place to the first.
-use Rattle.std.proofs.Common.{◌≡◌, ℕ, zero, suc, ◌+◌, ◌-◌, ◌<◌, ◌≤◌, List, length, Bool, true, false, Option, Some, None, refl, sym, ap, ◌∙◌, subst, arith, inl, inr, ◌⊎◌, set, replicate}
+use Rattle.std.proofs.Common.{◌≡◌, ℕ, zero, suc, ◌+◌, ◌-◌, ◌<◌, ◌≤◌, List, length, Bool, true, false, Option, Some, None, refl, sym, ap, ◌∙◌, subst, arith, inl, inr, ◌⊎◌, set}
 use Rattle.std.specs.Prelude.{slice_get, slice_index_or}
-use Rattle.std.proofs.Math.ListN.{length-set, length-replicate}
-use Rattle.std.proofs.lemmas.List.{get_or-set_same, get_or-set_other, get_or-replicate, get_or_past}
+use Rattle.std.proofs.Math.ListN.{length-set}
+use Rattle.std.proofs.lemmas.List.{get_or-set_same, get_or-set_other, get_or_past}
 use Rattle.std.proofs.lemmas.Option.{slice_get_within}
 use Rattle.std.proofs.lemmas.Bool.{cases_lt}
 use Rattle.filing_image.specs.Program.{Program}
@@ -13,11 +13,6 @@ use Rattle.filing_verify.specs.Passes.{by_target, by_next, cost_at, Costs}
 
 abbrev at : List ℕ → ℕ → ℕ
 at costs p = slice_index_or costs p 0
-
--- a place past the end has 0
-by_next_small : (g : Bool) (p : ℕ) (costs : List ℕ) (n : ℕ) → at costs (p + 1) + p < n → p < n → by_next g p costs + p < n
-by_next_small true p costs n a b = a
-by_next_small false p costs n a b = omega arith
 
 module _ (program : Program) (o : Operation) (p : ℕ) (costs : List ℕ) where
   follower : (q : ℕ) → Follows program o p q → at costs q + 1 ≤ cost_at o p costs
@@ -158,15 +153,6 @@ module _ (program : Program) (i : ℕ) (costs : List ℕ) (forward : GoesForward
     pub set_cost : Costs program i (set costs i (cost_at o i costs))
     unfolding v
     set_cost = set_v
-
-pub at_end : (program : Program) → Costs program (length program.code) (replicate (length program.code) 0)
-at_end program = record {
-  long = length-replicate (length program.code) 0;
-  small = λ p lt. let e : at (replicate (length program.code) 0) p ≡ 0 = get_or-replicate (length program.code) p 0 0 lt in omega arith;
-  some = λ p le lt r. absurd (omega arith);
-  upper = λ p q le r (o, here, f) lt. let a = slice_get_within program.code p o here in absurd (omega arith);
-  attained = λ p le lt r. absurd (omega arith);
-}
 
 module _ (program : Program) (costs : List ℕ) (all : Costs program 0 costs) where
   along : (n q : ℕ) → Path program n q → q < length program.code → n + at costs q ≤ at costs 0

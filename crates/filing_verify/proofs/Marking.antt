@@ -1,7 +1,7 @@
 -- Marks are passed on to the successors.
-use Rattle.std.proofs.Common.{◌≡◌, ℕ, zero, suc, ◌+◌, ◌<◌, ◌≤◌, List, [], ◌∷◌, length, Bool, true, false, Option, Some, None, refl, sym, ap, ◌∙◌, subst, arith, inl, inr, ◌⊎◌, replicate}
+use Rattle.std.proofs.Common.{◌≡◌, ℕ, zero, suc, ◌+◌, ◌<◌, ◌≤◌, List, [], ◌∷◌, length, Bool, true, false, Option, Some, None, refl, sym, ap, ◌∙◌, subst, arith, inl, inr, ◌⊎◌}
 use Rattle.std.specs.Prelude.{slice_get, slice_set}
-use Rattle.std.proofs.Math.ListN.{length-set, length-replicate}
+use Rattle.std.proofs.Math.ListN.{length-set}
 use Rattle.std.proofs.lemmas.Option.{slice_get_within}
 use Rattle.std.proofs.lemmas.Bool.{cases_lt}
 use Rattle.filing_image.specs.Program.{Program}
@@ -30,11 +30,6 @@ was (m ∷ ms) zero zero h = inr refl
 was (m ∷ ms) zero (suc p) h = inl h
 was (m ∷ ms) (suc k) zero h = inl h
 was (m ∷ ms) (suc k) (suc p) h = elim (was ms k p h) [ inl a ↦ inl a | inr e ↦ inr (ap suc e) ]
-
-none_at_first : (n p : ℕ) → IsMarked (replicate n false) p → ⊥
-none_at_first zero p h = cc
-none_at_first (suc n) zero h = cc
-none_at_first (suc n) (suc p) h = none_at_first n p h
 
 -- ---- the successors' marks
 
@@ -132,18 +127,6 @@ module _ (program : Program) (i : ℕ) (ms : List Bool) (so_far : Marks program 
               rw e (ahead q to')
         ];
       }
-
-pub at_first : (program : Program) → Marks program 0 (slice_set (replicate (length program.code) false) 0 true)
-at_first program = record {
-  long = length-set (replicate (length program.code) false) 0 true ∙ length-replicate (length program.code) false;
-  first = λ some. made (replicate (length program.code) false) 0 (omega (arith, length-replicate (length program.code) false));
-  sound = λ p h. elim (was (replicate (length program.code) false) 0 p h) [
-    | inl a ↦ absurd (none_at_first (length program.code) p a)
-    | inr e ↦ (0, e)
-  ];
-  closed = λ p q lt h leads within. absurd (omega arith);
-  forward = λ p q o lt h at to. absurd (omega arith);
-}
 
 module _ (program : Program) (ms : List Bool) (all : Marks program (length program.code) ms) where
   pub complete : (n q : ℕ) → Path program n q → q < length program.code → IsMarked ms q

@@ -58,9 +58,6 @@ length-last t x = omega (arith, length-append t (x ∷ []))
 some-last : (t : List ℕ) (x : ℕ) → nat_lt 0 (length (t ++ x ∷ [])) ≡ true
 some-last t x = let long : length (t ++ x ∷ []) ≡ length t + 1 = length-append t (x ∷ []) in grind arith
 
-without_last-push : (c x : ℕ) (t : List ℕ) → without_last c (t ++ x ∷ []) ≡ cond (eqb x c) t (t ++ x ∷ [])
-without_last-push c x t = rw (some-last t x, length-last t x, get_or_at t x [] 0 (length t) refl, take_at t (x ∷ []) (length t) refl) refl
-
 without_end-line : (t : List ℕ) → without_end (t ++ 10 ∷ []) ≡ without_last 13 t
 without_end-line t = rw (some-last t 10, length-last t 10, get_or_at t 10 [] 0 (length t) refl, take_at t (10 ∷ []) (length t) refl) refl
 

@@ -40,10 +40,6 @@ length-header_lines (line ∷ lines) = at (nat_lt 0 (length (without_end line)))
     at true h = omega arith
     at false h = omega arith
 
-length-into_first : (b : ℕ) (lines : List (List ℕ)) → length (into_first b lines) ≤ suc (length lines)
-length-into_first b [] = omega arith
-length-into_first b (line ∷ lines) = omega arith
-
 count-cons : (b : ℕ) (bs : List ℕ) → count_by (λ x. x == 10) (b ∷ bs) ≡ cond (eqb b 10) 1 0 + count_by (λ x. x == 10) bs
 count-cons b bs = sum_by-cons (λ x. cond (eqb x 10) 1 0) b bs
 

@@ -21,7 +21,7 @@ use Rattle.sieve_check.specs.Tables.{WordForm, CommandWord, TestWord, command_ta
 use Rattle.sieve_check.specs.Lookup.{same_name, row_where, command_named, test_named}
 use Rattle.sieve_check.specs.Pieces.{pieces, positional_arguments}
 use Rattle.sieve_check.specs.Rules
-use Rattle.sieve_check.specs.Rules.{Placed, Rule, broken, least, lesser, earlier, broken_in_form, broken_in_test, broken_in_place, broken_by_test, broken_by_inner, broken_by_row, broken_by, refusal_from, refusal_of, command_in_order, ending_in_order, in_order, is_block, is_branch, role_of, command_name, takes, has_wrong_tests, has_wrong_ending, lacks_branch, named_by, has_begun, place_rules, form_rules}
+use Rattle.sieve_check.specs.Rules.{Placed, Rule, broken, least, lesser, earlier, broken_in_form, broken_in_test, broken_in_place, broken_by_test, broken_by_inner, broken_by_row, broken_by, refusal_from, refusal_of, command_in_order, ending_in_order, in_order, is_block, is_branch, role_of, command_name, takes, has_wrong_tests, has_wrong_ending, lacks_branch, named_by, has_begun, place_rules}
 use Rattle.sieve_check.specs.Shapes.{Takes, TakesEach, HasTests, HasEnding, HasForm, HasTestRow, TestShape, InnerShape, RowShape, CommandShape, EndingShape, CommandsShape, ShapeLaw, NameLaw, IfLaw, FileintoLaw, HeaderLaw, SizeLaw}
 
 -- ---- nothing is broken

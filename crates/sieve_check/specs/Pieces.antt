@@ -37,10 +37,6 @@ pieces tags (arguments.Strings l ∷ more) = positional (arguments.Strings l) �
 pieces tags (arguments.Number n ∷ more) = positional (arguments.Number n) ∷ pieces tags more
 pieces tags (arguments.Tag name ∷ more) = tag_pieces (tag_named name tags) (string_first more) (pieces tags more)
 
-abbrev pub is_positional : PieceWord → Bool
-is_positional (tagged w c) = false
-is_positional (positional a) = true
-
 abbrev pub is_tagged : PieceWord → Bool
 is_tagged (tagged w c) = true
 is_tagged (positional a) = false
