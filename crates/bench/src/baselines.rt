@@ -10,6 +10,8 @@ pub enum Baseline {
     Sum,
     /// Copies the octets into a vector of their own.
     Copy,
+    /// Copies each of the words between spaces into a vector of its own, and keeps them all.
+    Words,
     /// Looks for an octet that is not there, by `memchr`.
     Search,
 }
@@ -23,6 +25,7 @@ impl Baseline {
         match self {
             Baseline::Sum => "sum",
             Baseline::Copy => "copy",
+            Baseline::Words => "words",
             Baseline::Search => "search",
         }
     }
@@ -34,6 +37,7 @@ impl Baseline {
             let passed = match self {
                 Baseline::Sum => sum(input),
                 Baseline::Copy => Vec::from_slice(alloc, input)?.len(),
+                Baseline::Words => words_of(alloc, input)?,
                 Baseline::Search => memchr(ABSENT, input).unwrap_or(input.len()),
             };
             answer = answer.wrapping_add(passed);
@@ -47,4 +51,13 @@ fn sum(input: &[u8]) -> usize {
     input
         .iter()
         .fold(0usize, |sum, octet| sum.wrapping_add(usize::from(*octet)))
+}
+
+/// How many words there are between spaces, each copied.
+fn words_of(alloc: Global, input: &[u8]) -> Result<usize, AllocError> {
+    let mut words = Vec::new(alloc);
+    for word in input.split(|octet| *octet == b' ') {
+        words.push(Vec::from_slice(alloc, word)?)?;
+    }
+    Ok(words.len())
 }
