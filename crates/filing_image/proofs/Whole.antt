@@ -2,7 +2,7 @@
 use Rattle.std.proofs.Common.{◌≡◌, ℕ, suc, ◌^◌, ◌<◌, Bool, true, false, cond, eqb, ◌&&◌, List, [], ◌∷◌, ◌++◌, length, Option, Some, None, refl, sym, ap, subst, ◌∙◌, append_assoc}
 use Rattle.std.specs.List.{flat_map}
 use Rattle.std.specs.Int.{w16, w32, w64, to_be_bytes}
-use Rattle.std.proofs.lemmas.Bool.{eqb-true}
+use Rattle.std.proofs.lemmas.Bool.{eqb-true, and_parts}
 use Rattle.std.proofs.lemmas.List.{append-nil, nil_from_length}
 use Rattle.std.proofs.lemmas.List.Elements.{All-from_recursion, recursion_from_All}
 use Rattle.filing_image.specs.declared.instruction.Instruction.{Instruction}
@@ -18,11 +18,6 @@ kept_some : {A : Type 0} (b : Bool) (x y : A) → cond b (Some x) None ≡ Some 
 kept_some true x y e = (refl, cc)
 kept_some false x y e = absurd cc
 
-both_true : (a b : Bool) → (a && b) ≡ true → (a ≡ true) × (b ≡ true)
-both_true true true e = (refl, refl)
-both_true true false e = absurd cc
-both_true false b e = absurd cc
-
 mark_takes : (octets rest : List ℕ) → IsBytes octets → marked octets ≡ Some rest → Takes octets mark rest
 unfolding marked
 mark_takes [] rest fits e = absurd cc
@@ -31,9 +26,9 @@ mark_takes (a ∷ b ∷ []) rest fits e = absurd cc
 mark_takes (a ∷ b ∷ c ∷ []) rest fits e = absurd cc
 mark_takes (a ∷ b ∷ c ∷ d ∷ octets) rest fits e =
     let g = kept_some (eqb a 0x53 && (eqb b 0x46 && (eqb c 0x49 && eqb d 0x31))) octets rest e in
-    let g0 = both_true (eqb a 0x53) (eqb b 0x46 && (eqb c 0x49 && eqb d 0x31)) g.0 in
-    let g1 = both_true (eqb b 0x46) (eqb c 0x49 && eqb d 0x31) g0.1 in
-    let g2 = both_true (eqb c 0x49) (eqb d 0x31) g1.1 in
+    let g0 = and_parts (eqb a 0x53) (eqb b 0x46 && (eqb c 0x49 && eqb d 0x31)) g.0 in
+    let g1 = and_parts (eqb b 0x46) (eqb c 0x49 && eqb d 0x31) g0.1 in
+    let g2 = and_parts (eqb c 0x49) (eqb d 0x31) g1.1 in
     let a-is : a ≡ 0x53 = eqb-true _ _ g0.0 in
     let b-is : b ≡ 0x46 = eqb-true _ _ g1.0 in
     let c-is : c ≡ 0x49 = eqb-true _ _ g2.0 in

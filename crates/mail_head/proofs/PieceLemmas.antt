@@ -3,6 +3,7 @@ use Rattle.std.proofs.Common.{◌≡◌, ℕ, zero, suc, ◌+◌, ◌-◌, ◌�
 use Rattle.std.proofs.lemmas.List.{append-nil, length-append, take_at, get_or_at, length-take}
 use Rattle.std.specs.Prelude.{nat_lt, ◌&&◌}
 use Rattle.std.specs.List.{concat}
+use Rattle.std.proofs.Math.Bool.{and-false}
 use Rattle.mail_head.specs.Lines.{raw_lines, without_last, without_end, header_lines, header_of, line_len}
 
 -- no octet is an LF
@@ -87,12 +88,8 @@ NoEnd-get [] k h = refl
 NoEnd-get (b ∷ t) zero h = h.0
 NoEnd-get (b ∷ t) (suc k) h = NoEnd-get t k h.1
 
-and_false : (t : Bool) → (t && false) ≡ false
-and_false true = refl
-and_false false = refl
-
 without_end-open : (t : List ℕ) → NoEnd t → without_end t ≡ t
-without_end-open t h = rw (NoEnd-get t (length t - 1) h, and_false (nat_lt 0 (length t))) refl
+without_end-open t h = rw (NoEnd-get t (length t - 1) h, and-false (nat_lt 0 (length t))) refl
 
 pub header_of-open : (t : List ℕ) → NoEnd t → concat (header_of t) ≡ t
 unfolding header_lines raw_lines

@@ -3,24 +3,12 @@ use Rattle.std.proofs.Common.{◌≡◌, ℕ, suc, ◌+◌, ◌-◌, ◌<◌, Bo
 use Rattle.std.proofs.Math.Seq.{take-append_seam}
 use Rattle.std.proofs.lemmas.List.{append-nil, length-append, take-append-drop}
 use Rattle.std.proofs.lemmas.List.Folds.{concat-append, length-prefix_len}
-use Rattle.std.proofs.lemmas.Bool.{cases_Bool}
+use Rattle.std.proofs.lemmas.Bool.{cases_Bool, and_parts, and_from, not-true}
 use Rattle.std.specs.Prelude.{nat_lt, slice_index, not, ◌&&◌, ◌==◌}
 use Rattle.std.specs.List.{list_all, concat, prefix_len, filter_map, cons_option}
 use Rattle.mail_head.specs.Lines.{is_blank, into_first, raw_lines, without_last, without_end, header_lines, begins_blank, logical_from, logical_lines}
 use Rattle.mail_head.specs.Fields.{is_name_octet, begins_with, field_of, fields_of}
 use Rattle.mail_head.specs.Spans.{not_lf, LinesOf, no_lines, last_line, whole_line, has_octets, begins_empty, IsHeader, begins_anew, LogicalOf, no_logical, logical, EndsIn, IsEnd, IsField, FieldsAmong, no_fields, field, passed, AreFields, FieldsLaw}
-
-and_parts : (a b : Bool) → (a && b) ≡ true → (a ≡ true) × (b ≡ true)
-and_parts true true h = (refl, refl)
-and_parts true false h = absurd cc
-and_parts false b h = absurd cc
-
-and_both : (a b : Bool) → a ≡ true → b ≡ true → (a && b) ≡ true
-and_both a b e f = rw (e, f) refl
-
-is_false : (t : Bool) → not t ≡ true → t ≡ false
-is_false true h = absurd cc
-is_false false h = refl
 
 no_equation : true ≡ false → ⊥
 no_equation e = absurd cc
@@ -28,9 +16,9 @@ no_equation e = absurd cc
 -- lines
 
 into : (b : ℕ) {bs : List ℕ} {lines : List (List ℕ)} → not_lf b ≡ true → LinesOf bs lines → LinesOf (b ∷ bs) (into_first b lines)
-into b h no_lines = last_line b [] (and_both (not_lf b) true h refl)
-into b h (last_line c cs all) = last_line b (c ∷ cs) (and_both (not_lf b) (list_all not_lf (c ∷ cs)) h all)
-into b h (whole_line octets rest lines all more) = whole_line (b ∷ octets) rest lines (and_both (not_lf b) (list_all not_lf octets) h all) more
+into b h no_lines = last_line b [] (and_from (not_lf b) true h refl)
+into b h (last_line c cs all) = last_line b (c ∷ cs) (and_from (not_lf b) (list_all not_lf (c ∷ cs)) h all)
+into b h (whole_line octets rest lines all more) = whole_line (b ∷ octets) rest lines (and_from (not_lf b) (list_all not_lf octets) h all) more
 
 lines_from : (text : List ℕ) → LinesOf text (raw_lines text)
 unfolding raw_lines
@@ -43,17 +31,17 @@ lines_from (b ∷ bs) = by (eqb b 10) refl (lines_from bs)
 
 line_last : (b : ℕ) (bs : List ℕ) → list_all not_lf (b ∷ bs) ≡ true → raw_lines (b ∷ bs) ≡ (b ∷ bs) ∷ []
 unfolding raw_lines
-line_last b [] h = ap (λ t. cond t ((b ∷ []) ∷ []) ((b ∷ []) ∷ [])) (is_false (eqb b 10) (and_parts (not_lf b) true h).0)
+line_last b [] h = ap (λ t. cond t ((b ∷ []) ∷ []) ((b ∷ []) ∷ [])) (not-true (eqb b 10) (and_parts (not_lf b) true h).0)
 line_last b (c ∷ cs) h =
     let parts = and_parts (not_lf b) (list_all not_lf (c ∷ cs)) h in
-    ap (λ t. cond t ((b ∷ []) ∷ raw_lines (c ∷ cs)) (into_first b (raw_lines (c ∷ cs)))) (is_false (eqb b 10) parts.0) ∙ ap (into_first b) (line_last c cs parts.1)
+    ap (λ t. cond t ((b ∷ []) ∷ raw_lines (c ∷ cs)) (into_first b (raw_lines (c ∷ cs)))) (not-true (eqb b 10) parts.0) ∙ ap (into_first b) (line_last c cs parts.1)
 
 line_whole : (octets rest : List ℕ) → list_all not_lf octets ≡ true → raw_lines (octets ++ 10 ∷ rest) ≡ (octets ++ 10 ∷ []) ∷ raw_lines rest
 unfolding raw_lines
 line_whole [] rest h = refl
 line_whole (b ∷ octets) rest h =
     let parts = and_parts (not_lf b) (list_all not_lf octets) h in
-    ap (λ t. cond t ((b ∷ []) ∷ raw_lines (octets ++ 10 ∷ rest)) (into_first b (raw_lines (octets ++ 10 ∷ rest)))) (is_false (eqb b 10) parts.0) ∙ ap (into_first b) (line_whole octets rest parts.1)
+    ap (λ t. cond t ((b ∷ []) ∷ raw_lines (octets ++ 10 ∷ rest)) (into_first b (raw_lines (octets ++ 10 ∷ rest)))) (not-true (eqb b 10) parts.0) ∙ ap (into_first b) (line_whole octets rest parts.1)
 
 no_raw_lines : raw_lines [] ≡ []
 unfolding raw_lines
@@ -72,13 +60,13 @@ header_from [] = record { rest = []; cut = refl; some = refl; ends = refl }
 header_from (line ∷ lines) = by (has_octets line) refl (header_from lines)
   where
     by : (t : Bool) → has_octets line ≡ t → IsHeader lines (header_lines lines) → IsHeader (line ∷ lines) (cond t (line ∷ header_lines lines) [])
-    by true e h = record { rest = h.rest; cut = ap (λ x. line ∷ x) h.cut; some = and_both (has_octets line) (list_all has_octets (header_lines lines)) e h.some; ends = h.ends }
+    by true e h = record { rest = h.rest; cut = ap (λ x. line ∷ x) h.cut; some = and_from (has_octets line) (list_all has_octets (header_lines lines)) e h.some; ends = h.ends }
     by false e h = record { rest = line ∷ lines; cut = refl; some = refl; ends = ap not e }
 
 header_is : (header rest : List (List ℕ)) → list_all has_octets header ≡ true → begins_empty rest ≡ true → header_lines (header ++ rest) ≡ header
 unfolding header_lines
 header_is [] [] some ends = refl
-header_is [] (line ∷ lines) some ends = ap (λ t. cond t (line ∷ header_lines lines) []) (is_false (has_octets line) ends)
+header_is [] (line ∷ lines) some ends = ap (λ t. cond t (line ∷ header_lines lines) []) (not-true (has_octets line) ends)
 header_is (line ∷ header) rest some ends =
     let parts = and_parts (has_octets line) (list_all has_octets header) some in
     ap (λ t. cond t (line ∷ header_lines (header ++ rest)) []) parts.0 ∙ ap (λ x. line ∷ x) (header_is header rest parts.1 ends)
@@ -89,10 +77,10 @@ header_to lines header h = ap header_lines h.cut ∙ header_is header h.rest h.s
 -- logical lines
 
 all_more : (folded : List (List ℕ)) (line : List ℕ) → list_all begins_blank folded ≡ true → begins_blank line ≡ true → list_all begins_blank (folded ++ line ∷ []) ≡ true
-all_more [] line h e = and_both (begins_blank line) true e refl
+all_more [] line h e = and_from (begins_blank line) true e refl
 all_more (f ∷ folded) line h e =
     let parts = and_parts (begins_blank f) (list_all begins_blank folded) h in
-    and_both (begins_blank f) (list_all begins_blank (folded ++ line ∷ [])) parts.0 (all_more folded line parts.1 e)
+    and_from (begins_blank f) (list_all begins_blank (folded ++ line ∷ [])) parts.0 (all_more folded line parts.1 e)
 
 abbrev Begun : List ℕ → List (List ℕ) → List (List ℕ) → Type 0
 Begun line folded lines = LogicalOf (line ∷ (folded ++ lines)) (logical_from (line ++ concat folded) lines)
@@ -124,7 +112,7 @@ logical_all (line ∷ lines) = let P : List ℕ → Type 0 = λ x. LogicalOf (li
 joined_to : (folded : List (List ℕ)) (begun : List ℕ) (rest : List (List ℕ)) → list_all begins_blank folded ≡ true → begins_anew rest ≡ true → logical_from begun (folded ++ rest) ≡ (begun ++ concat folded) ∷ logical_lines rest
 unfolding logical_from logical_lines
 joined_to [] begun [] h anew = ap (λ x. x ∷ []) (sym (append-nil begun))
-joined_to [] begun (line ∷ lines) h anew = ap (λ t. cond t (logical_from (begun ++ line) lines) (begun ∷ logical_from line lines)) (is_false (begins_blank line) anew) ∙ ap (λ x. x ∷ logical_from line lines) (sym (append-nil begun))
+joined_to [] begun (line ∷ lines) h anew = ap (λ t. cond t (logical_from (begun ++ line) lines) (begun ∷ logical_from line lines)) (not-true (begins_blank line) anew) ∙ ap (λ x. x ∷ logical_from line lines) (sym (append-nil begun))
 joined_to (f ∷ folded) begun rest h anew =
     let parts = and_parts (begins_blank f) (list_all begins_blank folded) h in
     ap (λ t. cond t (logical_from (begun ++ f) (folded ++ rest)) (begun ∷ logical_from f (folded ++ rest))) parts.0 ∙ joined_to folded (begun ++ f) rest parts.1 anew ∙ ap (λ x. x ∷ logical_lines rest) (append_assoc begun f (concat folded))
@@ -150,7 +138,7 @@ last_at : (front : List ℕ) (b : ℕ) → slice_index (front ++ b ∷ []) (leng
 last_at [] b = refl
 last_at (x ∷ front) b = last_at front b
 
-less_one : (front : List ℕ) (b : ℕ) → length (front ++ b ∷ []) - 1 ≡ length front
+pub less_one : (front : List ℕ) (b : ℕ) → length (front ++ b ∷ []) - 1 ≡ length front
 less_one front b = omega (arith, length-append front (b ∷ []))
 
 test_at : (front : List ℕ) (b c : ℕ) → test c (front ++ b ∷ []) ≡ eqb b c
@@ -165,7 +153,7 @@ cut_last front b = ap (λ k. take k (front ++ b ∷ [])) (less_one front b) ∙ 
 without_it : (front : List ℕ) (c : ℕ) → without_last c (front ++ c ∷ []) ≡ front
 without_it front c = ap (λ t. cond t (take (length (front ++ c ∷ []) - 1) (front ++ c ∷ [])) (front ++ c ∷ [])) (test_at front c c ∙ eq-eqb c c refl) ∙ cut_last front c
 
-without_lf : (front : List ℕ) → without_end (front ++ 10 ∷ []) ≡ without_last 13 front
+pub without_lf : (front : List ℕ) → without_end (front ++ 10 ∷ []) ≡ without_last 13 front
 without_lf front = ap (λ t. cond t (without_last 13 (without_last 10 (front ++ 10 ∷ []))) (front ++ 10 ∷ [])) (test_at front 10 10) ∙ ap (without_last 13) (without_it front 10)
 
 last_cons : (x : ℕ) (bs : List ℕ) → (bs ≡ []) ⊎ ((front : List ℕ) × (b : ℕ) × (bs ≡ front ++ b ∷ [])) → (front : List ℕ) × (b : ℕ) × (x ∷ bs ≡ front ++ b ∷ [])

@@ -2,6 +2,7 @@
 use Rattle.std.proofs.Common.{◌≡◌, ℕ, eqb, Bool, true, false, List, [], ◌∷◌, ◌++◌, Option, Some, None, Result, Ok, Err, refl, sym, ap, ◌∙◌}
 use Rattle.std.specs.Prelude.{◌||◌, ◌&&◌, not}
 use Rattle.std.specs.List.{list_any}
+use Rattle.std.proofs.Math.Bool.{or_assoc}
 use Rattle.sieve_syntax.specs.Tree.{CommandTrees}
 use Rattle.sieve_check.specs.declared.context.Context.{Context}
 use Rattle.sieve_check.specs.declared.named.Named.{Named}
@@ -21,10 +22,6 @@ or_true false = refl
 or_false : (b : Bool) → b ≡ (b || false)
 or_false true = refl
 or_false false = refl
-
-or_assoc : (a b c : Bool) → ((a || b) || c) ≡ (a || (b || c))
-or_assoc true b c = refl
-or_assoc false b c = refl
 
 has_with : (n : Named) (a k : Capability) → has_of (named_with n a) k ≡ (has_of n k || (eqb (capability_place a) (capability_place k)))
 has_with n Fileinto Fileinto = or_true (has_of n Fileinto)

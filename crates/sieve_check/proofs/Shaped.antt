@@ -5,6 +5,7 @@ use Rattle.std.specs.List.{list_any}
 use Rattle.std.specs.Str.{bytes_eq, str_to_ascii_lowercase}
 use Rattle.std.specs.Cmp.Lexicographic.{pointwise}
 use Rattle.std.proofs.lemmas.Slice.Eq.{bytes_eq-Decides}
+use Rattle.std.proofs.lemmas.Bool.{or_parts, and_parts, not-false}
 use Rattle.sieve_syntax.specs.declared.tree.StringList.{StringList}
 use Rattle.sieve_syntax.specs.declared.tree.StringList.TheVariants as string_lists
 use Rattle.sieve_syntax.specs.declared.tree.Argument.{Argument}
@@ -46,18 +47,6 @@ none_earlier : (o r : Option ℕ) → earlier o r ≡ None → (o ≡ None) × (
 none_earlier None r h = (refl, h)
 none_earlier (Some n) r h = absurd cc
 
-neither : (a b : Bool) → (a || b) ≡ false → (a ≡ false) × (b ≡ false)
-neither true b h = absurd cc
-neither false b h = (refl, h)
-
-both : (a b : Bool) → (a && b) ≡ true → (a ≡ true) × (b ≡ true)
-both true b h = (refl, h)
-both false b h = absurd cc
-
-holds : (a : Bool) → not a ≡ false → a ≡ true
-holds true h = refl
-holds false h = absurd cc
-
 -- ---- forms
 
 is_taken : (p : Positional) (a : Argument) → takes p a ≡ true → Takes p a
@@ -76,7 +65,7 @@ are_taken : (ps : List Positional) (given : List Argument) → pointwise takes p
 are_taken [] [] h = tt
 are_taken [] (a ∷ more) h = absurd cc
 are_taken (p ∷ ps) [] h = absurd cc
-are_taken (p ∷ ps) (a ∷ more) h = let b = both (takes p a) (pointwise takes ps more) h in (is_taken p a b.0, are_taken ps more b.1)
+are_taken (p ∷ ps) (a ∷ more) h = let b = and_parts (takes p a) (pointwise takes ps more) h in (is_taken p a b.0, are_taken ps more b.1)
 
 has_tests : (f : TestsForm) (inner : InnerTests) → has_wrong_tests f inner ≡ false → HasTests f inner
 has_tests NoTest no_tests h = refl
@@ -104,9 +93,9 @@ form_shape has form args inner h =
     let e = none_broken (Rules.has_wrong_arguments form ps) 37 ((list_any Rules.is_unknown_comparator ps, 38) ∷ (has_wrong_tests form.tests inner, 41) ∷ []) d.1 in
     let f = none_broken (list_any Rules.is_unknown_comparator ps) 38 ((has_wrong_tests form.tests inner, 41) ∷ []) e.1 in
     let g = none_broken (has_wrong_tests form.tests inner) 41 [] f.1 in
-    let k = neither (not (Rules.fits form ps)) (list_any Rules.lacks_string ps || Rules.lacks_tag form.needs_tag ps) e.0 in
-    let m = neither (list_any Rules.lacks_string ps) (Rules.lacks_tag form.needs_tag ps) k.1 in
-    record { tags = b.0; once = d.0; positional = are_taken form.positional (positional_arguments ps) (holds (Rules.fits form ps) k.0); strings = m.0; needed = m.1; comparators = f.0; tests = has_tests form.tests inner g.0 }
+    let k = or_parts (not (Rules.fits form ps)) (list_any Rules.lacks_string ps || Rules.lacks_tag form.needs_tag ps) e.0 in
+    let m = or_parts (list_any Rules.lacks_string ps) (Rules.lacks_tag form.needs_tag ps) k.1 in
+    record { tags = b.0; once = d.0; positional = are_taken form.positional (positional_arguments ps) (not-false (Rules.fits form ps) k.0); strings = m.0; needed = m.1; comparators = f.0; tests = has_tests form.tests inner g.0 }
 
 -- ---- tests
 
@@ -274,4 +263,4 @@ pub size_law : SizeLaw
 size_law name args inner h r =
     let e = test_is name (codes "size") r.word (test_word (codes "size") size_form) h r.named size_row in
     let f = subst (λ (w : TestWord). HasForm w.form args inner) e r.form in
-    (one_number (positional_arguments (pieces size_form.tags args)) f.positional, holds (list_any (Rules.has_kind kinds.SizeLimit) (pieces size_form.tags args)) f.needed, f.tests)
+    (one_number (positional_arguments (pieces size_form.tags args)) f.positional, not-false (list_any (Rules.has_kind kinds.SizeLimit) (pieces size_form.tags args)) f.needed, f.tests)

@@ -1,16 +1,13 @@
 -- The strings of arguments, one argument after another.
-use Rattle.std.proofs.Common.{◌≡◌, ℕ, suc, ◌+◌, ◌<◌, length, drop, get_or, drop-cons, add-one, Bool, true, false, List, [], ◌∷◌, ◌++◌, refl, ap, ◌∙◌, sym}
+use Rattle.std.proofs.Common.{◌≡◌, ℕ, suc, ◌+◌, ◌<◌, length, drop, get_or, drop-cons, add-one, Bool, List, [], ◌∷◌, ◌++◌, refl, ap, ◌∙◌, sym}
 use Rattle.std.specs.Prelude.{◌||◌}
 use Rattle.std.specs.List.{list_any, flat_map}
+use Rattle.std.proofs.Math.Bool.{or_assoc}
 use Rattle.sieve_syntax.specs.declared.tree.Argument.{Argument}
 use Rattle.sieve_check.specs.Rules.{argument_strings}
 use Rattle.sieve_check.specs.Context.{named_and, named_after}
 use Rattle.sieve_check.specs.Lookup.{capability_named}
 use Rattle.sieve_check.specs.declared.named.Named.{Named}
-
-or_assoc : (a b c : Bool) → ((a || b) || c) ≡ (a || (b || c))
-or_assoc true b c = refl
-or_assoc false b c = refl
 
 pub any_append : {X : Type 0} (f : X → Bool) (xs ys : List X) → list_any f (xs ++ ys) ≡ (list_any f xs || list_any f ys)
 any_append f [] ys = refl

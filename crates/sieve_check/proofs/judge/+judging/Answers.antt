@@ -11,7 +11,8 @@ use Rattle.sieve_check.specs.Faults.{number_of}
 use Rattle.sieve_check.specs.Rules.{lesser, least, form_rules, broken_by_inner}
 use Rattle.sieve_check.specs.Views.{form_view, test_view}
 use Rattle.sieve_check.proofs.Judging.{test_least, listed_is_each, judge_turn, judge_done}
-use Rattle.sieve_check.proofs.TreeViews.{inner_of_listed, test_of_out}
+use Rattle.sieve_syntax.proofs.Views.{inner_of-Listed}
+use Rattle.sieve_check.proofs.TreeViews.{test_of_out}
 use Rattle.sieve_check.proofs.judge.+judging.Goals as goal
 
 pub test_fault-returns-in-Some : goal.test_fault-returns-in-Some
@@ -22,7 +23,7 @@ test_fault-returns-in-Some t c =
     rw (test_of_out c.args.test.now) (c.lesser.ensures ∙ ap (λ (o : Option ℕ). lesser o (option_map number_of c.tests_fault.result)) c.form_fault-own.ensures ∙ ap (λ (o : Option ℕ). lesser (first_broken (form_rules (has_of c.args.named) (form_view c.in-Some.row.now.form) (pieces (form_view c.in-Some.row.now.form).tags node.arguments) (inner_of node.tests))) o) c.tests_fault.ensures ∙ whole)
 
 pub tests_fault-loop-test-init : goal.tests_fault-loop-test-init
-tests_fault-loop-test-init t c = rw (c.deref-test-items.ensures.value, c.in-Listed.is, inner_of_listed c.in-Listed.list) (ap least (sym (listed_is_each (has_of c.args.named) (map test_of c.in-Listed.list.items))))
+tests_fault-loop-test-init t c = rw (c.deref-test-items.ensures.value, c.in-Listed.is, inner_of-Listed c.in-Listed.list) (ap least (sym (listed_is_each (has_of c.args.named) (map test_of c.in-Listed.list.items))))
 
 pub tests_fault-loop-test-preserved : goal.tests_fault-loop-test-preserved
 tests_fault-loop-test-preserved t c =

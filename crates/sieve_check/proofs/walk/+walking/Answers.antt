@@ -10,29 +10,29 @@ use Rattle.sieve_check.specs.Rules.{ending_in_order}
 use Rattle.sieve_check.specs.Views.{command_view}
 use Rattle.sieve_check.specs.Walk.{walk, after_command}
 use Rattle.sieve_check.proofs.Walks.{walk_unknown, walk_faulty, walk_fine, walk_turn, walk_stops}
-use Rattle.sieve_check.proofs.TreeViews.{command_of_out, ending_of_semicolon}
+use Rattle.sieve_syntax.proofs.Views.{command_of-fields, ending_of-Semicolon}
 use Rattle.sieve_check.proofs.walk.+walking.Goals as goal
 
 pub pass_command-returns-in_default-clause-value : goal.pass_command-returns-in_default-clause-value
 pass_command-returns-in_default-clause-value t c =
     let node = out-Command c.args.command.now in
-    rw (command_of_out c.args.command.now) (walk_unknown c.args.context c.args.follows_branch node.name node.arguments (inner_of node.tests) (ending_of node.ending) (c.in_default.ensures ∙ ap command_named c.as_slice.ensures))
+    rw (command_of-fields c.args.command.now) (walk_unknown c.args.context c.args.follows_branch node.name node.arguments (inner_of node.tests) (ending_of node.ending) (c.in_default.ensures ∙ ap command_named c.as_slice.ensures))
 
 pub pass_command-returns-in-Some-command_fault-clause-value : goal.pass_command-returns-in-Some-command_fault-clause-value
 pass_command-returns-in-Some-command_fault-clause-value t c =
     let node = out-Command c.args.command.now in
-    rw (command_of_out c.args.command.now) (walk_faulty c.args.context c.args.follows_branch node.name node.arguments (inner_of node.tests) (ending_of node.ending) (command_view c.in-Some.row.now) (number_of c.in-Some-command_fault.fault) (c.in-Some.ensures ∙ ap command_named c.as_slice.ensures) (rw (command_of_out c.args.command.now) at c.in-Some-command_fault.ensures))
+    rw (command_of-fields c.args.command.now) (walk_faulty c.args.context c.args.follows_branch node.name node.arguments (inner_of node.tests) (ending_of node.ending) (command_view c.in-Some.row.now) (number_of c.in-Some-command_fault.fault) (c.in-Some.ensures ∙ ap command_named c.as_slice.ensures) (rw (command_of-fields c.args.command.now) at c.in-Some-command_fault.ensures))
 
 pub pass_command-returns-in_err-context-clause-value : goal.pass_command-returns-in_err-context-clause-value
 pass_command-returns-in_err-context-clause-value t c =
     let p = err_from_is_err_and c.from_residual.result c.from_residual.ensures.1 in
     let node = out-Command c.args.command.now in
-    rw (p.1, p.2, command_of_out c.args.command.now) (c.in_err-context.ensures ∙ ap (λ (k : Context). walk k (ending_in_order (ending_of node.ending))) (c.after-behind.ensures ∙ ap (λ (b : Bool). after_command b c.args.context node.arguments) c.is_require.ensures) ∙ walk_fine c.args.context c.args.follows_branch node.name node.arguments (inner_of node.tests) (ending_of node.ending) (command_view c.in-Some.row.now) (c.in-Some.ensures ∙ ap command_named c.as_slice.ensures) (rw (command_of_out c.args.command.now) at c.in_default-command_fault.ensures))
+    rw (p.1, p.2, command_of-fields c.args.command.now) (c.in_err-context.ensures ∙ ap (λ (k : Context). walk k (ending_in_order (ending_of node.ending))) (c.after-behind.ensures ∙ ap (λ (b : Bool). after_command b c.args.context node.arguments) c.is_require.ensures) ∙ walk_fine c.args.context c.args.follows_branch node.name node.arguments (inner_of node.tests) (ending_of node.ending) (command_view c.in-Some.row.now) (c.in-Some.ensures ∙ ap command_named c.as_slice.ensures) (rw (command_of-fields c.args.command.now) at c.in_default-command_fault.ensures))
 
 pub pass_command-returns-clause-value : goal.pass_command-returns-clause-value
 pass_command-returns-clause-value t c =
     let node = out-Command c.args.command.now in
-    rw (command_of_out c.args.command.now) (c.in_ok-context.ensures ∙ ap (λ (k : Context). walk k (ending_in_order (ending_of node.ending))) (c.after-behind.ensures ∙ ap (λ (b : Bool). after_command b c.args.context node.arguments) c.is_require.ensures) ∙ walk_fine c.args.context c.args.follows_branch node.name node.arguments (inner_of node.tests) (ending_of node.ending) (command_view c.in-Some.row.now) (c.in-Some.ensures ∙ ap command_named c.as_slice.ensures) (rw (command_of_out c.args.command.now) at c.in_default-command_fault.ensures))
+    rw (command_of-fields c.args.command.now) (c.in_ok-context.ensures ∙ ap (λ (k : Context). walk k (ending_in_order (ending_of node.ending))) (c.after-behind.ensures ∙ ap (λ (b : Bool). after_command b c.args.context node.arguments) c.is_require.ensures) ∙ walk_fine c.args.context c.args.follows_branch node.name node.arguments (inner_of node.tests) (ending_of node.ending) (command_view c.in-Some.row.now) (c.in-Some.ensures ∙ ap command_named c.as_slice.ensures) (rw (command_of-fields c.args.command.now) at c.in_default-command_fault.ensures))
 
 pub pass_ending-returns-in_err-behind-in-Block : goal.pass_ending-returns-in_err-behind-in-Block
 pass_ending-returns-in_err-behind-in-Block t c =
@@ -49,4 +49,4 @@ pass_ending-returns-after-loop-command t c = rw (drop_all c.loop-command.command
 
 pub pass_ending-returns-in-Semicolon : goal.pass_ending-returns-in-Semicolon
 unfolding walk
-pass_ending-returns-in-Semicolon t c = rw (c.in-Semicolon.is, ending_of_semicolon) refl
+pass_ending-returns-in-Semicolon t c = rw (c.in-Semicolon.is, ending_of-Semicolon) refl
