@@ -11,7 +11,7 @@ use Rattle.base64.proofs.RoundTrip.{length-encode_symbols}
 use Rattle.mail_words.specs.declared.charset.Charset.{Charset}
 use Rattle.mail_words.specs.Charsets.{written_in, ArePut}
 use Rattle.mail_words.specs.Decoding.{b_octets}
-use Rattle.mail_words.specs.Unfolding.{unfolded}
+use Rattle.mail_words.specs.Unfolding.{is_nil, unfolded}
 use Rattle.mail_words.proofs.CharsetLemmas.{written-nil, written-append, ArePut-some, ArePut-none}
 use Rattle.mail_words.proofs.EncodedLemmas.{b_law, bytes_nil, bytes_cons, bytes_append, bytes_take}
 
@@ -124,6 +124,7 @@ chunk-short text a bytes h short more = at (b_octets text) refl
 
 -- the octets so far, and those of the rest
 pub record Decoding (charset : Charset) (text rest old out : List ℕ) : Type 0 where
+  pub bytes : IsBytes rest
   pub octets : List ℕ
   pub put : out ≡ old ++ written_in charset octets
   pub same : option_map (λ more. octets ++ more) (b_octets rest) ≡ b_octets text
@@ -132,18 +133,19 @@ option_map-nil : (o : Option (List ℕ)) → option_map (λ more. [] ++ more) o 
 option_map-nil None = refl
 option_map-nil (Some x) = refl
 
-pub Decoding-none : (charset : Charset) (text old : List ℕ) → Decoding charset text text old old
-Decoding-none charset text old = record { octets = []; put = written-nil charset old; same = option_map-nil (b_octets text) }
+pub Decoding-none : (charset : Charset) (text old : List ℕ) → IsBytes text → Decoding charset text text old old
+Decoding-none charset text old bytes = record { bytes = bytes; octets = []; put = written-nil charset old; same = option_map-nil (b_octets text) }
 
 map_append : (xs ys : List ℕ) (o : Option (List ℕ)) → option_map (λ more. xs ++ more) (option_map (λ more. ys ++ more) o) ≡ option_map (λ more. (xs ++ ys) ++ more) o
 map_append xs ys None = refl
 map_append xs ys (Some x) = ap Some (sym (append_assoc xs ys x))
 
-pub Decoding-more : (charset : Charset) (text rest behind old out new a : List ℕ) → Decoding charset text rest old out → IsBytes rest → b_octets (take 64 rest) ≡ Some a → ((length a ≡ 48) ⊎ (behind ≡ [])) → behind ≡ drop 64 rest → new ≡ out ++ written_in charset a → Decoding charset text behind old new
-Decoding-more charset text rest behind old out new a d bytes h whole eb en =
+pub Decoding-more : (charset : Charset) (text rest behind old out new a : List ℕ) → Decoding charset text rest old out → b_octets (take 64 rest) ≡ Some a → ((length a ≡ 48) ⊎ (behind ≡ [])) → behind ≡ drop 64 rest → new ≡ out ++ written_in charset a → Decoding charset text behind old new
+Decoding-more charset text rest behind old out new a d h whole eb en =
     let next : (length a ≡ 48) ⊎ (drop 64 rest ≡ []) = elim whole [ inl full ↦ inl full | inr last ↦ inr (sym eb ∙ last) ] in
-    let step = chunk-good rest a bytes h next in
+    let step = chunk-good rest a d.bytes h next in
     record {
+      bytes = subst IsBytes (sym eb) (bytes_drop 64 rest d.bytes);
       octets = d.octets ++ a;
       put = en ∙ ap (λ x. x ++ written_in charset a) d.put ∙ append_assoc old (written_in charset d.octets) (written_in charset a) ∙ ap (λ x. old ++ x) (sym (written-append charset d.octets a));
       same = ap (λ x. option_map (λ more. (d.octets ++ a) ++ more) (b_octets x)) eb ∙ sym (map_append d.octets a (b_octets (drop 64 rest))) ∙ ap (option_map (λ more. d.octets ++ more)) (sym step) ∙ d.same;
@@ -152,14 +154,41 @@ Decoding-more charset text rest behind old out new a d bytes h whole eb en =
 no_rest : (octets : List ℕ) (o : Option (List ℕ)) → o ≡ None → option_map (λ more. octets ++ more) o ≡ None
 no_rest octets o e = ap (option_map (λ more. octets ++ more)) e
 
-pub Decoding-bad : (charset : Charset) (text rest old out : List ℕ) → Decoding charset text rest old out → IsBytes rest → b_octets (take 64 rest) ≡ None → ArePut false charset old (b_octets text) out
-Decoding-bad charset text rest old out d bytes h = ArePut-none charset old (b_octets text) out (written_in charset d.octets) (sym d.same ∙ no_rest d.octets (b_octets rest) (chunk-bad rest bytes h)) d.put
+pub Decoding-bad : (charset : Charset) (text rest old out : List ℕ) → Decoding charset text rest old out → b_octets (take 64 rest) ≡ None → ArePut false charset old (b_octets text) out
+Decoding-bad charset text rest old out d h = ArePut-none charset old (b_octets text) out (written_in charset d.octets) (sym d.same ∙ no_rest d.octets (b_octets rest) (chunk-bad rest d.bytes h)) d.put
 
-pub Decoding-short : (charset : Charset) (text rest behind old out a : List ℕ) → Decoding charset text rest old out → IsBytes rest → b_octets (take 64 rest) ≡ Some a → length a < 48 → (behind ≡ [] → ⊥) → behind ≡ drop 64 rest → ArePut false charset old (b_octets text) out
-Decoding-short charset text rest behind old out a d bytes h short more eb = ArePut-none charset old (b_octets text) out (written_in charset d.octets) (sym d.same ∙ no_rest d.octets (b_octets rest) (chunk-short rest a bytes h short (λ none. more (eb ∙ none)))) d.put
+pub Decoding-short : (charset : Charset) (text rest behind old out a : List ℕ) → Decoding charset text rest old out → b_octets (take 64 rest) ≡ Some a → length a < 48 → (behind ≡ [] → ⊥) → behind ≡ drop 64 rest → ArePut false charset old (b_octets text) out
+Decoding-short charset text rest behind old out a d h short more eb = ArePut-none charset old (b_octets text) out (written_in charset d.octets) (sym d.same ∙ no_rest d.octets (b_octets rest) (chunk-short rest a d.bytes h short (λ none. more (eb ∙ none)))) d.put
 
 b_octets-nil : b_octets [] ≡ Some []
 b_octets-nil = (b_law [] [] bytes_nil).1 (bytes_nil, sym (encode_of-nil standard))
 
 pub Decoding-all : (charset : Charset) (text rest old out : List ℕ) → Decoding charset text rest old out → rest ≡ [] → ArePut true charset old (b_octets text) out
 Decoding-all charset text rest old out d e = ArePut-some charset old (b_octets text) out d.octets (sym d.same ∙ ap (option_map (λ more. d.octets ++ more)) (ap b_octets e ∙ b_octets-nil) ∙ ap Some (append-nil d.octets)) d.put
+
+-- the symbols that are read, and the octets that they stand for
+pub read_part : (text symbols rest : List ℕ) (count : ℕ) → text ≡ take count symbols ++ rest → count ≤ 64 → length symbols ≡ 64 → 64 ≤ count → (take count symbols ≡ take 64 text) × (rest ≡ drop 64 text)
+read_part text symbols rest count e h long full =
+    let size : length (take count symbols) ≡ 64 = omega (arith, length-take count symbols, h, long, full) in
+    (sym (ap (take 64) e ∙ take_at (take count symbols) rest 64 size), sym (ap (drop 64) e ∙ drop_at (take count symbols) rest 64 size))
+
+pub read_all : (text symbols rest : List ℕ) (count : ℕ) → text ≡ take count symbols ++ rest → rest ≡ [] → count ≤ 64 → (take count symbols ≡ take 64 text) × (rest ≡ drop 64 text)
+read_all text symbols rest count e none h =
+    let whole : text ≡ take count symbols = e ∙ ap (λ x. take count symbols ++ x) none ∙ append-nil (take count symbols) in
+    let short : length text ≤ 64 = omega (arith, ap length whole, length-take count symbols, h) in
+    (sym whole ∙ sym (take_all 64 text short), none ∙ sym (drop_all 64 text short))
+
+-- what the first symbols decode to, where they were read into a row of symbols
+pub symbols_read : (symbols rest : List ℕ) (count : ℕ) (o : Option (List ℕ)) → take count symbols ≡ take 64 rest → b_octets (take (count - 0) symbols) ≡ o → b_octets (take 64 rest) ≡ o
+symbols_read symbols rest count o e h = let whole : count - 0 ≡ count = omega arith in ap b_octets (sym e ∙ ap (λ n. take n symbols) (sym whole)) ∙ h
+
+pub octets_put : (charset : Charset) (out new octets : List ℕ) (size : ℕ) → new ≡ out ++ written_in charset (take (size - 0) octets) → new ≡ out ++ written_in charset (take size octets)
+octets_put charset out new octets size h = let whole : size - 0 ≡ size = omega arith in h ∙ ap (λ n. out ++ written_in charset (take n octets)) whole
+
+pub some_left : (rest behind : List ℕ) → is_nil rest ≡ false → behind ≡ drop 64 rest → length behind < length rest
+some_left [] behind h e = absurd cc
+some_left (x ∷ xs) behind h e = omega (arith, ap length e, length-drop 64 (x ∷ xs))
+
+pub not_nil : (xs : List ℕ) → is_nil xs ≡ false → xs ≡ [] → ⊥
+not_nil [] h e = absurd cc
+not_nil (x ∷ xs) h e = absurd cc

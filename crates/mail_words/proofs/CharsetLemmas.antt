@@ -75,6 +75,10 @@ IsAppended-unread charset old (Some octets) new h bad =
     let P : Option (List ℕ) → Type 0 = λ t. IsAppended false old t new in
     subst P (sym (text_in-written charset octets ∙ ap (λ t. cond t (Some (written_in charset octets)) None) read)) (written_in charset octets, h)
 
+pub IsAppended-read : (charset : Charset) (old : List ℕ) (o : Option (List ℕ)) (new : List ℕ) (read : Bool) → ArePut true charset old o new → read ≡ is_text_in charset (drop (length old) new) → IsAppended read old (option_and_then (text_in charset) o) new
+IsAppended-read charset old o new true h e = IsAppended-good charset old o new h (sym e)
+IsAppended-read charset old o new false h e = IsAppended-unread charset old o new h (sym e)
+
 pub IsAppended-bad : (charset : Charset) (old : List ℕ) (o : Option (List ℕ)) (new : List ℕ) → ArePut false charset old o new → IsAppended false old (option_and_then (text_in charset) o) new
 IsAppended-bad charset old None new h = h
 IsAppended-bad charset old (Some octets) new h = absurd h

@@ -1,6 +1,6 @@
 -- A folded text, read octet by octet from its front or its end.
 use Rattle.std.proofs.Common.{◌≡◌, ◌≢◌, ℕ, zero, suc, ◌+◌, ◌-◌, ◌<◌, ◌≤◌, Bool, true, false, cond, eqb, List, [], ◌∷◌, ◌++◌, length, take, drop, refl, sym, ap, get_or, append_assoc, Option, Some, None, ◌∙◌, arith, ne_eqb, eqb-true, eq-eqb}
-use Rattle.std.proofs.lemmas.List.{append-nil, length-append, length-take, take_more, take_at, drop_at, take_all, take-append-le, reverse-append, append_cancel_right, get_or-append_right}
+use Rattle.std.proofs.lemmas.List.{append-nil, length-append, length-take, take_more, take_at, drop_at, take_all, take-append-le, reverse-append, nil_from_length, append_cancel_right, get_or-append_right}
 use Rattle.std.proofs.lemmas.List.Folds.{list_all-append}
 use Rattle.std.specs.Prelude.{nat_lt, ◌&&◌, ◌||◌}
 use Rattle.std.specs.List.{list_all, prefix_len, suffix_len, take_while}
@@ -99,9 +99,13 @@ Skipped-to text (b ∷ bs) behind octet s h e = (
   s.same ∙ ap (λ t. cond t (unfolded bs) (b ∷ unfolded bs)) h ∙ (let same : b ∷ bs ≡ octet ∷ behind = e in cc),
 )
 
-pub Skipped-all : (text rest : List ℕ) → Skipped text rest → rest ≡ [] → unfolded text ≡ []
+pub Skipped-all : (text rest : List ℕ) → Skipped text rest → length rest ≡ 0 → unfolded text ≡ []
 unfolding unfolded
-Skipped-all text rest s e = s.same ∙ ap unfolded e
+Skipped-all text rest s e = s.same ∙ ap unfolded (nil_from_length rest e)
+
+pub unfolded-nil : (text rest : List ℕ) → unfolded text ≡ unfolded rest → length rest ≡ 0 → unfolded text ≡ []
+unfolding unfolded
+unfolded-nil text rest h e = h ∙ ap unfolded (nil_from_length rest e)
 
 -- the last octet
 ends_in-snoc : (c : ℕ) (xs : List ℕ) → ends_in c xs ≡ true → xs ≡ take (length xs - 1) xs ++ c ∷ []
@@ -194,7 +198,7 @@ in_part-split : (part : Part) (text rest : List ℕ) (s : InPart part text rest)
 in_part-split part text rest s = ap unfolded s.joined ∙ unfolded-append s.front rest (rw s.apart refl)
 
 pub InPart-more : (part : Part) (text rest behind : List ℕ) → InPart part text rest → IsPartOctet part rest behind → InPart part text behind
-InPart-more part text rest behind s (b, passes, ends, e, f) =
+InPart-more part text rest behind s (b, passes, (ends, e, f)) =
     let p : ℕ → Bool = is_part_octet part in
     let front : List ℕ = (s.front ++ ends) ++ b ∷ [] in
     let joined : text ≡ front ++ behind = s.joined ∙ ap (λ x. s.front ++ x) e ∙ sym (append_assoc s.front ends (b ∷ behind)) ∙ sym (append_assoc (s.front ++ ends) (b ∷ []) behind) in
@@ -216,7 +220,7 @@ InPart-front part text rest front s e =
     (in_part-split part text rest s ∙ ap (λ x. unfolded x ++ unfolded rest) (sym same), ap (λ x. list_all (is_part_octet part) (unfolded x)) same ∙ s.all)
 
 pub part-shorter : (part : Part) (text behind : List ℕ) → IsPartOctet part text behind → length (unfolded behind) < length (unfolded text)
-part-shorter part text behind (b, passes, ends, e, f) = omega (arith, ap length f)
+part-shorter part text behind (b, passes, (ends, e, f)) = omega (arith, ap length f)
 
 -- a run of a part's octets before one that is none
 take_run : (p : ℕ → Bool) (front rest : List ℕ) → list_all p front ≡ true → take_while p rest ≡ [] → take_while p (front ++ rest) ≡ front

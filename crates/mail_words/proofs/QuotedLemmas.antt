@@ -78,13 +78,6 @@ Decoded-all charset text rest old out place h e l = ArePut-some charset old (q_o
 
 pub Decoded-open : (charset : Charset) (text rest old out : List ℕ) (place : Place) → Decoded charset text rest old out place → (place ≡ Plain → ⊥) → rest ≡ [] → ArePut false charset old (q_octets Plain text) out
 unfolding q_octets
-Decoded-open charset text rest old out Plain h no l = absurd (no refl)
-Decoded-open charset text rest old out Escape h no l = ArePut-none charset old (q_octets Plain text) out (written_in charset h.octets) (sym (rw l at h.same)) h.put
-Decoded-open charset text rest old out (Digit high) h no l = ArePut-none charset old (q_octets Plain text) out (written_in charset h.octets) (sym (rw l at h.same)) h.put
-
--- "_" is a space
-pub space_yes : (b pushed : ℕ) → pushed ≡ 32 → b ≡ 95 → pushed ≡ cond (eqb b 95) 32 b
-space_yes b pushed e f = rw (e, f) refl
-
-pub space_no : (b pushed : ℕ) → pushed ≡ b → (b ≡ 95 → ⊥) → pushed ≡ cond (eqb b 95) 32 b
-space_no b pushed e f = rw (ne_eqb b 95 f) e
+Decoded-open charset text rest old out Plain h other l = absurd (other refl)
+Decoded-open charset text rest old out Escape h other l = ArePut-none charset old (q_octets Plain text) out (written_in charset h.octets) (sym (rw l at h.same)) h.put
+Decoded-open charset text rest old out (Digit high) h other l = ArePut-none charset old (q_octets Plain text) out (written_in charset h.octets) (sym (rw l at h.same)) h.put

@@ -40,6 +40,7 @@ fn decode_symbols(symbols: &[u8], octets: &mut [u8; OCTETS]) -> Option<usize>
     requires { length symbols.now ≤ 64 }
     ensures value { MatchOption result (b_octets symbols.now ≡ None) (λ size. b_octets symbols.now ≡ Some (take size octets.new)) }
     ensures within { IfSome result (λ size. size ≤ 48) }
+    ensures size { IfSome result (λ size. length (take size octets.new) ≡ size) }
 {
     match STANDARD.decode_slice_unchecked(symbols, octets) {
         Ok(size) => Some(size),

@@ -1,6 +1,6 @@
 //! Q text (RFC 2047, section 4.2).
 
-ghost use Rattle.std.specs.Prelude.{◌≡◌, ◌<◌, IfOk, IfSome};
+ghost use Rattle.std.specs.Prelude.{◌≡◌, ◌<◌, ◌==◌, IfOk, IfSome, if◌then◌else◌};
 ghost use Rattle.mail_words.specs.Unfolding.{unfolded};
 ghost use Rattle.mail_words.specs.Charsets.{ArePut};
 ghost use Rattle.mail_words.specs.Decoding.{hex_value, q_octets};
@@ -30,6 +30,13 @@ fn hex_digit(octet: u8) -> Option<u8>
     }
 }
 
+/// The octet that one of Q text stands for, where it is no "=".
+fn plain_octet(octet: u8) -> u8
+    ensures { result ≡ (if octet == 95 then 32 else octet) }
+{
+    if octet == b'_' { b' ' } else { octet }
+}
+
 /// Appends the octets that Q text stands for, as they are written in a charset, and answers whether the text is good.
 /// Behind bad text some octets may have been appended.
 #[tactic(auto, unfolding(crate::specs::Decoding::q_octets))]
@@ -42,7 +49,7 @@ pub fn append_q(shown: &mut Vec<u8>, charset: Charset, text: &[u8]) -> Result<bo
         place = match place {
             Place::Plain if octet == b'=' => Place::Escape,
             Place::Plain => {
-                append_octet(shown, charset, if octet == b'_' { b' ' } else { octet })?;
+                append_octet(shown, charset, plain_octet(octet))?;
                 Place::Plain
             }
             Place::Escape => match hex_digit(octet) {

@@ -61,9 +61,9 @@ pub fn first_octet(text: &[u8]) -> Option<(u8, &[u8])>
         let (_, behind) = rest.split_at(1);
         rest = behind;
     }
-    match rest {
-        [octet, behind @ ..] => Some((*octet, behind)),
-        [] => None,
+    match rest.split_first() {
+        Some((&octet, behind)) => Some((octet, behind)),
+        None => None,
     }
 }
 
@@ -97,9 +97,9 @@ pub fn last_octet(text: &[u8]) -> Option<(&[u8], u8)>
         let (line, _) = rest.split_at(rest.len() - 1);
         rest = line_text(line);
     }
-    match rest {
-        [before @ .., octet] => Some((before, *octet)),
-        [] => None,
+    match rest.split_last() {
+        Some((&octet, before)) => Some((before, octet)),
+        None => None,
     }
 }
 
