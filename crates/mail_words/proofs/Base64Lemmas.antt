@@ -179,11 +179,8 @@ read_all text symbols rest count e none h =
     (sym whole ∙ sym (take_all 64 text short), none ∙ sym (drop_all 64 text short))
 
 -- what the first symbols decode to, where they were read into a row of symbols
-pub symbols_read : (symbols rest : List ℕ) (count : ℕ) (o : Option (List ℕ)) → take count symbols ≡ take 64 rest → b_octets (take (count - 0) symbols) ≡ o → b_octets (take 64 rest) ≡ o
-symbols_read symbols rest count o e h = let whole : count - 0 ≡ count = omega arith in ap b_octets (sym e ∙ ap (λ n. take n symbols) (sym whole)) ∙ h
-
-pub octets_put : (charset : Charset) (out new octets : List ℕ) (size : ℕ) → new ≡ out ++ written_in charset (take (size - 0) octets) → new ≡ out ++ written_in charset (take size octets)
-octets_put charset out new octets size h = let whole : size - 0 ≡ size = omega arith in h ∙ ap (λ n. out ++ written_in charset (take n octets)) whole
+pub symbols_read : (symbols rest : List ℕ) (count : ℕ) (o : Option (List ℕ)) → take count symbols ≡ take 64 rest → b_octets (take count symbols) ≡ o → b_octets (take 64 rest) ≡ o
+symbols_read symbols rest count o e h = ap b_octets (sym e) ∙ h
 
 pub some_left : (rest behind : List ℕ) → is_nil rest ≡ false → behind ≡ drop 64 rest → length behind < length rest
 some_left [] behind h e = absurd cc

@@ -1,6 +1,6 @@
 -- Octets in a charset.
-use Rattle.std.proofs.Common.{◌≡◌, ℕ, ◌+◌, ◌<◌, ◌≤◌, get_or, take, Bool, true, false, cond, List, [], ◌∷◌, ◌++◌, length, drop, refl, sym, ap, subst, ◌∙◌, append_assoc, Option, Some, None, Result, Ok, Err}
-use Rattle.std.proofs.lemmas.List.{append-nil, drop_at, take_more, take_all}
+use Rattle.std.proofs.Common.{◌≡◌, ℕ, ◌+◌, ◌-◌, ◌<◌, ◌≤◌, get_or, take, Bool, true, false, cond, List, [], ◌∷◌, ◌++◌, length, drop, refl, sym, ap, subst, ◌∙◌, append_assoc, Option, Some, None, Result, Ok, Err}
+use Rattle.std.proofs.lemmas.List.{append-nil, drop_at, take_more, take_all, take_rest}
 use Rattle.std.specs.Prelude.{option_and_then}
 use Rattle.std.specs.Char.{encode_utf8}
 use Rattle.std.proofs.lemmas.Str.{IsUtf8-from_is_utf8, is_utf8-from_IsUtf8}
@@ -8,8 +8,9 @@ use Rattle.std.specs.Result.{MatchResult, is_ok}
 use Rattle.std.specs.Str.{IsUtf8, is_utf8, encode_utf8_all}
 use Rattle.mail_words.specs.declared.charset.Charset.{Charset}
 use Rattle.mail_words.specs.declared.charset.Charset.TheVariants.{Ascii, Latin1, Utf8}
-use Rattle.mail_words.specs.Charsets.{text_in, written_in, is_text_in, ArePut}
-use Rattle.mail_words.specs.Decoding.{IsAppended}
+use Rattle.mail_words.specs.Words.{Word}
+use Rattle.mail_words.specs.Charsets.{charset_named, text_in, written_in, is_text_in, ArePut}
+use Rattle.mail_words.specs.Decoding.{octets_of, text_of, IsAppended}
 
 not_utf8 : (bs : List ℕ) (t : Bool) → is_utf8 bs ≡ t → (IsUtf8 bs → ⊥) → false ≡ is_utf8 bs
 not_utf8 bs true e h = absurd (h (IsUtf8-from_is_utf8 bs e))
@@ -82,3 +83,16 @@ IsAppended-read charset old o new false h e = IsAppended-unread charset old o ne
 pub IsAppended-bad : (charset : Charset) (old : List ℕ) (o : Option (List ℕ)) (new : List ℕ) → ArePut false charset old o new → IsAppended false old (option_and_then (text_in charset) o) new
 IsAppended-bad charset old None new h = h
 IsAppended-bad charset old (Some octets) new h = absurd h
+
+-- a word whose charset is read and whose text is good
+pub decoded-read : (w : Word) (name : List ℕ) (charset : Charset) (named : Option Charset) (old mid new whole : List ℕ) (start : ℕ) (good read : Bool) → name ≡ w.charset → named ≡ charset_named name → named ≡ Some charset → mid ≡ old → start ≡ length old → ArePut good charset mid (octets_of w) new → good ≡ true → whole ≡ new → read ≡ is_text_in charset (take (length whole - start) (drop start whole)) → IsAppended read old (text_of w) new
+unfolding text_of
+decoded-read w name charset named old mid new whole start good read en eo is em es h eg ew er =
+    let known : charset_named w.charset ≡ Some charset = ap charset_named (sym en) ∙ sym eo ∙ is in
+    let P : Bool → Type 0 = λ g. ArePut g charset mid (octets_of w) new in
+    let Q : List ℕ → Type 0 = λ m. ArePut true charset m (octets_of w) new in
+    let R : Option (List ℕ) → Type 0 = λ t. IsAppended read old t new in
+    let put : ArePut true charset old (octets_of w) new = subst Q em (subst P eg h) in
+    let tail : read ≡ is_text_in charset (drop (length old) new) = er ∙ ap (is_text_in charset) (take_rest whole start ∙ ap (drop start) ew ∙ ap (λ n. drop n new) es) in
+    let same : text_of w ≡ option_and_then (text_in charset) (octets_of w) = ap (option_and_then (λ charset. option_and_then (text_in charset) (octets_of w))) known in
+    subst R (sym same) (IsAppended-read charset old (octets_of w) new read put tail)

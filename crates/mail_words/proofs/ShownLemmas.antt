@@ -1,5 +1,5 @@
 -- A text that is shown word by word.
-use Rattle.std.proofs.Common.{◌≡◌, ℕ, zero, suc, ◌-◌, ◌<◌, ◌≤◌, Bool, true, false, cond, List, [], ◌∷◌, ◌++◌, length, take, refl, sym, ap, ◌∙◌, arith, Option, Some, None, append_assoc}
+use Rattle.std.proofs.Common.{◌≡◌, ℕ, zero, suc, ◌-◌, ◌<◌, ◌≤◌, Bool, true, false, cond, List, [], ◌∷◌, ◌++◌, length, take, refl, sym, ap, subst, ◌∙◌, arith, Option, Some, None, append_assoc}
 use Rattle.std.proofs.lemmas.List.{length-append, take_at}
 use Rattle.std.specs.Prelude.{◌&&◌}
 use Rattle.std.specs.List.{list_all}
@@ -82,6 +82,9 @@ Showing-put text out rest gap after new w after_good false h e spelled (is, put)
 
 pub shorter_behind : (rest gap after : List ℕ) (w : Word) → rest ≡ gap ++ (spelling w ++ after) → length after < length rest
 shorter_behind = longer
+
+pub Showing-next : (text out after rest : List ℕ) (good : Bool) → Showing text out after good → rest ≡ after → Showing text out rest good
+Showing-next text out after rest good h e = let P : List ℕ → Type 0 = λ x. Showing text out x good in subst P (sym e) h
 
 -- a word that is appended behind what is shown of the gap before it
 good_text : (o : Option (List ℕ)) (mid new : List ℕ) → IsAppended true mid o new → (t : List ℕ) × (o ≡ Some t) × (new ≡ mid ++ t)

@@ -65,7 +65,8 @@ fn show_words(alloc: Global, text: &[u8]) -> Result<Vec<u8>, AllocError>
     let mut after_good = false;
     let mut rest = text;
     while let Some(standing) = next_word(rest) {
-        after_good = append_word(&mut shown, &standing, after_good)?;
+        let good = append_word(&mut shown, &standing, after_good)?;
+        after_good = good;
         rest = standing.behind();
     }
     append_unfolded(&mut shown, rest)?;

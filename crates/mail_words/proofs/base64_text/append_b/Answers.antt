@@ -1,7 +1,7 @@
 use Rattle.std.proofs.Common.{◌-◌, ◌≡◌, inl, inr, arith, sym, ◌∙◌, take, length, None, Some, length-take}
 use Rattle.mail_words.specs.Unfolding.{unfolded}
 use Rattle.mail_words.proofs.FrontLemmas.{nil_from}
-use Rattle.mail_words.proofs.Base64Lemmas.{Decoding-none, Decoding-more, Decoding-bad, Decoding-short, Decoding-all, bytes_unfolded, symbols_read, octets_put, some_left, not_nil}
+use Rattle.mail_words.proofs.Base64Lemmas.{Decoding-none, Decoding-more, Decoding-bad, Decoding-short, Decoding-all, bytes_unfolded, symbols_read, some_left, not_nil}
 use Rattle.mail_words.proofs.base64_text.append_b.Goals as goal
 use Rattle.mail_words.proofs.base64_text.append_b.Goals.{else-size-lt-OCTETS-via-then-size-lt-OCTETS+else-not-is_empty, else-size-lt-OCTETS-via-else-size-lt-OCTETS}
 
@@ -21,7 +21,7 @@ pub groups-preserved : goal.groups-preserved
 groups-preserved c = Decoding-more c.args.charset (unfolded c.args.text.now) (unfolded c.groups.rest.now) (unfolded c.read_symbols-count.result.1.now) c.args.shown.now.items c.groups.shown.items c.append_octets.new.shown.items (take c.in-Some.size c.decode_symbols.new.octets) c.groups.invariant (symbols_read c.read_symbols-count.new.symbols (unfolded c.groups.rest.now) c.read_symbols-count.result.0 (Some (take c.in-Some.size c.decode_symbols.new.octets)) c.read_symbols-count.ensures.read c.in-Some.ensures.value) (elim c.else-size-lt-OCTETS.branch [
   | else-size-lt-OCTETS-via-then-size-lt-OCTETS+else-not-is_empty w ↦ inr (nil_from (unfolded c.read_symbols-count.result.1.now) (sym w.is_empty-then-size-lt-OCTETS.ensures ∙ w.if-not-is_empty.false))
   | else-size-lt-OCTETS-via-else-size-lt-OCTETS w ↦ inl (let size = c.in-Some.ensures.size in let most = c.in-Some.ensures.within in let least = w.if-size-lt-OCTETS.false in omega (arith, size, most, least))
-]) c.read_symbols-count.ensures.behind (octets_put c.args.charset c.groups.shown.items c.append_octets.new.shown.items c.decode_symbols.new.octets c.in-Some.size c.in_ok-append_octets.ensures)
+]) c.read_symbols-count.ensures.behind c.in_ok-append_octets.ensures
 
 pub returns : goal.returns
 returns c = Decoding-all c.args.charset (unfolded c.args.text.now) (unfolded c.groups.rest.now) c.args.shown.now.items c.groups.shown.items c.groups.invariant (nil_from (unfolded c.groups.rest.now) (sym c.is_empty.ensures ∙ c.groups-test.false))

@@ -1,13 +1,14 @@
-use Rattle.std.proofs.Common.{ap, ◌∙◌}
 use Rattle.mail_words.specs.Unfolding.{unfolded}
-use Rattle.mail_words.proofs.ShownLemmas.{Showing-none, Showing-put, Showing-done, shorter_behind}
+use Rattle.mail_words.proofs.ShownLemmas.{Showing-none, Showing-put, Showing-next, Showing-done}
 use Rattle.mail_words.proofs.value.show_words.Goals as goal
 
 pub loop-standing-init : goal.loop-standing-init
 loop-standing-init c = rw c.in_ok-shown.ensures.items (Showing-none (unfolded c.args.text.now))
 
 pub loop-standing-preserved : goal.loop-standing-preserved
-loop-standing-preserved c = rw c.behind-rest.ensures (Showing-put (unfolded c.args.text.now) c.loop-standing.shown.items (unfolded c.loop-standing.rest.now) c.in-Some.standing.0 c.in-Some.standing.2 c.append_word.new.shown.items c.in-Some.standing.1 c.loop-standing.after_good c.in_ok-append_word.value c.loop-standing.invariant c.in-Some.ensures.first c.in-Some.ensures.spelled c.in_ok-append_word.ensures)
+loop-standing-preserved c =
+    let shown = Showing-put (unfolded c.args.text.now) c.loop-standing.shown.items (unfolded c.loop-standing.rest.now) c.in-Some.standing.0 c.in-Some.standing.2 c.append_word.new.shown.items c.in-Some.standing.1 c.loop-standing.after_good c.in_ok-good.good c.loop-standing.invariant c.in-Some.ensures.first c.in-Some.ensures.spelled c.in_ok-good.ensures in
+    Showing-next (unfolded c.args.text.now) c.append_word.new.shown.items c.in-Some.standing.2 (unfolded c.behind-rest.result.now) c.in_ok-good.good shown c.behind-rest.ensures
 
 pub returns : goal.returns
 returns c = rw c.in_ok-append_unfolded.ensures (Showing-done (unfolded c.args.text.now) c.loop-standing.shown.items (unfolded c.loop-standing.rest.now) c.loop-standing.after_good c.loop-standing.invariant c.in_default.ensures.first)
