@@ -14,18 +14,18 @@ use Rattle.base64.proofs.Canonical.{IsScanned-scan}
 use Rattle.base64.proofs.EngineFacts.{decode_of_iff}
 use Rattle.mail_words.specs.Meaning.{IsBText}
 
-bytes_nil : IsBytes []
+pub bytes_nil : IsBytes []
 bytes_nil i = omega arith
 
-bytes_cons : (x : ℕ) (xs : List ℕ) → x < 256 → IsBytes xs → IsBytes (x ∷ xs)
+pub bytes_cons : (x : ℕ) (xs : List ℕ) → x < 256 → IsBytes xs → IsBytes (x ∷ xs)
 bytes_cons x xs l h zero = l
 bytes_cons x xs l h (suc i) = h i
 
-bytes_append : (xs ys : List ℕ) → IsBytes xs → IsBytes ys → IsBytes (xs ++ ys)
+pub bytes_append : (xs ys : List ℕ) → IsBytes xs → IsBytes ys → IsBytes (xs ++ ys)
 bytes_append [] ys h k = k
 bytes_append (x ∷ xs) ys h k = bytes_cons x (xs ++ ys) (h 0) (bytes_append xs ys (λ i. h (suc i)) k)
 
-bytes_take : (n : ℕ) (xs : List ℕ) → IsBytes xs → IsBytes (take n xs)
+pub bytes_take : (n : ℕ) (xs : List ℕ) → IsBytes xs → IsBytes (take n xs)
 bytes_take zero xs h = bytes_nil
 bytes_take (suc n) [] h = bytes_nil
 bytes_take (suc n) (x ∷ xs) h = bytes_cons x (take n xs) (h 0) (bytes_take n xs (λ i. h (suc i)))

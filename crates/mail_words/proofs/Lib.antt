@@ -1,8 +1,11 @@
 pub mod UnfoldingLemmas
+pub mod FoldedLemmas
 pub mod Rows
 pub mod CharsetLemmas
 pub mod QuotedLemmas
 pub mod WordLemmas
+pub mod FrontLemmas
+pub mod Base64Lemmas
 pub mod SpellingLemmas
 pub mod EncodedLemmas
 pub mod MeaningLemmas

@@ -1,10 +1,13 @@
 -- Q text, octet by octet.
-use Rattle.std.proofs.Common.{◌≡◌, ℕ, ◌+◌, ◌*◌, ◌<◌, cond, eqb, List, [], ◌∷◌, ◌++◌, length, drop, refl, sym, ap, ◌∙◌, get_or, Option, Some, None, append_assoc, ne_eqb}
-use Rattle.std.proofs.lemmas.List.{drop_more}
+use Rattle.std.proofs.Common.{◌≡◌, ℕ, ◌+◌, ◌*◌, ◌<◌, Bool, true, false, cond, eqb, List, [], ◌∷◌, ◌++◌, refl, sym, ap, subst, ◌∙◌, Option, Some, None, append_assoc, ne_eqb}
+use Rattle.std.proofs.lemmas.List.{append-nil}
 use Rattle.std.specs.Prelude.{option_map}
+use Rattle.mail_words.specs.declared.charset.Charset.{Charset}
 use Rattle.mail_words.specs.declared.quoted.Place.{Place}
 use Rattle.mail_words.specs.declared.quoted.Place.TheVariants.{Plain, Escape, Digit}
+use Rattle.mail_words.specs.Charsets.{written_in, ArePut}
 use Rattle.mail_words.specs.Decoding.{hex_value, q_octets}
+use Rattle.mail_words.proofs.CharsetLemmas.{written-nil, written-append, ArePut-some, ArePut-none}
 
 -- a digit that was read is below sixteen
 abbrev pub IsSmall : Place → Type 0
@@ -13,46 +16,68 @@ IsSmall Escape = Unit {0}
 IsSmall (Digit high) = high < 16
 
 -- the octets so far, and those of the rest
-pub record Decoded (text octets : List ℕ) (place : Place) (i : ℕ) : Type 0 where
+pub record Decoded (charset : Charset) (text rest old out : List ℕ) (place : Place) : Type 0 where
   pub small : IsSmall place
-  pub same : option_map (λ more. octets ++ more) (q_octets place (drop i text)) ≡ q_octets Plain text
+  pub octets : List ℕ
+  pub put : out ≡ old ++ written_in charset octets
+  pub same : option_map (λ more. octets ++ more) (q_octets place rest) ≡ q_octets Plain text
 
 option_map-nil : (o : Option (List ℕ)) → option_map (λ more. [] ++ more) o ≡ o
 option_map-nil None = refl
 option_map-nil (Some x) = refl
 
-pub Decoded-none : (text : List ℕ) → Decoded text [] Plain 0
-Decoded-none text = record { small = tt; same = option_map-nil (q_octets Plain text) }
+pub Decoded-none : (charset : Charset) (text old : List ℕ) → Decoded charset text text old old Plain
+Decoded-none charset text old = record { small = tt; octets = []; put = written-nil charset old; same = option_map-nil (q_octets Plain text) }
 
 push_octet : (octets : List ℕ) (b : ℕ) (o : Option (List ℕ)) → option_map (λ more. octets ++ more) (option_map (λ more. b ∷ more) o) ≡ option_map (λ more. (octets ++ b ∷ []) ++ more) o
 push_octet octets b None = refl
 push_octet octets b (Some x) = ap Some (sym (append_assoc octets (b ∷ []) x))
 
-pub Decoded-escape : (text octets : List ℕ) (place : Place) (i : ℕ) → Decoded text octets place i → place ≡ Plain → i < length text → get_or text i 0 ≡ 61 → Decoded text octets Escape (i + 1)
-unfolding q_octets
-Decoded-escape text octets place i h e l at = record { small = tt; same = rw (e, drop_more text i 0 l, at) at h.same }
+put_one : (charset : Charset) (old out new octets : List ℕ) (b : ℕ) → out ≡ old ++ written_in charset octets → new ≡ out ++ written_in charset (b ∷ []) → new ≡ old ++ written_in charset (octets ++ b ∷ [])
+put_one charset old out new octets b h e = e ∙ ap (λ x. x ++ written_in charset (b ∷ [])) h ∙ append_assoc old (written_in charset octets) (written_in charset (b ∷ [])) ∙ ap (λ x. old ++ x) (sym (written-append charset octets (b ∷ [])))
 
-pub Decoded-plain : (text octets : List ℕ) (place : Place) (i b : ℕ) → Decoded text octets place i → place ≡ Plain → i < length text → (get_or text i 0 ≡ 61 → ⊥) → b ≡ cond (eqb (get_or text i 0) 95) 32 (get_or text i 0) → Decoded text (octets ++ b ∷ []) Plain (i + 1)
+pub Decoded-escape : (charset : Charset) (text rest behind old out : List ℕ) (place : Place) (b : ℕ) → Decoded charset text rest old out place → place ≡ Plain → rest ≡ b ∷ behind → b ≡ 61 → Decoded charset text behind old out Escape
 unfolding q_octets
-Decoded-plain text octets place i b h e l at eb = record {
+Decoded-escape charset text rest behind old out place b h e l at = record { small = tt; octets = h.octets; put = h.put; same = rw (e, l, at) at h.same }
+
+pub Decoded-plain : (charset : Charset) (text rest behind old out new : List ℕ) (place : Place) (b pushed : ℕ) → Decoded charset text rest old out place → place ≡ Plain → rest ≡ b ∷ behind → (b ≡ 61 → ⊥) → pushed ≡ cond (eqb b 95) 32 b → new ≡ out ++ written_in charset (pushed ∷ []) → Decoded charset text behind old new Plain
+unfolding q_octets
+Decoded-plain charset text rest behind old out new place b pushed h e l at eb en = record {
   small = tt;
-  same = sym (push_octet octets b (q_octets Plain (drop (i + 1) text))) ∙ (rw (e, drop_more text i 0 l, ne_eqb (get_or text i 0) 61 at, ← eb) at h.same);
+  octets = h.octets ++ pushed ∷ [];
+  put = put_one charset old out new h.octets pushed h.put en;
+  same = sym (push_octet h.octets pushed (q_octets Plain behind)) ∙ (rw (e, l, ne_eqb b 61 at, ← eb) at h.same);
 }
 
-pub Decoded-high : (text octets : List ℕ) (place : Place) (i high : ℕ) → Decoded text octets place i → place ≡ Escape → i < length text → Some high ≡ hex_value (get_or text i 0) → high < 16 → Decoded text octets (Digit high) (i + 1)
+pub Decoded-high : (charset : Charset) (text rest behind old out : List ℕ) (place : Place) (b high : ℕ) → Decoded charset text rest old out place → place ≡ Escape → rest ≡ b ∷ behind → Some high ≡ hex_value b → high < 16 → Decoded charset text behind old out (Digit high)
 unfolding q_octets
-Decoded-high text octets place i high h e l digit small = record { small = small; same = rw (e, drop_more text i 0 l, ← digit) at h.same }
+Decoded-high charset text rest behind old out place b high h e l digit small = record { small = small; octets = h.octets; put = h.put; same = rw (e, l, ← digit) at h.same }
 
-pub Decoded-low : (text octets : List ℕ) (place : Place) (i high low : ℕ) → Decoded text octets place i → place ≡ Digit high → i < length text → Some low ≡ hex_value (get_or text i 0) → Decoded text (octets ++ (high * 16 + low) ∷ []) Plain (i + 1)
+pub Decoded-low : (charset : Charset) (text rest behind old out new : List ℕ) (place : Place) (b high low : ℕ) → Decoded charset text rest old out place → place ≡ Digit high → rest ≡ b ∷ behind → Some low ≡ hex_value b → new ≡ out ++ written_in charset ((high * 16 + low) ∷ []) → Decoded charset text behind old new Plain
 unfolding q_octets
-Decoded-low text octets place i high low h e l digit = record {
+Decoded-low charset text rest behind old out new place b high low h e l digit en = record {
   small = tt;
-  same = sym (push_octet octets (high * 16 + low) (q_octets Plain (drop (i + 1) text))) ∙ (rw (e, drop_more text i 0 l, ← digit) at h.same);
+  octets = h.octets ++ (high * 16 + low) ∷ [];
+  put = put_one charset old out new h.octets (high * 16 + low) h.put en;
+  same = sym (push_octet h.octets (high * 16 + low) (q_octets Plain behind)) ∙ (rw (e, l, ← digit) at h.same);
 }
 
--- "_" is a space
-pub space_yes : (b pushed : ℕ) → pushed ≡ 32 → b ≡ 95 → pushed ≡ cond (eqb b 95) 32 b
-space_yes b pushed e f = rw (e, f) refl
+-- a digit that is none
+pub Decoded-no_high : (charset : Charset) (text rest behind old out : List ℕ) (place : Place) (b : ℕ) → Decoded charset text rest old out place → place ≡ Escape → rest ≡ b ∷ behind → None ≡ hex_value b → ArePut false charset old (q_octets Plain text) out
+unfolding q_octets
+Decoded-no_high charset text rest behind old out place b h e l digit = ArePut-none charset old (q_octets Plain text) out (written_in charset h.octets) (sym (rw (e, l, ← digit) at h.same)) h.put
 
-pub space_no : (b pushed : ℕ) → pushed ≡ b → (b ≡ 95 → ⊥) → pushed ≡ cond (eqb b 95) 32 b
-space_no b pushed e f = rw (ne_eqb b 95 f) e
+pub Decoded-no_low : (charset : Charset) (text rest behind old out : List ℕ) (place : Place) (b high : ℕ) → Decoded charset text rest old out place → place ≡ Digit high → rest ≡ b ∷ behind → None ≡ hex_value b → ArePut false charset old (q_octets Plain text) out
+unfolding q_octets
+Decoded-no_low charset text rest behind old out place b high h e l digit = ArePut-none charset old (q_octets Plain text) out (written_in charset h.octets) (sym (rw (e, l, ← digit) at h.same)) h.put
+
+-- the end of the text
+pub Decoded-all : (charset : Charset) (text rest old out : List ℕ) (place : Place) → Decoded charset text rest old out place → place ≡ Plain → rest ≡ [] → ArePut true charset old (q_octets Plain text) out
+unfolding q_octets
+Decoded-all charset text rest old out place h e l = ArePut-some charset old (q_octets Plain text) out h.octets (sym (rw (e, l) at h.same) ∙ ap Some (append-nil h.octets)) h.put
+
+pub Decoded-open : (charset : Charset) (text rest old out : List ℕ) (place : Place) → Decoded charset text rest old out place → (place ≡ Plain → ⊥) → rest ≡ [] → ArePut false charset old (q_octets Plain text) out
+unfolding q_octets
+Decoded-open charset text rest old out Plain h other l = absurd (other refl)
+Decoded-open charset text rest old out Escape h other l = ArePut-none charset old (q_octets Plain text) out (written_in charset h.octets) (sym (rw l at h.same)) h.put
+Decoded-open charset text rest old out (Digit high) h other l = ArePut-none charset old (q_octets Plain text) out (written_in charset h.octets) (sym (rw l at h.same)) h.put

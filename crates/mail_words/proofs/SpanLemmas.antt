@@ -32,7 +32,7 @@ word_written w after =
     ap (λ x. 61 ∷ 63 ∷ x) (append_assoc w.charset (63 ∷ w.encoding ∷ 63 ∷ (w.text ++ 63 ∷ 61 ∷ [])) after) ∙ ap (λ x. 61 ∷ 63 ∷ (w.charset ++ 63 ∷ w.encoding ∷ 63 ∷ x)) (append_assoc w.text (63 ∷ 61 ∷ []) after)
 
 -- a word that is written is found
-word_at-written : (w : Word) (after : List ℕ) → IsWord w → word_at (61 ∷ 63 ∷ (w.charset ++ 63 ∷ w.encoding ∷ 63 ∷ (w.text ++ 63 ∷ 61 ∷ after))) ≡ Some (w, after)
+pub word_at-written : (w : Word) (after : List ℕ) → IsWord w → word_at (61 ∷ 63 ∷ (w.charset ++ 63 ∷ w.encoding ∷ 63 ∷ (w.text ++ 63 ∷ 61 ∷ after))) ≡ Some (w, after)
 unfolding word_at
 word_at-written w after h =
     let tail = w.text ++ 63 ∷ 61 ∷ after in

@@ -16,7 +16,7 @@ and_parts false b h = absurd cc
 run_joined : (p : ℕ → Bool) (bs : List ℕ) → bs ≡ take_while p bs ++ drop (length (take_while p bs)) bs
 run_joined p bs = sym (ap (λ n. take_while p bs ++ drop n bs) (length-prefix_len p bs) ∙ take-append-drop (prefix_len p bs) bs)
 
-run_passes : (p : ℕ → Bool) (bs : List ℕ) → list_all p (take_while p bs) ≡ true
+pub run_passes : (p : ℕ → Bool) (bs : List ℕ) → list_all p (take_while p bs) ≡ true
 run_passes p [] = refl
 run_passes p (b ∷ bs) = at (p b) refl (run_passes p bs)
   where

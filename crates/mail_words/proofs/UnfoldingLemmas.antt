@@ -18,7 +18,7 @@ and_false true = refl
 and_false false = refl
 
 -- a CR goes only from the end
-without_cr-cons : (b c : ℕ) (cs : List ℕ) → without_cr (b ∷ c ∷ cs) ≡ b ∷ without_cr (c ∷ cs)
+pub without_cr-cons : (b c : ℕ) (cs : List ℕ) → without_cr (b ∷ c ∷ cs) ≡ b ∷ without_cr (c ∷ cs)
 without_cr-cons b c cs =
     let one : suc (suc (length cs)) - 1 ≡ suc (length cs) = omega arith in
     let two : suc (length cs) - 1 ≡ length cs = omega arith in
@@ -71,9 +71,3 @@ unfolded_last bs none = unfolded_none bs (λ j below same. none j (omega arith) 
 pub unfolded-more : (before : List ℕ) (bs text end after : List ℕ) (k : ℕ) (all : List ℕ) → IsFirstByte (is_byte 10) bs (Some k) → text ≡ without_cr (take k bs) → after ≡ drop 1 (drop k bs) → before ++ unfolded bs ≡ all → (before ++ text) ++ unfolded after ≡ all
 unfolded-more before bs text end after k all found et ea h =
     rw (et, ea, append_assoc, ← unfolded_line bs k found) h
-
--- a body of one line
-pub unfolded_plain : (bs : List ℕ) (r : Option ℕ) (t : Bool) → IsFirstByte (is_byte 10) bs r → is_some r ≡ not t → t ≡ true → unfolded bs ≡ bs
-unfolded_plain bs None t none h e = unfolded_last bs none
-unfolded_plain bs (Some k) true found h e = absurd cc
-unfolded_plain bs (Some k) false found h e = absurd cc

@@ -1,10 +1,15 @@
--- The first word that stands in a text, looked for at each "=".
+-- The first word that stands in a folded text, looked for at each "=".
 use Rattle.std.proofs.Common.{◌≡◌, ◌≢◌, ℕ, zero, suc, ◌+◌, ◌-◌, ◌<◌, ◌≤◌, Bool, true, false, cond, eqb, List, [], ◌∷◌, ◌++◌, length, take, drop, refl, sym, ap, ◌∙◌, arith, get_or, Option, Some, None, append_assoc, ne_eqb, eqb-true, eq-eqb}
-use Rattle.std.proofs.lemmas.List.{append-nil, drop_more, length-drop, drop-drop, get_or-drop, take_rest, take_more}
+use Rattle.std.proofs.lemmas.List.{append-nil, drop_more, length-drop, drop-drop, get_or-drop, take_rest, take_more, take_all, take-append-drop}
 use Rattle.std.proofs.Math.Seq.{take-add}
-use Rattle.std.specs.Prelude.{option_map}
+use Rattle.std.specs.Prelude.{option_map, not, ◌&&◌, ◌||◌}
+use Rattle.std.specs.List.{list_all}
 use Rattle.memchr.specs.Find.{IsFirstByte, is_byte}
-use Rattle.mail_words.specs.Words.{Word, precedes, opens, word_at, followed_word_at, or_later, first_word, may_begin_at}
+use Rattle.mail_words.specs.Unfolding.{begins_with, unfolded}
+use Rattle.mail_words.specs.Spans.{may_stand_behind}
+use Rattle.mail_words.specs.Words.{Word, precedes, opens, word_at, followed_word_at, or_later, first_word}
+use Rattle.mail_words.proofs.SpellingLemmas.{and_parts}
+use Rattle.mail_words.proofs.FoldedLemmas.{last_is, last-snoc, unfolded-append, unfolded-before, unfolded-snoc}
 
 abbrev pub Standing : Type 0
 Standing = List ℕ × Word × List ℕ
@@ -38,98 +43,127 @@ no_word_at : (b : ℕ) (bs : List ℕ) → eqb b 61 ≡ false → followed_word_
 unfolding word_at
 no_word_at b bs e = rw (opens_no b bs e) refl
 
--- what stands before a place says whether a word may begin there
-abbrev start_at : Bool → List ℕ → ℕ → Bool
-start_at start bs zero = start
-start_at start bs (suc k) = precedes (get_or bs k 0)
-
-start_at-cons : (b : ℕ) (bs : List ℕ) (k : ℕ) → start_at (precedes b) bs k ≡ precedes (get_or (b ∷ bs) k 0)
-start_at-cons b bs zero = refl
-start_at-cons b bs (suc k) = refl
-
 -- octets without "="
-skip : (k : ℕ) (bs : List ℕ) (start : Bool) → k ≤ length bs → ((j : ℕ) → j < k → get_or bs j 0 ≢ 61) → first_word start bs ≡ option_map (behind (take k bs)) (first_word (start_at start bs k) (drop k bs))
-unfolding first_word
-skip zero bs start h none = behind-nil (first_word start bs)
-skip (suc k) [] start h none = absurd (omega arith)
-skip (suc k) (b ∷ bs) start h none =
-    let other : eqb b 61 ≡ false = ne_eqb b 61 (none 0 (omega arith)) in
-    let here : cond start (followed_word_at (b ∷ bs)) None ≡ None = cond_none start (followed_word_at (b ∷ bs)) (no_word_at b bs other) in
-    let rest : first_word (precedes b) bs ≡ option_map (behind (take k bs)) (first_word (start_at (precedes b) bs k) (drop k bs)) = skip k bs (precedes b) (omega arith) (λ j below. none (suc j) (omega arith)) in
-    ap (λ o. or_later o b (first_word (precedes b) bs)) here ∙ ap (option_map (λ f. (b ∷ f.0, f.1, f.2))) (rest ∙ ap (λ t. option_map (behind (take k bs)) (first_word t (drop k bs))) (start_at-cons b bs k)) ∙ behind-cons b (take k bs) (first_word (precedes (get_or (b ∷ bs) k 0)) (drop k bs))
+abbrev is_other : ℕ → Bool
+is_other b = not (eqb b 61)
 
-first_word-none : (bs : List ℕ) (start : Bool) → ((j : ℕ) → j < length bs → get_or bs j 0 ≢ 61) → first_word start bs ≡ None
+not_true : (t : Bool) → not t ≡ true → t ≡ false
+not_true true h = absurd cc
+not_true false h = refl
+
+skip : (xs ys : List ℕ) (start : Bool) → list_all is_other xs ≡ true → first_word start (xs ++ ys) ≡ option_map (behind xs) (first_word (may_stand_behind start xs) ys)
 unfolding first_word
-first_word-none [] start none = refl
-first_word-none (b ∷ bs) start none =
-    let other : eqb b 61 ≡ false = ne_eqb b 61 (none 0 (omega arith)) in
-    let here : cond start (followed_word_at (b ∷ bs)) None ≡ None = cond_none start (followed_word_at (b ∷ bs)) (no_word_at b bs other) in
-    ap (λ o. or_later o b (first_word (precedes b) bs)) here ∙ ap (option_map (λ f. (b ∷ f.0, f.1, f.2))) (first_word-none bs (precedes b) (λ j below. none (suc j) (omega arith)))
+skip [] ys start h = behind-nil (first_word start ys)
+skip (b ∷ bs) ys start h =
+    let parts = and_parts (is_other b) (list_all is_other bs) h in
+    let here : cond start (followed_word_at (b ∷ (bs ++ ys))) None ≡ None = cond_none start (followed_word_at (b ∷ (bs ++ ys))) (no_word_at b (bs ++ ys) (not_true (eqb b 61) parts.0)) in
+    ap (λ o. or_later o b (first_word (precedes b) (bs ++ ys))) here ∙ ap (option_map (λ f. (b ∷ f.0, f.1, f.2))) (skip bs ys (precedes b) parts.1) ∙ behind-cons b bs (first_word (may_stand_behind (precedes b) bs) ys)
+
+first_word-none : (xs : List ℕ) (start : Bool) → list_all is_other xs ≡ true → first_word start xs ≡ None
+unfolding first_word
+first_word-none xs start h = ap (first_word start) (sym (append-nil xs)) ∙ skip xs [] start h
+
+-- what is left of octets without "=" has none
+pass_cond : (t : Bool) (b : ℕ) (xs : List ℕ) → is_other b ≡ true → list_all is_other xs ≡ true → list_all is_other (cond t xs (b ∷ xs)) ≡ true
+pass_cond true b xs h k = k
+pass_cond false b xs h k = rw (h, k) refl
+
+others : (k : ℕ) (xs : List ℕ) → k ≤ length xs → ((j : ℕ) → j < k → get_or xs j 0 ≢ 61) → list_all is_other (unfolded (take k xs)) ≡ true
+unfolding unfolded
+others zero xs h none = refl
+others (suc k) [] h none = refl
+others (suc k) (b ∷ bs) h none = pass_cond (eqb b 10 || (eqb b 13 && begins_with 10 (take k bs))) b (unfolded (take k bs)) (rw (ne_eqb b 61 (none 0 (omega arith))) refl) (others k bs (omega arith) (λ j below. none (suc j) (omega arith)))
 
 -- no word stands in the first octets of a text
 pub record Searched (text : List ℕ) (from : ℕ) : Type 0 where
   pub within : from ≤ length text
-  pub same : first_word true text ≡ option_map (behind (take from text)) (first_word (may_begin_at text from) (drop from text))
+  pub apart : last_is 13 (take from text) ≡ false
+  pub same : first_word true (unfolded text) ≡ option_map (behind (unfolded (take from text))) (first_word (may_stand_behind true (unfolded (take from text))) (unfolded (drop from text)))
 
 pub Searched-none : (text : List ℕ) → Searched text 0
-Searched-none text = record { within = omega arith; same = behind-nil (first_word true text) }
+unfolding unfolded
+Searched-none text = record { within = omega arith; apart = refl; same = behind-nil (first_word true (unfolded text)) }
 
-may_begin_start : (text : List ℕ) (from k : ℕ) → start_at (may_begin_at text from) (drop from text) k ≡ may_begin_at text (from + k)
-may_begin_start text from zero = ap (may_begin_at text) (omega arith)
-may_begin_start text from (suc k) =
-    let some : eqb (from + suc k) 0 ≡ false = grind arith in
-    let last : from + suc k - 1 ≡ from + k = omega arith in
-    rw (some, last, get_or-drop from text k 0) refl
+may_stand-append : (start : Bool) (xs ys : List ℕ) → may_stand_behind start (xs ++ ys) ≡ may_stand_behind (may_stand_behind start xs) ys
+may_stand-append start [] ys = refl
+may_stand-append start (x ∷ xs) ys = may_stand-append (precedes x) xs ys
 
--- up to the next "="
-Searched-to : (text : List ℕ) (from k : ℕ) → Searched text from → k ≤ length (drop from text) → ((j : ℕ) → j < k → get_or (drop from text) j 0 ≢ 61) → Searched text (from + k)
-Searched-to text from k h within none =
+pub may_stand-last : (xs : List ℕ) (b : ℕ) → may_stand_behind true (xs ++ b ∷ []) ≡ precedes b
+may_stand-last xs b = may_stand-append true xs (b ∷ [])
+
+-- the same, where a "=" stands
+pub record Placed (text : List ℕ) (place : ℕ) : Type 0 where
+  pub high : place < length text
+  pub at : get_or text place 0 ≡ 61
+  pub same : first_word true (unfolded text) ≡ option_map (behind (unfolded (take place text))) (first_word (may_stand_behind true (unfolded (take place text))) (unfolded (drop place text)))
+
+split_at : (text : List ℕ) (place : ℕ) → place < length text → get_or text place 0 ≡ 61 → drop place text ≡ 61 ∷ drop (place + 1) text
+split_at text place h e = drop_more text place 0 h ∙ ap (λ b. b ∷ drop (place + 1) text) e
+
+Placed-to : (text : List ℕ) (from k : ℕ) → Searched text from → k < length (drop from text) → ((j : ℕ) → j < k → get_or (drop from text) j 0 ≢ 61) → get_or (drop from text) k 0 ≡ 61 → Placed text (from + k)
+Placed-to text from k h within none at =
+    let rest : List ℕ = drop from text in
     let long = length-drop from text in
-    let here = skip k (drop from text) (may_begin_at text from) within none in
+    let high : from + k < length text = omega (arith, h.within) in
+    let place : get_or text (from + k) 0 ≡ 61 = sym (get_or-drop from text k 0) ∙ at in
+    let tail : drop k rest ≡ 61 ∷ drop (k + 1) rest = split_at rest k within at in
+    let cut : unfolded rest ≡ unfolded (take k rest) ++ unfolded (drop k rest) = ap unfolded (sym (take-append-drop k rest)) ∙ unfolded-before (take k rest) (drop k rest) (ap (begins_with 10) tail) in
+    let seen : unfolded (take (from + k) text) ≡ unfolded (take from text) ++ unfolded (take k rest) = ap unfolded (take-add from k text) ∙ unfolded-append (take from text) (take k rest) (rw h.apart refl) in
+    let skipped = skip (unfolded (take k rest)) (unfolded (drop k rest)) (may_stand_behind true (unfolded (take from text))) (others k rest (omega arith) none) in
+    let start : may_stand_behind (may_stand_behind true (unfolded (take from text))) (unfolded (take k rest)) ≡ may_stand_behind true (unfolded (take (from + k) text)) = sym (may_stand-append true (unfolded (take from text)) (unfolded (take k rest))) ∙ ap (may_stand_behind true) (sym seen) in
+    let there : drop k rest ≡ drop (from + k) text = drop-drop k from text in
     record {
-      within = omega (arith, h.within);
-      same = h.same ∙ ap (option_map (behind (take from text))) here ∙ behind-append (take from text) (take k (drop from text)) (first_word (start_at (may_begin_at text from) (drop from text) k) (drop k (drop from text))) ∙ rw (← take-add from k text, may_begin_start text from k, drop-drop k from text) refl;
+      high = high;
+      at = place;
+      same = h.same ∙ ap (λ us. option_map (behind (unfolded (take from text))) (first_word (may_stand_behind true (unfolded (take from text))) us)) cut ∙ ap (option_map (behind (unfolded (take from text)))) skipped ∙ behind-append (unfolded (take from text)) (unfolded (take k rest)) (first_word (may_stand_behind (may_stand_behind true (unfolded (take from text))) (unfolded (take k rest))) (unfolded (drop k rest))) ∙ ap (λ xs. option_map (behind xs) (first_word (may_stand_behind (may_stand_behind true (unfolded (take from text))) (unfolded (take k rest))) (unfolded (drop k rest)))) (sym seen) ∙ ap (λ t. option_map (behind (unfolded (take (from + k) text))) (first_word t (unfolded (drop k rest)))) start ∙ ap (λ xs. option_map (behind (unfolded (take (from + k) text))) (first_word (may_stand_behind true (unfolded (take (from + k) text))) (unfolded xs))) there;
     }
 
 -- a search for "=" in the rest of a text
-pub Searched-place : (text : List ℕ) (from k : ℕ) → Searched text from → IsFirstByte (is_byte 61) (take (length text - from) (drop from text)) (Some k) → Searched text (from + k) × (from + k < length text) × (get_or text (from + k) 0 ≡ 61)
-Searched-place text from k h found =
+pub Placed-found : (text : List ℕ) (from k : ℕ) → Searched text from → IsFirstByte (is_byte 61) (take (length text - from) (drop from text)) (Some k) → Placed text (from + k)
+Placed-found text from k h found =
     let first : IsFirstByte (is_byte 61) (drop from text) (Some k) = rw (take_rest text from) at found in
-    let high : k < length (drop from text) = first.0.high in
-    let long = length-drop from text in (
-      Searched-to text from k h (omega arith) (λ j below same. first.0.before j (omega arith) below (eq-eqb (get_or (drop from text) j 0) 61 same)),
-      omega (arith, h.within),
-      sym (get_or-drop from text k 0) ∙ eqb-true (get_or (drop from text) k 0) 61 first.1,
-    )
+    Placed-to text from k h first.0.high (λ j below same. first.0.before j (omega arith) below (eq-eqb (get_or (drop from text) j 0) 61 same)) (eqb-true (get_or (drop from text) k 0) 61 first.1)
 
-pub Searched-end : (text : List ℕ) (from : ℕ) → Searched text from → IsFirstByte (is_byte 61) (take (length text - from) (drop from text)) None → None ≡ first_word true text
+pub Searched-end : (text : List ℕ) (from : ℕ) → Searched text from → IsFirstByte (is_byte 61) (take (length text - from) (drop from text)) None → None ≡ first_word true (unfolded text)
 Searched-end text from h found =
     let none : IsFirstByte (is_byte 61) (drop from text) None = rw (take_rest text from) at found in
-    sym (h.same ∙ ap (option_map (behind (take from text))) (first_word-none (drop from text) (may_begin_at text from) (λ j below same. none j (omega arith) below (eq-eqb (get_or (drop from text) j 0) 61 same))))
+    let all : take (length (drop from text)) (drop from text) ≡ drop from text = take_all (length (drop from text)) (drop from text) (omega arith) in
+    let rest : list_all is_other (unfolded (drop from text)) ≡ true = ap (λ xs. list_all is_other (unfolded xs)) (sym all) ∙ others (length (drop from text)) (drop from text) (omega arith) (λ j below same. none j (omega arith) below (eq-eqb (get_or (drop from text) j 0) 61 same)) in
+    sym (h.same ∙ ap (option_map (behind (unfolded (take from text)))) (first_word-none (unfolded (drop from text)) (may_stand_behind true (unfolded (take from text))) rest))
 
--- the step at a "="
-first_word-at : (text : List ℕ) (place : ℕ) → place < length text → first_word (may_begin_at text place) (drop place text) ≡ or_later (cond (may_begin_at text place) (followed_word_at (drop place text)) None) (get_or text place 0) (first_word (precedes (get_or text place 0)) (drop (place + 1) text))
+unfolded-at : (text rest : List ℕ) (place : ℕ) → Placed text place → rest ≡ drop place text → unfolded rest ≡ 61 ∷ unfolded (drop (place + 1) text)
+unfolding unfolded
+unfolded-at text rest place h e = ap unfolded (e ∙ split_at text place h.high h.at)
+
+pub Placed-word : (text gap rest : List ℕ) (place : ℕ) (w : Word) (after : List ℕ) → Placed text place → true ≡ may_stand_behind true (unfolded gap) → gap ≡ take place text → rest ≡ drop place text → Some (w, after) ≡ followed_word_at (unfolded rest) → Some (unfolded gap, w, after) ≡ first_word true (unfolded text)
 unfolding first_word
-first_word-at text place h = rw (drop_more text place 0 h) refl
+Placed-word text gap rest place w after h may eg er found =
+    let us : List ℕ = unfolded (drop (place + 1) text) in
+    let here : unfolded rest ≡ 61 ∷ us = unfolded-at text rest place h er in
+    let front : followed_word_at (61 ∷ us) ≡ Some (w, after) = ap followed_word_at (sym here) ∙ sym found in
+    let word : first_word true (61 ∷ us) ≡ Some ([], w, after) = ap (λ o. or_later o 61 (first_word (precedes 61) us)) front in
+    let whole : first_word (may_stand_behind true (unfolded gap)) (unfolded rest) ≡ Some ([], w, after) = ap (λ t. first_word t (unfolded rest)) (sym may) ∙ ap (first_word true) here ∙ word in
+    sym (h.same ∙ ap (λ xs. option_map (behind (unfolded xs)) (first_word (may_stand_behind true (unfolded xs)) (unfolded (drop place text)))) (sym eg) ∙ ap (λ xs. option_map (behind (unfolded gap)) (first_word (may_stand_behind true (unfolded gap)) (unfolded xs))) (sym er) ∙ ap (option_map (behind (unfolded gap))) whole ∙ ap (λ xs. Some (xs, w, after)) (append-nil (unfolded gap)))
 
-pub Searched-word : (text gap rest : List ℕ) (place : ℕ) (w : Word) (after : List ℕ) → Searched text place → place < length text → true ≡ may_begin_at text place → gap ≡ take place text → rest ≡ drop place text → Some (w, after) ≡ followed_word_at rest → Some (gap, w, after) ≡ first_word true text
-Searched-word text gap rest place w after h l may eg er found =
-    let front : followed_word_at (drop place text) ≡ Some (w, after) = ap followed_word_at (sym er) ∙ sym found in
-    sym (h.same ∙ rw (first_word-at text place l, ← may, front, append-nil (take place text), eg) refl)
-
-Searched-step : (text : List ℕ) (place : ℕ) → Searched text place → place < length text → cond (may_begin_at text place) (followed_word_at (drop place text)) None ≡ None → Searched text (place + 1)
-Searched-step text place h l none =
-    let some : eqb (place + 1) 0 ≡ false = grind arith in
-    let last : place + 1 - 1 ≡ place = omega arith in
-    let later : first_word (may_begin_at text place) (drop place text) ≡ option_map (λ f. (get_or text place 0 ∷ f.0, f.1, f.2)) (first_word (precedes (get_or text place 0)) (drop (place + 1) text)) = first_word-at text place l ∙ ap (λ o. or_later o (get_or text place 0) (first_word (precedes (get_or text place 0)) (drop (place + 1) text))) none in
-    let one : option_map (λ f. (get_or text place 0 ∷ f.0, f.1, f.2)) (first_word (precedes (get_or text place 0)) (drop (place + 1) text)) ≡ option_map (behind (get_or text place 0 ∷ [])) (first_word (precedes (get_or text place 0)) (drop (place + 1) text)) = refl in
+Placed-step : (text gap rest : List ℕ) (place : ℕ) → Placed text place → gap ≡ take place text → rest ≡ drop place text → cond (may_stand_behind true (unfolded gap)) (followed_word_at (unfolded rest)) None ≡ None → Searched text (place + 1)
+unfolding first_word
+Placed-step text gap rest place h eg er none =
+    let us : List ℕ = unfolded (drop (place + 1) text) in
+    let start : Bool = may_stand_behind true (unfolded gap) in
+    let here : unfolded rest ≡ 61 ∷ us = unfolded-at text rest place h er in
+    let no : cond start (followed_word_at (61 ∷ us)) None ≡ None = ap (λ xs. cond start (followed_word_at xs) None) (sym here) ∙ none in
+    let front : take (place + 1) text ≡ gap ++ 61 ∷ [] = take_more text place 0 h.high ∙ ap (λ b. take place text ++ b ∷ []) h.at ∙ ap (λ xs. xs ++ 61 ∷ []) (sym eg) in
+    let seen : unfolded (take (place + 1) text) ≡ unfolded gap ++ 61 ∷ [] = ap unfolded front ∙ unfolded-snoc gap 61 refl in
+    let later : first_word start (61 ∷ us) ≡ option_map (behind (61 ∷ [])) (first_word (precedes 61) us) = ap (λ o. or_later o 61 (first_word (precedes 61) us)) no in
+    let next : precedes 61 ≡ may_stand_behind true (unfolded (take (place + 1) text)) = sym (may_stand-last (unfolded gap) 61) ∙ ap (may_stand_behind true) (sym seen) in
     record {
-      within = omega arith;
-      same = h.same ∙ ap (option_map (behind (take place text))) (later ∙ one) ∙ behind-append (take place text) (get_or text place 0 ∷ []) (first_word (precedes (get_or text place 0)) (drop (place + 1) text)) ∙ rw (some, last, take_more text place 0 l) refl;
+      within = omega (arith, h.high);
+      apart = ap (last_is 13) front ∙ last-snoc 13 gap 61;
+      same = h.same ∙ ap (λ xs. option_map (behind (unfolded xs)) (first_word (may_stand_behind true (unfolded xs)) (unfolded (drop place text)))) (sym eg) ∙ ap (λ xs. option_map (behind (unfolded gap)) (first_word start (unfolded xs))) (sym er) ∙ ap (λ xs. option_map (behind (unfolded gap)) (first_word start xs)) here ∙ ap (option_map (behind (unfolded gap))) later ∙ behind-append (unfolded gap) (61 ∷ []) (first_word (precedes 61) us) ∙ ap (λ xs. option_map (behind xs) (first_word (precedes 61) us)) (sym seen) ∙ ap (λ t. option_map (behind (unfolded (take (place + 1) text))) (first_word t us)) next;
     }
 
-pub Searched-no : (text : List ℕ) (place : ℕ) → Searched text place → place < length text → false ≡ may_begin_at text place → Searched text (place + 1)
-Searched-no text place h l may = Searched-step text place h l (rw (← may) refl)
+pub Placed-no : (text gap rest : List ℕ) (place : ℕ) → Placed text place → gap ≡ take place text → rest ≡ drop place text → false ≡ may_stand_behind true (unfolded gap) → Searched text (place + 1)
+Placed-no text gap rest place h eg er may = Placed-step text gap rest place h eg er (ap (λ t. cond t (followed_word_at (unfolded rest)) None) (sym may))
 
-pub Searched-other : (text rest : List ℕ) (place : ℕ) → Searched text place → place < length text → rest ≡ drop place text → None ≡ followed_word_at rest → Searched text (place + 1)
-Searched-other text rest place h l er none = Searched-step text place h l (cond_none (may_begin_at text place) (followed_word_at (drop place text)) (ap followed_word_at (sym er) ∙ sym none))
+pub Placed-other : (text gap rest : List ℕ) (place : ℕ) → Placed text place → gap ≡ take place text → rest ≡ drop place text → None ≡ followed_word_at (unfolded rest) → Searched text (place + 1)
+Placed-other text gap rest place h eg er none = Placed-step text gap rest place h eg er (cond_none (may_stand_behind true (unfolded gap)) (followed_word_at (unfolded rest)) (sym none))

@@ -1,5 +1,5 @@
 -- The charsets of encoded words, and what octets mean in them.
-use Rattle.std.specs.Prelude.{ℕ, List, [], ◌∷◌, ◌++◌, map, Bool, Option, Some, None, nat_lt, ◌||◌, codes, if◌then◌else◌}
+use Rattle.std.specs.Prelude.{◌≡◌, ℕ, List, [], ◌∷◌, ◌++◌, map, Bool, true, false, Option, Some, None, nat_lt, ◌||◌, codes, if◌then◌else◌}
 use Rattle.std.specs.List.{list_any, list_all}
 use Rattle.std.specs.Char.{to_ascii_lowercase}
 use Rattle.std.specs.Str.{bytes_eq, is_utf8, encode_utf8_all}
@@ -28,3 +28,22 @@ unfoldable pub text_in : Charset → List ℕ → Option (List ℕ)
 text_in Ascii octets = if list_all (λ b. nat_lt b 128) octets then Some octets else None
 text_in Utf8 octets = if is_utf8 octets then Some octets else None
 text_in Latin1 octets = Some (encode_utf8_all octets)
+
+-- octets as they are written in UTF-8, where they have a meaning in the charset
+abbrev pub written_in : Charset → List ℕ → List ℕ
+written_in Ascii octets = octets
+written_in Utf8 octets = octets
+written_in Latin1 octets = encode_utf8_all octets
+
+-- octets that are written so have a meaning in the charset
+abbrev pub is_text_in : Charset → List ℕ → Bool
+is_text_in Ascii written = list_all (λ b. nat_lt b 128) written
+is_text_in Utf8 written = is_utf8 written
+is_text_in Latin1 written = true
+
+-- the octets, where there are such, are written behind the old text; where there are none, something may be
+abbrev pub ArePut : Bool → Charset → List ℕ → Option (List ℕ) → List ℕ → Type 0
+ArePut true charset old (Some octets) new = new ≡ old ++ written_in charset octets
+ArePut true charset old None new = ⊥
+ArePut false charset old (Some octets) new = ⊥
+ArePut false charset old None new = (more : List ℕ) × (new ≡ old ++ more)

@@ -1,5 +1,5 @@
 -- What an encoded word means, computed (RFC 2047, sections 3 and 4); `Meaning` says the same without computing it.
-use Rattle.std.specs.Prelude.{ℕ, ◌+◌, ◌-◌, ◌*◌, List, [], ◌∷◌, Option, Some, None, option_map, option_and_then, nat_le, ◌==◌, ◌&&◌, if◌then◌else◌}
+use Rattle.std.specs.Prelude.{◌≡◌, ℕ, ◌+◌, ◌-◌, ◌*◌, Bool, true, false, List, [], ◌∷◌, ◌++◌, Option, Some, None, option_map, option_and_then, nat_le, ◌==◌, ◌&&◌, if◌then◌else◌}
 use Rattle.std.specs.Result.{result_ok}
 use Rattle.std.specs.Char.{to_ascii_lowercase}
 use Rattle.base64.specs.GeneralPurpose.{decode_of}
@@ -41,3 +41,10 @@ octets_of w = if to_ascii_lowercase w.encoding == 98 then b_octets w.text else q
 -- the text of a good word; another word has none
 unfoldable pub text_of : Word → Option (List ℕ)
 text_of w = charset_named w.charset >>= λ charset. octets_of w >>= text_in charset
+
+-- the text, where there is one, is written behind the old text; where there is none, something may be
+abbrev pub IsAppended : Bool → List ℕ → Option (List ℕ) → List ℕ → Type 0
+IsAppended true old (Some text) new = new ≡ old ++ text
+IsAppended true old None new = ⊥
+IsAppended false old (Some text) new = ⊥
+IsAppended false old None new = (more : List ℕ) × (new ≡ old ++ more)

@@ -1,5 +1,5 @@
 -- The value of a field: its body unfolded and trimmed, and its encoded words replaced (RFC 2047, section 6.2).
-use Rattle.std.specs.Prelude.{ℕ, zero, suc, Bool, true, false, List, [], ◌∷◌, ◌++◌, length, Option, Some, None, ◌&&◌, if◌then◌else◌}
+use Rattle.std.specs.Prelude.{◌≡◌, ℕ, zero, suc, Bool, true, false, List, [], ◌∷◌, ◌++◌, length, Option, Some, None, ◌&&◌, if◌then◌else◌}
 use Rattle.std.specs.List.{list_all}
 use Rattle.mail_words.specs.Unfolding.{is_blank, unfolded, trimmed}
 use Rattle.mail_words.specs.Words.{Word, spelling, first_word}
@@ -23,6 +23,11 @@ cut_words (suc n) bs = cut_at bs (first_word true bs) (cut_words n)
 abbrev pub shown_word : Bool → List ℕ → Word → Option (List ℕ) → (Bool → List ℕ) → List ℕ
 shown_word after_good gap w (Some text) more = (if after_good && list_all is_blank gap then [] else gap) ++ (text ++ more true)
 shown_word after_good gap w None more = gap ++ (spelling w ++ more false)
+
+-- a word, good or not, and the gap before it are written behind the old text as they are shown
+abbrev pub IsPutWord : Bool → Bool → List ℕ → Word → List ℕ → List ℕ → Type 0
+IsPutWord true after_good gap w old new = (text : List ℕ) × (text_of w ≡ Some text) × (new ≡ old ++ ((if after_good && list_all is_blank gap then [] else gap) ++ text))
+IsPutWord false after_good gap w old new = (text_of w ≡ None) × (new ≡ old ++ (gap ++ spelling w))
 
 unfoldable pub shown : Bool → List (List ℕ × Word) → List ℕ → List ℕ
 shown after_good [] last = last

@@ -1,7 +1,9 @@
 -- The syntax of encoded words (RFC 2047, sections 2 and 5), without the limit on their length.
 use Rattle.std.specs.Prelude.{◌≡◌, ℕ, ◌-◌, ◌<◌, Bool, true, false, List, [], ◌∷◌, ◌++◌, length, drop, Option, Some, None, option_map, nat_lt, nat_le, slice_index, ◌==◌, ◌&&◌, ◌||◌, not, if◌then◌else◌}
 use Rattle.std.specs.List.{list_any, list_all, take_while}
-use Rattle.mail_words.specs.Unfolding.{is_blank}
+use Rattle.mail_words.specs.Unfolding.{is_blank, IsFirstOctet}
+use Rattle.mail_words.specs.declared.words.Part.{Part}
+use Rattle.mail_words.specs.declared.words.Part.TheVariants.{Charset, Text}
 
 -- a printable octet of US-ASCII that is no space
 abbrev pub is_visible : ℕ → Bool
@@ -96,6 +98,16 @@ unfoldable pub first_word : Bool → List ℕ → Option (List ℕ × Word × Li
 first_word start [] = None
 first_word start (b ∷ bs) = or_later (if start then followed_word_at (b ∷ bs) else None) b (first_word (precedes b) bs)
 
--- whether a word may stand at a place of a text at whose start one may stand
-abbrev pub may_begin_at : List ℕ → ℕ → Bool
-may_begin_at text place = (place == 0) || precedes (slice_index text (place - 1))
+-- an octet of a charset's name, or of encoded text
+abbrev pub is_part_octet : Part → ℕ → Bool
+is_part_octet Charset = is_charset_octet
+is_part_octet Text = is_text_octet
+
+-- the first octet is one of the part's, and this stands behind it
+abbrev pub IsPartOctet : Part → List ℕ → List ℕ → Type 0
+IsPartOctet part text behind = (b : ℕ) × (is_part_octet part b ≡ true) × IsFirstOctet text b behind
+
+abbrev pub begins_with_pair : ℕ → ℕ → List ℕ → Bool
+begins_with_pair first second [] = false
+begins_with_pair first second (a ∷ []) = false
+begins_with_pair first second (a ∷ b ∷ bs) = (a == first) && (b == second)

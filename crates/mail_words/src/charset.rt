@@ -1,13 +1,12 @@
 //! The charsets that encoded words are read in.
 
-ghost use Rattle.std.specs.Prelude.{◌≡◌, map, codes, IfOk, ◌++◌, nat_lt};
+ghost use Rattle.std.specs.Prelude.{◌≡◌, ◌∷◌, [], map, codes, OnOk, ◌++◌, nat_lt};
 ghost use Rattle.std.specs.List.{list_any, list_all};
-ghost use Rattle.std.specs.Str.{is_utf8, encode_utf8_all};
+ghost use Rattle.std.specs.Str.{is_utf8};
 ghost use Rattle.std.specs.Char.{to_ascii_lowercase};
-ghost use Rattle.mail_words.specs.Charsets.{is_named, ascii_parts, charset_named, text_in};
+ghost use Rattle.mail_words.specs.Charsets.{is_named, ascii_parts, charset_named, written_in, is_text_in};
 
-use crate::text::Text;
-use std::alloc::{AllocError, Global};
+use std::alloc::AllocError;
 
 /// A charset: one of which the octets below 128 are taken as US-ASCII, ISO 8859-1, or UTF-8.
 #[derive(Clone, Copy)]
@@ -63,31 +62,39 @@ fn is_ascii_part(name: &[u8]) -> bool
         || is_called(name, b"iso-8859-16")
 }
 
-/// The text of some octets in a charset, in UTF-8, if each octet has a meaning there.
-#[tactic(auto, unfolding(crate::specs::Charsets::text_in))]
-pub fn text_of_octets(
-    alloc: Global,
-    charset: Charset,
-    octets: Text,
-) -> Result<Option<Text>, AllocError>
-    ensures { IfOk result (λ t. t ≡ text_in charset octets) }
+/// Appends an octet as it is written in UTF-8, if it has a meaning in the charset: one of ISO 8859-1 as the character of
+/// its number, and another one as it is.
+pub fn append_octet(shown: &mut Vec<u8>, charset: Charset, octet: u8) -> Result<(), AllocError>
+    ensures { OnOk result (shown.new.items ≡ shown.old.items ++ written_in charset (octet ∷ [])) }
 {
     match charset {
-        Charset::Ascii => {
-            if is_all_ascii(octets.as_slice()) {
-                Ok(Some(octets))
-            } else {
-                Ok(None)
-            }
+        Charset::Latin1 => {
+            let mut room = [0u8; 4];
+            shown.extend_from_slice(char::from(octet).encode_utf8(&mut room).as_bytes())?;
         }
-        Charset::Utf8 => {
-            if is_text(octets.as_slice()) {
-                Ok(Some(octets))
-            } else {
-                Ok(None)
-            }
-        }
-        Charset::Latin1 => Ok(Some(latin_text(alloc, octets.as_slice())?)),
+        Charset::Ascii | Charset::Utf8 => shown.push(octet)?,
+    }
+    Ok(())
+}
+
+/// Appends octets as they are written in UTF-8, if they have a meaning in the charset.
+pub fn append_octets(shown: &mut Vec<u8>, charset: Charset, octets: &[u8]) -> Result<(), AllocError>
+    ensures { OnOk result (shown.new.items ≡ shown.old.items ++ written_in charset octets.now) }
+{
+    for octet in octets {
+        append_octet(shown, charset, *octet)?;
+    }
+    Ok(())
+}
+
+/// Whether octets that were appended so have a meaning in the charset.
+pub fn is_read(charset: Charset, written: &[u8]) -> bool
+    ensures { result ≡ is_text_in charset written.now }
+{
+    match charset {
+        Charset::Ascii => is_all_ascii(written),
+        Charset::Utf8 => is_text(written),
+        Charset::Latin1 => true,
     }
 }
 
@@ -101,15 +108,4 @@ fn is_text(octets: &[u8]) -> bool
     ensures { result ≡ is_utf8 octets.now }
 {
     str::from_utf8(octets).is_ok()
-}
-
-/// The characters that have these numbers, in UTF-8.
-fn latin_text(alloc: Global, octets: &[u8]) -> Result<Text, AllocError>
-    ensures { IfOk result (λ t. t ≡ encode_utf8_all octets.now) }
-{
-    let mut text = String::new(alloc);
-    for octet in octets {
-        text.push(char::from(*octet))?;
-    }
-    Ok(Text::from_vec(text.into_bytes()))
 }

@@ -1,49 +1,56 @@
 //! What an encoded word stands for (RFC 2047, sections 3 and 4).
 
-ghost use Rattle.std.specs.Prelude.{◌≡◌, IfOk};
-ghost use Rattle.mail_words.specs.Decoding.{b_octets, octets_of, text_of};
+ghost use Rattle.std.specs.Prelude.{◌≡◌, IfOk, OnOk};
+ghost use Rattle.mail_words.specs.Unfolding.{unfolded};
+ghost use Rattle.mail_words.specs.Charsets.{charset_named, ArePut};
+ghost use Rattle.mail_words.specs.Decoding.{octets_of, text_of, IsAppended};
 
-use crate::charset::{charset_of, text_of_octets};
-use crate::quoted::decode_q;
-use crate::text::Text;
+use crate::base64_text::append_b;
+use crate::charset::{Charset, charset_of, is_read};
+use crate::quoted::append_q;
+use crate::unfolding::append_unfolded;
 use crate::words::EncodedWord;
-use base64::DecodeAllocError;
-use base64::engine::general_purpose::STANDARD;
-use std::alloc::{AllocError, Global};
+use std::alloc::AllocError;
 
-/// The octets whose padded encoding the B text is (section 4.1), if there are such.
-fn decode_b(alloc: Global, text: &[u8]) -> Result<Option<Text>, AllocError>
-    ensures { IfOk result (λ o. o ≡ b_octets text.now) }
+/// The charset of a name, if it is one of those that are read. The name stands at the end of `shown` for a moment, as
+/// it may be written over several lines.
+fn charset_written(shown: &mut Vec<u8>, name: &[u8]) -> Result<Option<Charset>, AllocError>
+    ensures value { IfOk result (λ c. c ≡ charset_named (unfolded name.now)) }
+    ensures same { OnOk result (shown.new.items ≡ shown.old.items) }
 {
-    match STANDARD.decode(alloc, text) {
-        Ok(octets) => Ok(Some(Text::from_vec(octets))),
-        Err(DecodeAllocError::OutOfMemory) => Err(AllocError),
-        Err(_) => Ok(None),
-    }
+    let start = shown.len();
+    append_unfolded(shown, name)?;
+    let charset = charset_of(&shown.as_slice()[start..]);
+    shown.truncate(start);
+    Ok(charset)
 }
 
-/// The octets that a word's text stands for, if that is good.
-fn decode_octets(alloc: Global, word: &EncodedWord<'_>) -> Result<Option<Text>, AllocError>
-    ensures { IfOk result (λ o. o ≡ octets_of word.now) }
+/// Appends the octets that a word's text stands for, as they are written in a charset, and answers whether the text is
+/// good. Behind bad text some octets may have been appended.
+fn append_text(
+    shown: &mut Vec<u8>,
+    charset: Charset,
+    word: &EncodedWord<'_>,
+) -> Result<bool, AllocError>
+    ensures { IfOk result (λ good. ArePut good charset shown.old.items (octets_of word.now) shown.new.items) }
 {
     if word.encoding().to_ascii_lowercase() == b'b' {
-        decode_b(alloc, word.text())
+        append_b(shown, charset, word.text())
     } else {
-        decode_q(alloc, word.text())
+        append_q(shown, charset, word.text())
     }
 }
 
-/// The text of a word in UTF-8, if the word is good: its charset is one that is read, its text is good, and each octet
-/// has a meaning in the charset.
+/// Appends the text of a word in UTF-8 and answers whether the word is good: its charset is one that is read, its text is
+/// good, and each octet has a meaning in the charset. Behind another word some octets may have been appended.
 #[tactic(auto, unfolding(crate::specs::Decoding::text_of))]
-pub fn decode(alloc: Global, word: &EncodedWord<'_>) -> Result<Option<Text>, AllocError>
-    ensures { IfOk result (λ t. t ≡ text_of word.now) }
+pub fn append_decoded(shown: &mut Vec<u8>, word: &EncodedWord<'_>) -> Result<bool, AllocError>
+    ensures { IfOk result (λ good. IsAppended good shown.old.items (text_of word.now) shown.new.items) }
 {
-    let Some(charset) = charset_of(word.charset()) else {
-        return Ok(None);
+    let start = shown.len();
+    let Some(charset) = charset_written(shown, word.charset())? else {
+        return Ok(false);
     };
-    match decode_octets(alloc, word)? {
-        Some(octets) => text_of_octets(alloc, charset, octets),
-        None => Ok(None),
-    }
+    let good = append_text(shown, charset, word)?;
+    Ok(good && is_read(charset, &shown.as_slice()[start..]))
 }

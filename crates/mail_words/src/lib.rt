@@ -1,18 +1,19 @@
 //! The value of a header field: what a reader is shown of its body.
 //!
-//! `unfolding` makes one line of a folded body (RFC 5322, section 2.2.3) and takes the blanks off its ends. `words` finds
-//! the encoded words that stand in that line (RFC 2047, sections 2 and 5), `decoding` says what one stands for, by its
-//! encoding (`quoted` for Q, the crate `base64` for B) and its `charset`, and `value` puts the line together again.
+//! `unfolding` reads a folded body as one line (RFC 5322, section 2.2.3), passing over its line ends, and takes the blanks
+//! off its ends. `words` finds the encoded words that stand in that line (RFC 2047, sections 2 and 5), `decoding` appends
+//! what one stands for, by its encoding (`quoted` for Q, `base64_text` for B) and its `charset`, and `value` puts the line
+//! together again. Nothing is allocated but the value.
 //!
 //! In `specs/`, `Spans` and `Meaning` say what the value is without computing it: which words stand in the line, what a good
 //! one means, and what is shown of words and gaps. `Words`, `Decoding` and `Value` compute it. `laws` has what ties the two.
 #![tactic(auto)]
 
+mod base64_text;
 mod charset;
 mod decoding;
 mod laws;
 mod quoted;
-mod text;
 mod unfolding;
 mod value;
 mod words;

@@ -1,10 +1,13 @@
 //! Q text (RFC 2047, section 4.2).
 
-ghost use Rattle.std.specs.Prelude.{◌≡◌, ◌<◌, IfOk, IfSome};
+ghost use Rattle.std.specs.Prelude.{◌≡◌, ◌<◌, ◌==◌, IfOk, IfSome, if◌then◌else◌};
+ghost use Rattle.mail_words.specs.Unfolding.{unfolded};
+ghost use Rattle.mail_words.specs.Charsets.{ArePut};
 ghost use Rattle.mail_words.specs.Decoding.{hex_value, q_octets};
 
-use crate::text::Text;
-use std::alloc::{AllocError, Global};
+use crate::charset::{Charset, append_octet};
+use crate::unfolding::first_octet;
+use std::alloc::AllocError;
 
 /// A place in Q text: where an octet may begin, behind "=", or behind "=" and one digit.
 #[derive(Clone, Copy)]
@@ -27,35 +30,44 @@ fn hex_digit(octet: u8) -> Option<u8>
     }
 }
 
-/// The octets that Q text stands for, if it is good.
-#[tactic(auto, unfolding(crate::specs::Decoding::q_octets))]
-pub fn decode_q(alloc: Global, text: &[u8]) -> Result<Option<Text>, AllocError>
-    ensures { IfOk result (λ o. o ≡ q_octets Place.Plain text.now) }
+/// The octet that one of Q text stands for, where it is no "=".
+fn plain_octet(octet: u8) -> u8
+    ensures { result ≡ (if octet == 95 then 32 else octet) }
 {
-    let mut octets = Vec::with_capacity(alloc, text.len())?;
+    if octet == b'_' { b' ' } else { octet }
+}
+
+/// Appends the octets that Q text stands for, as they are written in a charset, and answers whether the text is good.
+/// Behind bad text some octets may have been appended.
+#[tactic(auto, unfolding(crate::specs::Decoding::q_octets))]
+pub fn append_q(shown: &mut Vec<u8>, charset: Charset, text: &[u8]) -> Result<bool, AllocError>
+    ensures { IfOk result (λ good. ArePut good charset shown.old.items (q_octets Place.Plain (unfolded text.now)) shown.new.items) }
+{
     let mut place = Place::Plain;
-    for octet in text {
+    let mut rest = text;
+    while let Some((octet, behind)) = first_octet(rest) {
         place = match place {
-            Place::Plain if *octet == b'=' => Place::Escape,
+            Place::Plain if octet == b'=' => Place::Escape,
             Place::Plain => {
-                octets.push(if *octet == b'_' { b' ' } else { *octet })?;
+                append_octet(shown, charset, plain_octet(octet))?;
                 Place::Plain
             }
-            Place::Escape => match hex_digit(*octet) {
+            Place::Escape => match hex_digit(octet) {
                 Some(high) => Place::Digit(high),
-                None => return Ok(None),
+                None => return Ok(false),
             },
-            Place::Digit(high) => match hex_digit(*octet) {
+            Place::Digit(high) => match hex_digit(octet) {
                 Some(low) => {
-                    octets.push(high * 16 + low)?;
+                    append_octet(shown, charset, high * 16 + low)?;
                     Place::Plain
                 }
-                None => return Ok(None),
+                None => return Ok(false),
             },
         };
+        rest = behind;
     }
     match place {
-        Place::Plain => Ok(Some(Text::from_vec(octets))),
-        _ => Ok(None),
+        Place::Plain => Ok(true),
+        _ => Ok(false),
     }
 }

@@ -111,3 +111,29 @@ fn keeps_what_is_no_good_word(rt: HostRuntime) -> Result<(), Fail> {
     );
     Ok(())
 }
+
+#[test]
+fn passes_over_line_ends(rt: HostRuntime) -> Result<(), Fail> {
+    let rows: [(&[u8], &[u8]); 5] = [
+        (b"=?utf-8?b?w7\r\nw=?=", b"\xc3\xbc"),
+        (b"=?ut\nf-8?q?=C\r\n3=BC?\n=\r\n", b"\xc3\xbc"),
+        (b"=?utf-8?q?a?=\r\n\t=?utf-8?q?b?=\n c", b"ab c"),
+        (b"=?utf-8?q?a\r?=\r\n", b"=?utf-8?q?a\r?="),
+        (b"=?utf-8?b?Zg==Zg==?=", b"=?utf-8?b?Zg==Zg==?="),
+    ];
+    for (raw, value) in rows {
+        assert_eq!(rt; value_of(rt.alloc(), raw)?.as_slice(), value);
+    }
+    Ok(())
+}
+
+#[test]
+fn decodes_long_text(rt: HostRuntime) -> Result<(), Fail> {
+    // As `base64` of coreutils writes the printable octets.
+    let raw =
+        b"=?us-ascii?B?ICEiIyQlJicoKSorLC0uLzAxMjM0NTY3ODk6Ozw9Pj9AQUJDREVGR0hJSktMTU5PUFFSU1RVVldYWVpbXF1eX2BhYmNkZWZnaGlqa2xtbm9wcXJzdHV2d3h5ent8fX4=?=";
+    let value =
+        b" !\"#$%&'()*+,-./0123456789:;<=>?@ABCDEFGHIJKLMNOPQRSTUVWXYZ[\\]^_`abcdefghijklmnopqrstuvwxyz{|}~";
+    assert_eq!(rt; value_of(rt.alloc(), raw)?.as_slice(), value.as_slice());
+    Ok(())
+}

@@ -1,11 +1,12 @@
-//! A folded body as one line (RFC 5322, section 2.2.3), and its ends without blanks.
+//! A folded body as one line (RFC 5322, section 2.2.3), read without making that line: a text is seen without its line
+//! ends, each an LF with one CR directly before it, and a contract speaks of it as `unfolded`.
 
-ghost use Rattle.std.specs.Prelude.{◌≡◌, ◌≤◌, length, IfOk};
-ghost use Rattle.std.specs.List.{prefix_len, suffix_len};
-ghost use Rattle.mail_words.specs.Unfolding.{is_blank, without_cr, unfolded, trimmed};
+ghost use Rattle.std.specs.Prelude.{◌≡◌, ◌∷◌, [], ◌++◌, ◌≤◌, length, OnOk, IsTrue, MatchOption, ◌==◌};
+ghost use Rattle.std.specs.List.{list_all};
+ghost use Rattle.mail_words.specs.Unfolding.{is_blank, without_cr, begins_line_end, ends_in, is_nil, unfolded, IsFirstOctet, without_first_blanks, without_last_blanks, trimmed};
 
 use memchr::memchr;
-use std::alloc::{AllocError, Global};
+use std::alloc::AllocError;
 
 /// Whether the octet is a space or a tab.
 pub fn is_blank_octet(octet: u8) -> bool
@@ -24,46 +25,127 @@ fn line_text(line: &[u8]) -> &[u8]
     }
 }
 
-/// The body without its line ends: every LF, with one CR directly before it, is left out.
-pub fn unfold(alloc: Global, body: &[u8]) -> Result<Vec<u8>, AllocError>
-    ensures { IfOk result (λ v. v.items ≡ unfolded body.now) }
+/// Appends the text without its line ends.
+pub fn append_unfolded(line: &mut Vec<u8>, text: &[u8]) -> Result<(), AllocError>
+    ensures { OnOk result (line.new.items ≡ line.old.items ++ unfolded text.now) }
 {
-    let mut line = Vec::with_capacity(alloc, body.len())?;
-    let mut rest = body;
+    let mut rest = text;
     while let Some(place) = memchr(b'\n', rest) {
-        let (text, end) = rest.split_at(place);
+        let (front, end) = rest.split_at(place);
         let (_, after) = end.split_at(1);
-        line.extend_from_slice(line_text(text))?;
+        line.extend_from_slice(line_text(front))?;
         rest = after;
     }
     line.extend_from_slice(rest)?;
-    Ok(line)
+    Ok(())
 }
 
-fn leading_blanks(text: &[u8]) -> usize
-    ensures value { result ≡ prefix_len is_blank text.now }
-    ensures within { result ≤ length text.now }
+/// Whether the first octet is one of a line end: an LF, or a CR directly before one.
+fn stands_at_line_end(text: &[u8]) -> bool
+    ensures value { result ≡ begins_line_end text.now }
+    ensures some { IsTrue result → 1 ≤ length text.now }
 {
-    text.iter()
-        .take_while(|octet| is_blank_octet(**octet))
-        .count()
+    match text {
+        [first, second, ..] => *first == b'\n' || *first == b'\r' && *second == b'\n',
+        [last] => *last == b'\n',
+        [] => false,
+    }
 }
 
-fn trailing_blanks(text: &[u8]) -> usize
-    ensures value { result ≡ suffix_len is_blank text.now }
-    ensures within { result ≤ length text.now }
+/// The first octet of a text that is no line end's, and what stands behind it.
+pub fn first_octet(text: &[u8]) -> Option<(u8, &[u8])>
+    ensures { MatchOption result (unfolded text.now ≡ []) (λ f. IsFirstOctet text.now f.0 f.1.now) }
 {
-    text.iter()
-        .rev()
-        .take_while(|octet| is_blank_octet(**octet))
-        .count()
+    let mut rest = text;
+    while stands_at_line_end(rest) {
+        let (_, behind) = rest.split_at(1);
+        rest = behind;
+    }
+    match rest.split_first() {
+        Some((&octet, behind)) => Some((octet, behind)),
+        None => None,
+    }
+}
+
+/// Whether nothing but line ends stands in the text.
+pub fn is_empty(text: &[u8]) -> bool
+    ensures { result ≡ is_nil (unfolded text.now) }
+{
+    match first_octet(text) {
+        Some(_) => false,
+        None => true,
+    }
+}
+
+/// Whether the text ends in an LF.
+fn ends_line(text: &[u8]) -> bool
+    ensures value { result ≡ ends_in 10 text.now }
+    ensures some { IsTrue result → 1 ≤ length text.now }
+{
+    match text {
+        [.., last] => *last == b'\n',
+        [] => false,
+    }
+}
+
+/// The last octet of a text that is no line end's, behind what stands before it.
+pub fn last_octet(text: &[u8]) -> Option<(&[u8], u8)>
+    ensures { MatchOption result (unfolded text.now ≡ []) (λ l. unfolded text.now ≡ unfolded l.0.now ++ l.1 ∷ []) }
+{
+    let mut rest = text;
+    while ends_line(rest) {
+        let (line, _) = rest.split_at(rest.len() - 1);
+        rest = line_text(line);
+    }
+    match rest.split_last() {
+        Some((&octet, before)) => Some((before, octet)),
+        None => None,
+    }
+}
+
+/// Whether the text is blanks alone.
+pub fn is_all_blank(text: &[u8]) -> bool
+    ensures { result ≡ list_all is_blank (unfolded text.now) }
+{
+    let mut rest = text;
+    while let Some((octet, behind)) = first_octet(rest) {
+        if !is_blank_octet(octet) {
+            return false;
+        }
+        rest = behind;
+    }
+    true
+}
+
+fn trim_start(text: &[u8]) -> &[u8]
+    ensures { unfolded result.now ≡ without_first_blanks (unfolded text.now) }
+{
+    let mut rest = text;
+    while let Some((octet, behind)) = first_octet(rest) {
+        if !is_blank_octet(octet) {
+            return rest;
+        }
+        rest = behind;
+    }
+    rest
+}
+
+fn trim_end(text: &[u8]) -> &[u8]
+    ensures { unfolded result.now ≡ without_last_blanks (unfolded text.now) }
+{
+    let mut rest = text;
+    while let Some((before, octet)) = last_octet(rest) {
+        if !is_blank_octet(octet) {
+            return rest;
+        }
+        rest = before;
+    }
+    rest
 }
 
 /// The text without the blanks at both ends.
 pub fn trim(text: &[u8]) -> &[u8]
-    ensures { result.now ≡ trimmed text.now }
+    ensures { unfolded result.now ≡ trimmed (unfolded text.now) }
 {
-    let (_, rest) = text.split_at(leading_blanks(text));
-    let (middle, _) = rest.split_at(rest.len() - trailing_blanks(rest));
-    middle
+    trim_end(trim_start(text))
 }

@@ -1,26 +1,20 @@
 //! The value of a field.
 
-ghost use Rattle.std.specs.Prelude.{◌≡◌, [], ◌&&◌, IfOk, if◌then◌else◌};
+ghost use Rattle.std.specs.Prelude.{◌≡◌, [], ◌++◌, ◌&&◌, IfOk, OnOk, if◌then◌else◌};
 ghost use Rattle.std.specs.List.{list_all};
 ghost use Rattle.mail_words.specs.Unfolding.{is_blank, unfolded, trimmed};
 ghost use Rattle.mail_words.specs.Spans.{IsShown};
-ghost use Rattle.mail_words.specs.Value.{words_shown, value_of_body};
+ghost use Rattle.mail_words.specs.Words.{spelling};
+ghost use Rattle.mail_words.specs.Value.{words_shown, value_of_body, IsPutWord};
 
-use crate::decoding::decode;
-use crate::unfolding::{is_blank_octet, trim, unfold};
-use crate::words::next_word;
-use memchr::memchr;
+use crate::decoding::append_decoded;
+use crate::unfolding::{append_unfolded, is_all_blank, trim};
+use crate::words::{EncodedWord, StandingWord, next_word};
 use std::alloc::{AllocError, Global};
-
-fn is_all_blank(gap: &[u8]) -> bool
-    ensures { result ≡ list_all is_blank gap.now }
-{
-    gap.iter().all(|octet| is_blank_octet(*octet))
-}
 
 /// What is shown of the gap before a good word: nothing where it is blanks alone and stands behind a good word.
 fn shown_gap(gap: &[u8], after_good: bool) -> &[u8]
-    ensures { result.now ≡ (if after_good && list_all is_blank gap.now then [] else gap.now) }
+    ensures { unfolded result.now ≡ (if after_good && list_all is_blank (unfolded gap.now) then [] else unfolded gap.now) }
 {
     if after_good && is_all_blank(gap) {
         &[]
@@ -29,32 +23,53 @@ fn shown_gap(gap: &[u8], after_good: bool) -> &[u8]
     }
 }
 
+/// Appends a word as it is spelled.
+fn append_spelling(shown: &mut Vec<u8>, word: &EncodedWord<'_>) -> Result<(), AllocError>
+    ensures { OnOk result (shown.new.items ≡ shown.old.items ++ spelling word.now) }
+{
+    shown.extend_from_slice(b"=?")?;
+    append_unfolded(shown, word.charset())?;
+    shown.extend_from_slice(&[b'?', word.encoding(), b'?'])?;
+    append_unfolded(shown, word.text())?;
+    shown.extend_from_slice(b"?=")?;
+    Ok(())
+}
+
+/// Appends a word and the gap before it as they are shown behind a word that is good or not, and answers whether this one
+/// is good.
+fn append_word(
+    shown: &mut Vec<u8>,
+    standing: &StandingWord<'_>,
+    after_good: bool,
+) -> Result<bool, AllocError>
+    ensures { IfOk result (λ good. IsPutWord good after_good standing.now.0 standing.now.1 shown.old.items shown.new.items) }
+{
+    let start = shown.len();
+    append_unfolded(shown, shown_gap(standing.gap(), after_good))?;
+    if append_decoded(shown, standing.word())? {
+        return Ok(true);
+    }
+    shown.truncate(start);
+    append_unfolded(shown, standing.gap())?;
+    append_spelling(shown, standing.word())?;
+    Ok(false)
+}
+
 /// The text with its good words replaced by what they stand for, and without the blanks that alone stand between two
-/// of them. Room for as many octets as the text has is taken at once: only words of ISO 8859-1 in B text can come out
-/// longer than they are written, by less than a half.
+/// of them. Room for as many octets as the text has is taken at once, and all is written there: only words of ISO 8859-1
+/// in B text can come out longer than they are written, by less than a half, and then the room grows.
 fn show_words(alloc: Global, text: &[u8]) -> Result<Vec<u8>, AllocError>
-    ensures { IfOk result (λ v. v.items ≡ words_shown text.now) }
+    ensures { IfOk result (λ v. v.items ≡ words_shown (unfolded text.now)) }
 {
     let mut shown = Vec::with_capacity(alloc, text.len())?;
     let mut after_good = false;
     let mut rest = text;
     while let Some(standing) = next_word(rest) {
-        let behind = standing.behind();
-        match decode(alloc, standing.word())? {
-            Some(decoded) => {
-                shown.extend_from_slice(shown_gap(standing.gap(), after_good))?;
-                shown.extend_from_slice(decoded.as_slice())?;
-                after_good = true;
-            }
-            None => {
-                let (kept, _) = rest.split_at(rest.len() - behind.len());
-                shown.extend_from_slice(kept)?;
-                after_good = false;
-            }
-        }
-        rest = behind;
+        let good = append_word(&mut shown, &standing, after_good)?;
+        after_good = good;
+        rest = standing.behind();
     }
-    shown.extend_from_slice(rest)?;
+    append_unfolded(&mut shown, rest)?;
     Ok(shown)
 }
 
@@ -73,9 +88,5 @@ pub fn value_of(alloc: Global, raw: &[u8]) -> Result<Vec<u8>, AllocError>
     ensures value { IfOk result (λ v. v.items ≡ value_of_body raw.now) }
     ensures spans { IfOk result (λ v. IsShown (trimmed (unfolded raw.now)) v.items) }
 {
-    if memchr(b'\n', raw).is_none() {
-        return show_words(alloc, trim(raw));
-    }
-    let line = unfold(alloc, raw)?;
-    show_words(alloc, trim(line.as_slice()))
+    show_words(alloc, trim(raw))
 }

@@ -1,14 +1,23 @@
-//! Encoded words as they are written (RFC 2047, sections 2 and 5).
+//! Encoded words as they are written (RFC 2047, sections 2 and 5), in a folded text.
 
-ghost use Rattle.std.specs.Prelude.{◌≡◌, ◌++◌, ◌+◌, ◌<◌, ◌≤◌, true, length, drop, IsTrue, IfSome};
-ghost use Rattle.std.specs.List.{prefix_len};
-ghost use Rattle.mail_words.specs.Words.{is_charset_octet, is_text_octet, is_encoding, precedes, can_follow, opens, closes, names_encoding, word_at, followed_word_at, first_word, may_begin_at, spelling};
+ghost use Rattle.std.specs.Prelude.{◌≡◌, ◌∷◌, ◌++◌, [], true, false, length, drop, IfSome, MatchOption};
+ghost use Rattle.std.specs.List.{take_while};
+ghost use Rattle.mail_words.specs.Unfolding.{unfolded};
+ghost use Rattle.mail_words.specs.Spans.{may_stand_behind};
+ghost use Rattle.mail_words.specs.Words.{is_charset_octet, is_text_octet, is_encoding, is_part_octet, IsPartOctet, precedes, can_follow, begins_with_pair, names_encoding, word_at, followed_word_at, first_word, spelling};
 
-use crate::unfolding::is_blank_octet;
+use crate::unfolding::{first_octet, is_blank_octet, is_empty, last_octet};
 use memchr::memchr;
 use std::marker::Model;
 
-/// The three parts of an encoded word, as they are written.
+/// The two parts of an encoded word that may be of any length.
+#[derive(Clone, Copy)]
+pub enum Part {
+    Charset,
+    Text,
+}
+
+/// The three parts of an encoded word, as they are written, line ends included.
 #[derive(Drop)]
 pub struct EncodedWord<'a> {
     charset: &'a [u8],
@@ -17,17 +26,18 @@ pub struct EncodedWord<'a> {
 }
 
 impl<'a> Model for EncodedWord<'a> {
+    ghost use Rattle.mail_words.specs.Unfolding.{unfolded};
     ghost use Rattle.mail_words.specs.Words.{Word};
 
     ghost Value = { Word };
 
-    ghost view = { λ w. record { charset = w.charset.now; encoding = w.encoding; text = w.text.now } };
+    ghost view = { λ w. record { charset = unfolded w.charset.now; encoding = w.encoding; text = unfolded w.text.now } };
 }
 
 impl<'a> EncodedWord<'a> {
     /// The charset's name.
     pub fn charset(&self) -> &'a [u8]
-        ensures { result.now ≡ self.now.charset }
+        ensures { unfolded result.now ≡ self.now.charset }
     {
         self.charset
     }
@@ -41,7 +51,7 @@ impl<'a> EncodedWord<'a> {
 
     /// The encoded text.
     pub fn text(&self) -> &'a [u8]
-        ensures { result.now ≡ self.now.text }
+        ensures { unfolded result.now ≡ self.now.text }
     {
         self.text
     }
@@ -56,17 +66,18 @@ pub struct FrontWord<'a> {
 
 impl<'a> Model for FrontWord<'a> {
     ghost use Rattle.std.specs.Prelude.{ℕ, List};
+    ghost use Rattle.mail_words.specs.Unfolding.{unfolded};
     ghost use Rattle.mail_words.specs.Words.{Word};
 
     ghost Value = { Word × List ℕ };
 
-    ghost view = { λ f. (f.word, f.behind.now) };
+    ghost view = { λ f. (f.word, unfolded f.behind.now) };
 }
 
 impl<'a> FrontWord<'a> {
     /// The word where `gap` stands before it.
     fn with_gap(self, gap: &'a [u8]) -> StandingWord<'a>
-        ensures { result ≡ (gap.now, self.entry.0, self.entry.1) }
+        ensures { result ≡ (unfolded gap.entry.now, self.entry.0, self.entry.1) }
     {
         StandingWord {
             gap,
@@ -86,17 +97,18 @@ pub struct StandingWord<'a> {
 
 impl<'a> Model for StandingWord<'a> {
     ghost use Rattle.std.specs.Prelude.{ℕ, List};
+    ghost use Rattle.mail_words.specs.Unfolding.{unfolded};
     ghost use Rattle.mail_words.specs.Words.{Word};
 
     ghost Value = { List ℕ × Word × List ℕ };
 
-    ghost view = { λ s. (s.gap.now, s.word, s.behind.now) };
+    ghost view = { λ s. (unfolded s.gap.now, s.word, unfolded s.behind.now) };
 }
 
 impl<'a> StandingWord<'a> {
     /// What stands before the word.
     pub fn gap(&self) -> &'a [u8]
-        ensures { result.now ≡ self.now.0 }
+        ensures { unfolded result.now ≡ self.now.0 }
     {
         self.gap
     }
@@ -110,7 +122,7 @@ impl<'a> StandingWord<'a> {
 
     /// What stands behind the word.
     pub fn behind(&self) -> &'a [u8]
-        ensures { result.now ≡ self.now.2 }
+        ensures { unfolded result.now ≡ self.now.2 }
     {
         self.behind
     }
@@ -152,52 +164,62 @@ fn is_encoding_letter(octet: u8) -> bool
     matches!(octet, b'B' | b'b' | b'Q' | b'q')
 }
 
-fn charset_len(text: &[u8]) -> usize
-    ensures value { result ≡ prefix_len is_charset_octet text.now }
-    ensures within { result ≤ length text.now }
+fn is_in_part(part: Part, octet: u8) -> bool
+    ensures { result ≡ is_part_octet part octet }
 {
-    text.iter()
-        .take_while(|octet| is_in_charset(**octet))
-        .count()
-}
-
-fn text_len(text: &[u8]) -> usize
-    ensures value { result ≡ prefix_len is_text_octet text.now }
-    ensures within { result ≤ length text.now }
-{
-    text.iter().take_while(|octet| is_in_text(**octet)).count()
-}
-
-/// Whether the text begins with "=?".
-fn begins_word(text: &[u8]) -> bool
-    ensures value { result ≡ opens text.now }
-    ensures some { IsTrue result → 2 ≤ length text.now }
-{
-    match text {
-        [first, second, ..] => *first == b'=' && *second == b'?',
-        _ => false,
+    match part {
+        Part::Charset => is_in_charset(octet),
+        Part::Text => is_in_text(octet),
     }
 }
 
-/// Whether the text begins with "?=".
-fn begins_with_end(text: &[u8]) -> bool
-    ensures value { result ≡ closes text.now }
-    ensures some { IsTrue result → 2 ≤ length text.now }
+/// What stands behind the first octet, if that is one of the part.
+fn behind_part_octet(text: &[u8], part: Part) -> Option<&[u8]>
+    ensures { MatchOption result (take_while (is_part_octet part) (unfolded text.now) ≡ []) (λ behind. IsPartOctet part text.now behind.now) }
 {
-    match text {
-        [first, second, ..] => *first == b'?' && *second == b'=',
-        _ => false,
+    match first_octet(text) {
+        Some((octet, behind)) if is_in_part(part, octet) => Some(behind),
+        _ => None,
     }
 }
 
-/// Whether the text begins with the letter of an encoding between two "?".
-fn begins_with_encoding(text: &[u8]) -> bool
-    ensures value { result ≡ names_encoding text.now }
-    ensures some { IsTrue result → 3 ≤ length text.now }
+/// The octets at the front of a text that are the part's, and what stands behind them.
+fn split_part(text: &[u8], part: Part) -> (&[u8], &[u8])
+    ensures front { unfolded result.0.now ≡ take_while (is_part_octet part) (unfolded text.now) }
+    ensures behind { unfolded result.1.now ≡ drop (length (take_while (is_part_octet part) (unfolded text.now))) (unfolded text.now) }
 {
-    match text {
-        [first, letter, last, ..] => *first == b'?' && is_encoding_letter(*letter) && *last == b'?',
-        _ => false,
+    let mut rest = text;
+    while let Some(behind) = behind_part_octet(rest, part) {
+        rest = behind;
+    }
+    let (front, _) = text.split_at(text.len() - rest.len());
+    (front, rest)
+}
+
+/// What stands behind these two octets, if the text begins with them.
+fn behind_pair(text: &[u8], first: u8, second: u8) -> Option<&[u8]>
+    ensures { MatchOption result (begins_with_pair first second (unfolded text.now) ≡ false) (λ behind. unfolded text.now ≡ first ∷ second ∷ unfolded behind.now) }
+{
+    let (octet, rest) = first_octet(text)?;
+    let (next, behind) = first_octet(rest)?;
+    if octet == first && next == second {
+        Some(behind)
+    } else {
+        None
+    }
+}
+
+/// The letter of an encoding and what stands behind it, if the text begins with one between two "?".
+fn behind_encoding(text: &[u8]) -> Option<(u8, &[u8])>
+    ensures { MatchOption result (names_encoding (unfolded text.now) ≡ false) (λ e. (unfolded text.now ≡ 63 ∷ e.0 ∷ 63 ∷ unfolded e.1.now) × (is_encoding e.0 ≡ true)) }
+{
+    let (first, rest) = first_octet(text)?;
+    let (letter, rest) = first_octet(rest)?;
+    let (last, behind) = first_octet(rest)?;
+    if first == b'?' && is_encoding_letter(letter) && last == b'?' {
+        Some((letter, behind))
+    } else {
+        None
     }
 }
 
@@ -210,34 +232,26 @@ fn may_precede(octet: u8) -> bool
 
 /// Whether the text may stand directly behind a word.
 fn may_follow(text: &[u8]) -> bool
-    ensures { result ≡ can_follow text.now }
+    ensures { result ≡ can_follow (unfolded text.now) }
 {
-    match text {
-        [first, ..] => is_blank_octet(*first) || *first == b')',
-        [] => true,
+    match first_octet(text) {
+        Some((octet, _)) => is_blank_octet(octet) || octet == b')',
+        None => true,
     }
 }
 
 /// The word at the front of a text, if one stands there.
-#[tactic(auto, unfolding(crate::specs::Words::word_at))]
 fn front_word(text: &[u8]) -> Option<FrontWord<'_>>
-    ensures { result ≡ word_at text.now }
+    ensures { result ≡ word_at (unfolded text.now) }
 {
-    if !begins_word(text) {
+    let opened = behind_pair(text, b'=', b'?')?;
+    let (charset, encoded) = split_part(opened, Part::Charset);
+    let (encoding, rest) = behind_encoding(encoded)?;
+    let (text, closed) = split_part(rest, Part::Text);
+    let behind = behind_pair(closed, b'?', b'=')?;
+    if is_empty(charset) || is_empty(text) {
         return None;
     }
-    let (_, opened) = text.split_at(2);
-    let (charset, encoded) = opened.split_at(charset_len(opened));
-    if charset.is_empty() || !begins_with_encoding(encoded) {
-        return None;
-    }
-    let encoding = encoded[1];
-    let (_, rest) = encoded.split_at(3);
-    let (text, closed) = rest.split_at(text_len(rest));
-    if text.is_empty() || !begins_with_end(closed) {
-        return None;
-    }
-    let (_, behind) = closed.split_at(2);
     let word = EncodedWord {
         charset,
         encoding,
@@ -248,7 +262,7 @@ fn front_word(text: &[u8]) -> Option<FrontWord<'_>>
 
 /// The word at the front of a text, if one stands there and may be followed by what follows.
 fn followed_word(text: &[u8]) -> Option<FrontWord<'_>>
-    ensures { result ≡ followed_word_at text.now }
+    ensures { result ≡ followed_word_at (unfolded text.now) }
 {
     match front_word(text) {
         Some(front) if may_follow(front.behind) => Some(front),
@@ -256,24 +270,26 @@ fn followed_word(text: &[u8]) -> Option<FrontWord<'_>>
     }
 }
 
-/// Whether a word may stand at a place of a text, by what stands before it.
-fn may_begin(text: &[u8], place: usize) -> bool
-    requires { place ≤ length text.now }
-    ensures { result ≡ may_begin_at text.now place }
+/// Whether a word may stand at the end of what stands before it.
+fn may_begin_behind(gap: &[u8]) -> bool
+    ensures { result ≡ may_stand_behind true (unfolded gap.now) }
 {
-    place == 0 || may_precede(text[place - 1])
+    match last_octet(gap) {
+        Some((_, octet)) => may_precede(octet),
+        None => true,
+    }
 }
 
 /// The first word that stands in a text at whose start one may stand.
 pub fn next_word(text: &[u8]) -> Option<StandingWord<'_>>
-    ensures first { result ≡ first_word true text.now }
-    ensures spelled { IfSome result (λ s. text.now ≡ s.0 ++ (spelling s.1 ++ s.2)) }
+    ensures first { result ≡ first_word true (unfolded text.now) }
+    ensures spelled { IfSome result (λ s. unfolded text.now ≡ s.0 ++ (spelling s.1 ++ s.2)) }
 {
     let mut from = 0;
     while let Some(step) = memchr(b'=', &text[from..]) {
         let place = from + step;
-        if may_begin(text, place) {
-            let (gap, rest) = text.split_at(place);
+        let (gap, rest) = text.split_at(place);
+        if may_begin_behind(gap) {
             if let Some(front) = followed_word(rest) {
                 return Some(front.with_gap(gap));
             }

@@ -1,9 +1,10 @@
 use Rattle.std.proofs.Common.{length}
+use Rattle.mail_words.specs.Unfolding.{unfolded}
 use Rattle.mail_words.proofs.ShownLemmas.{Showing}
 use Rattle.mail_words.proofs.value.show_words.Given as goal
 
 abbrev pub invariant-loop-standing : goal.invariant-loop-standing
-invariant-loop-standing l = Showing l.text l.shown.items l.rest l.after_good
+invariant-loop-standing l = Showing (unfolded l.text) l.shown.items (unfolded l.rest) l.after_good
 
 abbrev pub decreases-loop-standing : goal.decreases-loop-standing
-decreases-loop-standing l = length l.rest
+decreases-loop-standing l = length (unfolded l.rest)

@@ -1,25 +1,29 @@
 use Rattle.std.proofs.Common.{◌+◌, ap, sym, ◌∙◌, Some}
-use Rattle.mail_words.proofs.WordLemmas.{Searched-place, Searched-end, Searched-word, Searched-no, Searched-other}
+use Rattle.mail_words.specs.Unfolding.{unfolded}
+use Rattle.mail_words.proofs.WordLemmas.{Searched-none, Placed-found, Searched-end, Placed-word, Placed-no, Placed-other}
 use Rattle.mail_words.proofs.SpellingLemmas.{first_word-spelled}
 use Rattle.mail_words.proofs.words.next_word.Goals as goal
-use Rattle.mail_words.proofs.words.next_word.Goals.{then-may_begin+in_default-followed_word, else-may_begin}
+use Rattle.mail_words.proofs.words.next_word.Goals.{then-may_begin_behind+in_default-followed_word, else-may_begin_behind}
+
+pub loop-step-init : goal.loop-step-init
+loop-step-init c = Searched-none c.args.text.now
 
 pub returns-in-Some-followed_word-clause-first : goal.returns-in-Some-followed_word-clause-first
 returns-in-Some-followed_word-clause-first c =
-    let place = Searched-place c.args.text.now c.loop-step.from c.in-Some.step c.loop-step.invariant c.in-Some.ensures in
-    ap Some c.with_gap.ensures ∙ Searched-word c.args.text.now c.split_at.result.0.now c.split_at.result.1.now (c.loop-step.from + c.in-Some.step) c.in-Some-followed_word.front.0 c.in-Some-followed_word.front.1 place.0 place.1 (sym c.if-may_begin.true ∙ c.may_begin.ensures) c.split_at.ensures.front c.split_at.ensures.back c.in-Some-followed_word.ensures
+    let place = Placed-found c.args.text.now c.loop-step.from c.in-Some.step c.loop-step.invariant c.in-Some.ensures in
+    ap Some c.with_gap.ensures ∙ Placed-word c.args.text.now c.split_at.result.0.now c.split_at.result.1.now (c.loop-step.from + c.in-Some.step) c.in-Some-followed_word.front.0 c.in-Some-followed_word.front.1 place (sym c.if-may_begin_behind.true ∙ c.may_begin_behind.ensures) c.split_at.ensures.front c.split_at.ensures.back c.in-Some-followed_word.ensures
 
 pub returns-in-Some-followed_word-clause-spelled : goal.returns-in-Some-followed_word-clause-spelled
 returns-in-Some-followed_word-clause-spelled c =
-    let place = Searched-place c.args.text.now c.loop-step.from c.in-Some.step c.loop-step.invariant c.in-Some.ensures in
-    first_word-spelled c.args.text.now c.with_gap.result.0 c.with_gap.result.2 c.with_gap.result.1 (ap Some c.with_gap.ensures ∙ Searched-word c.args.text.now c.split_at.result.0.now c.split_at.result.1.now (c.loop-step.from + c.in-Some.step) c.in-Some-followed_word.front.0 c.in-Some-followed_word.front.1 place.0 place.1 (sym c.if-may_begin.true ∙ c.may_begin.ensures) c.split_at.ensures.front c.split_at.ensures.back c.in-Some-followed_word.ensures)
+    let place = Placed-found c.args.text.now c.loop-step.from c.in-Some.step c.loop-step.invariant c.in-Some.ensures in
+    first_word-spelled (unfolded c.args.text.now) c.with_gap.result.0 c.with_gap.result.2 c.with_gap.result.1 (ap Some c.with_gap.ensures ∙ Placed-word c.args.text.now c.split_at.result.0.now c.split_at.result.1.now (c.loop-step.from + c.in-Some.step) c.in-Some-followed_word.front.0 c.in-Some-followed_word.front.1 place (sym c.if-may_begin_behind.true ∙ c.may_begin_behind.ensures) c.split_at.ensures.front c.split_at.ensures.back c.in-Some-followed_word.ensures)
 
 pub loop-step-preserved : goal.loop-step-preserved
 loop-step-preserved c =
-    let place = Searched-place c.args.text.now c.loop-step.from c.in-Some.step c.loop-step.invariant c.in-Some.ensures in
-    elim c.if-may_begin.branch [
-      | then-may_begin+in_default-followed_word w ↦ Searched-other c.args.text.now w.split_at.result.1.now (c.loop-step.from + c.in-Some.step) place.0 place.1 w.split_at.ensures.back w.in_default-followed_word.ensures
-      | else-may_begin w ↦ Searched-no c.args.text.now (c.loop-step.from + c.in-Some.step) place.0 place.1 (sym w.if-may_begin.false ∙ c.may_begin.ensures)
+    let place = Placed-found c.args.text.now c.loop-step.from c.in-Some.step c.loop-step.invariant c.in-Some.ensures in
+    elim c.if-may_begin_behind.branch [
+      | then-may_begin_behind+in_default-followed_word w ↦ Placed-other c.args.text.now c.split_at.result.0.now c.split_at.result.1.now (c.loop-step.from + c.in-Some.step) place c.split_at.ensures.front c.split_at.ensures.back w.in_default-followed_word.ensures
+      | else-may_begin_behind w ↦ Placed-no c.args.text.now c.split_at.result.0.now c.split_at.result.1.now (c.loop-step.from + c.in-Some.step) place c.split_at.ensures.front c.split_at.ensures.back (sym w.if-may_begin_behind.false ∙ c.may_begin_behind.ensures)
     ]
 
 pub returns-clause-first : goal.returns-clause-first

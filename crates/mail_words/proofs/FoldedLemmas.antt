@@ -1,0 +1,237 @@
+-- A folded text, read octet by octet from its front or its end.
+use Rattle.std.proofs.Common.{◌≡◌, ◌≢◌, ℕ, zero, suc, ◌+◌, ◌-◌, ◌<◌, ◌≤◌, Bool, true, false, cond, eqb, List, [], ◌∷◌, ◌++◌, length, take, drop, refl, sym, ap, get_or, append_assoc, Option, Some, None, ◌∙◌, arith, ne_eqb, eqb-true, eq-eqb}
+use Rattle.std.proofs.lemmas.List.{append-nil, length-append, length-take, take_more, take_at, drop_at, take_all, take-append-le, reverse-append, nil_from_length, append_cancel_right, get_or-append_right}
+use Rattle.std.proofs.lemmas.List.Folds.{list_all-append}
+use Rattle.std.specs.Prelude.{nat_lt, ◌&&◌, ◌||◌}
+use Rattle.std.specs.List.{list_all, prefix_len, suffix_len, take_while}
+use Rattle.mail_words.specs.Unfolding.{is_blank, without_cr, begins_with, begins_line_end, ends_in, unfolded, IsFirstOctet, without_first_blanks, without_last_blanks}
+use Rattle.mail_words.specs.Words.{is_charset_octet, is_text_octet, is_part_octet, IsPartOctet}
+use Rattle.mail_words.specs.declared.words.Part.{Part}
+use Rattle.mail_words.specs.declared.words.Part.TheVariants.{Charset, Text}
+use Rattle.mail_words.proofs.SpellingLemmas.{and_parts}
+use Rattle.mail_words.proofs.UnfoldingLemmas.{without_cr-cons}
+
+-- the last octet is this one
+abbrev pub last_is : ℕ → List ℕ → Bool
+last_is c [] = false
+last_is c (b ∷ []) = eqb b c
+last_is c (b ∷ d ∷ ds) = last_is c (d ∷ ds)
+
+and_false : (t : Bool) → (t && false) ≡ false
+and_false true = refl
+and_false false = refl
+
+or_true : (t : Bool) → (t || true) ≡ true
+or_true true = refl
+or_true false = refl
+
+push_append : (t : Bool) (b : ℕ) (xs ys : List ℕ) → cond t (xs ++ ys) (b ∷ (xs ++ ys)) ≡ cond t xs (b ∷ xs) ++ ys
+push_append true b xs ys = refl
+push_append false b xs ys = refl
+
+one_append : (t : Bool) (b : ℕ) (ys : List ℕ) → cond t ys (b ∷ ys) ≡ cond t [] (b ∷ []) ++ ys
+one_append true b ys = refl
+one_append false b ys = refl
+
+-- texts that no line end joins
+pub unfolded-append : (xs ys : List ℕ) → (last_is 13 xs && begins_with 10 ys) ≡ false → unfolded (xs ++ ys) ≡ unfolded xs ++ unfolded ys
+unfolding unfolded
+unfolded-append [] ys h = refl
+unfolded-append (b ∷ []) [] h = sym (append-nil (unfolded (b ∷ [])))
+unfolded-append (b ∷ []) (y ∷ ys) h = rw (h, and_false (eqb b 13)) (one_append (eqb b 10 || false) b (unfolded (y ∷ ys)))
+unfolded-append (b ∷ c ∷ cs) ys h = ap (λ x. cond (eqb b 10 || (eqb b 13 && eqb c 10)) x (b ∷ x)) (unfolded-append (c ∷ cs) ys h) ∙ push_append (eqb b 10 || (eqb b 13 && eqb c 10)) b (unfolded (c ∷ cs)) (unfolded ys)
+
+pub last-snoc : (c : ℕ) (xs : List ℕ) (b : ℕ) → last_is c (xs ++ b ∷ []) ≡ eqb b c
+last-snoc c [] b = refl
+last-snoc c (x ∷ []) b = refl
+last-snoc c (x ∷ y ∷ ys) b = last-snoc c (y ∷ ys) b
+
+pub unfolded-before : (xs ys : List ℕ) → begins_with 10 ys ≡ false → unfolded (xs ++ ys) ≡ unfolded xs ++ unfolded ys
+unfolded-before xs ys h = unfolded-append xs ys (ap (λ t. last_is 13 xs && t) h ∙ and_false (last_is 13 xs))
+
+pub unfolded-snoc : (xs : List ℕ) (b : ℕ) → eqb b 10 ≡ false → unfolded (xs ++ b ∷ []) ≡ unfolded xs ++ b ∷ []
+unfolding unfolded
+unfolded-snoc xs b h = unfolded-before xs (b ∷ []) h ∙ rw (h, and_false (eqb b 13)) refl
+
+-- an LF at the end, with one CR before it
+begins-without : (c : ℕ) (cs : List ℕ) → begins_with 10 (without_cr (c ∷ cs)) ≡ eqb c 10
+begins-without c [] = at (eqb c 13) refl
+  where
+    at : (t : Bool) → eqb c 13 ≡ t → begins_with 10 (cond t [] (c ∷ [])) ≡ eqb c 10
+    at true e = rw (eqb-true c 13 e) refl
+    at false e = refl
+begins-without c (d ∷ ds) = ap (begins_with 10) (without_cr-cons c d ds)
+
+pub unfolded-end : (xs : List ℕ) → unfolded (xs ++ 10 ∷ []) ≡ unfolded (without_cr xs)
+unfolding unfolded
+unfolded-end [] = refl
+unfolded-end (b ∷ []) = at (eqb b 13)
+  where
+    at : (t : Bool) → cond (eqb b 10 || (t && true)) [] (b ∷ []) ≡ unfolded (cond t [] (b ∷ []))
+    at true = rw (or_true (eqb b 10)) refl
+    at false = rw (and_false (eqb b 13)) refl
+unfolded-end (b ∷ c ∷ cs) = ap (λ x. cond (eqb b 10 || (eqb b 13 && eqb c 10)) x (b ∷ x)) (unfolded-end (c ∷ cs)) ∙ ap (λ t. cond (eqb b 10 || (eqb b 13 && t)) (unfolded (without_cr (c ∷ cs))) (b ∷ unfolded (without_cr (c ∷ cs)))) (sym (begins-without c cs)) ∙ ap unfolded (sym (without_cr-cons b c cs))
+
+-- the first octet
+pub record Skipped (text rest : List ℕ) : Type 0 where
+  pub front : List ℕ
+  pub joined : text ≡ front ++ rest
+  pub same : unfolded text ≡ unfolded rest
+
+pub Skipped-none : (text : List ℕ) → Skipped text text
+Skipped-none text = record { front = []; joined = refl; same = refl }
+
+pub Skipped-one : (text rest behind : List ℕ) → Skipped text rest → begins_line_end rest ≡ true → behind ≡ drop 1 rest → Skipped text behind
+unfolding unfolded
+Skipped-one text [] behind s h e = absurd cc
+Skipped-one text (b ∷ bs) behind s h e = record {
+  front = s.front ++ b ∷ [];
+  joined = s.joined ∙ sym (append_assoc s.front (b ∷ []) bs) ∙ ap (λ x. (s.front ++ b ∷ []) ++ x) (sym e);
+  same = s.same ∙ ap (λ t. cond t (unfolded bs) (b ∷ unfolded bs)) h ∙ ap unfolded (sym e);
+}
+
+pub Skipped-to : (text rest behind : List ℕ) (octet : ℕ) → Skipped text rest → begins_line_end rest ≡ false → rest ≡ octet ∷ behind → IsFirstOctet text octet behind
+unfolding unfolded
+Skipped-to text [] behind octet s h e = absurd cc
+Skipped-to text (b ∷ bs) behind octet s h e = (
+  s.front,
+  s.joined ∙ ap (λ x. s.front ++ x) e,
+  s.same ∙ ap (λ t. cond t (unfolded bs) (b ∷ unfolded bs)) h ∙ (let same : b ∷ bs ≡ octet ∷ behind = e in cc),
+)
+
+pub Skipped-all : (text rest : List ℕ) → Skipped text rest → length rest ≡ 0 → unfolded text ≡ []
+unfolding unfolded
+Skipped-all text rest s e = s.same ∙ ap unfolded (nil_from_length rest e)
+
+pub unfolded-nil : (text rest : List ℕ) → unfolded text ≡ unfolded rest → length rest ≡ 0 → unfolded text ≡ []
+unfolding unfolded
+unfolded-nil text rest h e = h ∙ ap unfolded (nil_from_length rest e)
+
+-- the last octet
+ends_in-snoc : (c : ℕ) (xs : List ℕ) → ends_in c xs ≡ true → xs ≡ take (length xs - 1) xs ++ c ∷ []
+ends_in-snoc c [] h = absurd cc
+ends_in-snoc c (x ∷ xs) h =
+    let n : suc (length xs) - 1 ≡ length xs = omega arith in
+    let parts = and_parts (nat_lt 0 (suc (length xs))) (eqb (get_or (x ∷ xs) (suc (length xs) - 1) 0) c) h in
+    let last : get_or (x ∷ xs) (length xs) 0 ≡ c = ap (λ k. get_or (x ∷ xs) k 0) (sym n) ∙ eqb-true (get_or (x ∷ xs) (suc (length xs) - 1) 0) c parts.1 in
+    let all : take (length xs + 1) (x ∷ xs) ≡ x ∷ xs = take_all (length xs + 1) (x ∷ xs) (omega arith) in
+    sym all ∙ take_more (x ∷ xs) (length xs) 0 (omega arith) ∙ ap (λ k. take (length xs) (x ∷ xs) ++ k ∷ []) last ∙ ap (λ k. take k (x ∷ xs) ++ c ∷ []) (sym n)
+
+pub unfolded-line : (text line rest : List ℕ) → ends_in 10 text ≡ true → line ≡ take (length text - 1) text → rest ≡ without_cr line → unfolded text ≡ unfolded rest
+unfolded-line text line rest h el er = ap unfolded (ends_in-snoc 10 text h ∙ ap (λ x. x ++ 10 ∷ []) (sym el)) ∙ unfolded-end line ∙ ap unfolded (sym er)
+
+pub length-without_cr : (xs : List ℕ) → length (without_cr xs) ≤ length xs
+length-without_cr xs = at (ends_in 13 xs)
+  where
+    at : (t : Bool) → length (cond t (take (length xs - 1) xs) xs) ≤ length xs
+    at true = omega (arith, length-take (length xs - 1) xs)
+    at false = omega arith
+
+-- an octet that is not LF at the end
+ends_in-last : (c : ℕ) (xs : List ℕ) (b : ℕ) → ends_in c (xs ++ b ∷ []) ≡ eqb b c
+ends_in-last c xs b =
+    let some : nat_lt 0 (length (xs ++ b ∷ [])) ≡ true = rw (length-append xs (b ∷ [])) (grind arith) in
+    let n : length (xs ++ b ∷ []) - 1 ≡ length xs = omega (arith, length-append xs (b ∷ [])) in
+    let none : length xs - length xs ≡ 0 = omega arith in
+    let last : get_or (xs ++ b ∷ []) (length xs) 0 ≡ b = get_or-append_right xs (b ∷ []) (length xs) (length xs) 0 refl (omega arith) ∙ ap (λ k. get_or (b ∷ []) k 0) none in
+    rw (some, n, last) refl
+
+pub unfolded-last : (text rest before : List ℕ) (b : ℕ) → unfolded text ≡ unfolded rest → ends_in 10 rest ≡ false → rest ≡ before ++ b ∷ [] → unfolded text ≡ unfolded before ++ b ∷ []
+unfolded-last text rest before b same h e = same ∙ ap unfolded e ∙ unfolded-snoc before b (sym (ends_in-last 10 before b) ∙ ap (ends_in 10) (sym e) ∙ h)
+
+-- blanks at the front
+pub first_blanks-more : (rest behind : List ℕ) (octet : ℕ) → rest ≡ octet ∷ behind → is_blank octet ≡ true → without_first_blanks rest ≡ without_first_blanks behind
+first_blanks-more rest behind octet e h = let one : 1 + prefix_len is_blank behind ≡ suc (prefix_len is_blank behind) = omega arith in ap without_first_blanks e ∙ rw (h, one) refl
+
+pub first_blanks-stop : (rest behind : List ℕ) (octet : ℕ) → rest ≡ octet ∷ behind → is_blank octet ≡ false → without_first_blanks rest ≡ rest
+first_blanks-stop rest behind octet e h = ap without_first_blanks e ∙ rw h (sym e)
+
+pub first_blanks-none : (rest : List ℕ) → rest ≡ [] → without_first_blanks rest ≡ rest
+first_blanks-none [] e = refl
+first_blanks-none (b ∷ bs) e = absurd cc
+
+pub all_blank-more : (rest behind : List ℕ) (octet : ℕ) → rest ≡ octet ∷ behind → is_blank octet ≡ true → list_all is_blank rest ≡ list_all is_blank behind
+all_blank-more rest behind octet e h = ap (list_all is_blank) e ∙ rw h refl
+
+pub all_blank-stop : (rest behind : List ℕ) (octet : ℕ) → rest ≡ octet ∷ behind → is_blank octet ≡ false → list_all is_blank rest ≡ false
+all_blank-stop rest behind octet e h = ap (list_all is_blank) e ∙ rw h refl
+
+-- blanks at the end
+pub last_blanks-none : (rest : List ℕ) → rest ≡ [] → without_last_blanks rest ≡ rest
+last_blanks-none [] e = refl
+last_blanks-none (b ∷ bs) e = absurd cc
+
+suffix_len-last : (before : List ℕ) (octet : ℕ) → suffix_len is_blank (before ++ octet ∷ []) ≡ cond (is_blank octet) (1 + suffix_len is_blank before) 0
+suffix_len-last before octet = ap (prefix_len is_blank) (reverse-append before (octet ∷ []))
+
+pub last_blanks-more : (rest before : List ℕ) (octet : ℕ) → rest ≡ before ++ octet ∷ [] → is_blank octet ≡ true → without_last_blanks rest ≡ without_last_blanks before
+last_blanks-more rest before octet e h =
+    let s : suffix_len is_blank (before ++ octet ∷ []) ≡ 1 + suffix_len is_blank before = suffix_len-last before octet ∙ rw h refl in
+    let n : length (before ++ octet ∷ []) - (1 + suffix_len is_blank before) ≡ length before - suffix_len is_blank before = omega (arith, length-append before (octet ∷ [])) in
+    ap without_last_blanks e ∙ ap (λ k. take (length (before ++ octet ∷ []) - k) (before ++ octet ∷ [])) s ∙ ap (λ k. take k (before ++ octet ∷ [])) n ∙ take-append-le (length before - suffix_len is_blank before) before (octet ∷ []) (omega arith)
+
+pub last_blanks-stop : (rest before : List ℕ) (octet : ℕ) → rest ≡ before ++ octet ∷ [] → is_blank octet ≡ false → without_last_blanks rest ≡ rest
+last_blanks-stop rest before octet e h =
+    let s : suffix_len is_blank (before ++ octet ∷ []) ≡ 0 = suffix_len-last before octet ∙ rw h refl in
+    ap without_last_blanks e ∙ ap (λ k. take (length (before ++ octet ∷ []) - k) (before ++ octet ∷ [])) s ∙ take_all (length (before ++ octet ∷ []) - 0) (before ++ octet ∷ []) (omega arith) ∙ sym e
+
+-- the octets of a part
+part_not_cr : (part : Part) (b : ℕ) → is_part_octet part b ≡ true → eqb b 13 ≡ false
+part_not_cr part b h = at (eqb b 13) refl part h
+  where
+    at : (t : Bool) → eqb b 13 ≡ t → (p : Part) → is_part_octet p b ≡ true → eqb b 13 ≡ false
+    at false e p k = e
+    at true e Charset k = let here : is_charset_octet 13 ≡ true = ap is_charset_octet (sym (eqb-true b 13 e)) ∙ k in absurd cc
+    at true e Text k = let here : is_text_octet 13 ≡ true = ap is_text_octet (sym (eqb-true b 13 e)) ∙ k in absurd cc
+
+pub record InPart (part : Part) (text rest : List ℕ) : Type 0 where
+  pub front : List ℕ
+  pub joined : text ≡ front ++ rest
+  pub apart : last_is 13 front ≡ false
+  pub all : list_all (is_part_octet part) (unfolded front) ≡ true
+
+pub InPart-none : (part : Part) (text : List ℕ) → InPart part text text
+unfolding unfolded
+InPart-none part text = record { front = []; joined = refl; apart = refl; all = refl }
+
+in_part-split : (part : Part) (text rest : List ℕ) (s : InPart part text rest) → unfolded text ≡ unfolded s.front ++ unfolded rest
+in_part-split part text rest s = ap unfolded s.joined ∙ unfolded-append s.front rest (rw s.apart refl)
+
+pub InPart-more : (part : Part) (text rest behind : List ℕ) → InPart part text rest → IsPartOctet part rest behind → InPart part text behind
+InPart-more part text rest behind s (b, passes, (ends, e, f)) =
+    let p : ℕ → Bool = is_part_octet part in
+    let front : List ℕ = (s.front ++ ends) ++ b ∷ [] in
+    let joined : text ≡ front ++ behind = s.joined ∙ ap (λ x. s.front ++ x) e ∙ sym (append_assoc s.front ends (b ∷ behind)) ∙ sym (append_assoc (s.front ++ ends) (b ∷ []) behind) in
+    let apart : last_is 13 front ≡ false = last-snoc 13 (s.front ++ ends) b ∙ part_not_cr part b passes in
+    let whole : unfolded text ≡ unfolded front ++ unfolded behind = ap unfolded joined ∙ unfolded-append front behind (rw apart refl) in
+    let same : unfolded text ≡ (unfolded s.front ++ b ∷ []) ++ unfolded behind = in_part-split part text rest s ∙ ap (λ x. unfolded s.front ++ x) f ∙ sym (append_assoc (unfolded s.front) (b ∷ []) (unfolded behind)) in
+    let here : unfolded front ≡ unfolded s.front ++ b ∷ [] = append_cancel_right (unfolded front) (unfolded s.front ++ b ∷ []) (unfolded behind) (sym whole ∙ same) in
+    record {
+      front = front;
+      joined = joined;
+      apart = apart;
+      all = ap (list_all p) here ∙ list_all-append p (unfolded s.front) (b ∷ []) ∙ rw (s.all, passes) refl;
+    }
+
+pub InPart-front : (part : Part) (text rest front : List ℕ) → InPart part text rest → front ≡ take (length text - length rest) text → (unfolded text ≡ unfolded front ++ unfolded rest) × (list_all (is_part_octet part) (unfolded front) ≡ true)
+InPart-front part text rest front s e =
+    let n : length s.front ≡ length text - length rest = omega (arith, ap length s.joined, length-append s.front rest) in
+    let same : front ≡ s.front = e ∙ ap (take (length text - length rest)) s.joined ∙ take_at s.front rest (length text - length rest) n in
+    (in_part-split part text rest s ∙ ap (λ x. unfolded x ++ unfolded rest) (sym same), ap (λ x. list_all (is_part_octet part) (unfolded x)) same ∙ s.all)
+
+pub part-shorter : (part : Part) (text behind : List ℕ) → IsPartOctet part text behind → length (unfolded behind) < length (unfolded text)
+part-shorter part text behind (b, passes, (ends, e, f)) = omega (arith, ap length f)
+
+-- a run of a part's octets before one that is none
+take_run : (p : ℕ → Bool) (front rest : List ℕ) → list_all p front ≡ true → take_while p rest ≡ [] → take_while p (front ++ rest) ≡ front
+take_run p [] rest a e = e
+take_run p (x ∷ xs) rest a e =
+    let parts = and_parts (p x) (list_all p xs) a in
+    let one : 1 + prefix_len p (xs ++ rest) ≡ suc (prefix_len p (xs ++ rest)) = omega arith in
+    rw (parts.0, one) (ap (λ ys. x ∷ ys) (take_run p xs rest parts.1 e))
+
+pub run_front : (p : ℕ → Bool) (whole front rest : List ℕ) → whole ≡ front ++ rest → list_all p front ≡ true → take_while p rest ≡ [] → front ≡ take_while p whole
+run_front p whole front rest h a e = sym (ap (take_while p) h ∙ take_run p front rest a e)
+
+pub run_behind : (p : ℕ → Bool) (whole front rest : List ℕ) → whole ≡ front ++ rest → list_all p front ≡ true → take_while p rest ≡ [] → rest ≡ drop (length (take_while p whole)) whole
+run_behind p whole front rest h a e = sym (ap (λ ys. drop (length ys) whole) (sym (run_front p whole front rest h a e)) ∙ ap (drop (length front)) h ∙ drop_at front rest (length front) refl)
