@@ -31,7 +31,7 @@ use sieve_syntax::{Command, Script};
 use std::alloc::{AllocError, Global};
 
 /// The greatest weight of a script that is run.
-const GREATEST_WEIGHT: u64 = 60_000;
+const GREATEST_WEIGHT: u32 = 60_000;
 
 /// A script, and the end of the run behind it, to which a `return` of the script goes.
 fn emit_program<L: Linker>(
@@ -128,9 +128,9 @@ pub fn compile(
     ensures too_large { result ≡ Err TooLarge ↔ greatest_weight < linked_weight (library_of library.now) (option_map (λ s. s.now) known_as.entry) (program_of (tree_of main.now.script)) }
 {
     let script = main.script();
-    let weight = script_weight(script);
-    if weight > GREATEST_WEIGHT {
+    let linker = Unlinked { known_as };
+    let Some(weight) = script_weight(&linker, script, GREATEST_WEIGHT) else {
         return Err(GenFault::TooLarge);
-    }
-    build(alloc, script, known_as, weight as u32)
+    };
+    build(alloc, script, known_as, weight)
 }

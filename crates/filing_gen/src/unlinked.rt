@@ -4,6 +4,7 @@ ghost use Rattle.std.specs.Prelude.{◌≡◌};
 ghost use Rattle.std.specs.Option.{option_map};
 ghost use Rattle.sieve_meaning.specs.Meaning.{no_library, main_names, is_among, script_named};
 ghost use Rattle.sieve_meaning.specs.Reading.{include_of};
+ghost use Rattle.sieve_meaning.specs.Weight.{included_weight};
 ghost use Rattle.filing_gen.specs.Linked.{is_passed as is_passed_of, linked_flow, no_slots};
 
 use crate::arguments::first_text;
@@ -40,6 +41,13 @@ fn is_passed(known_as: Option<&[u8]>, arguments: &[Argument]) -> bool
 
 impl Linker for Unlinked<'_> {
     ghost flow_of = { λ s. linked_flow no_library no_slots (option_map (λ n. n.now) s.known_as) };
+
+    ghost weight_of = { λ s. included_weight no_library 7 (main_names (option_map (λ n. n.now) s.known_as)) };
+
+    /// All that is left.
+    fn weigh(&self, _arguments: &[Argument], left: u32) -> Option<u32> {
+        Some(left)
+    }
 
     fn size(&self, arguments: &[Argument]) -> usize {
         if is_passed(self.known_as, arguments) {
