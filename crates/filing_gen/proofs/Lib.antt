@@ -9,3 +9,8 @@ mod Written
 mod WeightLemmas
 mod Includes
 mod IncludesTypes
+mod Shelves
+mod Rows
+mod Stacked
+pub mod Slots
+mod LevelLemmas

@@ -1,7 +1,7 @@
 //! How heavy a script is: a bound on the code that it needs. What may be weighed is handed through as what is left, and
 //! the weighing stops as soon as a part is heavier than that, however many more there are.
 
-ghost use Rattle.std.specs.Prelude.{◌≡◌, ◌+◌, ◌*◌, ◌<◌, length, map, false, MatchOption};
+ghost use Rattle.std.specs.Prelude.{◌≡◌, ◌+◌, ◌*◌, ◌<◌, ◌≤◌, length, map, false, MatchOption};
 ghost use Rattle.sieve_syntax.specs.Arguments.{others_of};
 ghost use Rattle.sieve_syntax.specs.View.{test_of, inner_of, command_of, commands_of, ending_of, tree_of};
 ghost use Rattle.sieve_meaning.specs.Reading.{test_in, only_in, tests_in, string_lists, exists_of, header_of, comparator_from, match_type as match_type_of, block_in, program_of};
@@ -171,7 +171,7 @@ pub fn weigh_commands<L: Linker>(linker: &L, commands: &Vec<Command>, left: u32)
 /// The weight of a script and all that it includes, and 1; none where it is above the greatest. It takes time linear in
 /// the smaller of both.
 pub fn script_weight<L: Linker>(linker: &L, script: &Script, greatest: u32) -> Option<u32>
-    ensures { MatchOption result (greatest < weight (L.weight_of linker.now) (program_of (tree_of script.now)) + 1) (λ w. w ≡ weight (L.weight_of linker.now) (program_of (tree_of script.now)) + 1) }
+    ensures { MatchOption result (greatest < weight (L.weight_of linker.now) (program_of (tree_of script.now)) + 1) (λ w. (w ≡ weight (L.weight_of linker.now) (program_of (tree_of script.now)) + 1) × (w ≤ greatest)) }
 {
     let left = weigh_commands(linker, &script.commands, greatest.checked_sub(1)?)?;
     Some(greatest - left)
