@@ -10,7 +10,7 @@ mod WeightLemmas
 mod Includes
 mod IncludesTypes
 mod Shelves
-mod Rows
-mod Stacked
 pub mod Slots
+mod Stacked
+mod Rows
 mod LevelLemmas

@@ -1,10 +1,12 @@
-//! Scripts built by hand, and what their images declare.
+//! Scripts built by hand: what their images declare, those with includes too, and what a library holds of them.
+
+mod includes;
+mod library;
 
 use crate::{GenFault, Library, compile};
 use sieve_check::check;
 use sieve_syntax::{Argument, Arguments, Command, Ending, Script, StringList, Test, Tests, Text};
 use std::alloc::{AllocError, Global};
-use std::rc::Rc;
 use std::test::Fail;
 
 fn text(alloc: Global, octets: &[u8]) -> Result<Text, AllocError> {
@@ -49,7 +51,8 @@ fn if_header(alloc: Global, words: &[&[u8]], inner: Command) -> Result<Command, 
     })
 }
 
-/// The budget and the number of instructions of the script's image over a library, or the number of its fault.
+/// The budget and the number of instructions of the image of the script `main`, which may include those of a library, or
+/// the number of its fault.
 fn image_over(
     alloc: Global,
     library: &Library,
@@ -65,30 +68,6 @@ fn image_over(
 /// The same where no script can be included.
 fn image(alloc: Global, commands: Vec<Command>) -> Result<(u32, usize), u8> {
     image_over(alloc, &Library::new(alloc), commands)
-}
-
-/// So many times the same `include`, behind a `require`.
-fn includes(alloc: Global, words: &[&[u8]], count: usize) -> Result<Vec<Command>, AllocError> {
-    let mut commands = Vec::new(alloc);
-    commands.push(command(alloc, b"require", &[b"include"])?)?;
-    for _ in 0..count {
-        commands.push(command(alloc, b"include", words)?)?;
-    }
-    Ok(commands)
-}
-
-/// Puts a script among the personal ones.
-fn set(
-    alloc: Global,
-    library: &mut Library,
-    name: &[u8],
-    commands: Vec<Command>,
-) -> Result<(), u8> {
-    let checked = check(Script { commands }).map_err(|fault| fault.number())?;
-    let script = Rc::new(alloc, checked).map_err(|_| 99)?;
-    library
-        .set_personal(name, script)
-        .map_err(|fault| fault.number())
 }
 
 /// So many commands `keep`.
@@ -125,36 +104,5 @@ fn a_heavy_script_is_too_large(rt: HostRuntime) -> Result<(), Fail> {
     assert!(rt; image(alloc, keeps(alloc, 14_999)?) == Ok((59_997, 15_000)));
     assert!(rt; image(alloc, keeps(alloc, 15_000)?) == Err(5));
     assert_eq!(rt; GenFault::NoMemory.number(), 99);
-    Ok(())
-}
-
-/// A mark and a `keep` for the include, and before them a test of the mark and a jump under `:once`.
-#[test]
-fn an_included_script_stands_in_its_place(rt: HostRuntime) -> Result<(), Fail> {
-    let alloc = rt.alloc();
-    let mut library = Library::new(alloc);
-    assert!(rt; set(alloc, &mut library, b"a", keeps(alloc, 1)?) == Ok(()));
-    assert!(rt; image_over(alloc, &library, includes(alloc, &[b"a"], 1)?) == Ok((13, 3)));
-    assert!(rt; image_over(alloc, &library, includes(alloc, &[b":once", b"a"], 1)?) == Ok((13, 5)));
-    assert!(rt;
-        image_over(alloc, &library, includes(alloc, &[b":global", b"a"], 1)?) == Ok((9, 2))
-    );
-    assert!(rt; image_over(alloc, &library, includes(alloc, &[b"main"], 1)?) == Ok((9, 2)));
-    Ok(())
-}
-
-/// Ten includes a script over four levels, and over five.
-#[test]
-fn includes_are_weighed_as_often_as_they_stand(rt: HostRuntime) -> Result<(), Fail> {
-    let alloc = rt.alloc();
-    let mut library = Library::new(alloc);
-    assert!(rt; set(alloc, &mut library, b"e", Vec::new(alloc)) == Ok(()));
-    assert!(rt; set(alloc, &mut library, b"d", includes(alloc, &[b"e"], 10)?) == Ok(()));
-    assert!(rt; set(alloc, &mut library, b"c", includes(alloc, &[b"d"], 10)?) == Ok(()));
-    assert!(rt; set(alloc, &mut library, b"b", includes(alloc, &[b"c"], 10)?) == Ok(()));
-    let a = includes(alloc, &[b"b"], 10)?;
-    assert!(rt; image_over(alloc, &library, a) == Ok((48_885, 11_111)));
-    assert!(rt; set(alloc, &mut library, b"a", includes(alloc, &[b"b"], 10)?) == Ok(()));
-    assert!(rt; image_over(alloc, &library, includes(alloc, &[b"a"], 10)?) == Err(5));
     Ok(())
 }
