@@ -59,7 +59,7 @@ fn emit_program<L: Linker>(
 fn instructions(alloc: Global, code: &[Operation]) -> Result<Vec<Instruction>, AllocError>
     ensures { IfOk result (λ v. v.items ≡ map instruction_of code.now) }
 {
-    let mut instructions = Vec::new(alloc);
+    let mut instructions = Vec::with_capacity(alloc, code.len())?;
     for operation in code {
         instructions.push(operation.instruction())?;
     }
