@@ -9,3 +9,8 @@ mod Written
 mod WeightLemmas
 mod Includes
 mod IncludesTypes
+mod Shelves
+pub mod Slots
+mod Stacked
+mod Rows
+mod LevelLemmas
