@@ -48,6 +48,7 @@ refusal_of faults.ImageTooLong = record { number = 61; offset = None }
 refusal_of faults.ImageForm = record { number = 60; offset = None }
 refusal_of (faults.Image f) = record { number = verify_number f; offset = None }
 refusal_of faults.MessageTooLong = record { number = 95; offset = None }
+refusal_of faults.LibraryFull = record { number = 96; offset = None }
 
 abbrev pub refused_by : DeskFault → Answer
 refused_by f = refused (refusal_of f).number (refusal_of f).offset

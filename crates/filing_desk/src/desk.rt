@@ -8,7 +8,7 @@ ghost use Rattle.sieve_meaning.specs.Meaning.{no_library};
 ghost use Rattle.sieve_meaning.specs.Outcome.{outcome_at, outcome};
 ghost use Rattle.filing_desk.specs.Case.{facts_of};
 ghost use Rattle.filing_desk.specs.Judging.{RefusesScript, RefusesImage, IsFaultOf, outcome_view};
-ghost use Rattle.filing_desk.specs.Steps.{add_class, file, set_plan, try_image, Step, settled, filed, IsGood, IsGoodImage, RefusesPlan};
+ghost use Rattle.filing_desk.specs.Steps.{add_class, file, set_global, set_plan, try_image, Step, settled, filed, IsGood, IsGoodImage, RefusesPlan};
 ghost use Rattle.filing_desk.specs.Faults.{refused_by};
 ghost use Rattle.filing_desk.specs.declared.fault.DeskFault.TheVariants.{NoMemory};
 ghost use Rattle.filing_table.specs.Ends.{HasOutcome};
@@ -22,7 +22,7 @@ use filing_machine::run;
 use filing_verify::{Verified, verify};
 use sieve_check::{Checked, check};
 use sieve_meaning::Paths;
-use sieve_text::{ScanRefusal, TextRefusal, parse};
+use sieve_text::{ScanRefusal, TextFault, TextRefusal, parse};
 use std::alloc::{AllocError, Global};
 use std::marker::Model;
 
@@ -45,8 +45,8 @@ pub struct Outcome {
     pub fault: Option<u8>,
 }
 
-/// What a session talks to: it keeps the plan of classes, and files messages by scripts. Contracts see it as its
-/// plan.
+/// What a session talks to: it keeps the plan of classes and the global scripts, and files messages by scripts.
+/// Contracts see it as these.
 #[derive(Drop)]
 pub struct Desk {
     alloc: Global,
@@ -54,11 +54,14 @@ pub struct Desk {
 }
 
 impl Model for Desk {
-    ghost use Rattle.class_plan.specs.Plans.{Listing};
+    ghost use Rattle.std.specs.Prelude.{[]};
+    ghost use Rattle.filing_desk.specs.Steps.{State, state_code};
 
-    ghost Value = { Listing };
+    ghost Value = { State };
 
-    ghost view = { λ d. d.plan };
+    ghost coded = { state_code };
+
+    ghost view = { λ d. record { plan = d.plan; globals = [] } };
 }
 
 /// The default class alone, with a fault.
@@ -128,9 +131,9 @@ fn judge_image(alloc: Global, image: &[u8]) -> Result<Verified, DeskFault>
 }
 
 impl Desk {
-    /// A desk with the class `unfiled` alone. The only error is want of memory.
+    /// A desk with the class `unfiled` alone, and no global script. The only error is want of memory.
     pub fn new(alloc: Global) -> Result<Desk, AllocError>
-        ensures { IfOk result (λ d. d ≡ first_plan) }
+        ensures { IfOk result (λ d. d ≡ record { plan = first_plan; globals = [] }) }
     {
         Ok(Desk {
             alloc,
@@ -172,6 +175,26 @@ impl Desk {
         ensures { (text : List ℕ) → 1048576 < length text → Step self.now (set_plan text) (refused_by result) self.now }
     {
         DeskFault::PlanTooLong
+    }
+
+    /// Keeps a script under a name, for scripts that include it by `:global`; it takes the place of the one that has the
+    /// name, if there is one. It is refused by its text (10 to 16, 20, 21), then by the check (30 to 41), then where
+    /// thirty-two global scripts have other names (96); 99 is want of memory. The global scripts are then as before.
+    #[tactic(auto, unfolding(crate::specs::Steps::Step))]
+    pub fn set_global(&mut self, name: &[u8], text: &[u8]) -> Result<(), DeskFault>
+        ensures { Step self.old (set_global name.now text.now) (settled result) self.new }
+    {
+        let _script = judge(self.alloc, text)?;
+        let _name = name;
+        Err(DeskFault::NoMemory)
+    }
+
+    /// What `set_global` answers to a text over its limit of 262,144 octets, which need not be at hand.
+    #[tactic(auto, unfolding(crate::specs::Steps::Step))]
+    pub fn set_global_too_long(&self) -> DeskFault
+        ensures { (name text : List ℕ) → 262144 < length text → Step self.now (set_global name text) (refused_by result) self.now }
+    {
+        DeskFault::from(TextFault::Refused(TextRefusal::Scan(ScanRefusal::ScriptTooLong), 0))
     }
 
     /// What an image captures a message in: a dry run that stores nothing. An image is refused by its length (61: more

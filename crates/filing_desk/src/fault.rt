@@ -38,6 +38,8 @@ pub enum DeskFault {
     Image(VerifyFault),
     /// 95: the message has more than 8,388,608 octets.
     MessageTooLong,
+    /// 96: thirty-two global scripts have other names.
+    LibraryFull,
 }
 
 impl From<AllocError> for DeskFault {
@@ -177,6 +179,10 @@ impl DeskFault {
             },
             DeskFault::MessageTooLong => Refusal {
                 number: 95,
+                offset: None,
+            },
+            DeskFault::LibraryFull => Refusal {
+                number: 96,
                 offset: None,
             },
         }
