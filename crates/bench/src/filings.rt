@@ -99,7 +99,7 @@ pub fn judged(alloc: Global, image: &[u8]) -> Option<Verified> {
 pub fn compiled(alloc: Global, script: &[u8]) -> Option<Verified> {
     let tree = parse(alloc, script).ok()?;
     let checked = check(tree).ok()?;
-    compile(alloc, &checked, None, &Library::new()).ok()
+    compile(alloc, &checked, None, &Library::new(alloc)).ok()
 }
 
 /// The case of a message and the script's class, or none of a message that is too long.

@@ -63,7 +63,7 @@ pub fn by_image(
     if message.len() > GREATEST_MESSAGE {
         bail!("a message is too long");
     }
-    let program = compile(alloc, script, None, &Library::new())?;
+    let program = compile(alloc, script, None, &Library::new(alloc))?;
     let case = WholeCase::read(alloc, message, path_set(alloc, classes)?)?;
     let outcome = run(alloc, &program, &case)?;
     Ok(Captured {

@@ -92,7 +92,7 @@ fn outcome_of(alloc: Global, case: &Case<'_>, script: &Checked) -> Result<Outcom
     ensures outcome { IfOk result (λ o. outcome_view o ≡ outcome (facts_of case.now) no_library None (program_of (tree_of script.now.script))) }
     ensures refused { IfErr result (λ f. f ≡ NoMemory) }
 {
-    match compile(alloc, script, None, &Library::new()) {
+    match compile(alloc, script, None, &Library::new(alloc)) {
         Ok(program) => {
             let outcome = run_image(alloc, &program, case)?;
             Ok(outcome)

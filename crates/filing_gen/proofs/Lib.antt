@@ -9,3 +9,7 @@ mod Written
 mod WeightLemmas
 mod Includes
 mod IncludesTypes
+mod Shelves
+pub mod Slots
+mod Stacked
+mod Rows

@@ -5,3 +5,5 @@ pub mod Emission
 pub mod Correct
 pub mod Weights
 pub mod Linked
+pub mod Libraries
+pub mod Shelves

@@ -1,7 +1,8 @@
 //! The compiler: from checked scripts to images that may run.
 //!
 //! In `specs/`, `Structured` says which code in blocks (`filing_flow`) stands for a script, `Linked` which stands for an
-//! include, and `Correct` what an image owes its script. `Alike` says how a script and its code run side by side;
+//! include, and `Correct` what an image owes its script. `Libraries` says what a `library` of scripts is (`Shelves`: as it
+//! lies in memory), and which of them an include finds. `Alike` says how a script and its code run side by side;
 //! `Emission`, `Adds` and `Weights` what the passes over the tree keep. A script is weighed (`weight`); then its code
 //! is written: `size_tests` and `size_commands` count the operations ahead, so that each jump knows its place, and
 //! `emit_tests` and `emit_commands` write them. What stands for an include is a `linker`'s affair; so far there is the
@@ -22,8 +23,8 @@ mod size_tests;
 mod unlinked;
 mod weight;
 
-pub use fault::GenFault;
-pub use library::Library;
+pub use fault::{GenFault, LibraryFault};
+pub use library::{Library, Location};
 pub use program::compile;
 
 #[cfg(test)]

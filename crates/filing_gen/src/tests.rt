@@ -1,4 +1,6 @@
-//! Scripts built by hand, and what their images declare.
+//! Scripts built by hand: what their images declare, and what a library holds of them.
+
+mod library;
 
 use crate::{GenFault, Library, compile};
 use sieve_check::check;
@@ -51,7 +53,9 @@ fn if_header(alloc: Global, words: &[&[u8]], inner: Command) -> Result<Command, 
 /// The budget and the number of instructions of the script's image, or the number of its fault.
 fn image(alloc: Global, commands: Vec<Command>) -> Result<(u32, usize), u8> {
     let checked = check(Script { commands }).map_err(|fault| fault.number())?;
-    let verified = compile(alloc, &checked, None, &Library::new()).map_err(|fault| fault.number())?;
+    let verified = compile(alloc, &checked, None, &Library::new(alloc)).map_err(
+        |fault| fault.number(),
+    )?;
     Ok((verified.budget(), verified.image().code().len()))
 }
 

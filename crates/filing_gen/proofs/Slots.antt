@@ -1,0 +1,57 @@
+-- Each script of a library has a slot of its own.
+use Rattle.std.proofs.Common.{◌≡◌, ℕ, ◌+◌, ◌<◌, ◌≤◌, List, Bool, true, false, Option, Some, None, option_map, length, refl, sym, ap, ◌∙◌, arith}
+use Rattle.std.specs.Prelude.{find}
+use Rattle.std.specs.List.{slice_get}
+use Rattle.std.proofs.lemmas.List.Folds.{find_at}
+use Rattle.std.proofs.lemmas.Option.{slice_get_within}
+use Rattle.sieve_syntax.specs.declared.tree.Script.{Script}
+use Rattle.sieve_syntax.specs.View.{tree_of}
+use Rattle.sieve_meaning.specs.Meaning.{ScriptName}
+use Rattle.sieve_meaning.specs.Program.{Commands}
+use Rattle.sieve_meaning.specs.Reading.{program_of}
+use Rattle.filing_gen.specs.Libraries.{NamedScript, Scripts, IsLibrary, IsLocation, is_named, named, place_of, location_of, first_slot, scripts_of, slots_of, most_scripts, no_scripts}
+use Rattle.filing_gen.specs.Linked.{HasSlots}
+use Rattle.filing_gen.proofs.Shelves.{found_passes, same_name}
+
+abbrev program : Script → Commands
+program x = program_of (tree_of x)
+
+entry_there : (o : Option NamedScript) (y : Commands) → option_map program (option_map (λ (e : NamedScript). e.script) o) ≡ Some y → (e : NamedScript) × (o ≡ Some e)
+entry_there None y h = absurd (cc h)
+entry_there (Some e) y h = (e, refl)
+
+at_place : (name : List ℕ) (es : List NamedScript) (e : NamedScript) → find (is_named name) es ≡ Some e → slice_get es (place_of name es) ≡ Some e
+at_place name es e h = sym (find_at (is_named name) es) ∙ h
+
+place_inside : (name : List ℕ) (es : List NamedScript) (y : Commands) → option_map program (named name es) ≡ Some y → place_of name es < length es
+place_inside name es y h =
+    let e = entry_there (find (is_named name) es) y h in
+    slice_get_within es (place_of name es) e.0 (at_place name es e.0 e.1)
+
+place_own : (a b : List ℕ) (es : List NamedScript) (x y : Commands) → option_map program (named a es) ≡ Some x → option_map program (named b es) ≡ Some y → place_of a es ≡ place_of b es → a ≡ b
+place_own a b es x y h k same =
+    let d = entry_there (find (is_named a) es) x h in
+    let e = entry_there (find (is_named b) es) y k in
+    let at : Some d.0 ≡ Some e.0 = sym (at_place a es d.0 d.1) ∙ ap (slice_get es) same ∙ at_place b es e.0 e.1 in
+    let one : d.0 ≡ e.0 = cc at in
+    sym (same_name d.0.name a (found_passes a es d.0 d.1)) ∙ ap (λ (n : NamedScript). n.name) one ∙ same_name e.0.name b (found_passes b es e.0 e.1)
+
+slot_below : (global : Bool) (name : List ℕ) (l : Scripts) → IsLibrary l → place_of name (location_of global l) < length (location_of global l) → (global ≡ false → first_slot global + place_of name (location_of global l) < 32) × (first_slot global + place_of name (location_of global l) < 64)
+slot_below true name l i h = (λ e. absurd (cc e), omega (arith, h, i.global.few))
+slot_below false name l i h = (λ e. omega (arith, h, i.personal.few), omega (arith, h, i.personal.few))
+
+slot_own : (g k : Bool) (a b : List ℕ) (l : Scripts) (x y : Commands) → IsLibrary l → option_map program (named a (location_of g l)) ≡ Some x → option_map program (named b (location_of k l)) ≡ Some y → first_slot g + place_of a (location_of g l) ≡ first_slot k + place_of b (location_of k l) → (g ≡ k) × (a ≡ b)
+slot_own true true a b l x y i u v e = (refl, place_own a b l.global x y u v (omega (arith, e)))
+slot_own false false a b l x y i u v e = (refl, place_own a b l.personal x y u v (omega (arith, e)))
+slot_own true false a b l x y i u v e = absurd (omega (arith, e, place_inside b l.personal y v, i.personal.few))
+slot_own false true a b l x y i u v e = absurd (omega (arith, e, place_inside a l.personal x u, i.personal.few))
+
+pub has_slots : (l : Scripts) → IsLibrary l → HasSlots (scripts_of l) (slots_of l) 64
+has_slots l i = record {
+  few = omega arith;
+  inside = λ s x h. (slot_below s.global s.name l i (place_inside s.name (location_of s.global l) x h)).1;
+  own = λ s t x y h k e.
+      let both = slot_own s.global t.global s.name t.name l x y i h k e in
+      let pair : (s.global, s.name) ≡ (t.global, t.name) = let u : s.global ≡ t.global = both.0 in let v : s.name ≡ t.name = both.1 in cc in
+      ap (λ (p : Bool × List ℕ). record { global = p.0; name = p.1 }) pair;
+}

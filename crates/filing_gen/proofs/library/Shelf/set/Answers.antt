@@ -1,0 +1,48 @@
+use Rattle.std.proofs.Common.{◌≡◌, None, length, ◌<◌, ◌≤◌, sym, ◌∙◌, refl, rules, arith}
+use Rattle.std.proofs.lemmas.Grind.{common_steps}
+use Rattle.filing_gen.proofs.Stacked.{replaced, location_replaced, has_room, added, location_added, not_there, no_room, room_left}
+use Rattle.filing_gen.proofs.library.Shelf.set.Goals as goal
+
+pub returns-in-Some-clause-location : goal.returns-in-Some-clause-location
+returns-in-Some-clause-location c =
+    location_replaced c.args.name.now c.args.self.now.entries.items c.in-Some.place c.index_mut.result.now (record { name = c.index_mut.result.now.name; script = c.args.script }) (sym c.place.ensures ∙ c.in-Some.is) c.index_mut.ensures.value refl c.requires
+
+pub returns-in-Some-clause-ok : goal.returns-in-Some-clause-ok
+returns-in-Some-clause-ok c =
+    replaced c.args.name.now c.args.self.now.entries.items c.in-Some.place c.index_mut.result.now (record { name = c.index_mut.result.now.name; script = c.args.script }) (sym c.place.ensures ∙ c.in-Some.is) c.index_mut.ensures.value refl
+
+pub returns-in-Some-clause-full : goal.returns-in-Some-clause-full
+returns-in-Some-clause-full c =
+    (λ h. absurd (cc h), λ h. absurd (has_room c.args.name.now c.args.self.now.entries.items c.in-Some.place c.index_mut.result.now (sym c.place.ensures ∙ c.in-Some.is) c.index_mut.ensures.value h))
+
+pub returns-then-len-ge-MOST_SCRIPTS-clause-full : goal.returns-then-len-ge-MOST_SCRIPTS-clause-full
+returns-then-len-ge-MOST_SCRIPTS-clause-full c =
+    let none : c.place.result ≡ None = search rules in
+    let many : 32 ≤ length c.args.self.now.entries.items = grind (arith, common_steps) in
+    (λ _. no_room c.args.name.now c.args.self.now.entries.items (sym c.place.ensures ∙ none) many c.requires, λ _. refl)
+
+pub returns-then-len-ge-MOST_SCRIPTS-clause-replaced : goal.returns-then-len-ge-MOST_SCRIPTS-clause-replaced
+returns-then-len-ge-MOST_SCRIPTS-clause-replaced c =
+    let none : c.place.result ≡ None = search rules in
+    λ h. absurd (not_there c.args.name.now c.args.self.now.entries.items (sym c.place.ensures ∙ none) h)
+
+pub returns-in_err-name-clause-replaced : goal.returns-in_err-name-clause-replaced
+returns-in_err-name-clause-replaced c =
+    let none : c.place.result ≡ None = search rules in
+    λ h. absurd (not_there c.args.name.now c.args.self.now.entries.items (sym c.place.ensures ∙ none) h)
+
+pub returns-in_err-push-clause-replaced : goal.returns-in_err-push-clause-replaced
+returns-in_err-push-clause-replaced c =
+    let none : c.place.result ≡ None = search rules in
+    λ h. absurd (not_there c.args.name.now c.args.self.now.entries.items (sym c.place.ensures ∙ none) h)
+
+pub returns-clause-location : goal.returns-clause-location
+returns-clause-location c =
+    let none : c.place.result ≡ None = search rules in
+    let few : length c.args.self.now.entries.items < 32 = grind (arith, common_steps) in
+    rw c.in_ok-push.ensures.items (location_added c.args.name.now c.args.self.now.entries.items (record { name = c.in_ok-name.name; script = c.args.script }) (sym c.place.ensures ∙ none) c.in_ok-name.ensures.items few c.requires)
+
+pub returns-clause-ok : goal.returns-clause-ok
+returns-clause-ok c =
+    let none : c.place.result ≡ None = search rules in
+    rw c.in_ok-push.ensures.items (added c.args.name.now c.args.self.now.entries.items (record { name = c.in_ok-name.name; script = c.args.script }) (sym c.place.ensures ∙ none) c.in_ok-name.ensures.items)
