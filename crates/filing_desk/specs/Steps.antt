@@ -1,5 +1,5 @@
 -- What each command may be answered, and what it leaves.
-use Rattle.std.specs.Prelude.{◌≡◌, ℕ, true, false, ◌≤◌, ◌<◌, ◌⊎◌, List, length, Option, Some, None, is_some, Result, Ok, Err, refl}
+use Rattle.std.specs.Prelude.{◌≡◌, ℕ, true, false, ◌≤◌, ◌<◌, ◌⊎◌, List, [], length, Option, Some, None, is_some, Result, Ok, Err, refl}
 use Rattle.std.specs.Coded.{Coded, code_by, coded×}
 use Rattle.sieve_syntax.specs.Tree.{CommandTrees}
 use Rattle.sieve_syntax.specs.View.{tree_of}
@@ -16,6 +16,7 @@ use Rattle.class_plan.specs.Plans as plans
 use Rattle.class_plan.specs.Changes as changes
 use Rattle.class_plan.specs.Document as documents
 use Rattle.sieve_meaning.specs.Reading.{program_of}
+use Rattle.sieve_meaning.specs.Meaning.{Library}
 use Rattle.sieve_meaning.specs.Outcome as meaning
 use Rattle.filing_image.specs.Program.{Program, parts}
 use Rattle.filing_image.specs.Spelling.{spelling, Fits}
@@ -25,7 +26,7 @@ use Rattle.filing_table.specs.Ends.{HasOutcome}
 use Rattle.filing_desk.specs.Answers.{Answer, done, captured, refused}
 use Rattle.filing_machine.specs.Message.{case_of}
 use Rattle.filing_desk.specs.Faults.{refused_by, has_place}
-use Rattle.filing_desk.specs.Globals.{NamedScript, entries_code, put, HasNoRoom, global_library}
+use Rattle.filing_gen.specs.Libraries.{NamedScript, entries_code, put, HasNoRoom, scripts_of}
 use Rattle.filing_desk.specs.declared.fault.DeskFault.{DeskFault}
 use Rattle.filing_desk.specs.declared.desk.Outcome.{Outcome}
 
@@ -57,10 +58,14 @@ pub record IsGood (script : List ℕ) (tree : CommandTrees) : Type 0 where
   pub is_script : IsScript script tree
   pub well_made : rules.refusal_of tree ≡ None
 
+-- the scripts that can be included: the global ones, and no personal one
+abbrev pub library_in : State → Library
+library_in s = scripts_of (record { personal = []; global = s.globals })
+
 -- The outcome of a script for a message, in the message's case and the open classes of the plan. It can include the
 -- global scripts, and has no name.
 abbrev pub outcome_in : State → CommandTrees → (message : List ℕ) → meaning.Outcome
-outcome_in s tree message = meaning.outcome (case_of message (is_open_in s.plan)) (global_library s.globals) None (program_of tree)
+outcome_in s tree message = meaning.outcome (case_of message (is_open_in s.plan)) (library_in s) None (program_of tree)
 
 -- a script captures a message so
 pub record IsFiled (s : State) (script message : List ℕ) (o : meaning.Outcome) : Type 0 where

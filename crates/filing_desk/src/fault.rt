@@ -4,6 +4,7 @@ ghost use Rattle.std.specs.Prelude.{◌≡◌};
 ghost use Rattle.filing_desk.specs.Faults.{refusal_of, has_place as has_place_of};
 
 use class_plan::PlanFault;
+use filing_gen::LibraryFault;
 use filing_image::FormFault;
 use filing_verify::VerifyFault;
 use sieve_check::CheckFault;
@@ -99,6 +100,20 @@ impl From<PlanFault> for DeskFault {
         match fault {
             PlanFault::NoMemory => DeskFault::NoMemory,
             fault => DeskFault::Plan(fault),
+        }
+    }
+}
+
+impl From<LibraryFault> for DeskFault {
+    ghost use Rattle.std.specs.Prelude.{◌≡◌};
+    ghost use Rattle.filing_desk.specs.Faults.{library_fault};
+
+    ghost from_gives = { λ e f. f ≡ library_fault e };
+
+    fn from(fault: LibraryFault) -> DeskFault {
+        match fault {
+            LibraryFault::NoMemory => DeskFault::NoMemory,
+            LibraryFault::Full => DeskFault::LibraryFull,
         }
     }
 }
