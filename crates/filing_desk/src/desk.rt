@@ -4,7 +4,7 @@ ghost use Rattle.std.specs.Prelude.{◌≡◌, ℕ, List, [], ◌<◌, ◌≤◌
 ghost use Rattle.class_plan.specs.Plans.{first_plan, is_open_in};
 ghost use Rattle.sieve_syntax.specs.View.{tree_of};
 ghost use Rattle.sieve_meaning.specs.Reading.{program_of};
-ghost use Rattle.filing_gen.specs.Libraries.{scripts_of};
+ghost use Rattle.filing_gen.specs.Correct.{library_of};
 ghost use Rattle.sieve_meaning.specs.Outcome.{outcome_at, outcome};
 ghost use Rattle.filing_desk.specs.Case.{facts_of};
 ghost use Rattle.filing_desk.specs.Judging.{RefusesScript, RefusesImage, IsFaultOf, outcome_view};
@@ -98,7 +98,7 @@ fn outcome_of(
     script: &Checked,
     library: &Library,
 ) -> Result<Outcome, DeskFault>
-    ensures outcome { IfOk result (λ o. outcome_view o ≡ outcome (facts_of case.now) (scripts_of library.now) None (program_of (tree_of script.now.script))) }
+    ensures outcome { IfOk result (λ o. outcome_view o ≡ outcome (facts_of case.now) (library_of library.now) None (program_of (tree_of script.now.script))) }
     ensures refused { IfErr result (λ f. f ≡ NoMemory) }
 {
     match compile(alloc, script, None, library) {
