@@ -7,6 +7,8 @@ use Rattle.sieve_check.specs.Faults as check
 use Rattle.class_plan.specs.declared.faults.PlanFault.{PlanFault}
 use Rattle.class_plan.specs.declared.faults.PlanFault.TheVariants as plans
 use Rattle.class_plan.specs.Faults as plan
+use Rattle.filing_gen.specs.declared.fault.LibraryFault.{LibraryFault}
+use Rattle.filing_gen.specs.declared.fault.LibraryFault.TheVariants as libraries
 use Rattle.filing_image.specs.declared.fault.FormFault.{FormFault}
 use Rattle.filing_image.specs.declared.fault.FormFault.TheVariants as forms
 use Rattle.filing_verify.specs.declared.fault.VerifyFault.{VerifyFault}
@@ -25,6 +27,10 @@ text_fault (texts.Refused r at) = faults.Text r at
 abbrev pub plan_fault : PlanFault → DeskFault
 plan_fault plans.NoMemory = faults.NoMemory
 plan_fault f = faults.Plan f
+
+abbrev pub library_fault : LibraryFault → DeskFault
+library_fault libraries.NoMemory = faults.NoMemory
+library_fault libraries.Full = faults.LibraryFull
 
 abbrev pub form_fault : FormFault → DeskFault
 form_fault forms.NoMemory = faults.NoMemory
@@ -48,6 +54,7 @@ refusal_of faults.ImageTooLong = record { number = 61; offset = None }
 refusal_of faults.ImageForm = record { number = 60; offset = None }
 refusal_of (faults.Image f) = record { number = verify_number f; offset = None }
 refusal_of faults.MessageTooLong = record { number = 95; offset = None }
+refusal_of faults.LibraryFull = record { number = 96; offset = None }
 
 abbrev pub refused_by : DeskFault → Answer
 refused_by f = refused (refusal_of f).number (refusal_of f).offset

@@ -1,10 +1,14 @@
 -- What each command may be answered, and what it leaves.
-use Rattle.std.specs.Prelude.{◌≡◌, ℕ, true, false, ◌≤◌, ◌<◌, ◌⊎◌, List, length, Option, Some, None, is_some, Result, Ok, Err}
+use Rattle.std.specs.Prelude.{◌≡◌, ℕ, true, false, ◌≤◌, ◌<◌, ◌⊎◌, List, [], length, Option, Some, None, is_some, Result, Ok, Err, refl}
+use Rattle.std.specs.Coded.{Coded, code_by, coded×}
 use Rattle.sieve_syntax.specs.Tree.{CommandTrees}
+use Rattle.sieve_syntax.specs.View.{tree_of}
+use Rattle.sieve_syntax.specs.declared.tree.Script.{Script}
 use Rattle.sieve_text.specs.declared.fault.TextRefusal.{TextRefusal}
 use Rattle.sieve_text.specs.declared.fault.TextFault.TheVariants as texts
 use Rattle.sieve_text.specs.Grammar.{IsScript, Explains, text_number}
 use Rattle.sieve_check.specs.Rules as rules
+use Rattle.class_plan.specs.contracts.plans.Plan as kept
 use Rattle.class_plan.specs.declared.faults.PlanFault.{PlanFault}
 use Rattle.class_plan.specs.Faults as plan
 use Rattle.class_plan.specs.Plans.{Listing, is_open_in}
@@ -12,7 +16,7 @@ use Rattle.class_plan.specs.Plans as plans
 use Rattle.class_plan.specs.Changes as changes
 use Rattle.class_plan.specs.Document as documents
 use Rattle.sieve_meaning.specs.Reading.{program_of}
-use Rattle.sieve_meaning.specs.Meaning.{no_library}
+use Rattle.sieve_meaning.specs.Meaning.{Library, no_library}
 use Rattle.sieve_meaning.specs.Outcome as meaning
 use Rattle.filing_image.specs.Program.{Program, parts}
 use Rattle.filing_image.specs.Spelling.{spelling, Fits}
@@ -22,16 +26,24 @@ use Rattle.filing_table.specs.Ends.{HasOutcome}
 use Rattle.filing_desk.specs.Answers.{Answer, done, captured, refused}
 use Rattle.filing_machine.specs.Message.{case_of}
 use Rattle.filing_desk.specs.Faults.{refused_by, has_place}
+use Rattle.filing_gen.specs.Libraries.{NamedScript, entries_code, put, HasNoRoom}
 use Rattle.filing_desk.specs.declared.fault.DeskFault.{DeskFault}
 use Rattle.filing_desk.specs.declared.desk.Outcome.{Outcome}
 
--- what a desk stands for: its plan of classes
-abbrev pub State : Type 0
-State = Listing
+-- what a desk stands for: its plan of classes, and the global scripts
+pub record State : Type 0 where
+  pub plan : Listing
+  pub globals : List NamedScript
+
+-- which is stored as a pair
+abbrev pub state_code : Coded State
+state_code = code_by (Listing × List NamedScript) (coded× kept.the_row.coded entries_code) (λ s. (s.plan, s.globals)) (λ p. record { plan = p.0; globals = p.1 }) (λ _. refl)
 
 pub data Command : Type 0 where
   add_class : (path : List ℕ) → Command
   file : (script message : List ℕ) → Command
+  -- keeps a script under a name, for scripts that include it
+  set_global : (name text : List ℕ) → Command
   -- takes over the plan of a text
   set_plan : (text : List ℕ) → Command
   -- runs an image on a message
@@ -46,9 +58,14 @@ pub record IsGood (script : List ℕ) (tree : CommandTrees) : Type 0 where
   pub is_script : IsScript script tree
   pub well_made : rules.refusal_of tree ≡ None
 
--- the outcome of a script for a message, in the message's case and the open classes of the plan
+-- the scripts that can be included: the global ones, and no personal one
+abbrev pub library_in : State → Library
+library_in s = no_library
+
+-- The outcome of a script for a message, in the message's case and the open classes of the plan. It can include the
+-- global scripts, and has no name.
 abbrev pub outcome_in : State → CommandTrees → (message : List ℕ) → meaning.Outcome
-outcome_in s tree message = meaning.outcome (case_of message (is_open_in s)) no_library None (program_of tree)
+outcome_in s tree message = meaning.outcome (case_of message (is_open_in s.plan)) (library_in s) None (program_of tree)
 
 -- a script captures a message so
 pub record IsFiled (s : State) (script message : List ℕ) (o : meaning.Outcome) : Type 0 where
@@ -80,10 +97,30 @@ pub record IsTooLong (script message : List ℕ) (number : ℕ) : Type 0 where
 abbrev pub RefusesFiling : (script message : List ℕ) (number : ℕ) → Type 0
 RefusesFiling script message number = (number ≡ 99) ⊎ (IsNoScript script number ⊎ (IsIllMade script number ⊎ IsTooLong script message number))
 
+-- the text is a script, and it is kept under the name: in the place of one that has the name, or behind all others
+pub record IsKept (s : State) (name text : List ℕ) (new : State) : Type 0 where
+  pub script : Script
+  pub good : IsGood text (tree_of script)
+  pub has_room : HasNoRoom s.globals name → ⊥
+  pub globals : new.globals ≡ put (record { name = name; script = script }) s.globals
+  pub plan : new.plan ≡ s.plan
+
+-- the text is a script, and its name is a new one where there are thirty-two
+pub record IsOneTooMany (s : State) (name text : List ℕ) (number : ℕ) : Type 0 where
+  pub tree : CommandTrees
+  pub good : IsGood text tree
+  pub has_no_room : HasNoRoom s.globals name
+  pub is_number : number ≡ 96
+
+-- a global script is refused with this number: want of memory, or the first of the text, the check and the room that
+-- fails
+abbrev pub RefusesGlobal : State → (name text : List ℕ) (number : ℕ) → Type 0
+RefusesGlobal s name text number = (number ≡ 99) ⊎ (IsNoScript text number ⊎ (IsIllMade text number ⊎ IsOneTooMany s name text number))
+
 -- the plan refuses one more class with this number
 pub record IsNoClass (s : State) (path : List ℕ) (number : ℕ) : Type 0 where
   pub fault : PlanFault
-  pub refuses : changes.added s path ≡ Err fault
+  pub refuses : changes.added s.plan path ≡ Err fault
   pub is_number : number ≡ plan.number_of fault
 
 abbrev pub RefusesClass : State → (path : List ℕ) (number : ℕ) → Type 0
@@ -96,8 +133,9 @@ greatest_plan = 1048576
 -- the text is that of a plan which keeps each path of the plan so far
 pub record IsRevision (s : State) (text : List ℕ) (new : State) : Type 0 where
   pub short : length text ≤ greatest_plan
-  pub is_plan : documents.plan_of_text text ≡ Ok new
-  pub keeps_paths : plans.keeps s new ≡ true
+  pub is_plan : documents.plan_of_text text ≡ Ok new.plan
+  pub keeps_paths : plans.keeps s.plan new.plan ≡ true
+  pub globals : new.globals ≡ s.globals
 
 -- the text is no plan, for this reason
 pub record IsNoPlan (text : List ℕ) (number : ℕ) : Type 0 where
@@ -109,9 +147,9 @@ pub record IsNoPlan (text : List ℕ) (number : ℕ) : Type 0 where
 -- the text is that of a plan which drops a path
 pub record DropsPath (s : State) (text : List ℕ) (number : ℕ) : Type 0 where
   pub short : length text ≤ greatest_plan
-  pub new : State
-  pub is_plan : documents.plan_of_text text ≡ Ok new
-  pub drops : plans.keeps s new ≡ false
+  pub plan : Listing
+  pub is_plan : documents.plan_of_text text ≡ Ok plan
+  pub drops : plans.keeps s.plan plan ≡ false
   pub is_number : number ≡ 57
 
 -- a plan is refused with this number: want of memory, or the first of its length, its text and its paths that fails
@@ -139,7 +177,7 @@ pub record IsTried (s : State) (image message : List ℕ) (o : meaning.Outcome) 
   pub good : IsGoodImage image program
   pub short : length message ≤ greatest_message
   pub steps : ℕ
-  pub outcome : HasOutcome program (case_of message (is_open_in s)) steps o
+  pub outcome : HasOutcome program (case_of message (is_open_in s.plan)) steps o
 
 -- the octets are too many for an image
 pub record IsLongImage (image : List ℕ) (number : ℕ) : Type 0 where
@@ -183,12 +221,15 @@ filed (Err f) = refused_by f
 
 -- A command may be answered so, and leaves that. A refusal has an offset exactly where its number is shown with one.
 unfoldable pub Step : State → Command → Answer → State → Type 0
-Step s (add_class path) done new = changes.added s path ≡ Ok new
+Step s (add_class path) done new = (changes.added s.plan path ≡ Ok new.plan) × (new.globals ≡ s.globals)
 Step s (add_class path) (refused n at) new = (new ≡ s) × (is_some at ≡ has_place n) × RefusesClass s path n
 Step s (add_class path) (captured o) new = ⊥
 Step s (file script message) (captured o) new = (new ≡ s) × IsFiled s script message o
 Step s (file script message) (refused n at) new = (new ≡ s) × (is_some at ≡ has_place n) × RefusesFiling script message n
 Step s (file script message) done new = ⊥
+Step s (set_global name text) done new = IsKept s name text new
+Step s (set_global name text) (refused n at) new = (new ≡ s) × (is_some at ≡ has_place n) × RefusesGlobal s name text n
+Step s (set_global name text) (captured o) new = ⊥
 Step s (set_plan text) done new = IsRevision s text new
 Step s (set_plan text) (refused n at) new = (new ≡ s) × (is_some at ≡ has_place n) × RefusesPlan s text n
 Step s (set_plan text) (captured o) new = ⊥

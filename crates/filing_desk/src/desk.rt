@@ -4,11 +4,11 @@ ghost use Rattle.std.specs.Prelude.{◌≡◌, ℕ, List, [], ◌<◌, ◌≤◌
 ghost use Rattle.class_plan.specs.Plans.{first_plan, is_open_in};
 ghost use Rattle.sieve_syntax.specs.View.{tree_of};
 ghost use Rattle.sieve_meaning.specs.Reading.{program_of};
-ghost use Rattle.sieve_meaning.specs.Meaning.{no_library};
+ghost use Rattle.filing_gen.specs.Correct.{library_of};
 ghost use Rattle.sieve_meaning.specs.Outcome.{outcome_at, outcome};
 ghost use Rattle.filing_desk.specs.Case.{facts_of};
 ghost use Rattle.filing_desk.specs.Judging.{RefusesScript, RefusesImage, IsFaultOf, outcome_view};
-ghost use Rattle.filing_desk.specs.Steps.{add_class, file, set_plan, try_image, Step, settled, filed, IsGood, IsGoodImage, RefusesPlan};
+ghost use Rattle.filing_desk.specs.Steps.{add_class, file, set_global, set_plan, try_image, Step, settled, filed, IsGood, IsGoodImage, RefusesPlan};
 ghost use Rattle.filing_desk.specs.Faults.{refused_by};
 ghost use Rattle.filing_desk.specs.declared.fault.DeskFault.TheVariants.{NoMemory};
 ghost use Rattle.filing_table.specs.Ends.{HasOutcome};
@@ -25,6 +25,7 @@ use sieve_meaning::Paths;
 use sieve_text::{ScanRefusal, TextRefusal, parse};
 use std::alloc::{AllocError, Global};
 use std::marker::Model;
+use std::rc::Rc;
 
 /// The greatest length of a message, in octets.
 pub const GREATEST_MESSAGE: usize = 8_388_608;
@@ -45,20 +46,26 @@ pub struct Outcome {
     pub fault: Option<u8>,
 }
 
-/// What a session talks to: it keeps the plan of classes, and files messages by scripts. Contracts see it as its
-/// plan.
+/// What a session talks to: it keeps the plan of classes and the global scripts, and files messages by scripts.
+/// Contracts see it as these.
 #[derive(Drop)]
 pub struct Desk {
     alloc: Global,
     plan: Plan,
+    library: Library,
 }
 
 impl Model for Desk {
-    ghost use Rattle.class_plan.specs.Plans.{Listing};
+    ghost use Rattle.std.specs.Prelude.{◌≡◌, []};
+    ghost use Rattle.filing_desk.specs.Steps.{State, state_code};
 
-    ghost Value = { Listing };
+    ghost Value = { State };
 
-    ghost view = { λ d. d.plan };
+    ghost coded = { state_code };
+
+    ghost view = { λ d. record { plan = d.plan; globals = d.library.global } };
+
+    ghost invariant = { λ d. d.library.personal ≡ [] };
 }
 
 /// The default class alone, with a fault.
@@ -85,11 +92,16 @@ fn run_image(alloc: Global, program: &Verified, case: &Case<'_>) -> Result<Outco
 }
 
 /// The outcome of a script in a case: that of the run of its image, or fault 5 where the script is too heavy for one.
-fn outcome_of(alloc: Global, case: &Case<'_>, script: &Checked) -> Result<Outcome, DeskFault>
-    ensures outcome { IfOk result (λ o. outcome_view o ≡ outcome (facts_of case.now) no_library None (program_of (tree_of script.now.script))) }
+fn outcome_of(
+    alloc: Global,
+    case: &Case<'_>,
+    script: &Checked,
+    library: &Library,
+) -> Result<Outcome, DeskFault>
+    ensures outcome { IfOk result (λ o. outcome_view o ≡ outcome (facts_of case.now) (library_of library.now) None (program_of (tree_of script.now.script))) }
     ensures refused { IfErr result (λ f. f ≡ NoMemory) }
 {
-    match compile(alloc, script, None, &Library::new(alloc)) {
+    match compile(alloc, script, None, library) {
         Ok(program) => {
             let outcome = run_image(alloc, &program, case)?;
             Ok(outcome)
@@ -128,13 +140,14 @@ fn judge_image(alloc: Global, image: &[u8]) -> Result<Verified, DeskFault>
 }
 
 impl Desk {
-    /// A desk with the class `unfiled` alone. The only error is want of memory.
+    /// A desk with the class `unfiled` alone, and no global script. The only error is want of memory.
     pub fn new(alloc: Global) -> Result<Desk, AllocError>
-        ensures { IfOk result (λ d. d ≡ first_plan) }
+        ensures { IfOk result (λ d. d ≡ record { plan = first_plan; globals = [] }) }
     {
         Ok(Desk {
             alloc,
             plan: Plan::new(alloc)?,
+            library: Library::new(alloc),
         })
     }
 
@@ -174,6 +187,28 @@ impl Desk {
         DeskFault::PlanTooLong
     }
 
+    /// Keeps a script under a name, for scripts that include it by `:global`; it takes the place of the one that has the
+    /// name, if there is one. It is refused by its text (10 to 16, 20, 21), then by the check (30 to 41), then where
+    /// thirty-two global scripts have other names (96); 99 is want of memory. The global scripts are then as before.
+    #[tactic(auto, unfolding(crate::specs::Steps::Step))]
+    pub fn set_global(&mut self, name: &[u8], text: &[u8]) -> Result<(), DeskFault>
+        ensures { Step self.old (set_global name.now text.now) (settled result) self.new }
+    {
+        let script = judge(self.alloc, text)?;
+        let script = Rc::new(self.alloc, script)?;
+        self.library.set_global(name, script)?;
+        Ok(())
+    }
+
+    /// What `set_global` answers to a text over its limit of 262,144 octets, which need not be at hand.
+    #[tactic(auto, unfolding(crate::specs::Steps::Step))]
+    pub fn set_global_too_long(&self) -> DeskFault
+        ensures { (name text : List ℕ) → 262144 < length text → Step self.now (set_global name text) (refused_by result) self.now }
+    {
+        let refusal = TextRefusal::Scan(ScanRefusal::ScriptTooLong);
+        DeskFault::Text(refusal, 0)
+    }
+
     /// What an image captures a message in: a dry run that stores nothing. An image is refused by its length (61: more
     /// than 16,777,216 octets), its form (60) and its code (62 to 66); then a message over 8,388,608 octets by 95; 99
     /// is want of memory.
@@ -210,8 +245,8 @@ impl Desk {
     }
 
     /// What a script captures a message in: a dry run that stores nothing. A script is refused by its text (10 to 16,
-    /// 20, 21), then by the check (30 to 41); then a message over 8,388,608 octets by 95; 99 is want of memory. A
-    /// script of weight above 60,000 has the outcome fault 5.
+    /// 20, 21), then by the check (30 to 41); then a message over 8,388,608 octets by 95; 99 is want of memory. It
+    /// can include the global scripts, and no others. A script of weight above 60,000 has the outcome fault 5.
     #[tactic(auto, unfolding(crate::specs::Steps::Step))]
     pub fn file(&self, script: &[u8], message: &[u8]) -> Result<Outcome, DeskFault>
         ensures { Step self.now (file script.now message.now) (filed result) self.now }
@@ -221,7 +256,7 @@ impl Desk {
             return Err(DeskFault::MessageTooLong);
         }
         let case = read_case(self.alloc, message, &self.plan)?;
-        let outcome = outcome_of(self.alloc, &case, &checked)?;
+        let outcome = outcome_of(self.alloc, &case, &checked, &self.library)?;
         Ok(outcome)
     }
 

@@ -4,6 +4,7 @@ ghost use Rattle.std.specs.Prelude.{◌≡◌};
 ghost use Rattle.filing_desk.specs.Faults.{refusal_of, has_place as has_place_of};
 
 use class_plan::PlanFault;
+use filing_gen::LibraryFault;
 use filing_image::FormFault;
 use filing_verify::VerifyFault;
 use sieve_check::CheckFault;
@@ -38,6 +39,8 @@ pub enum DeskFault {
     Image(VerifyFault),
     /// 95: the message has more than 8,388,608 octets.
     MessageTooLong,
+    /// 96: thirty-two global scripts have other names.
+    LibraryFull,
 }
 
 impl From<AllocError> for DeskFault {
@@ -97,6 +100,20 @@ impl From<PlanFault> for DeskFault {
         match fault {
             PlanFault::NoMemory => DeskFault::NoMemory,
             fault => DeskFault::Plan(fault),
+        }
+    }
+}
+
+impl From<LibraryFault> for DeskFault {
+    ghost use Rattle.std.specs.Prelude.{◌≡◌};
+    ghost use Rattle.filing_desk.specs.Faults.{library_fault};
+
+    ghost from_gives = { λ e f. f ≡ library_fault e };
+
+    fn from(fault: LibraryFault) -> DeskFault {
+        match fault {
+            LibraryFault::NoMemory => DeskFault::NoMemory,
+            LibraryFault::Full => DeskFault::LibraryFull,
         }
     }
 }
@@ -177,6 +194,10 @@ impl DeskFault {
             },
             DeskFault::MessageTooLong => Refusal {
                 number: 95,
+                offset: None,
+            },
+            DeskFault::LibraryFull => Refusal {
+                number: 96,
                 offset: None,
             },
         }

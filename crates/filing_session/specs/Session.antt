@@ -1,9 +1,9 @@
 -- The commands of a session's octets, the runs of a desk that they lead to, and the octets of its answers.
 use Rattle.std.specs.Prelude.{◌≡◌, ℕ, zero, suc, ◌+◌, List, [], ◌∷◌, ◌++◌, if◌then◌else◌, nat_le, None, length, take, drop, codes, flat_map}
 use Rattle.filing_desk.specs.Answers.{Answer, refused}
-use Rattle.filing_desk.specs.Steps.{State, Command, add_class, file, set_plan, try_image, Step}
+use Rattle.filing_desk.specs.Steps.{State, Command, add_class, file, set_global, set_plan, try_image, Step}
 use Rattle.filing_session.specs.Lines.{Line, Whole, TooLong, Cut, End, line_of}
-use Rattle.filing_session.specs.Words.{Asked, AddClass, File, SetPlan, Try, Quit, Unknown, BadWord, asked}
+use Rattle.filing_session.specs.Words.{Asked, AddClass, File, SetGlobal, SetPlan, Try, Quit, Unknown, BadWord, asked}
 use Rattle.filing_session.specs.Replies.{reply_octets}
 use Rattle.filing_session.specs.Streams.{IsBehind}
 use Rattle.filing_session.specs.declared.session.Ending.{Ending}
@@ -41,6 +41,7 @@ with_payloads first second command rest =
 abbrev pub heard_line : Asked → (rest : List ℕ) → Heard
 heard_line (AddClass path) rest = Got (Call (add_class path)) rest
 heard_line (File script message) rest = with_payloads script message file rest
+heard_line (SetGlobal name text) rest = with_payload text (set_global name) rest
 heard_line (SetPlan text) rest = with_payload text set_plan rest
 heard_line (Try image message) rest = with_payloads image message try_image rest
 heard_line Quit rest = Stop ending.Quit

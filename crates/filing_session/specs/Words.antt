@@ -13,6 +13,8 @@ pub data Asked : Type 0 where
   AddClass : (path : List ℕ) → Asked
   -- to file a message by a script, payloads of these lengths
   File : (script message : ℕ) → Asked
+  -- to keep a global script under a name, a payload of this length
+  SetGlobal : (name : List ℕ) (text : ℕ) → Asked
   -- to take over a plan, a payload of this length
   SetPlan : (text : ℕ) → Asked
   -- to run an image on a message, payloads of these lengths
@@ -39,6 +41,13 @@ number_of greatest word = if is_decimal word && nat_le (digits_value 10 word) gr
 -- the length of a payload is at most 4,294,967,295 octets
 unfoldable pub length_of : List ℕ → Option ℕ
 length_of word = number_of 4294967295 word
+
+-- a name is 1 to 64 octets from 33 to 126
+abbrev pub is_name_octet : ℕ → Bool
+is_name_octet o = nat_le 33 o && nat_le o 126
+
+abbrev pub is_name : List ℕ → Bool
+is_name word = nat_lt 0 (length word) && nat_le (length word) 64 && list_all is_name_octet word
 
 abbrev pub both : Option ℕ → Option ℕ → Option (ℕ × ℕ)
 both (Some first) (Some second) = Some (first, second)
@@ -77,6 +86,17 @@ plan_of [] = BadWord
 plan_of (text ∷ []) = plan_of_length (length_of text)
 plan_of (text ∷ word ∷ words) = BadWord
 
+abbrev pub global_with : (name : List ℕ) → Option ℕ → Asked
+global_with name (Some text) = if is_name name then SetGlobal name text else BadWord
+global_with name None = BadWord
+
+-- a name, a length, and no third word
+abbrev pub global_of : List (List ℕ) → Asked
+global_of [] = BadWord
+global_of (name ∷ []) = BadWord
+global_of (name ∷ text ∷ []) = global_with name (length_of text)
+global_of (name ∷ text ∷ word ∷ words) = BadWord
+
 abbrev pub quit_of : List (List ℕ) → Asked
 quit_of [] = Quit
 quit_of (word ∷ words) = BadWord
@@ -86,6 +106,7 @@ asked_by [] = Unknown
 asked_by (name ∷ words) =
     if bytes_eq name (codes "CLASS") then class_of words
     else if bytes_eq name (codes "FILE") then file_of words
+    else if bytes_eq name (codes "GLOBAL") then global_of words
     else if bytes_eq name (codes "PLAN") then plan_of words
     else if bytes_eq name (codes "TRY") then try_of words
     else if bytes_eq name (codes "QUIT") then quit_of words
@@ -98,6 +119,7 @@ asked line = asked_by (words_of line)
 abbrev pub asked_as : Request → Asked
 asked_as (ask.AddClass path) = AddClass path.now
 asked_as (ask.File script message) = File script message
+asked_as (ask.SetGlobal name text) = SetGlobal name.now text
 asked_as (ask.SetPlan text) = SetPlan text
 asked_as (ask.Try image message) = Try image message
 asked_as ask.Quit = Quit

@@ -2,7 +2,7 @@
 
 ghost use Rattle.std.specs.Prelude.{◌≡◌, ◌≢◌, ℕ, List, ◌≤◌, ◌++◌, IfOk, OnOk, OnErr, Ok, Err, None, IsErrOf};
 ghost use Rattle.filing_desk.specs.Answers.{refused as refused_answer};
-ghost use Rattle.filing_desk.specs.Steps.{add_class as class_command, file as file_command, set_plan as plan_command, try_image as try_command, Step};
+ghost use Rattle.filing_desk.specs.Steps.{add_class as class_command, file as file_command, set_global as global_command, set_plan as plan_command, try_image as try_command, Step};
 ghost use Rattle.filing_session.specs.Heard.{Answers, EndsOnlyAtEnd};
 ghost use Rattle.filing_session.specs.Payloads.{IsOf};
 ghost use Rattle.filing_session.specs.Replies.{answer_of};
@@ -208,6 +208,42 @@ fn read_and_set_plan<S: Source>(
     Ok(Said::Reply(reply))
 }
 
+/// Keeps a global script under a name.
+fn set_global(desk: &mut Desk, name: &[u8], text: &Payload) -> Reply
+    ensures { (t : List ℕ) → IsOf 262144 text.now t → Step desk.old (global_command name.now t) (answer_of result) desk.new }
+{
+    match text {
+        Payload::Whole(octets) => match desk.set_global(name, octets.as_slice()) {
+            Ok(()) => Reply::Done,
+            Err(fault) => Reply::Refused(fault.refusal()),
+        },
+        Payload::TooLong => Reply::Refused(desk.set_global_too_long().refusal()),
+        Payload::NoMemory => refused(99),
+    }
+}
+
+/// Reads the payload of `GLOBAL`, and keeps it.
+fn read_and_set_global<S: Source>(
+    alloc: Global,
+    source: &mut S,
+    desk: &mut Desk,
+    name: &[u8],
+    text: usize,
+) -> Result<Said, ReadFault>
+    ensures said { S.tells → IfOk result (λ a. Answers desk.old (with_payload text (global_command name.now) (S.left source.old)) a desk.new (S.left source.new)) }
+    ensures same { OnErr result (desk.new ≡ desk.old) }
+    ensures ended { IfOk result (λ a. EndsOnlyAtEnd a (S.ends source.old) (S.ends source.new)) }
+    ensures ends { S.ends source.old ≤ S.ends source.new }
+    ensures troubles { S.troubles source.old ≤ S.troubles source.new }
+    ensures fault { OnErr result (Rises (S.troubles source.old) (S.troubles source.new)) }
+{
+    let Some(text) = read_payload(alloc, source, text, SCRIPT_OCTETS)? else {
+        return Ok(Said::End(Ending::CutShort));
+    };
+    let reply = set_global(desk, name, &text);
+    Ok(Said::Reply(reply))
+}
+
 /// Does what a line asks; its payloads are read here.
 fn answer<S: Source>(
     alloc: Global,
@@ -238,6 +274,9 @@ fn answer<S: Source>(
             image as usize,
             message as usize,
         ),
+        Request::SetGlobal { name, text } => {
+            read_and_set_global(alloc, source, desk, name, text as usize)
+        }
         Request::SetPlan { text } => read_and_set_plan(alloc, source, desk, text as usize),
         Request::Quit => Ok(Said::End(Ending::Quit)),
         Request::Unknown => Ok(Said::Reply(refused(70))),

@@ -3,10 +3,13 @@
 ghost use Rattle.std.specs.Prelude.{◌≡◌, ◌∷◌, [], IfSome, IfNone};
 ghost use Rattle.std.specs.Char.{is_ascii_digit};
 ghost use Rattle.std.specs.List.{list_all};
-ghost use Rattle.filing_session.specs.Words.{words_of, is_decimal, length_of, class_of, two_lengths, file_of, try_of, plan_of, quit_of, asked, asked_as};
+ghost use Rattle.filing_session.specs.Words.{words_of, is_decimal, length_of, class_of, two_lengths, file_of, try_of, plan_of, is_name_octet, is_name as is_name_of, global_of, quit_of, asked, asked_as};
 ghost use Rattle.filing_session.specs.WordsLeft.{words_left};
 
 use std::str;
+
+/// How many octets a name has at most.
+const NAME_OCTETS: usize = 64;
 
 /// What a line asks.
 #[derive(Clone, Copy, Debug, PartialEq, Eq)]
@@ -15,6 +18,8 @@ pub enum Request<'a> {
     AddClass(&'a [u8]),
     /// To file a message by a script, payloads of these lengths in octets.
     File { script: u32, message: u32 },
+    /// To keep a global script under a name, a payload of this length in octets.
+    SetGlobal { name: &'a [u8], text: u32 },
     /// To take over a plan, a payload of this length in octets.
     SetPlan { text: u32 },
     /// To run an image on a message, payloads of these lengths in octets.
@@ -87,6 +92,20 @@ fn read_length(word: &[u8]) -> Option<u32>
     str::from_utf8(word).ok()?.parse().ok()
 }
 
+/// Whether all octets are from 33 to 126.
+fn are_graphic(word: &[u8]) -> bool
+    ensures { result ≡ list_all is_name_octet word.now }
+{
+    word.iter().all(|octet| octet.is_ascii_graphic())
+}
+
+/// Whether a word is a name: 1 to 64 octets from 33 to 126.
+fn is_name(word: &[u8]) -> bool
+    ensures { result ≡ is_name_of word.now }
+{
+    (1..=NAME_OCTETS).contains(&word.len()) && are_graphic(word)
+}
+
 /// What `CLASS` asks with the words after it.
 fn read_class<'a>(mut words: Words<'a>) -> Request<'a>
     ensures { asked_as result ≡ class_of (words_left words.entry) }
@@ -143,6 +162,19 @@ fn read_plan<'a>(mut words: Words<'a>) -> Request<'a>
     }
 }
 
+/// What `GLOBAL` asks with the words after it.
+fn read_global<'a>(mut words: Words<'a>) -> Request<'a>
+    ensures { asked_as result ≡ global_of (words_left words.entry) }
+{
+    let (Some(name), Some(text), None) = (words.next(), words.next(), words.next()) else {
+        return Request::BadWord;
+    };
+    match read_length(text) {
+        Some(text) if is_name(name) => Request::SetGlobal { name, text },
+        _ => Request::BadWord,
+    }
+}
+
 /// What `QUIT` asks with the words after it.
 fn read_quit<'a>(mut words: Words<'a>) -> Request<'a>
     ensures { asked_as result ≡ quit_of (words_left words.entry) }
@@ -166,6 +198,8 @@ pub fn read_request(line: &[u8]) -> Request<'_>
         read_class(words)
     } else if name == b"FILE".as_slice() {
         read_file(words)
+    } else if name == b"GLOBAL".as_slice() {
+        read_global(words)
     } else if name == b"PLAN".as_slice() {
         read_plan(words)
     } else if name == b"TRY".as_slice() {

@@ -5,6 +5,7 @@
 //! - `times N TEXT` is input, N times;
 //! - `count A B TEXT` is input for each number from A to B, which stands in place of `{}`;
 //! - `script TEXT` and `more N TEXT` make a script, the second by adding TEXT N times;
+//! - `global NAME TEXT` keeps a global script under a name, with the line that tells its length;
 //! - `image HEX` is an image in the place of a script, its octets as two hexadecimal digits each, apart or not;
 //! - `message TEXT` files that message by the script, or tries the image on it, with the line that tells their lengths, and
 //!   `messages N TEXT` one of TEXT N times;
@@ -59,6 +60,14 @@ impl Case {
     fn set_program(&mut self, command: &'static str, program: Vec<u8>) {
         self.command = command;
         self.program = program;
+    }
+
+    /// Keeps a global script under a name.
+    fn keep_global(&mut self, alloc: Global, name: &str, text: &[u8]) -> Result<(), AllocError> {
+        let length = text.len();
+        let line = format!(in alloc; "GLOBAL {name} {length}\n")?;
+        self.input.extend_from_slice(line.as_str().as_bytes())?;
+        self.input.extend_from_slice(text)
     }
 
     /// Files a message by the script, or tries the image on it.
@@ -191,6 +200,10 @@ pub fn read_line(alloc: Global, case: &mut Case, line: &str) -> Result<()> {
             let (first, text) = numbered(text)?;
             let (last, text) = numbered(text)?;
             count(alloc, &mut case.input, first, last, text)?;
+        }
+        "global" => {
+            let (name, text) = text.split_once(' ').unwrap_or((text, ""));
+            case.keep_global(alloc, name, octets_of(alloc, text)?.as_slice())?;
         }
         "script" => case.set_program("FILE", octets_of(alloc, text)?),
         "image" => case.set_program("TRY", hex_octets(alloc, text)?),

@@ -1,0 +1,10 @@
+use Rattle.std.proofs.Common.{sym, subst}
+use Rattle.filing_desk.specs.Answers.{Answer}
+use Rattle.filing_desk.specs.Steps.{Step, set_global}
+use Rattle.filing_desk.proofs.StepLemmas.{out_of_memory}
+use Rattle.filing_session.proofs.session.set_global.Goals as goal
+
+pub returns-in-NoMemory : goal.returns-in-NoMemory
+returns-in-NoMemory c = λ t _.
+    let P : Answer → Type 0 = λ a. Step c.args.desk.now (set_global c.args.name.now t) a c.args.desk.now in
+    subst P (sym c.refused.ensures) (out_of_memory c.args.desk.now (set_global c.args.name.now t))
