@@ -122,6 +122,7 @@ impl Image {
     }
 }
 
+/// Whether no text has more than 65,535 octets.
 fn are_short(texts: &[Vec<u8>]) -> bool
     ensures { IsTrue result ↔ All (λ t. length t.items < 2 ^ 16) texts.now }
 {

@@ -46,6 +46,7 @@ struct Written {
     instructions: Vec<Instruction>,
 }
 
+/// The parts of octets that are an image and nothing behind it.
 #[tactic(auto, unfolding(crate::specs::Reading::all_of))]
 fn all(alloc: Global, octets: &[u8]) -> Result<Written, FormFault>
     ensures { Gives (λ w. record { budget = w.budget; texts = map (λ t. t.items) w.texts.items; numbers = w.numbers.items; slots = w.slots; instructions = w.instructions.items }) result (all_of octets.now) }
@@ -57,6 +58,7 @@ fn all(alloc: Global, octets: &[u8]) -> Result<Written, FormFault>
     Ok(written)
 }
 
+/// The parts that octets begin with, and the octets behind them.
 #[tactic(auto, unfolding(crate::specs::Reading::parts_at))]
 fn written_at(alloc: Global, octets: &[u8]) -> Result<(Written, &[u8]), FormFault>
     ensures { Gives (λ x. (record { budget = x.0.budget; texts = map (λ t. t.items) x.0.texts.items; numbers = x.0.numbers.items; slots = x.0.slots; instructions = x.0.instructions.items }, x.1.now)) result (parts_at octets.now) }
@@ -77,6 +79,7 @@ fn written_at(alloc: Global, octets: &[u8]) -> Result<(Written, &[u8]), FormFaul
     Ok((written, rest))
 }
 
+/// The octets behind the mark `SFI1`.
 #[tactic(auto, unfolding(crate::specs::Reading::marked))]
 fn after_mark(octets: &[u8]) -> Result<&[u8], FormFault>
     ensures { Gives (λ x. x.now) result (marked octets.now) }
@@ -96,6 +99,7 @@ struct Heading {
     instructions: u16,
 }
 
+/// The counts of texts, numbers, slots and instructions, and the octets behind them.
 #[tactic(auto, unfolding(crate::specs::Reading::counts_at))]
 fn heading_of(octets: &[u8]) -> Result<(Heading, &[u8]), FormFault>
     ensures { Gives (λ x. (record { texts = x.0.texts; numbers = x.0.numbers; slots = x.0.slots; instructions = x.0.instructions }, x.1.now)) result (counts_at octets.now) }
@@ -113,6 +117,7 @@ fn heading_of(octets: &[u8]) -> Result<(Heading, &[u8]), FormFault>
     Ok((heading, rest))
 }
 
+/// So many texts, and the octets behind them.
 fn texts_of(alloc: Global, count: u16, octets: &[u8]) -> Result<(Vec<Vec<u8>>, &[u8]), FormFault>
     ensures { Gives (λ x. (map (λ t. t.items) x.0.items, x.1.now)) result (many_at text_at count octets.now) }
 {
@@ -126,6 +131,7 @@ fn texts_of(alloc: Global, count: u16, octets: &[u8]) -> Result<(Vec<Vec<u8>>, &
     Ok((texts, rest))
 }
 
+/// So many numbers, and the octets behind them.
 fn numbers_of(alloc: Global, count: u16, octets: &[u8]) -> Result<(Vec<u64>, &[u8]), FormFault>
     ensures { Gives (λ x. (x.0.items, x.1.now)) result (many_at (number_at w64) count octets.now) }
 {
@@ -139,6 +145,7 @@ fn numbers_of(alloc: Global, count: u16, octets: &[u8]) -> Result<(Vec<u64>, &[u
     Ok((numbers, rest))
 }
 
+/// So many instructions, and the octets behind them.
 fn instructions_of(
     alloc: Global,
     count: u16,
@@ -156,6 +163,7 @@ fn instructions_of(
     Ok((instructions, rest))
 }
 
+/// A text behind its length, and the octets behind it.
 #[tactic(auto, unfolding(crate::specs::Reading::text_at))]
 fn text_of(alloc: Global, octets: &[u8]) -> Result<(Vec<u8>, &[u8]), FormFault>
     ensures { Gives (λ x. (x.0.items, x.1.now)) result (text_at octets.now) }
@@ -169,6 +177,7 @@ fn text_of(alloc: Global, octets: &[u8]) -> Result<(Vec<u8>, &[u8]), FormFault>
     Ok((Vec::from_slice(alloc, text)?, rest))
 }
 
+/// An instruction, and the octets behind it.
 #[tactic(auto, unfolding(crate::specs::Reading::instruction_at))]
 fn instruction_of(octets: &[u8]) -> Result<(Instruction, &[u8]), FormFault>
     ensures { Gives (λ x. (x.0, x.1.now)) result (instruction_at octets.now) }
@@ -179,6 +188,7 @@ fn instruction_of(octets: &[u8]) -> Result<(Instruction, &[u8]), FormFault>
     Ok((Instruction { op, a, b }, rest))
 }
 
+/// A number of one octet, and the octets behind it.
 fn u8_at(octets: &[u8]) -> Result<(u8, &[u8]), FormFault>
     ensures { Gives (λ x. (x.0, x.1.now)) result (number_at w8 octets.now) }
 {
@@ -189,6 +199,7 @@ fn u8_at(octets: &[u8]) -> Result<(u8, &[u8]), FormFault>
     Ok((u8::from_be_bytes([front[0]]), rest))
 }
 
+/// A big-endian number of two octets, and the octets behind it.
 fn u16_at(octets: &[u8]) -> Result<(u16, &[u8]), FormFault>
     ensures { Gives (λ x. (x.0, x.1.now)) result (number_at w16 octets.now) }
 {
@@ -199,6 +210,7 @@ fn u16_at(octets: &[u8]) -> Result<(u16, &[u8]), FormFault>
     Ok((u16::from_be_bytes([front[0], front[1]]), rest))
 }
 
+/// A big-endian number of four octets, and the octets behind it.
 fn u32_at(octets: &[u8]) -> Result<(u32, &[u8]), FormFault>
     ensures { Gives (λ x. (x.0, x.1.now)) result (number_at w32 octets.now) }
 {
@@ -210,6 +222,7 @@ fn u32_at(octets: &[u8]) -> Result<(u32, &[u8]), FormFault>
     Ok((number, rest))
 }
 
+/// A big-endian number of eight octets, and the octets behind it.
 fn u64_at(octets: &[u8]) -> Result<(u64, &[u8]), FormFault>
     ensures { Gives (λ x. (x.0, x.1.now)) result (number_at w64 octets.now) }
 {

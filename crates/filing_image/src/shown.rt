@@ -18,6 +18,7 @@ impl fmt::Display for Image {
     }
 }
 
+/// The name of an operation.
 fn name(operation: Operation) -> &'static str {
     match operation {
         Operation::PushTrue => "TRUE",
@@ -44,6 +45,7 @@ fn name(operation: Operation) -> &'static str {
     }
 }
 
+/// Shows what an operation names: its text or number, or a place.
 fn show_operands<W: fmt::Write>(
     image: &Image,
     operation: Operation,

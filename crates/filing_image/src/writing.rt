@@ -41,6 +41,7 @@ fn put_counts(out: &mut Vec<u8>, image: &Image) -> Result<(), AllocError>
     Ok(())
 }
 
+/// Writes a number in two octets, big-endian.
 fn put_u16(out: &mut Vec<u8>, number: u16) -> Result<(), AllocError>
     ensures { OnOk result (out.new.items ≡ out.old.items ++ to_be_bytes w16 number) }
 {
@@ -48,6 +49,7 @@ fn put_u16(out: &mut Vec<u8>, number: u16) -> Result<(), AllocError>
     Ok(())
 }
 
+/// Writes texts, each behind its length.
 fn put_texts(out: &mut Vec<u8>, texts: &[Vec<u8>]) -> Result<(), AllocError>
     requires { All (λ t. length t.items < 2 ^ 16) texts.now }
     ensures { OnOk result (out.new.items ≡ out.old.items ++ flat_map text (map (λ t. t.items) texts.now)) }
@@ -58,6 +60,7 @@ fn put_texts(out: &mut Vec<u8>, texts: &[Vec<u8>]) -> Result<(), AllocError>
     Ok(())
 }
 
+/// Writes a text behind its length.
 fn put_text(out: &mut Vec<u8>, octets: &[u8]) -> Result<(), AllocError>
     requires { length octets.now < 2 ^ 16 }
     ensures { OnOk result (out.new.items ≡ out.old.items ++ text octets.now) }
@@ -67,6 +70,7 @@ fn put_text(out: &mut Vec<u8>, octets: &[u8]) -> Result<(), AllocError>
     Ok(())
 }
 
+/// Writes numbers in eight octets each, big-endian.
 fn put_numbers(out: &mut Vec<u8>, numbers: &[u64]) -> Result<(), AllocError>
     ensures { OnOk result (out.new.items ≡ out.old.items ++ flat_map (to_be_bytes w64) numbers.now) }
 {
@@ -76,6 +80,7 @@ fn put_numbers(out: &mut Vec<u8>, numbers: &[u64]) -> Result<(), AllocError>
     Ok(())
 }
 
+/// Writes operations as instructions.
 fn put_code(out: &mut Vec<u8>, code: &[Operation]) -> Result<(), AllocError>
     ensures { OnOk result (out.new.items ≡ out.old.items ++ flat_map instruction (map instruction_of code.now)) }
 {
@@ -85,6 +90,7 @@ fn put_code(out: &mut Vec<u8>, code: &[Operation]) -> Result<(), AllocError>
     Ok(())
 }
 
+/// Writes an instruction in four octets.
 fn put_instruction(out: &mut Vec<u8>, written: Instruction) -> Result<(), AllocError>
     ensures { OnOk result (out.new.items ≡ out.old.items ++ instruction written) }
 {

@@ -25,6 +25,7 @@ pub fn longest(alloc: Global, image: &Image, marks: &[bool]) -> Result<usize, Al
     Ok(costs[0])
 }
 
+/// Sets the cost of a place that is reached, over those of the places behind it.
 fn set_cost(image: &Image, marks: &[bool], costs: &mut [usize], place: usize)
     requires within { place < length image.now.code }
     requires forward { GoesForward image.now }
@@ -37,6 +38,7 @@ fn set_cost(image: &Image, marks: &[bool], costs: &mut [usize], place: usize)
     }
 }
 
+/// The most places of a path from a place on, by the costs of the places behind it.
 fn cost(operation: Operation, place: usize, costs: &[usize]) -> usize
     requires small { (p : ℕ) → p < length costs.now → slice_index_or costs.now p 0 + p ≤ length costs.now }
     requires within { place < length costs.now }
@@ -54,6 +56,7 @@ fn cost(operation: Operation, place: usize, costs: &[usize]) -> usize
     next.max(jump) + 1
 }
 
+/// The cost of a place; 0 past the end.
 fn at(costs: &[usize], place: usize) -> usize
     requires { (p : ℕ) → p < length costs.now → slice_index_or costs.now p 0 + p ≤ length costs.now }
     ensures is { result ≡ slice_index_or costs.now place 0 }

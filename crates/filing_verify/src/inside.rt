@@ -46,6 +46,7 @@ fn leads_to(operation: Operation, from: usize, to: usize) -> bool
     jumps_to(operation, to) || (goes_on(operation) && to == from + 1)
 }
 
+/// Whether an operation may jump to a place.
 fn jumps_to(operation: Operation, to: usize) -> bool
     ensures { IsTrue result ↔ target operation ≡ Some to }
 {

@@ -84,6 +84,7 @@ fn judge(alloc: Global, image: &Image) -> Result<(), VerifyFault>
     Ok(())
 }
 
+/// Whether a budget is 1 to 65,535 and has a step for each place of the longest path.
 fn is_within(budget: u32, longest: usize) -> bool
     ensures { IsTrue result ↔ (1 ≤ budget) × (budget < 2 ^ 16) × (longest ≤ budget) }
 {

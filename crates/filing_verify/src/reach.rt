@@ -46,6 +46,7 @@ fn pass_on(image: &Image, marks: &mut [bool], place: usize) -> bool
     true
 }
 
+/// Marks the places that an operation leads to.
 fn mark_successors(operation: Operation, marks: &mut [bool], place: usize)
     requires { place < length marks.old }
     ensures { marks.new ≡ with_next (goes_on operation) place (with_target (target operation) marks.old) }

@@ -85,6 +85,7 @@ impl Shape {
     }
 }
 
+/// Whether two stacks have the same kinds.
 fn are_same(a: &[Kind], b: &[Kind]) -> bool
     ensures { IsTrue result ↔ a.now ≡ b.now }
 {

@@ -53,6 +53,7 @@ fn pass_on(image: &Image, table: &mut [Option<Shape>], place: usize) -> bool
     offer_successors(operation, table, place, &shape)
 }
 
+/// Gives a shape to the places that an operation leads to, unless one has another.
 fn offer_successors(
     operation: Operation,
     table: &mut [Option<Shape>],
@@ -74,6 +75,7 @@ fn offer_successors(
     }
 }
 
+/// Gives a shape to the next place, where the operation goes on, unless that has another.
 fn offer_next(
     operation: Operation,
     table: &mut [Option<Shape>],

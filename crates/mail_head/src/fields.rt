@@ -41,12 +41,14 @@ impl<'a> Field<'a> {
     }
 }
 
+/// Whether an octet may stand in the name of a field (RFC 5322, section 2.2).
 fn is_name(octet: u8) -> bool
     ensures { result ≡ is_name_octet octet }
 {
     octet >= 33 && octet <= 126 && octet != b':'
 }
 
+/// How many octets of a name a text begins with.
 fn name_len(text: &[u8]) -> usize
     ensures value { result ≡ prefix_len is_name_octet text.now }
     ensures within { result ≤ length text.now }
@@ -54,6 +56,7 @@ fn name_len(text: &[u8]) -> usize
     text.iter().take_while(|octet| is_name(**octet)).count()
 }
 
+/// How many blanks a text begins with.
 fn blank_len(text: &[u8]) -> usize
     ensures value { result ≡ prefix_len is_blank text.now }
     ensures within { result ≤ length text.now }
@@ -63,6 +66,7 @@ fn blank_len(text: &[u8]) -> usize
         .count()
 }
 
+/// Whether the first octet is a colon.
 fn begins_with_colon(text: &[u8]) -> bool
     ensures value { result ≡ begins_with 58 text.now }
     ensures some { IsTrue result → 0 < length text.now }

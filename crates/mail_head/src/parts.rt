@@ -30,6 +30,7 @@ pub fn header_len(text: &[u8]) -> usize
     len
 }
 
+/// Whether no octet stands behind the last line end.
 fn is_at_line_start(text: &[u8]) -> bool
     ensures { result ≡ at_line_start text.now }
 {
@@ -49,6 +50,7 @@ fn has_lone_cr(text: &[u8]) -> bool
     }
 }
 
+/// Whether the first octet is LF.
 fn begins_with_lf(text: &[u8]) -> bool
     ensures { result ≡ begins_with 10 text.now }
 {

@@ -21,6 +21,7 @@ pub struct Context {
 }
 
 impl Role {
+    /// Whether the command is a `require`.
     pub fn is_require(self) -> bool
         ensures { result ≡ is_require self }
     {

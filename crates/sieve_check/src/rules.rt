@@ -18,6 +18,7 @@ use crate::table::{Capability, Form, Positional, TagKind, TestsForm, comparators
 use sieve_syntax::{Argument, Arguments, StringList, Tests};
 
 impl TagKind {
+    /// Whether two kinds are the same.
     fn is_same(self, other: TagKind) -> bool
         ensures { result ≡ same_kind self other }
     {
@@ -26,6 +27,7 @@ impl TagKind {
 }
 
 impl Positional {
+    /// Whether an argument is of the kind that belongs here.
     fn takes(self, argument: &Argument) -> bool
         ensures { result ≡ takes self argument.now }
     {
@@ -49,6 +51,7 @@ fn lacks(named: Named, needs: Option<Capability>) -> bool
 }
 
 impl<'a> Piece<'a> {
+    /// Whether it is a tag whose capability is not named.
     fn lacks_capability(self, named: Named) -> bool
         ensures { result ≡ piece_lacks (has_of named) (piece_view self.entry) }
     {
@@ -58,18 +61,21 @@ impl<'a> Piece<'a> {
         }
     }
 
+    /// Whether it is a tag.
     fn is_tag(self) -> bool
         ensures { result ≡ is_tagged (piece_view self.entry) }
     {
         matches!(self, Piece::Tagged(_, _))
     }
 
+    /// Whether it is a tag that the table does not have here.
     fn is_unknown_tag(self) -> bool
         ensures { result ≡ is_unknown_tag (piece_view self.entry) }
     {
         matches!(self, Piece::Tagged(None, _))
     }
 
+    /// Whether it is a tag of a kind.
     fn has_kind(self, kind: TagKind) -> bool
         ensures { result ≡ has_kind kind (piece_view self.entry) }
     {
@@ -79,6 +85,7 @@ impl<'a> Piece<'a> {
         }
     }
 
+    /// Whether it is a tag without the string that belongs to it.
     fn lacks_string(self) -> bool
         ensures { result ≡ lacks_string (piece_view self.entry) }
     {
@@ -88,6 +95,7 @@ impl<'a> Piece<'a> {
         }
     }
 
+    /// Whether it is a tag with a comparator that there is not.
     fn is_unknown_comparator(self) -> bool
         ensures { result ≡ is_unknown_comparator (piece_view self.entry) }
     {
@@ -241,6 +249,7 @@ fn tests_there(tests: &Tests) -> TestsForm
 }
 
 impl TestsForm {
+    /// Whether two forms are the same.
     fn is_same(self, other: TestsForm) -> bool
         ensures { result ≡ same_tests self other }
     {
