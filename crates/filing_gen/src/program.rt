@@ -117,7 +117,7 @@ fn build(
         chain: &scope.main,
         below: PhantomData,
     };
-    let slots = scope.library.slots();
+    let slots = scope.library.slot_count();
     let out = emit_program(alloc, &includes, &script.commands)?;
     let image = image_of(alloc, weight, slots, out)?;
     let verified = verified(alloc, image)?;
