@@ -128,3 +128,46 @@ fn shows_the_code(rt: HostRuntime) -> Result<(), Fail> {
     }
     Ok(())
 }
+
+/// Each operation as an instruction, and as the instruction table names it, over the texts `a` and `b` and the numbers 7
+/// and 8.
+const SHOWN: [(u8, u8, u16, &str); 21] = [
+    (1, 0, 0, "0 TRUE\n"),
+    (2, 0, 0, "0 FALSE\n"),
+    (3, 0, 0, "0 NOT\n"),
+    (4, 0, 1, "0 VALUES \"b\"\n"),
+    (5, 0, 0, "0 JOIN\n"),
+    (6, 3, 0, "0 MATCH 3 \"a\"\n"),
+    (7, 0, 0, "0 DROP\n"),
+    (8, 0, 1, "0 EXISTS \"b\"\n"),
+    (9, 0, 0, "0 SIZE\n"),
+    (10, 0, 1, "0 NUM 8\n"),
+    (11, 0, 0, "0 LESS\n"),
+    (12, 0, 9, "0 JUMP 9\n"),
+    (13, 0, 9, "0 JUMPT 9\n"),
+    (14, 0, 9, "0 JUMPF 9\n"),
+    (15, 0, 2, "0 MARKED 2\n"),
+    (16, 0, 2, "0 MARK 2\n"),
+    (17, 1, 0, "0 FILE 1 \"a\"\n"),
+    (18, 0, 0, "0 KEEP\n"),
+    (19, 0, 0, "0 DISCARD\n"),
+    (20, 0, 0, "0 STOP\n"),
+    (21, 5, 0, "0 FAULT 5\n"),
+];
+
+#[test]
+fn shows_each_operation(rt: HostRuntime) -> Result<(), Fail> {
+    let alloc = rt.alloc();
+    for (op, a, b, text) in SHOWN {
+        let texts = vec![in alloc;
+            Vec::from_slice(alloc, b"a")?,
+            Vec::from_slice(alloc, b"b")?,
+        ]?;
+        let numbers = vec![in alloc; 7, 8]?;
+        let code = vec![in alloc; Instruction { op, a, b }]?;
+        let made = Image::new(alloc, 1, texts, numbers, 3, code);
+        let made = made.ok().ok_or("the parts are an image's")?;
+        assert_eq!(rt; made.to_string(alloc)?.as_str(), text);
+    }
+    Ok(())
+}

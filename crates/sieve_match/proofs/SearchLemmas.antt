@@ -11,7 +11,7 @@ use Rattle.sieve_meaning.specs.declared.matching.Item.TheVariants.{Octet, One, A
 use Rattle.sieve_meaning.proofs.MatchingLemmas.{covers_to, covers_from}
 use Rattle.sieve_meaning.specs.Matching.{covers, folded, item_of, items_from, items_of, Matches}
 use Rattle.sieve_match.proofs.FoldLemmas.{nil_from_length}
-use Rattle.sieve_match.specs.Steps.{comparisons, Turn, ends, star, goes, stuck, turn_of}
+use Rattle.sieve_match.specs.Steps.{compared, octet_count, Turn, ends, star, goes, stuck, turn_of}
 
 -- a place behind the items is in the text
 abbrev pub SomeTail : Comparator → List Item → List ℕ → Type 0
@@ -35,11 +35,19 @@ fixed-le (Octet o ∷ is) = omega (arith, fixed-le is)
 fixed-le (One ∷ is) = omega (arith, fixed-le is)
 fixed-le (Any ∷ is) = omega arith
 
-comparisons-le : (is : List Item) → comparisons is ≤ fixed is
-comparisons-le [] = omega arith
-comparisons-le (Octet o ∷ is) = omega arith
-comparisons-le (One ∷ is) = omega arith
-comparisons-le (Any ∷ is) = omega arith
+compared-le : (is : List Item) (text : List ℕ) → compared is text ≤ fixed is
+compared-le [] text = omega arith
+compared-le (Octet o ∷ is) [] = omega arith
+compared-le (Octet o ∷ is) (b ∷ bs) = omega arith
+compared-le (One ∷ is) text = omega arith
+compared-le (Any ∷ is) text = omega arith
+
+compared-one : (is : List Item) (text : List ℕ) → compared is text ≤ 1
+compared-one [] text = omega arith
+compared-one (Octet o ∷ is) [] = omega arith
+compared-one (Octet o ∷ is) (b ∷ bs) = omega arith
+compared-one (One ∷ is) text = omega arith
+compared-one (Any ∷ is) text = omega arith
 
 -- what a comparison's outcome says
 chosen : (b : Bool) (t u v : Turn) → cond b t u ≡ v → ((b ≡ true) × (t ≡ v)) ⊎ ((b ≡ false) × (u ≡ v))
@@ -86,6 +94,7 @@ pub record Goes (c : Comparator) (items : List Item) (rest : List ℕ) (next : L
   pub item : length items ≡ suc (length next)
   pub octet : length rest ≡ suc (length behind)
   pub before : fixed items ≡ suc (fixed next)
+  pub octets : octet_count items ≡ compared items rest + octet_count next
 
 octet_tail : (c : Comparator) (o : ℕ) (is : List Item) (xs : List ℕ) → Matches c (Octet o ∷ is) xs → Matches c is (drop 1 xs)
 octet_tail c o is [] m = absurd m
@@ -105,6 +114,7 @@ goes_made c o b is bs h = record {
   item = refl;
   octet = refl;
   before = refl;
+  octets = omega arith;
 }
 
 one_made : (c : Comparator) (b : ℕ) (is : List Item) (bs : List ℕ) → Goes c (One ∷ is) (b ∷ bs) is bs
@@ -114,6 +124,7 @@ one_made c b is bs = record {
   item = refl;
   octet = refl;
   before = refl;
+  octets = omega arith;
 }
 
 same_goes : (a x : List Item) (b y : List ℕ) → goes a b ≡ goes x y → (a ≡ x) × (b ≡ y)
@@ -137,6 +148,7 @@ pub record Fresh (c : Comparator) (all : List Item) (value : List ℕ) (items : 
   pub from : Matches c items rest → Matches c all value
   pub short : length rest ≤ length value
   pub used : count + length items ≤ length all
+  pub least : octet_count all ≤ count + octet_count items
 
 -- a star has been met: some place from where it was tried last on decides
 pub record Tried (c : Comparator) (all : List Item) (value : List ℕ) (items : List Item) (rest : List ℕ) (after : List Item) (since : List ℕ) (count : ℕ) : Type 0 where
@@ -152,16 +164,19 @@ pub record Tried (c : Comparator) (all : List Item) (value : List ℕ) (items : 
   pub fixed_is : fixed after ≡ steps + fixed items
   pub short : length rest ≤ length since
   pub used : count ≤ done * (length value + 1) + gone * fixed after + steps
+  pub least : octet_count all ≤ count + octet_count items
+  pub least_since : octet_count all ≤ count + octet_count after
 
-pub Fresh-goes : (c : Comparator) (all : List Item) (value : List ℕ) (items next : List Item) (rest behind : List ℕ) (count more : ℕ) → Fresh c all value items rest count → Goes c items rest next behind → more ≤ 1 → Fresh c all value next behind (count + more)
+pub Fresh-goes : (c : Comparator) (all : List Item) (value : List ℕ) (items next : List Item) (rest behind : List ℕ) (count more : ℕ) → Fresh c all value items rest count → Goes c items rest next behind → more ≡ compared items rest → Fresh c all value next behind (count + more)
 Fresh-goes c all value items next rest behind count more h g m = record {
   to = λ x. g.ahead 0 (h.to x);
   from = λ x. h.from (g.back x);
   short = omega (arith, h.short, g.octet);
-  used = omega (arith, h.used, g.item);
+  used = omega (arith, h.used, g.item, m, compared-one items rest);
+  least = omega (arith, h.least, g.octets, m);
 }
 
-pub Tried-goes : (c : Comparator) (all : List Item) (value : List ℕ) (items next : List Item) (rest behind : List ℕ) (after : List Item) (since : List ℕ) (count more : ℕ) → Tried c all value items rest after since count → Goes c items rest next behind → more ≤ 1 → Tried c all value next behind after since (count + more)
+pub Tried-goes : (c : Comparator) (all : List Item) (value : List ℕ) (items next : List Item) (rest behind : List ℕ) (after : List Item) (since : List ℕ) (count more : ℕ) → Tried c all value items rest after since count → Goes c items rest next behind → more ≡ compared items rest → Tried c all value next behind after since (count + more)
 Tried-goes c all value items next rest behind after since count more h g m = record {
   to = h.to;
   from = h.from;
@@ -174,7 +189,9 @@ Tried-goes c all value items next rest behind after since count more h g m = rec
   steps_is = omega (arith, h.steps_is, g.item);
   fixed_is = omega (arith, h.fixed_is, g.before);
   short = omega (arith, h.short, g.octet);
-  used = omega (arith, h.used);
+  used = omega (arith, h.used, m, compared-one items rest);
+  least = omega (arith, h.least, g.octets, m);
+  least_since = omega (arith, h.least_since);
 }
 
 walked_none : (c : Comparator) (is : List Item) (rest : List ℕ) → Walked c is is rest rest
@@ -198,6 +215,8 @@ Fresh-star c all value next rest count more h m =
       fixed_is = omega arith;
       short = omega arith;
       used = omega (arith, h.used, l, e);
+      least = omega (arith, h.least);
+      least_since = omega (arith, h.least);
     }
 
 pub Tried-star : (c : Comparator) (all : List Item) (value : List ℕ) (next : List Item) (rest : List ℕ) (after : List Item) (since : List ℕ) (count more : ℕ) → Tried c all value (Any ∷ next) rest after since count → more ≤ 1 → Tried c all value next rest next rest (count + more)
@@ -218,6 +237,8 @@ Tried-star c all value next rest after since count more h m =
       fixed_is = omega arith;
       short = omega arith;
       used = omega (arith, h.used, l, k);
+      least = omega (arith, h.least);
+      least_since = omega (arith, h.least);
     }
   where
     place_to : SomeTail c after since → SomeTail c next rest
@@ -237,6 +258,8 @@ Tried-stuck c all value items rest after b behind count more h refused m = recor
   fixed_is = omega arith;
   short = omega arith;
   used = omega (arith, h.used, h.fixed_is);
+  least = omega (arith, h.least_since);
+  least_since = omega (arith, h.least_since);
 }
   where
     past : SomeTail c after (b ∷ behind) → SomeTail c after behind
@@ -264,26 +287,21 @@ abbrev pub left : List ℕ → Option (Bor (List ℕ) × Bor (List ℕ)) → ℕ
 left value None = length value
 left value (Some s) = length s.1.now
 
-comparisons-one : (is : List Item) → comparisons is ≤ 1
-comparisons-one [] = omega arith
-comparisons-one (Octet o ∷ is) = omega arith
-comparisons-one (One ∷ is) = omega arith
-comparisons-one (Any ∷ is) = omega arith
 
-pub State-goes : (c : Comparator) (all : List Item) (value : List ℕ) (items next : List Item) (rest behind : List ℕ) (s : Option (Bor (List ℕ) × Bor (List ℕ))) (count more : ℕ) → State c all value items rest s count → turn_of c items rest ≡ goes next behind → more ≤ comparisons items → State c all value next behind s (count + more)
-State-goes c all value items next rest behind None count more h g m = Fresh-goes c all value items next rest behind count more h (goes_is c items rest next behind g) (omega (arith, comparisons-one items))
-State-goes c all value items next rest behind (Some s) count more h g m = Tried-goes c all value items next rest behind (items_of s.0.now) s.1.now count more h (goes_is c items rest next behind g) (omega (arith, comparisons-one items))
+pub State-goes : (c : Comparator) (all : List Item) (value : List ℕ) (items next : List Item) (rest behind : List ℕ) (s : Option (Bor (List ℕ) × Bor (List ℕ))) (count more : ℕ) → State c all value items rest s count → turn_of c items rest ≡ goes next behind → more ≡ compared items rest → State c all value next behind s (count + more)
+State-goes c all value items next rest behind None count more h g m = Fresh-goes c all value items next rest behind count more h (goes_is c items rest next behind g) m
+State-goes c all value items next rest behind (Some s) count more h g m = Tried-goes c all value items next rest behind (items_of s.0.now) s.1.now count more h (goes_is c items rest next behind g) m
 
-pub State-star : (c : Comparator) (all : List Item) (value : List ℕ) (items next : List Item) (rest : List ℕ) (s : Option (Bor (List ℕ) × Bor (List ℕ))) (count more : ℕ) → State c all value items rest s count → turn_of c items rest ≡ star next → more ≤ comparisons items → Tried c all value next rest next rest (count + more)
-State-star c all value items next rest None count more h g m = Fresh-star c all value next rest count more (rw (star_is c items rest next g) at h) (omega (arith, comparisons-one items))
-State-star c all value items next rest (Some s) count more h g m = Tried-star c all value next rest (items_of s.0.now) s.1.now count more (rw (star_is c items rest next g) at h) (omega (arith, comparisons-one items))
+pub State-star : (c : Comparator) (all : List Item) (value : List ℕ) (items next : List Item) (rest : List ℕ) (s : Option (Bor (List ℕ) × Bor (List ℕ))) (count more : ℕ) → State c all value items rest s count → turn_of c items rest ≡ star next → more ≡ compared items rest → Tried c all value next rest next rest (count + more)
+State-star c all value items next rest None count more h g m = Fresh-star c all value next rest count more (rw (star_is c items rest next g) at h) (omega (arith, m, compared-one items rest))
+State-star c all value items next rest (Some s) count more h g m = Tried-star c all value next rest (items_of s.0.now) s.1.now count more (rw (star_is c items rest next g) at h) (omega (arith, m, compared-one items rest))
 
-pub State-stuck : (c : Comparator) (all : List Item) (value : List ℕ) (items : List Item) (rest : List ℕ) (after : List Item) (since : List ℕ) (b : ℕ) (behind : List ℕ) (count more : ℕ) → Tried c all value items rest after since count → since ≡ b ∷ behind → turn_of c items rest ≡ stuck → more ≤ comparisons items → Tried c all value after behind after behind (count + more)
-State-stuck c all value items rest after since b behind count more h e g m = Tried-stuck c all value items rest after b behind count more (rw e at h) (stuck_is c items rest g) (omega (arith, comparisons-le items))
+pub State-stuck : (c : Comparator) (all : List Item) (value : List ℕ) (items : List Item) (rest : List ℕ) (after : List Item) (since : List ℕ) (b : ℕ) (behind : List ℕ) (count more : ℕ) → Tried c all value items rest after since count → since ≡ b ∷ behind → turn_of c items rest ≡ stuck → more ≡ compared items rest → Tried c all value after behind after behind (count + more)
+State-stuck c all value items rest after since b behind count more h e g m = Tried-stuck c all value items rest after b behind count more (rw e at h) (stuck_is c items rest g) (omega (arith, m, compared-le items rest))
 
-pub State-bound : (c : Comparator) (all : List Item) (value : List ℕ) (items : List Item) (rest : List ℕ) (s : Option (Bor (List ℕ) × Bor (List ℕ))) (count more : ℕ) → State c all value items rest s count → more ≤ comparisons items → count + more ≤ (length all + 1) * (length value + 1)
-State-bound c all value items rest None count more h m = Fresh-bound c all value items rest count more h (omega (arith, comparisons-le items))
-State-bound c all value items rest (Some s) count more h m = Tried-bound c all value items rest (items_of s.0.now) s.1.now count more h (omega (arith, comparisons-le items))
+pub State-bound : (c : Comparator) (all : List Item) (value : List ℕ) (items : List Item) (rest : List ℕ) (s : Option (Bor (List ℕ) × Bor (List ℕ))) (count more : ℕ) → State c all value items rest s count → more ≡ compared items rest → count + more ≤ (length all + 1) * (length value + 1)
+State-bound c all value items rest None count more h m = Fresh-bound c all value items rest count more h (omega (arith, m, compared-le items rest))
+State-bound c all value items rest (Some s) count more h m = Tried-bound c all value items rest (items_of s.0.now) s.1.now count more h (omega (arith, m, compared-le items rest))
 
 -- at an end the answer is known
 pub State-ends : (c : Comparator) (all : List Item) (value : List ℕ) (items : List Item) (rest : List ℕ) (s : Option (Bor (List ℕ) × Bor (List ℕ))) (count : ℕ) → State c all value items rest s count → turn_of c items rest ≡ ends → true ≡ covers c all value
@@ -295,6 +313,14 @@ State-ends c all value items rest s count h e = sym (covers_from c all value (wh
     whole : (s : Option (Bor (List ℕ) × Bor (List ℕ))) → State c all value items rest s count → Matches c all value
     whole None h = h.from here
     whole (Some s) h = h.from (0, h.walked.back here)
+
+no_octets : (c : Comparator) (items : List Item) (rest : List ℕ) → turn_of c items rest ≡ ends → octet_count items ≡ 0
+no_octets c items rest e = ap octet_count (ends_is c items rest e).0
+
+-- where the pattern covers the value, each of its octets was compared
+pub State-least : (c : Comparator) (all : List Item) (value : List ℕ) (items : List Item) (rest : List ℕ) (s : Option (Bor (List ℕ) × Bor (List ℕ))) (count more : ℕ) → State c all value items rest s count → turn_of c items rest ≡ ends → octet_count all ≤ count + more
+State-least c all value items rest None count more h e = omega (arith, h.least, no_octets c items rest e)
+State-least c all value items rest (Some s) count more h e = omega (arith, h.least, no_octets c items rest e)
 
 refuted : (c : Comparator) (all : List Item) (value : List ℕ) → (Matches c all value → ⊥) → false ≡ covers c all value
 refuted c all value fails = sym (false_from_ne_true (covers c all value) (λ e. fails (covers_to c all value e)))

@@ -1,5 +1,5 @@
 -- One step of a search for what a pattern covers: what its first item does at the front of a text.
-use Rattle.std.specs.Prelude.{ℕ, List, [], ◌∷◌, ◌==◌, if◌then◌else◌}
+use Rattle.std.specs.Prelude.{ℕ, suc, List, [], ◌∷◌, ◌==◌, if◌then◌else◌}
 use Rattle.sieve_meaning.specs.declared.matching.Comparator.{Comparator}
 use Rattle.sieve_meaning.specs.declared.matching.Item.{Item}
 use Rattle.sieve_meaning.specs.declared.matching.Item.TheVariants.{Octet, One, Any}
@@ -29,9 +29,17 @@ turn_view (steps.Star p) = star (items_of p.now)
 turn_view (steps.Goes p t) = goes (items_of p.now) t.now
 turn_view steps.Stuck = stuck
 
--- how many octets the first item compares, at most
-abbrev pub comparisons : List Item → ℕ
-comparisons [] = 0
-comparisons (Octet o ∷ is) = 1
-comparisons (One ∷ is) = 0
-comparisons (Any ∷ is) = 0
+-- how many octets the first item compares with the front of a text: one, where it stands for an octet and one is there
+abbrev pub compared : List Item → List ℕ → ℕ
+compared [] text = 0
+compared (Octet o ∷ is) [] = 0
+compared (Octet o ∷ is) (b ∷ bs) = 1
+compared (One ∷ is) text = 0
+compared (Any ∷ is) text = 0
+
+-- how many items of a pattern stand for an octet
+abbrev pub octet_count : List Item → ℕ
+octet_count [] = 0
+octet_count (Octet o ∷ is) = suc (octet_count is)
+octet_count (One ∷ is) = octet_count is
+octet_count (Any ∷ is) = octet_count is

@@ -5,7 +5,7 @@
 
 ghost use Rattle.std.specs.Prelude.{◌≡◌, ◌≤◌, ◌+◌, ◌*◌, ◌↔◌, ◌∷◌, ◌==◌, [], length, IsTrue, MatchOption};
 ghost use Rattle.sieve_meaning.specs.Matching.{folded, items_of, covers, Matches};
-ghost use Rattle.sieve_match.specs.Steps.{turn_of, turn_view, comparisons};
+ghost use Rattle.sieve_match.specs.Steps.{turn_of, turn_view, compared, octet_count};
 
 use crate::Comparator;
 use crate::octets::fold;
@@ -54,7 +54,7 @@ fn compare(comparator: Comparator, item: u8, octet: u8) -> (bool, u128)
 /// What the first item does, and how many octets were compared.
 fn first_step<'a>(comparator: Comparator, pattern: &'a [u8], text: &'a [u8]) -> (Step<'a>, u128)
     ensures value { turn_view result.0 ≡ turn_of comparator (items_of pattern.now) text.now }
-    ensures count { result.1 ≤ comparisons (items_of pattern.now) }
+    ensures count { result.1 ≡ compared (items_of pattern.now) text.now }
 {
     match next_item(pattern) {
         None if text.is_empty() => (Step::Ends, 0),
@@ -78,11 +78,13 @@ fn first_step<'a>(comparator: Comparator, pattern: &'a [u8], text: &'a [u8]) -> 
 /// compared with one of the value: the match type `:matches` (RFC 5228, section 2.7.1).
 ///
 /// `*` is zero or more octets, `?` is one octet, and a backslash makes the next octet stand for itself; a last lone
-/// backslash is a backslash. For p items and t octets there are at most `(p + 1) * (t + 1)` comparisons.
+/// backslash is a backslash. For p items and t octets there are at most `(p + 1) * (t + 1)` comparisons, and where the
+/// pattern covers the value, at least one for each item that stands for an octet.
 pub fn matches_counted(pattern: &[u8], value: &[u8], comparator: Comparator) -> (bool, u128)
     ensures answer { IsTrue result.0 ↔ Matches comparator (items_of pattern.now) value.now }
     ensures test { result.0 ≡ covers comparator (items_of pattern.now) value.now }
     ensures count { result.1 ≤ (length (items_of pattern.now) + 1) * (length value.now + 1) }
+    ensures least { IsTrue result.0 → octet_count (items_of pattern.now) ≤ result.1 }
 {
     let mut items = pattern;
     let mut rest = value;

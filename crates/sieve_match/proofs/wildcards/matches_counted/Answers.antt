@@ -1,7 +1,7 @@
 use Rattle.std.proofs.Common.{◌+◌, ◌^◌, ◌<◌, length, sym, ap, ◌∙◌, arith}
 use Rattle.sieve_meaning.specs.Matching.{items_of}
 use Rattle.sieve_match.specs.Steps.{turn_view}
-use Rattle.sieve_match.proofs.SearchLemmas.{State-goes, State-star, State-stuck, State-bound, State-ends, Fresh-fails, Tried-fails, items-le, bound_fits}
+use Rattle.sieve_match.proofs.SearchLemmas.{State-goes, State-star, State-stuck, State-bound, State-ends, State-least, Fresh-fails, Tried-fails, items-le, bound_fits}
 use Rattle.std.proofs.Common.{false}
 use Rattle.sieve_match.proofs.wildcards.matches_counted.Goals as goal
 
@@ -42,3 +42,6 @@ pub returns-in_default-split_first-clause-test : goal.returns-in_default-split_f
 returns-in_default-split_first-clause-test c =
     let h = rw c.in-Some.is at c.search.invariant in
     Tried-fails c.args.comparator (items_of c.args.pattern.now) c.args.value.now (items_of c.search.items.now) c.search.rest.now (items_of c.in-Some.after.now) c.in-Some.from.now c.search.count h c.in_default-split_first.ensures.cases (sym c.first_step-compared.ensures.value ∙ ap turn_view c.in-Stuck.is)
+
+pub returns-in-Ends-clause-least : goal.returns-in-Ends-clause-least
+returns-in-Ends-clause-least c = λ _. State-least c.args.comparator (items_of c.args.pattern.now) c.args.value.now (items_of c.search.items.now) c.search.rest.now c.search.star c.search.count c.first_step-compared.result.1 c.search.invariant (sym c.first_step-compared.ensures.value ∙ ap turn_view c.in-Ends.is)
