@@ -80,10 +80,6 @@ pub IsAppended-read : (charset : Charset) (old : List ℕ) (o : Option (List ℕ
 IsAppended-read charset old o new true h e = IsAppended-good charset old o new h (sym e)
 IsAppended-read charset old o new false h e = IsAppended-unread charset old o new h (sym e)
 
-pub IsAppended-bad : (charset : Charset) (old : List ℕ) (o : Option (List ℕ)) (new : List ℕ) → ArePut false charset old o new → IsAppended false old (option_and_then (text_in charset) o) new
-IsAppended-bad charset old None new h = h
-IsAppended-bad charset old (Some octets) new h = absurd h
-
 -- a word whose charset is read and whose text is good
 pub decoded-read : (w : Word) (name : List ℕ) (charset : Charset) (named : Option Charset) (old mid new whole : List ℕ) (start : ℕ) (good read : Bool) → name ≡ w.charset → named ≡ charset_named name → named ≡ Some charset → mid ≡ old → start ≡ length old → ArePut good charset mid (octets_of w) new → good ≡ true → whole ≡ new → read ≡ is_text_in charset (take (length whole - start) (drop start whole)) → IsAppended read old (text_of w) new
 unfolding text_of

@@ -1,6 +1,6 @@
 -- A folded text, read octet by octet from its front or its end.
-use Rattle.std.proofs.Common.{◌≡◌, ◌≢◌, ℕ, zero, suc, ◌+◌, ◌-◌, ◌<◌, ◌≤◌, Bool, true, false, cond, eqb, List, [], ◌∷◌, ◌++◌, length, take, drop, refl, sym, ap, get_or, append_assoc, Option, Some, None, ◌∙◌, arith, ne_eqb, eqb-true, eq-eqb}
-use Rattle.std.proofs.lemmas.List.{append-nil, length-append, length-take, take_more, take_at, drop_at, take_all, take-append-le, reverse-append, nil_from_length, append_cancel_right, get_or-append_right}
+use Rattle.std.proofs.Common.{◌≡◌, ℕ, suc, ◌+◌, ◌-◌, ◌<◌, Bool, true, false, cond, eqb, List, [], ◌∷◌, ◌++◌, length, take, drop, refl, sym, ap, get_or, append_assoc, ◌∙◌, arith, eqb-true}
+use Rattle.std.proofs.lemmas.List.{append-nil, length-append, take_more, take_at, drop_at, take_all, take-append-le, reverse-append, nil_from_length, append_cancel_right, get_or-append_right}
 use Rattle.std.proofs.lemmas.List.Folds.{list_all-append}
 use Rattle.std.specs.Prelude.{nat_lt, ◌&&◌, ◌||◌}
 use Rattle.std.specs.List.{list_all, prefix_len, suffix_len, take_while}
@@ -119,13 +119,6 @@ ends_in-snoc c (x ∷ xs) h =
 
 pub unfolded-line : (text line rest : List ℕ) → ends_in 10 text ≡ true → line ≡ take (length text - 1) text → rest ≡ without_cr line → unfolded text ≡ unfolded rest
 unfolded-line text line rest h el er = ap unfolded (ends_in-snoc 10 text h ∙ ap (λ x. x ++ 10 ∷ []) (sym el)) ∙ unfolded-end line ∙ ap unfolded (sym er)
-
-pub length-without_cr : (xs : List ℕ) → length (without_cr xs) ≤ length xs
-length-without_cr xs = at (ends_in 13 xs)
-  where
-    at : (t : Bool) → length (cond t (take (length xs - 1) xs) xs) ≤ length xs
-    at true = omega (arith, length-take (length xs - 1) xs)
-    at false = omega arith
 
 -- an octet that is not LF at the end
 ends_in-last : (c : ℕ) (xs : List ℕ) (b : ℕ) → ends_in c (xs ++ b ∷ []) ≡ eqb b c

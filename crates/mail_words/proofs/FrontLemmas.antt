@@ -1,11 +1,9 @@
 -- A word at the front of a text, read part by part.
-use Rattle.std.proofs.Common.{◌≡◌, ℕ, zero, suc, ◌+◌, ◌<◌, Bool, true, false, cond, eqb, List, [], ◌∷◌, ◌++◌, length, drop, refl, sym, ap, ◌∙◌, arith, Option, Some, None, get_or, ltb-true}
-use Rattle.std.specs.Prelude.{nat_lt, ◌&&◌, slice_index}
-use Rattle.std.specs.List.{list_all, take_while, prefix_len}
+use Rattle.std.proofs.Common.{◌≡◌, ℕ, Bool, true, false, cond, List, [], ◌∷◌, length, drop, refl, sym, ap, ◌∙◌, arith, Some, None}
+use Rattle.std.specs.Prelude.{nat_lt, ◌&&◌}
+use Rattle.std.specs.List.{take_while}
 use Rattle.mail_words.specs.Unfolding.{is_nil}
-use Rattle.mail_words.specs.Words.{Word, spelling, IsWord, is_charset_octet, is_text_octet, is_encoding, opens, closes, names_encoding, begins_with_pair, word_at}
-use Rattle.mail_words.proofs.SpellingLemmas.{run_passes}
-use Rattle.mail_words.proofs.SpanLemmas.{word_at-written}
+use Rattle.mail_words.specs.Words.{is_charset_octet, is_text_octet, is_encoding, opens, closes, names_encoding, begins_with_pair, word_at}
 
 and_no : (t : Bool) → (t && false) ≡ false
 and_no true = refl

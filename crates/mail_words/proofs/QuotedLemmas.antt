@@ -1,13 +1,12 @@
 -- Q text, octet by octet.
-use Rattle.std.proofs.Common.{◌≡◌, ℕ, ◌+◌, ◌*◌, ◌<◌, Bool, true, false, cond, eqb, List, [], ◌∷◌, ◌++◌, refl, sym, ap, subst, ◌∙◌, Option, Some, None, append_assoc, ne_eqb}
-use Rattle.std.proofs.lemmas.List.{append-nil}
+use Rattle.std.proofs.Common.{◌≡◌, ℕ, ◌+◌, ◌*◌, ◌<◌, cond, eqb, List, [], ◌∷◌, ◌++◌, refl, sym, ap, ◌∙◌, Option, Some, None, append_assoc, ne_eqb}
 use Rattle.std.specs.Prelude.{option_map}
 use Rattle.mail_words.specs.declared.charset.Charset.{Charset}
 use Rattle.mail_words.specs.declared.quoted.Place.{Place}
 use Rattle.mail_words.specs.declared.quoted.Place.TheVariants.{Plain, Escape, Digit}
-use Rattle.mail_words.specs.Charsets.{written_in, ArePut}
+use Rattle.mail_words.specs.Charsets.{written_in}
 use Rattle.mail_words.specs.Decoding.{hex_value, q_octets}
-use Rattle.mail_words.proofs.CharsetLemmas.{written-nil, written-append, ArePut-some, ArePut-none}
+use Rattle.mail_words.proofs.CharsetLemmas.{written-nil, written-append}
 
 -- a digit that was read is below sixteen
 abbrev pub IsSmall : Place → Type 0
@@ -36,10 +35,6 @@ push_octet octets b (Some x) = ap Some (sym (append_assoc octets (b ∷ []) x))
 put_one : (charset : Charset) (old out new octets : List ℕ) (b : ℕ) → out ≡ old ++ written_in charset octets → new ≡ out ++ written_in charset (b ∷ []) → new ≡ old ++ written_in charset (octets ++ b ∷ [])
 put_one charset old out new octets b h e = e ∙ ap (λ x. x ++ written_in charset (b ∷ [])) h ∙ append_assoc old (written_in charset octets) (written_in charset (b ∷ [])) ∙ ap (λ x. old ++ x) (sym (written-append charset octets (b ∷ [])))
 
-pub Decoded-escape : (charset : Charset) (text rest behind old out : List ℕ) (place : Place) (b : ℕ) → Decoded charset text rest old out place → place ≡ Plain → rest ≡ b ∷ behind → b ≡ 61 → Decoded charset text behind old out Escape
-unfolding q_octets
-Decoded-escape charset text rest behind old out place b h e l at = record { small = tt; octets = h.octets; put = h.put; same = rw (e, l, at) at h.same }
-
 pub Decoded-plain : (charset : Charset) (text rest behind old out new : List ℕ) (place : Place) (b pushed : ℕ) → Decoded charset text rest old out place → place ≡ Plain → rest ≡ b ∷ behind → (b ≡ 61 → ⊥) → pushed ≡ cond (eqb b 95) 32 b → new ≡ out ++ written_in charset (pushed ∷ []) → Decoded charset text behind old new Plain
 unfolding q_octets
 Decoded-plain charset text rest behind old out new place b pushed h e l at eb en = record {
@@ -49,10 +44,6 @@ Decoded-plain charset text rest behind old out new place b pushed h e l at eb en
   same = sym (push_octet h.octets pushed (q_octets Plain behind)) ∙ (rw (e, l, ne_eqb b 61 at, ← eb) at h.same);
 }
 
-pub Decoded-high : (charset : Charset) (text rest behind old out : List ℕ) (place : Place) (b high : ℕ) → Decoded charset text rest old out place → place ≡ Escape → rest ≡ b ∷ behind → Some high ≡ hex_value b → high < 16 → Decoded charset text behind old out (Digit high)
-unfolding q_octets
-Decoded-high charset text rest behind old out place b high h e l digit small = record { small = small; octets = h.octets; put = h.put; same = rw (e, l, ← digit) at h.same }
-
 pub Decoded-low : (charset : Charset) (text rest behind old out new : List ℕ) (place : Place) (b high low : ℕ) → Decoded charset text rest old out place → place ≡ Digit high → rest ≡ b ∷ behind → Some low ≡ hex_value b → new ≡ out ++ written_in charset ((high * 16 + low) ∷ []) → Decoded charset text behind old new Plain
 unfolding q_octets
 Decoded-low charset text rest behind old out new place b high low h e l digit en = record {
@@ -61,23 +52,3 @@ Decoded-low charset text rest behind old out new place b high low h e l digit en
   put = put_one charset old out new h.octets (high * 16 + low) h.put en;
   same = sym (push_octet h.octets (high * 16 + low) (q_octets Plain behind)) ∙ (rw (e, l, ← digit) at h.same);
 }
-
--- a digit that is none
-pub Decoded-no_high : (charset : Charset) (text rest behind old out : List ℕ) (place : Place) (b : ℕ) → Decoded charset text rest old out place → place ≡ Escape → rest ≡ b ∷ behind → None ≡ hex_value b → ArePut false charset old (q_octets Plain text) out
-unfolding q_octets
-Decoded-no_high charset text rest behind old out place b h e l digit = ArePut-none charset old (q_octets Plain text) out (written_in charset h.octets) (sym (rw (e, l, ← digit) at h.same)) h.put
-
-pub Decoded-no_low : (charset : Charset) (text rest behind old out : List ℕ) (place : Place) (b high : ℕ) → Decoded charset text rest old out place → place ≡ Digit high → rest ≡ b ∷ behind → None ≡ hex_value b → ArePut false charset old (q_octets Plain text) out
-unfolding q_octets
-Decoded-no_low charset text rest behind old out place b high h e l digit = ArePut-none charset old (q_octets Plain text) out (written_in charset h.octets) (sym (rw (e, l, ← digit) at h.same)) h.put
-
--- the end of the text
-pub Decoded-all : (charset : Charset) (text rest old out : List ℕ) (place : Place) → Decoded charset text rest old out place → place ≡ Plain → rest ≡ [] → ArePut true charset old (q_octets Plain text) out
-unfolding q_octets
-Decoded-all charset text rest old out place h e l = ArePut-some charset old (q_octets Plain text) out h.octets (sym (rw (e, l) at h.same) ∙ ap Some (append-nil h.octets)) h.put
-
-pub Decoded-open : (charset : Charset) (text rest old out : List ℕ) (place : Place) → Decoded charset text rest old out place → (place ≡ Plain → ⊥) → rest ≡ [] → ArePut false charset old (q_octets Plain text) out
-unfolding q_octets
-Decoded-open charset text rest old out Plain h other l = absurd (other refl)
-Decoded-open charset text rest old out Escape h other l = ArePut-none charset old (q_octets Plain text) out (written_in charset h.octets) (sym (rw l at h.same)) h.put
-Decoded-open charset text rest old out (Digit high) h other l = ArePut-none charset old (q_octets Plain text) out (written_in charset h.octets) (sym (rw l at h.same)) h.put

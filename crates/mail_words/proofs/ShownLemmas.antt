@@ -1,11 +1,11 @@
 -- A text that is shown word by word.
-use Rattle.std.proofs.Common.{◌≡◌, ℕ, zero, suc, ◌-◌, ◌<◌, ◌≤◌, Bool, true, false, cond, List, [], ◌∷◌, ◌++◌, length, take, refl, sym, ap, subst, ◌∙◌, arith, Option, Some, None, append_assoc}
-use Rattle.std.proofs.lemmas.List.{length-append, take_at}
+use Rattle.std.proofs.Common.{◌≡◌, ℕ, zero, suc, ◌<◌, ◌≤◌, Bool, true, false, cond, List, [], ◌∷◌, ◌++◌, length, refl, sym, ap, subst, ◌∙◌, arith, Some, None, append_assoc}
+use Rattle.std.proofs.lemmas.List.{length-append}
 use Rattle.std.specs.Prelude.{◌&&◌}
 use Rattle.std.specs.List.{list_all}
 use Rattle.mail_words.specs.Unfolding.{is_blank}
 use Rattle.mail_words.specs.Words.{Word, spelling, first_word}
-use Rattle.mail_words.specs.Decoding.{text_of, IsAppended}
+use Rattle.mail_words.specs.Decoding.{text_of}
 use Rattle.mail_words.specs.Value.{cut_at, cut_words, shown_word, shown, words_shown, IsPutWord}
 
 -- what was shown, and the rest of the text
@@ -80,35 +80,5 @@ Showing-put text out rest gap after new w after_good false h e spelled (is, put)
       same = ap (λ x. x ++ tail) put ∙ append_assoc out (gap ++ spelling w) tail ∙ ap (λ x. out ++ x) (append_assoc gap (spelling w) tail) ∙ ap (λ o. out ++ shown_word after_good gap w o (λ good. shown good (cut_words n.turns after).0 (cut_words n.turns after).1)) (sym is) ∙ n.same;
     }
 
-pub shorter_behind : (rest gap after : List ℕ) (w : Word) → rest ≡ gap ++ (spelling w ++ after) → length after < length rest
-shorter_behind = longer
-
 pub Showing-next : (text out after rest : List ℕ) (good : Bool) → Showing text out after good → rest ≡ after → Showing text out rest good
 Showing-next text out after rest good h e = let P : List ℕ → Type 0 = λ x. Showing text out x good in subst P (sym e) h
-
--- a word that is appended behind what is shown of the gap before it
-good_text : (o : Option (List ℕ)) (mid new : List ℕ) → IsAppended true mid o new → (t : List ℕ) × (o ≡ Some t) × (new ≡ mid ++ t)
-good_text None mid new h = absurd h
-good_text (Some t) mid new h = (t, refl, h)
-
-bad_text : (o : Option (List ℕ)) (mid new : List ℕ) → IsAppended false mid o new → (more : List ℕ) × (o ≡ None) × (new ≡ mid ++ more)
-bad_text None mid new (more, h) = (more, refl, h)
-bad_text (Some t) mid new h = absurd h
-
-pub IsPutWord-good : (after_good : Bool) (gap kept old mid new : List ℕ) (w : Word) → kept ≡ cond (after_good && list_all is_blank gap) [] gap → mid ≡ old ++ kept → IsAppended true mid (text_of w) new → IsPutWord true after_good gap w old new
-IsPutWord-good after_good gap kept old mid new w ek em h =
-    let good = good_text (text_of w) mid new h in
-    (good.0, good.1, good.2 ∙ ap (λ x. x ++ good.0) em ∙ append_assoc old kept good.0 ∙ ap (λ x. old ++ (x ++ good.0)) ek)
-
-pub IsPutWord-bad : (after_good : Bool) (gap kept old mid new cut out all : List ℕ) (w : Word) → mid ≡ old ++ kept → IsAppended false mid (text_of w) new → cut ≡ take (length old) new → out ≡ cut ++ gap → all ≡ out ++ spelling w → IsPutWord false after_good gap w old all
-IsPutWord-bad after_good gap kept old mid new cut out all w em h ec eo ea =
-    let bad = bad_text (text_of w) mid new h in
-    let whole : new ≡ old ++ (kept ++ bad.0) = bad.2 ∙ ap (λ x. x ++ bad.0) em ∙ append_assoc old kept bad.0 in
-    let back : cut ≡ old = ec ∙ ap (take (length old)) whole ∙ take_at old (kept ++ bad.0) (length old) refl in
-    (bad.1, ea ∙ ap (λ x. x ++ spelling w) (eo ∙ ap (λ x. x ++ gap) back) ∙ append_assoc old gap (spelling w))
-
--- a word as it is spelled, part by part
-pub spelled_out : (w : Word) (old a b c d e : List ℕ) → a ≡ old ++ 61 ∷ 63 ∷ [] → b ≡ a ++ w.charset → c ≡ b ++ 63 ∷ w.encoding ∷ 63 ∷ [] → d ≡ c ++ w.text → e ≡ d ++ 63 ∷ 61 ∷ [] → e ≡ old ++ spelling w
-spelled_out w old a b c d e ea eb ec ed ee =
-    let tail : List ℕ = w.text ++ 63 ∷ 61 ∷ [] in
-    ee ∙ ap (λ x. x ++ 63 ∷ 61 ∷ []) ed ∙ append_assoc c w.text (63 ∷ 61 ∷ []) ∙ ap (λ x. x ++ tail) ec ∙ append_assoc b (63 ∷ w.encoding ∷ 63 ∷ []) tail ∙ ap (λ x. x ++ 63 ∷ w.encoding ∷ 63 ∷ tail) eb ∙ append_assoc a w.charset (63 ∷ w.encoding ∷ 63 ∷ tail) ∙ ap (λ x. x ++ (w.charset ++ 63 ∷ w.encoding ∷ 63 ∷ tail)) ea ∙ append_assoc old (61 ∷ 63 ∷ []) (w.charset ++ 63 ∷ w.encoding ∷ 63 ∷ tail)

@@ -1,7 +1,6 @@
 -- Unfolding, one line after another.
-use Rattle.std.proofs.Common.{◌≡◌, ◌≢◌, ℕ, zero, suc, ◌-◌, ◌<◌, Bool, true, false, cond, eqb, List, [], ◌∷◌, ◌++◌, length, take, drop, refl, sym, ap, get_or, append_assoc, Option, Some, None, ◌∙◌, arith, ne_eqb, eqb-true, eq-eqb}
-use Rattle.std.specs.Option.{is_some}
-use Rattle.std.specs.Prelude.{nat_lt, not, ◌&&◌}
+use Rattle.std.proofs.Common.{◌≡◌, ◌≢◌, ℕ, zero, suc, ◌-◌, ◌<◌, Bool, true, false, cond, eqb, List, [], ◌∷◌, ◌++◌, length, take, drop, refl, sym, ap, get_or, append_assoc, Some, None, ◌∙◌, arith, ne_eqb, eqb-true, eq-eqb}
+use Rattle.std.specs.Prelude.{nat_lt, ◌&&◌}
 use Rattle.memchr.specs.Find.{IsFirstByte, is_byte}
 use Rattle.mail_words.specs.Unfolding.{without_cr, unfolded}
 
@@ -25,9 +24,6 @@ without_cr-cons b c cs =
     let some_one : nat_lt 0 (suc (suc (length cs))) ≡ true = grind arith in
     let some_two : nat_lt 0 (suc (length cs)) ≡ true = grind arith in
     rw (one, two, some_one, some_two) (push_cond _ b _ _)
-
-without_cr-one : (b : ℕ) → without_cr (b ∷ []) ≡ cond (eqb b 13) [] (b ∷ [])
-without_cr-one b = refl
 
 -- a CR that is kept, or another octet
 unfolded-kept : (b c : ℕ) (cs : List ℕ) → eqb b 10 ≡ false → eqb c 10 ≡ false → unfolded (b ∷ c ∷ cs) ≡ b ∷ unfolded (c ∷ cs)

@@ -1,5 +1,5 @@
 -- The syntax of encoded words (RFC 2047, sections 2 and 5), without the limit on their length.
-use Rattle.std.specs.Prelude.{◌≡◌, ℕ, ◌-◌, ◌<◌, Bool, true, false, List, [], ◌∷◌, ◌++◌, length, drop, Option, Some, None, option_map, nat_lt, nat_le, slice_index, ◌==◌, ◌&&◌, ◌||◌, not, if◌then◌else◌}
+use Rattle.std.specs.Prelude.{◌≡◌, ℕ, ◌<◌, Bool, true, false, List, [], ◌∷◌, ◌++◌, length, drop, Option, Some, None, option_map, nat_lt, nat_le, slice_index, ◌==◌, ◌&&◌, ◌||◌, not, if◌then◌else◌}
 use Rattle.std.specs.List.{list_any, list_all, take_while}
 use Rattle.mail_words.specs.Unfolding.{is_blank, IsFirstOctet}
 use Rattle.mail_words.specs.declared.words.Part.{Part}

@@ -1,4 +1,4 @@
-use Rattle.std.proofs.Common.{◌-◌, ◌≡◌, inl, inr, arith, sym, ◌∙◌, take, length, None, Some, length-take}
+use Rattle.std.proofs.Common.{inl, inr, arith, sym, ◌∙◌, take, None, Some}
 use Rattle.mail_words.specs.Unfolding.{unfolded}
 use Rattle.mail_words.proofs.FrontLemmas.{nil_from}
 use Rattle.mail_words.proofs.Base64Lemmas.{Decoding-none, Decoding-more, Decoding-bad, Decoding-short, Decoding-all, bytes_unfolded, symbols_read, some_left, not_nil}

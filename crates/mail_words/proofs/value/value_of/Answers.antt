@@ -1,4 +1,3 @@
-use Rattle.std.proofs.Common.{sym, ap}
 use Rattle.mail_words.specs.Unfolding.{unfolded, trimmed}
 use Rattle.mail_words.specs.Value.{value_of_body}
 use Rattle.mail_words.proofs.DecidedLemmas.{answer_is_shown}
