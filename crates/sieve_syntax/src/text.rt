@@ -77,6 +77,13 @@ impl Texts {
         Ok(())
     }
 
+    /// Gives room back that no text takes.
+    pub fn shrink_to_fit(&mut self)
+        ensures { self.new ≡ self.old }
+    {
+        self.items.shrink_to_fit();
+    }
+
     /// The texts.
     pub fn as_slice(&self) -> &[Text]
         ensures { result.now ≡ self.now }

@@ -34,6 +34,6 @@ pub enum TokenKind {
 #[derive(Drop)]
 pub struct Token {
     pub kind: TokenKind,
-    pub start: usize,
-    pub end: usize,
+    pub start: u32,
+    pub end: u32,
 }

@@ -79,6 +79,13 @@ impl Arguments {
         Ok(())
     }
 
+    /// Gives room back that no argument takes.
+    pub fn shrink_to_fit(&mut self)
+        ensures { self.new ≡ self.old }
+    {
+        self.items.shrink_to_fit();
+    }
+
     /// The arguments.
     pub fn as_slice(&self) -> &[Argument]
         ensures { result.now ≡ self.now }

@@ -5,6 +5,7 @@ pub mod GapGrammar
 pub mod GapLemmas
 pub mod KindGrammar
 pub mod KindLemmas
+pub mod LexemeLemmas
 pub mod Longest
 pub mod Many
 pub mod NumberLemmas
@@ -12,6 +13,7 @@ mod Rows
 pub mod ScanLemmas
 pub mod ScriptLaws
 pub mod Spelled
+pub mod StringLemmas
 pub mod TreeLaws
 mod TreeRows
 pub mod WithinLemmas

@@ -1,17 +1,11 @@
 -- The steps of a loop that reads things for as long as there are some.
 use Rattle.std.proofs.Common.{◌≡◌, ℕ, zero, suc, ◌≤◌, ◌<◌, List, [], ◌∷◌, ◌++◌, length, Option, Some, None, Result, Ok, Err, refl, sym, ap, ◌∙◌, append_assoc, arith}
 use Rattle.std.proofs.lemmas.List.{append-nil, nil_from_length}
-use Rattle.sieve_syntax.specs.declared.token.Token.{Token}
 use Rattle.sieve_syntax.specs.declared.token.TokenKind.{TokenKind}
 use Rattle.sieve_text.specs.declared.parser.stop.Misfit.{Misfit}
 use Rattle.sieve_text.specs.declared.parser.stop.Stop.{Stop}
 use Rattle.sieve_text.specs.declared.parser.stop.Stop.TheVariants.{NoMemory, Refused}
-use Rattle.sieve_text.specs.Grammar.{kinds}
 use Rattle.sieve_text.specs.Reading.{◌>>=◌, Fails, Tries, many_at, behind}
-
-pub length_kinds : (ts : List Token) → length (kinds ts) ≡ length ts
-length_kinds [] = refl
-length_kinds (t ∷ ts) = ap (λ (n : ℕ). suc n) (length_kinds ts)
 
 behind_none : {A : Type 0} (r : Result (List A × List TokenKind) Misfit) → behind [] r ≡ r
 behind_none (Ok x) = refl

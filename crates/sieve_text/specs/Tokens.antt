@@ -11,6 +11,7 @@ use Rattle.sieve_syntax.specs.declared.token.TokenKind.TheVariants as kinds
 use Rattle.sieve_syntax.specs.declared.token.Token.{Token}
 use Rattle.sieve_text.specs.declared.fault.ScanRefusal.{ScanRefusal}
 use Rattle.sieve_text.specs.declared.fault.ScanRefusal.TheVariants.{NotUtf8, NoToken, StringNotClosed, CommentNotClosed, NumberTooLarge, ScriptTooLong, StringTooLong}
+use Rattle.sieve_text.specs.declared.fault.FaultyPlace.{FaultyPlace}
 use Rattle.sieve_text.specs.declared.fault.ScanFault.{ScanFault}
 use Rattle.sieve_text.specs.declared.fault.ScanFault.TheVariants.{NoMemory, Refused}
 use Rattle.sieve_text.specs.Octets.{is_blank, is_start, is_word, begins, stray_len, line_end_len}
@@ -135,15 +136,10 @@ IsFirstFault script refusal = (ts : List Token) × (end : ℕ) × Reads script 0
 abbrev pub IsFaulty : List ℕ → ScanRefusal → Type 0
 IsFaulty script refusal = IsUnsound script refusal ⊎ (IsSound script × IsFirstFault script refusal)
 
--- a call that failed found this refusal, or no memory
-abbrev pub Fails : {Y : Type 0} → ScanFault → Result Y ScanRefusal → Type 0
-Fails NoMemory read = Unit {0}
-Fails (Refused refusal at) read = read ≡ Err refusal
-
--- a call's answer is this one, want of memory aside
-abbrev pub Gives : {X Y : Type 0} → (X → Y) → Result X ScanFault → Result Y ScanRefusal → Type 0
+-- a call's answer is this one, as seen through the view
+abbrev pub Gives : {X Y : Type 0} → (X → Y) → Result X FaultyPlace → Result Y ScanRefusal → Type 0
 Gives view (Ok x) read = read ≡ Ok (view x)
-Gives view (Err e) read = Fails e read
+Gives view (Err e) read = read ≡ Err e.refusal
 
 -- the refusal is the script's, want of memory aside
 abbrev pub FaultsBy : List ℕ → ScanFault → Type 0
@@ -170,9 +166,8 @@ abbrev pub fault_place : List ℕ → ℕ → ScanRefusal → ℕ
 fault_place script at = let start = at + gap_len 0 (drop at script) in either_place start (start + text_len (drop start script))
 
 -- the refusal stands at this place
-abbrev pub StandsAt : (ScanRefusal → ℕ) → ScanFault → Type 0
-StandsAt place NoMemory = Unit {0}
-StandsAt place (Refused refusal at) = at ≡ place refusal
+abbrev pub StandsAt : (ScanRefusal → ℕ) → FaultyPlace → Type 0
+StandsAt place e = e.at ≡ place e.refusal
 
 -- the refusal stands at the first stray octet or at the start of an unsound script, or at the first faulty place
 abbrev pub StandsIn : List ℕ → ScanFault → Type 0

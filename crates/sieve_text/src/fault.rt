@@ -42,6 +42,22 @@ impl ScanRefusal {
     }
 }
 
+/// A refusal, and the offset in octets at which it stands.
+#[derive(Clone, Copy)]
+pub struct FaultyPlace {
+    pub refusal: ScanRefusal,
+    pub at: usize,
+}
+
+impl FaultyPlace {
+    /// A refusal at an offset.
+    pub fn new(refusal: ScanRefusal, at: usize) -> FaultyPlace
+        ensures { (result.refusal ≡ refusal) × (result.at ≡ at) }
+    {
+        FaultyPlace { refusal, at }
+    }
+}
+
 /// Why `scan` gives no tokens.
 #[derive(Clone, Copy, Debug, PartialEq, Eq)]
 pub enum ScanFault {
@@ -50,6 +66,17 @@ pub enum ScanFault {
     /// The refusal, and the offset in octets at which it stands: for `NoToken` that of the octet, for the others that
     /// of the first octet of the token or comment. `NotUtf8` and `ScriptTooLong` stand at 0.
     Refused(ScanRefusal, usize),
+}
+
+impl From<FaultyPlace> for ScanFault {
+    ghost use Rattle.std.specs.Prelude.{◌≡◌};
+    ghost use Rattle.sieve_text.specs.declared.fault.ScanFault.TheVariants.{Refused};
+
+    ghost from_gives = { λ p f. f ≡ Refused p.refusal p.at };
+
+    fn from(place: FaultyPlace) -> ScanFault {
+        ScanFault::Refused(place.refusal, place.at)
+    }
 }
 
 impl From<AllocError> for ScanFault {

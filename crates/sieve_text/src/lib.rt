@@ -9,6 +9,7 @@
 
 mod fault;
 mod laws;
+mod lexeme;
 mod parser;
 mod scanner;
 #[cfg(test)]

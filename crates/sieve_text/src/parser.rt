@@ -6,7 +6,8 @@ ghost use Rattle.sieve_syntax.specs.Tree.{CommandTrees};
 ghost use Rattle.sieve_syntax.specs.View.{tree_of, command_of, commands_of};
 ghost use Rattle.sieve_text.specs.declared.fault.ScanRefusal.{ScanRefusal};
 ghost use Rattle.sieve_text.specs.declared.fault.TextRefusal.{TextRefusal};
-ghost use Rattle.sieve_text.specs.Grammar.{kinds, Spells, IsScript, IsDeep, AnswersTree, AnswersRefusal, Explains};
+ghost use Rattle.sieve_text.specs.Lexemes.{kinds_in};
+ghost use Rattle.sieve_text.specs.Grammar.{Spells, IsScript, IsDeep, AnswersTree, AnswersRefusal, Explains};
 ghost use Rattle.sieve_text.specs.Tokens.{IsFaulty};
 ghost use Rattle.sieve_text.specs.Reading.{Gives, GivesScript, script_at};
 
@@ -19,51 +20,40 @@ mod test_lists;
 mod tests;
 
 use crate::fault::{TextFault, TextRefusal};
-use crate::scanner::scan;
+use crate::scanner::{count_tokens, split_lexeme};
 use commands::commands;
 pub use laws::one_tree;
-use sieve_syntax::{Command, Script, Token};
+use sieve_syntax::{Command, Script};
 use std::alloc::Global;
 use stop::{Misfit, Stop, syntax};
 
 /// How many blocks may stand inside one another.
 const BLOCK_DEPTH: u8 = 32;
 
-/// The commands that the tokens are, all of them.
+/// The commands that the tokens of a text are, all of them.
 #[tactic(auto, unfolding(crate::specs::Reading::script_at))]
-fn all_commands(alloc: Global, tokens: &[Token]) -> Result<Vec<Command>, Stop>
-    ensures { Gives (λ v. commands_of (map command_of v.items)) result (script_at 32 32 (kinds tokens.now)) }
+fn all_commands(alloc: Global, text: &[u8]) -> Result<Vec<Command>, Stop>
+    ensures { Gives (λ v. commands_of (map command_of v.items)) result (script_at 32 32 (kinds_in text.now)) }
 {
-    let (commands, rest) = commands(alloc, BLOCK_DEPTH, tokens)?;
-    if rest.is_empty() {
+    let (commands, rest) = commands(alloc, BLOCK_DEPTH, text)?;
+    if split_lexeme(rest).is_none() {
         Ok(commands)
     } else {
         Err(syntax(rest))
     }
 }
 
-/// Where a refusal stands that leaves so many tokens to read, in a text of `end` octets.
-fn offset(tokens: &[Token], left: usize, end: usize) -> usize {
-    let index = tokens.len().saturating_sub(left);
-    tokens.get(index).map_or(end, |token| token.start)
-}
-
-/// The tree of these tokens, which are those of a text of `end` octets.
-fn parse_tokens(alloc: Global, tokens: &[Token], end: usize) -> Result<Script, TextFault>
-    ensures { GivesScript result (script_at 32 32 (kinds tokens.now)) }
+/// The tree of the tokens of a text.
+fn parse_tokens(alloc: Global, text: &[u8]) -> Result<Script, TextFault>
+    ensures { GivesScript result (script_at 32 32 (kinds_in text.now)) }
 {
-    match all_commands(alloc, tokens) {
-        Ok(commands) => Ok(Script { commands }),
-        Err(Stop::NoMemory) => Err(TextFault::NoMemory),
-        Err(Stop::Refused(Misfit::Syntax, left)) => Err(TextFault::Refused(
-            TextRefusal::Syntax,
-            offset(tokens, left, end),
-        )),
-        Err(Stop::Refused(Misfit::Nesting, left)) => Err(TextFault::Refused(
-            TextRefusal::Nesting,
-            offset(tokens, left, end),
-        )),
-    }
+    let (refusal, left) = match all_commands(alloc, text) {
+        Ok(commands) => return Ok(Script { commands }),
+        Err(Stop::NoMemory) => return Err(TextFault::NoMemory),
+        Err(Stop::Refused(Misfit::Syntax, left)) => (TextRefusal::Syntax, left),
+        Err(Stop::Refused(Misfit::Nesting, left)) => (TextRefusal::Nesting, left),
+    };
+    Err(TextFault::Refused(refusal, text.len().saturating_sub(left)))
 }
 
 /// The tree of a script (RFC 5228, section 8.2), which keeps whether a string or a test stood in brackets.
@@ -88,6 +78,6 @@ pub fn parse(alloc: Global, script: &[u8]) -> Result<Script, TextFault>
     // Each refusal says what the text lacks.
     ensures refused { IfErr result (λ e. Explains script.now e) }
 {
-    let tokens = scan(alloc, script)?;
-    parse_tokens(alloc, tokens.as_slice(), script.len())
+    let _tokens = count_tokens(script)?;
+    parse_tokens(alloc, script)
 }

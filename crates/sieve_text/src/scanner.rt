@@ -8,14 +8,20 @@ mod multi_line;
 mod number;
 mod octets;
 mod quoted;
+mod strings;
 
-ghost use Rattle.std.specs.Prelude.{◌≡◌, ◌≤◌, ◌<◌, ◌+◌, ◌^◌, ◌∷◌, length, drop, suc, IfOk, IfErr, IfSome, OnOk, ℕ};
+ghost use Rattle.std.specs.Prelude.{◌≡◌, ◌≤◌, ◌<◌, ◌+◌, ◌^◌, [], ◌∷◌, length, drop, suc, IfOk, IfErr, IfSome, MatchOption, Ok, OnOk, ℕ, List, option_map};
+ghost use Rattle.sieve_syntax.specs.declared.token.Token.{Token};
+ghost use Rattle.sieve_text.specs.Lexemes.{kind_of, read_of, token_of, kinds_in};
 ghost use Rattle.sieve_text.specs.Tokens.{mark_of, kind_at, tag_at, identifier_at, token_at, Gives, IsSound, IsScan, FaultsBy, StandsAt, StandsIn, either_place, text_len, fault_place};
 
-use crate::fault::{ScanFault, ScanRefusal};
-use sieve_syntax::{Mark, Text, Token, TokenKind};
-use std::alloc::Global;
+use crate::fault::{FaultyPlace, ScanFault, ScanRefusal};
+use crate::lexeme::{Lexeme, PlacedLexeme};
+pub use gap::gap_length;
+use sieve_syntax::{Mark, Token, TokenKind};
+use std::alloc::{AllocError, Global};
 use std::str;
+pub use strings::{string_text, text};
 
 /// The octets of the longest script.
 const MOST_OCTETS: usize = 262_144;
@@ -37,19 +43,18 @@ fn mark(b: u8) -> Option<Mark>
 }
 
 /// An identifier, and how many octets it has.
-fn identifier(alloc: Global, rest: &[u8]) -> Result<(TokenKind, usize), ScanFault>
-    ensures value { Gives (λ x. x) result (identifier_at rest.now) }
-    ensures within { IfOk result (λ x. x.1 ≤ length rest.now) }
+fn identifier(rest: &[u8]) -> (Lexeme<'_>, usize)
+    ensures value { identifier_at rest.now ≡ Ok (read_of result) }
+    ensures within { result.1 ≤ length rest.now }
 {
     let n = octets::word_length(rest);
-    let name = Vec::from_slice(alloc, &rest[..n])?;
-    Ok((TokenKind::Identifier(Text::from_vec(name)), n))
+    (Lexeme::Identifier(&rest[..n]), n)
 }
 
 /// A tag behind its colon, which stands at this offset.
 #[tactic(auto, unfolding(crate::specs::Tokens::tag_at))]
-fn tag(alloc: Global, behind: &[u8], at: usize) -> Result<(TokenKind, usize), ScanFault>
-    ensures value { Gives (λ x. x) result (tag_at behind.now) }
+fn tag(behind: &[u8], at: usize) -> Result<(Lexeme<'_>, usize), FaultyPlace>
+    ensures value { Gives read_of result (tag_at behind.now) }
     ensures within { IfOk result (λ x. x.1 ≤ suc (length behind.now)) }
     ensures some { IfOk result (λ x. 0 < x.1) }
     ensures place { (first : ℕ) → IfErr result (λ e. StandsAt (either_place first at) e) }
@@ -57,51 +62,51 @@ fn tag(alloc: Global, behind: &[u8], at: usize) -> Result<(TokenKind, usize), Sc
     match behind {
         [b, ..] if octets::starts_word(*b) => {
             let n = octets::word_length(behind);
-            let name = Vec::from_slice(alloc, &behind[..n])?;
-            Ok((TokenKind::Tag(Text::from_vec(name)), n + 1))
+            Ok((Lexeme::Tag(&behind[..n]), n + 1))
         }
-        _ => Err(ScanFault::Refused(ScanRefusal::NoToken, at)),
+        _ => Err(FaultyPlace::new(ScanRefusal::NoToken, at)),
     }
 }
 
 /// The token that begins here, at this offset, and how many octets it has.
 #[tactic(auto, unfolding(crate::specs::Tokens::kind_at))]
-fn kind(alloc: Global, rest: &[u8], at: usize) -> Result<(TokenKind, usize), ScanFault>
+fn lexeme(rest: &[u8], at: usize) -> Result<(Lexeme<'_>, usize), FaultyPlace>
     requires { at + length rest.now < 2 ^ 64 }
-    ensures value { Gives (λ x. x) result (kind_at rest.now) }
+    ensures value { Gives read_of result (kind_at rest.now) }
     ensures within { IfOk result (λ x. x.1 ≤ length rest.now) }
     ensures some { IfOk result (λ x. 0 < x.1) }
     ensures place { IfErr result (λ e. StandsAt (either_place at (at + text_len rest.now)) e) }
 {
     let Some((&b, behind)) = rest.split_first() else {
-        return Err(ScanFault::Refused(ScanRefusal::NoToken, at));
+        return Err(FaultyPlace::new(ScanRefusal::NoToken, at));
     };
     if multi_line::begins(rest) {
         let (_, behind) = rest.split_at(5);
-        multi_line::token(alloc, behind, at)
+        multi_line::token(behind, at)
     } else if octets::starts_word(b) {
-        identifier(alloc, rest)
+        Ok(identifier(rest))
     } else if b.is_ascii_digit() {
         number::token(rest, at)
     } else if b == b':' {
-        tag(alloc, behind, at)
+        tag(behind, at)
     } else if b == b'"' {
-        quoted::token(alloc, behind, at)
+        quoted::token(behind, at)
     } else if gap::opens_bracketed(rest) {
-        Err(ScanFault::Refused(ScanRefusal::CommentNotClosed, at))
+        Err(FaultyPlace::new(ScanRefusal::CommentNotClosed, at))
     } else {
         match mark(b) {
-            Some(mark) => Ok((TokenKind::Mark(mark), 1)),
-            None => Err(ScanFault::Refused(ScanRefusal::NoToken, at)),
+            Some(mark) => Ok((Lexeme::Mark(mark), 1)),
+            None => Err(FaultyPlace::new(ScanRefusal::NoToken, at)),
         }
     }
 }
 
 /// The next token from an offset on, if there is one.
 #[tactic(auto, unfolding(crate::specs::Tokens::token_at))]
-fn token(alloc: Global, script: &[u8], at: usize) -> Result<Option<Token>, ScanFault>
-    requires { at ≤ length script.now }
-    ensures value { Gives (λ x. x) result (token_at script.now at) }
+fn placed_lexeme(script: &[u8], at: usize) -> Result<Option<PlacedLexeme<'_>>, FaultyPlace>
+    requires length { length script.now ≤ 262144 }
+    requires within { at ≤ length script.now }
+    ensures value { Gives (option_map token_of) result (token_at script.now at) }
     ensures within { IfOk result (λ x. IfSome x (λ t. (at < t.end) × (t.end ≤ length script.now))) }
     ensures place { IfErr result (λ e. StandsAt (fault_place script.now at) e) }
 {
@@ -111,11 +116,11 @@ fn token(alloc: Global, script: &[u8], at: usize) -> Result<Option<Token>, ScanF
         return Ok(None);
     }
     let (_, rest) = script.split_at(start);
-    let (kind, length) = kind(alloc, rest, start)?;
-    Ok(Some(Token {
-        kind,
-        start,
-        end: start + length,
+    let (lexeme, length) = lexeme(rest, start)?;
+    Ok(Some(PlacedLexeme {
+        lexeme,
+        start: start as u32,
+        end: (start + length) as u32,
     }))
 }
 
@@ -138,6 +143,54 @@ fn judge(script: &[u8]) -> Result<(), ScanFault>
     Ok(())
 }
 
+/// The first token of a text, as it is written, and the text behind it; `None` where no token stands first behind white
+/// space and comments.
+pub fn split_lexeme(text: &[u8]) -> Option<(Lexeme<'_>, &[u8])>
+    ensures cases { MatchOption result (kinds_in text.now ≡ []) (λ x. kinds_in text.now ≡ kind_of x.0 ∷ kinds_in x.1.now) }
+    ensures fewer { IfSome result (λ x. length (kinds_in x.1.now) < length (kinds_in text.now)) }
+{
+    let (_, rest) = text.split_at(gap_length(text));
+    let Ok((lexeme, length)) = lexeme(rest, 0) else {
+        return None;
+    };
+    let (_, behind) = rest.split_at(length);
+    Some((lexeme, behind))
+}
+
+/// How many tokens a script has.
+pub fn count_tokens(script: &[u8]) -> Result<usize, ScanFault>
+    ensures tokens { IfOk result (λ n. (ts : List Token) × IsScan script.now ts × (length ts ≡ n)) }
+    ensures fault { IfErr result (λ e. FaultsBy script.now e) }
+    ensures place { IfErr result (λ e. StandsIn script.now e) }
+{
+    judge(script)?;
+    let mut count = 0;
+    let mut at = 0;
+    while let Some(next) = placed_lexeme(script, at)? {
+        at = next.end as usize;
+        count += 1;
+    }
+    Ok(count)
+}
+
+/// A token that owns what it says.
+fn token(alloc: Global, placed: PlacedLexeme<'_>) -> Result<Token, AllocError>
+    ensures { IfOk result (λ t. t ≡ token_of placed.entry) }
+{
+    let kind = match placed.lexeme {
+        Lexeme::Identifier(name) => TokenKind::Identifier(text(alloc, name)?),
+        Lexeme::Tag(name) => TokenKind::Tag(text(alloc, name)?),
+        Lexeme::Number(number) => TokenKind::Number(number),
+        Lexeme::StringValue(written) => TokenKind::StringValue(string_text(alloc, written)?),
+        Lexeme::Mark(mark) => TokenKind::Mark(mark),
+    };
+    Ok(Token {
+        kind,
+        start: placed.start,
+        end: placed.end,
+    })
+}
+
 /// The tokens of a script (RFC 5228, section 8.1), in order, each with the octets that it stands on.
 ///
 /// Tokens are identifiers, tags, numbers of at most 2^63 - 1, strings of at most 65,535 octets and marks; each is the
@@ -153,12 +206,11 @@ pub fn scan(alloc: Global, script: &[u8]) -> Result<Vec<Token>, ScanFault>
     ensures fault { IfErr result (λ e. FaultsBy script.now e) }
     ensures place { IfErr result (λ e. StandsIn script.now e) }
 {
-    judge(script)?;
-    let mut tokens = Vec::new(alloc);
+    let mut tokens = Vec::with_capacity(alloc, count_tokens(script)?)?;
     let mut at = 0;
-    while let Some(next) = token(alloc, script, at)? {
-        at = next.end;
-        tokens.push(next)?;
+    while let Some(next) = placed_lexeme(script, at)? {
+        at = next.end as usize;
+        tokens.push(token(alloc, next)?)?;
     }
     Ok(tokens)
 }

@@ -1,11 +1,10 @@
-//! What the readers of the grammar share: the first token, and why reading stops before a tree is whole.
+//! Why reading stops before a tree is whole.
 
-ghost use Rattle.std.specs.Prelude.{◌≡◌, ◌<◌, [], ◌∷◌, length, MatchOption, IfSome};
-ghost use Rattle.sieve_text.specs.Grammar.{kinds};
+ghost use Rattle.std.specs.Prelude.{◌≡◌, ℕ};
 ghost use Rattle.sieve_text.specs.declared.parser.stop.Misfit.TheVariants.{Syntax};
 ghost use Rattle.sieve_text.specs.declared.parser.stop.Stop.TheVariants.{Refused};
 
-use sieve_syntax::{Token, TokenKind};
+use crate::scanner::gap_length;
 use std::alloc::{AllocError, AllocFailed};
 
 /// Why tokens are not read.
@@ -17,7 +16,7 @@ pub enum Misfit {
     Nesting,
 }
 
-/// Want of memory, or a misfit and how many tokens are left to read from it on.
+/// Want of memory, or a misfit and how many octets there are from the first one of its token on.
 #[derive(Clone, Copy)]
 pub enum Stop {
     NoMemory,
@@ -46,18 +45,15 @@ impl<T: Drop> From<AllocFailed<T>> for Stop {
     }
 }
 
-/// The refusal of the first of these tokens, or of their end, where it can't stand.
-pub fn syntax(tokens: &[Token]) -> Stop
-    ensures { result ≡ Refused Syntax (length tokens.now) }
-{
-    Stop::Refused(Misfit::Syntax, tokens.len())
+/// How many octets there are from the first token of a text on, or from where no token begins.
+pub fn left_from(text: &[u8]) -> usize {
+    let (_, rest) = text.split_at(gap_length(text));
+    rest.len()
 }
 
-/// What the first of these tokens is, and the tokens behind it.
-pub fn split_kind(tokens: &[Token]) -> Option<(&TokenKind, &[Token])>
-    ensures cases { MatchOption result (kinds tokens.now ≡ []) (λ x. kinds tokens.now ≡ x.0.now ∷ kinds x.1.now) }
-    ensures shorter { IfSome result (λ x. length x.1.now < length tokens.now) }
+/// The refusal of the first token of a text, or of its end, where it can't stand.
+pub fn syntax(text: &[u8]) -> Stop
+    ensures { (left : ℕ) × (result ≡ Refused Syntax left) }
 {
-    let (token, rest) = tokens.split_first()?;
-    Some((&token.kind, rest))
+    Stop::Refused(Misfit::Syntax, left_from(text))
 }

@@ -2,30 +2,33 @@
 
 ghost use Rattle.std.specs.Prelude.{◌≡◌, ◌≤◌, ◌<◌, [], ◌∷◌, length, map, IfOk, IfSome, option_map};
 ghost use Rattle.sieve_syntax.specs.View.{test_of, inner_of};
-ghost use Rattle.sieve_text.specs.Grammar.{kinds};
+ghost use Rattle.sieve_text.specs.Lexemes.{kinds_in};
 ghost use Rattle.sieve_text.specs.Reading.{Gives, behind, behind_paren, next_with, many_at, test_at, test_list_with, inner_with};
 
+use crate::lexeme::Lexeme;
 use crate::parser::arguments::arguments;
-use crate::parser::stop::{Misfit, Stop, split_kind, syntax};
-use sieve_syntax::{Mark, Test, Tests, Token, TokenKind};
+use crate::parser::stop::{Misfit, Stop, left_from, syntax};
+use crate::scanner;
+use crate::scanner::split_lexeme;
+use sieve_syntax::{Mark, Test, Tests};
 use std::alloc::Global;
 
 /// A test, with no more than `depth` tests inside one another, itself counted.
 #[cycle(test_reader)]
 #[tactic(auto, unfolding(crate::specs::Reading::test_at))]
-fn read_test(alloc: Global, depth: u8, tokens: &[Token]) -> Result<(Test, &[Token]), Stop>
-    ensures value { Gives (λ x. (test_of x.0, kinds x.1.now)) result (test_at depth (kinds tokens.now)) }
-    ensures shorter { IfOk result (λ x. length x.1.now < length tokens.now) }
+fn read_test(alloc: Global, depth: u8, text: &[u8]) -> Result<(Test, &[u8]), Stop>
+    ensures value { Gives (λ x. (test_of x.0, kinds_in x.1.now)) result (test_at depth (kinds_in text.now)) }
+    ensures fewer { IfOk result (λ x. length (kinds_in x.1.now) < length (kinds_in text.now)) }
 {
-    let Some((TokenKind::Identifier(name), rest)) = split_kind(tokens) else {
-        return Err(syntax(tokens));
+    let Some((Lexeme::Identifier(name), rest)) = split_lexeme(text) else {
+        return Err(syntax(text));
     };
     if depth == 0 {
-        return Err(Stop::Refused(Misfit::Nesting, tokens.len()));
+        return Err(Stop::Refused(Misfit::Nesting, left_from(text)));
     }
     let (arguments, rest) = arguments(alloc, rest)?;
     let (tests, rest) = inner_tests(alloc, depth - 1, rest)?;
-    let name = name.copy(alloc)?;
+    let name = scanner::text(alloc, name)?;
     Ok((
         Test {
             name,
@@ -38,27 +41,27 @@ fn read_test(alloc: Global, depth: u8, tokens: &[Token]) -> Result<(Test, &[Toke
 
 /// The tests of a command or of a test, with no more than `depth` inside one another.
 #[cycle(test_reader)]
-pub fn inner_tests(alloc: Global, depth: u8, tokens: &[Token]) -> Result<(Tests, &[Token]), Stop>
-    ensures value { Gives (λ x. (inner_of x.0, kinds x.1.now)) result (inner_with (test_at depth) (kinds tokens.now)) }
-    ensures shorter { IfOk result (λ x. length x.1.now ≤ length tokens.now) }
+pub fn inner_tests(alloc: Global, depth: u8, text: &[u8]) -> Result<(Tests, &[u8]), Stop>
+    ensures value { Gives (λ x. (inner_of x.0, kinds_in x.1.now)) result (inner_with (test_at depth) (kinds_in text.now)) }
+    ensures fewer { IfOk result (λ x. length (kinds_in x.1.now) ≤ length (kinds_in text.now)) }
 {
-    match split_kind(tokens) {
-        Some((TokenKind::Identifier(_), _)) => {
-            let (only, rest) = read_test(alloc, depth, tokens)?;
+    match split_lexeme(text) {
+        Some((Lexeme::Identifier(_), _)) => {
+            let (only, rest) = read_test(alloc, depth, text)?;
             Ok((Tests::One(Box::new(alloc, only)?), rest))
         }
-        Some((TokenKind::Mark(Mark::OpenParen), rest)) => test_list(alloc, depth, rest),
-        _ => Ok((Tests::None, tokens)),
+        Some((Lexeme::Mark(Mark::OpenParen), rest)) => test_list(alloc, depth, rest),
+        _ => Ok((Tests::None, text)),
     }
 }
 
 /// A list of tests, behind its opening bracket.
 #[cycle(test_reader)]
-fn test_list(alloc: Global, depth: u8, tokens: &[Token]) -> Result<(Tests, &[Token]), Stop>
-    ensures value { Gives (λ x. (inner_of x.0, kinds x.1.now)) result (test_list_with (test_at depth) (kinds tokens.now)) }
-    ensures shorter { IfOk result (λ x. length x.1.now < length tokens.now) }
+fn test_list(alloc: Global, depth: u8, text: &[u8]) -> Result<(Tests, &[u8]), Stop>
+    ensures value { Gives (λ x. (inner_of x.0, kinds_in x.1.now)) result (test_list_with (test_at depth) (kinds_in text.now)) }
+    ensures fewer { IfOk result (λ x. length (kinds_in x.1.now) < length (kinds_in text.now)) }
 {
-    let (first, rest) = read_test(alloc, depth, tokens)?;
+    let (first, rest) = read_test(alloc, depth, text)?;
     let (tests, rest) = with_others(alloc, depth, first, rest)?;
     let rest = behind_paren(rest)?;
     Ok((Tests::Listed(tests), rest))
@@ -70,39 +73,40 @@ fn with_others(
     alloc: Global,
     depth: u8,
     first: Test,
-    tokens: &[Token],
-) -> Result<(Vec<Test>, &[Token]), Stop>
-    ensures value { Gives (λ x. (map test_of x.0.items, kinds x.1.now)) result (behind (test_of first ∷ []) (many_at (next_with (test_at depth)) (length (kinds tokens.now)) (kinds tokens.now))) }
-    ensures shorter { IfOk result (λ x. length x.1.now ≤ length tokens.now) }
+    text: &[u8],
+) -> Result<(Vec<Test>, &[u8]), Stop>
+    ensures value { Gives (λ x. (map test_of x.0.items, kinds_in x.1.now)) result (behind (test_of first ∷ []) (many_at (next_with (test_at depth)) (length (kinds_in text.now)) (kinds_in text.now))) }
+    ensures fewer { IfOk result (λ x. length (kinds_in x.1.now) ≤ length (kinds_in text.now)) }
 {
     let mut tests = vec![in alloc; first]?;
-    let mut rest = tokens;
+    let mut rest = text;
     while let Some((next, after)) = next_test(alloc, depth, rest)? {
         tests.push(next)?;
         rest = after;
     }
+    tests.shrink_to_fit();
     Ok((tests, rest))
 }
 
 /// The next test of a list, where a comma follows.
 #[cycle(test_reader)]
-fn next_test(alloc: Global, depth: u8, tokens: &[Token]) -> Result<Option<(Test, &[Token])>, Stop>
-    ensures value { Gives (option_map (λ x. (test_of x.0, kinds x.1.now))) result (next_with (test_at depth) (kinds tokens.now)) }
-    ensures shorter { IfOk result (λ o. IfSome o (λ x. length x.1.now < length tokens.now)) }
+fn next_test(alloc: Global, depth: u8, text: &[u8]) -> Result<Option<(Test, &[u8])>, Stop>
+    ensures value { Gives (option_map (λ x. (test_of x.0, kinds_in x.1.now))) result (next_with (test_at depth) (kinds_in text.now)) }
+    ensures fewer { IfOk result (λ o. IfSome o (λ x. length (kinds_in x.1.now) < length (kinds_in text.now))) }
 {
-    match split_kind(tokens) {
-        Some((TokenKind::Mark(Mark::Comma), rest)) => Ok(Some(read_test(alloc, depth, rest)?)),
+    match split_lexeme(text) {
+        Some((Lexeme::Mark(Mark::Comma), rest)) => Ok(Some(read_test(alloc, depth, rest)?)),
         _ => Ok(None),
     }
 }
 
 /// The tokens behind the bracket that closes a list of tests.
-fn behind_paren(tokens: &[Token]) -> Result<&[Token], Stop>
-    ensures value { Gives (λ x. kinds x.now) result (behind_paren (kinds tokens.now)) }
-    ensures shorter { IfOk result (λ x. length x.now < length tokens.now) }
+fn behind_paren(text: &[u8]) -> Result<&[u8], Stop>
+    ensures value { Gives (λ x. kinds_in x.now) result (behind_paren (kinds_in text.now)) }
+    ensures fewer { IfOk result (λ x. length (kinds_in x.now) < length (kinds_in text.now)) }
 {
-    match split_kind(tokens) {
-        Some((TokenKind::Mark(Mark::CloseParen), rest)) => Ok(rest),
-        _ => Err(syntax(tokens)),
+    match split_lexeme(text) {
+        Some((Lexeme::Mark(Mark::CloseParen), rest)) => Ok(rest),
+        _ => Err(syntax(text)),
     }
 }

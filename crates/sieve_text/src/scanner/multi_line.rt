@@ -3,12 +3,14 @@
 ghost use Rattle.sieve_text.specs.Octets.{is_blank};
 ghost use Rattle.std.specs.List.{prefix_len};
 ghost use Rattle.std.specs.Prelude.{◌≡◌, ◌≤◌, ◌<◌, ◌+◌, ◌^◌, length, true, false, IfOk, ℕ, IfErr};
+ghost use Rattle.sieve_text.specs.Lexemes.{read_of};
 ghost use Rattle.sieve_text.specs.Strings.{begins_text, opening_end_at, is_last_line, lines_len, lines_value};
 ghost use Rattle.sieve_text.specs.Tokens.{lines_at, multi_line_at, Gives, StandsAt, either_place};
 
-use crate::fault::{ScanFault, ScanRefusal};
-use crate::scanner::{octets, quoted};
-use sieve_syntax::{Text, TokenKind};
+use crate::fault::{FaultyPlace, ScanRefusal};
+use crate::lexeme::{Lexeme, WrittenString};
+use crate::scanner::octets;
+use crate::scanner::strings::string;
 use std::alloc::{AllocError, Global};
 
 /// Whether `text:` stands here, in letters of either case.
@@ -30,23 +32,23 @@ pub fn begins(rest: &[u8]) -> bool
 
 /// How many octets an optional hash comment and the line end take, which stand at this offset, `start` being that of
 /// the string.
-fn opening_end(rest: &[u8], start: usize, at: usize) -> Result<usize, ScanFault>
+fn opening_end(rest: &[u8], start: usize, at: usize) -> Result<usize, FaultyPlace>
     ensures value { Gives (λ x. x) result (opening_end_at rest.now) }
     ensures within { IfOk result (λ n. n ≤ length rest.now) }
     ensures place { IfErr result (λ e. StandsAt (either_place start at) e) }
 {
     if rest.is_empty() {
-        return Err(ScanFault::Refused(ScanRefusal::StringNotClosed, start));
+        return Err(FaultyPlace::new(ScanRefusal::StringNotClosed, start));
     }
     if octets::starts_with(rest, b'#') {
         let n = octets::line_length(rest);
         if n == rest.len() {
-            return Err(ScanFault::Refused(ScanRefusal::StringNotClosed, start));
+            return Err(FaultyPlace::new(ScanRefusal::StringNotClosed, start));
         }
         return Ok(n + 1);
     }
     match octets::line_end_length(rest) {
-        0 => Err(ScanFault::Refused(ScanRefusal::NoToken, at)),
+        0 => Err(FaultyPlace::new(ScanRefusal::NoToken, at)),
         n => Ok(n),
     }
 }
@@ -83,8 +85,8 @@ fn lines_length(lines: &[u8]) -> usize
 
 /// What the lines stand for: a leading dot is dropped where another dot follows it, and a bare LF becomes CR LF.
 #[tactic(auto, unfolding(crate::specs::Strings::unstuffed, crate::specs::Strings::with_crlf))]
-fn value(alloc: Global, lines: &[u8]) -> Result<Text, AllocError>
-    ensures { IfOk result (λ t. t ≡ lines_value lines.now) }
+pub fn value(alloc: Global, lines: &[u8]) -> Result<Vec<u8>, AllocError>
+    ensures { IfOk result (λ v. v.items ≡ lines_value lines.now) }
 {
     let mut octets = Vec::with_capacity(alloc, lines.len())?;
     let mut rest = lines;
@@ -103,37 +105,32 @@ fn value(alloc: Global, lines: &[u8]) -> Result<Text, AllocError>
         }
         rest = behind;
     }
-    Ok(Text::from_vec(octets))
+    Ok(octets)
 }
 
 /// The lines of a string that begins at an offset, `before` octets before them.
 #[tactic(auto, unfolding(crate::specs::Tokens::lines_at))]
-fn lines_token(
-    alloc: Global,
-    lines: &[u8],
-    before: usize,
-    at: usize,
-) -> Result<(TokenKind, usize), ScanFault>
+fn lines_token(lines: &[u8], before: usize, at: usize) -> Result<(Lexeme<'_>, usize), FaultyPlace>
     requires { before + length lines.now < 2 ^ 64 }
-    ensures value { Gives (λ x. x) result (lines_at before lines.now) }
+    ensures value { Gives read_of result (lines_at before lines.now) }
     ensures within { IfOk result (λ x. (before < x.1) × (x.1 ≤ before + length lines.now)) }
     ensures place { (octet : ℕ) → IfErr result (λ e. StandsAt (either_place at octet) e) }
 {
     let n = lines_length(lines);
     if n == lines.len() {
-        return Err(ScanFault::Refused(ScanRefusal::StringNotClosed, at));
+        return Err(FaultyPlace::new(ScanRefusal::StringNotClosed, at));
     }
-    let text = value(alloc, &lines[..n])?;
     let (_, behind) = lines.split_at(n + 1);
     let end = octets::line_end_length(behind);
-    quoted::string(text, before + (n + (1 + end)), at)
+    let written = WrittenString::Lines(&lines[..n]);
+    string(written, before + (n + (1 + end)), at)
 }
 
 /// A multi-line string behind its `text:`, which stands at this offset.
 #[tactic(auto, unfolding(crate::specs::Tokens::multi_line_at))]
-pub fn token(alloc: Global, behind: &[u8], at: usize) -> Result<(TokenKind, usize), ScanFault>
+pub fn token(behind: &[u8], at: usize) -> Result<(Lexeme<'_>, usize), FaultyPlace>
     requires { at + (5 + length behind.now) < 2 ^ 64 }
-    ensures value { Gives (λ x. x) result (multi_line_at behind.now) }
+    ensures value { Gives read_of result (multi_line_at behind.now) }
     ensures within { IfOk result (λ x. x.1 ≤ 5 + length behind.now) }
     ensures some { IfOk result (λ x. 0 < x.1) }
     ensures place { IfErr result (λ e. StandsAt (either_place at (at + (5 + prefix_len is_blank behind.now))) e) }
@@ -142,5 +139,5 @@ pub fn token(alloc: Global, behind: &[u8], at: usize) -> Result<(TokenKind, usiz
     let (_, rest) = behind.split_at(blanks);
     let n = opening_end(rest, at, at + (5 + blanks))?;
     let (_, lines) = behind.split_at(blanks + n);
-    lines_token(alloc, lines, 5 + (blanks + n), at)
+    lines_token(lines, 5 + (blanks + n), at)
 }

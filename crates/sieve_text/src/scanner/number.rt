@@ -4,10 +4,11 @@ ghost use Rattle.std.specs.Prelude.{◌≡◌, ◌≤◌, ◌<◌, ◌^◌, leng
 ghost use Rattle.std.specs.List.{prefix_len};
 ghost use Rattle.std.specs.Char.{is_ascii_digit};
 ghost use Rattle.std.specs.Str.Parse.{digits_value};
+ghost use Rattle.sieve_text.specs.Lexemes.{read_of};
 ghost use Rattle.sieve_text.specs.Tokens.{factor_at, number_at, Gives, StandsAt, either_place};
 
-use crate::fault::{ScanFault, ScanRefusal};
-use sieve_syntax::TokenKind;
+use crate::fault::{FaultyPlace, ScanRefusal};
+use crate::lexeme::Lexeme;
 
 /// 2^63 - 1.
 const LARGEST: u64 = 9_223_372_036_854_775_807;
@@ -51,8 +52,8 @@ fn decimal(digits: &[u8]) -> Option<u64>
 
 /// A number, which begins at this offset, and how many octets it has.
 #[tactic(auto, unfolding(crate::specs::Tokens::number_at))]
-pub fn token(rest: &[u8], at: usize) -> Result<(TokenKind, usize), ScanFault>
-    ensures value { Gives (λ x. x) result (number_at rest.now) }
+pub fn token(rest: &[u8], at: usize) -> Result<(Lexeme<'_>, usize), FaultyPlace>
+    ensures value { Gives read_of result (number_at rest.now) }
     ensures within { IfOk result (λ x. x.1 ≤ length rest.now) }
     ensures some { IfOk result (λ x. prefix_len is_ascii_digit rest.now ≤ x.1) }
     ensures place { (octet : ℕ) → IfErr result (λ e. StandsAt (either_place at octet) e) }
@@ -61,10 +62,10 @@ pub fn token(rest: &[u8], at: usize) -> Result<(TokenKind, usize), ScanFault>
     let (digits, behind) = rest.split_at(n);
     let (factor, quantifier) = factor(behind);
     let Some(value) = decimal(digits) else {
-        return Err(ScanFault::Refused(ScanRefusal::NumberTooLarge, at));
+        return Err(FaultyPlace::new(ScanRefusal::NumberTooLarge, at));
     };
     match value.checked_mul(factor) {
-        Some(value) if value <= LARGEST => Ok((TokenKind::Number(value), n + quantifier)),
-        _ => Err(ScanFault::Refused(ScanRefusal::NumberTooLarge, at)),
+        Some(value) if value <= LARGEST => Ok((Lexeme::Number(value), n + quantifier)),
+        _ => Err(FaultyPlace::new(ScanRefusal::NumberTooLarge, at)),
     }
 }

@@ -2,14 +2,13 @@
 
 ghost use Rattle.std.specs.Prelude.{◌≡◌, ◌≤◌, ◌<◌, ◌+◌, length, false, suc, IfOk, ℕ, IfErr};
 ghost use Rattle.sieve_text.specs.Strings.{quoted_len, quoted_value};
-ghost use Rattle.sieve_text.specs.Tokens.{quoted_at, string_kind, Gives, StandsAt, either_place};
+ghost use Rattle.sieve_text.specs.Lexemes.{read_of};
+ghost use Rattle.sieve_text.specs.Tokens.{quoted_at, Gives, StandsAt, either_place};
 
-use crate::fault::{ScanFault, ScanRefusal};
-use sieve_syntax::{Text, TokenKind};
+use crate::fault::{FaultyPlace, ScanRefusal};
+use crate::lexeme::{Lexeme, WrittenString};
+use crate::scanner::strings::string;
 use std::alloc::{AllocError, Global};
-
-/// The most octets of a string's value.
-const MOST_OCTETS: usize = 65_535;
 
 /// How many octets stand before the closing quotation mark, or all there are.
 #[tactic(auto, unfolding(crate::specs::Strings::quoted_len))]
@@ -33,8 +32,8 @@ fn body_length(rest: &[u8]) -> usize
 /// What the octets between the quotation marks stand for: a backslash is dropped, the octet after it stays, and a bare
 /// LF becomes CR LF.
 #[tactic(auto, unfolding(crate::specs::Strings::unescaped, crate::specs::Strings::with_crlf))]
-fn value(alloc: Global, body: &[u8]) -> Result<Text, AllocError>
-    ensures { IfOk result (λ t. t ≡ quoted_value body.now) }
+pub fn value(alloc: Global, body: &[u8]) -> Result<Vec<u8>, AllocError>
+    ensures { IfOk result (λ v. v.items ≡ quoted_value body.now) }
 {
     let mut octets = Vec::with_capacity(alloc, body.len())?;
     let mut escaped = false;
@@ -51,33 +50,20 @@ fn value(alloc: Global, body: &[u8]) -> Result<Text, AllocError>
             after_cr = b == b'\r';
         }
     }
-    Ok(Text::from_vec(octets))
-}
-
-/// The string with this value, whose token begins at this offset and has this length in octets.
-pub fn string(value: Text, length: usize, at: usize) -> Result<(TokenKind, usize), ScanFault>
-    ensures value { Gives (λ x. x) result (string_kind value length) }
-    ensures same_length { IfOk result (λ x. x.1 ≡ length) }
-    ensures place { (octet : ℕ) → IfErr result (λ e. StandsAt (either_place at octet) e) }
-{
-    if value.as_slice().len() > MOST_OCTETS {
-        return Err(ScanFault::Refused(ScanRefusal::StringTooLong, at));
-    }
-    Ok((TokenKind::StringValue(value), length))
+    Ok(octets)
 }
 
 /// A string behind its opening quotation mark, which stands at this offset.
 #[tactic(auto, unfolding(crate::specs::Tokens::quoted_at))]
-pub fn token(alloc: Global, behind: &[u8], at: usize) -> Result<(TokenKind, usize), ScanFault>
-    ensures value { Gives (λ x. x) result (quoted_at behind.now) }
+pub fn token(behind: &[u8], at: usize) -> Result<(Lexeme<'_>, usize), FaultyPlace>
+    ensures value { Gives read_of result (quoted_at behind.now) }
     ensures within { IfOk result (λ x. x.1 ≤ suc (length behind.now)) }
     ensures some { IfOk result (λ x. 0 < x.1) }
     ensures place { (octet : ℕ) → IfErr result (λ e. StandsAt (either_place at octet) e) }
 {
     let n = body_length(behind);
     if n == behind.len() {
-        return Err(ScanFault::Refused(ScanRefusal::StringNotClosed, at));
+        return Err(FaultyPlace::new(ScanRefusal::StringNotClosed, at));
     }
-    let text = value(alloc, &behind[..n])?;
-    string(text, n + 2, at)
+    string(WrittenString::Quoted(&behind[..n]), n + 2, at)
 }

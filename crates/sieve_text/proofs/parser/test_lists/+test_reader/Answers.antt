@@ -2,28 +2,28 @@ use Rattle.std.proofs.Common.{◌≡◌, ◌<◌, ◌∷◌, ◌++◌, [], lengt
 use Rattle.std.proofs.lemmas.Result.{err_from_is_err_and}
 use Rattle.std.proofs.lemmas.List.{map_push}
 use Rattle.sieve_syntax.specs.View.{test_of}
-use Rattle.sieve_text.specs.Grammar.{kinds}
+use Rattle.sieve_text.specs.Lexemes.{kinds_in}
 use Rattle.sieve_text.specs.Reading.{next_with, many_at, test_at, behind}
-use Rattle.sieve_text.proofs.Many.{length_kinds, goes_on_more, goes_on_ends, goes_on_fails}
+use Rattle.sieve_text.proofs.Many.{goes_on_more, goes_on_ends, goes_on_fails}
 use Rattle.sieve_text.proofs.parser.test_lists.+test_reader.Goals as goal
 
 pub with_others-returns-in_err-next-clause-value : goal.with_others-returns-in_err-next-clause-value
 with_others-returns-in_err-next-clause-value t c =
     let p = err_from_is_err_and c.from_residual-in_err-next.result c.from_residual-in_err-next.ensures.1 in
-    let ts = kinds c.args.tokens.now in
-    rw (p.1, p.2) (goes_on_fails c.in_err-next.field-0.0 (next_with (test_at c.args.depth)) (map test_of c.loop-tests.tests.items) (kinds c.loop-tests.rest.now) (behind (test_of c.args.first ∷ []) (many_at (next_with (test_at c.args.depth)) (length ts) ts)) refl c.loop-tests.invariant.0 c.in_err-next.ensures.value)
+    let ts = kinds_in c.args.text.now in
+    rw (p.1, p.2) (goes_on_fails c.in_err-next.field-0.0 (next_with (test_at c.args.depth)) (map test_of c.loop-tests.tests.items) (kinds_in c.loop-tests.rest.now) (behind (test_of c.args.first ∷ []) (many_at (next_with (test_at c.args.depth)) (length ts) ts)) refl c.loop-tests.invariant.0 c.in_err-next.ensures.value)
 
 pub with_others-loop-tests-preserved : goal.with_others-loop-tests-preserved
 with_others-loop-tests-preserved t c =
     let before = c.loop-tests.rest.now in
     let after = c.in-Some.after.now in
-    let ts = kinds c.args.tokens.now in
+    let ts = kinds_in c.args.text.now in
     let e = rw c.in-Some.is at c.in_ok-next.ensures.value in
-    let l : length after < length before = rw c.in-Some.is at c.in_ok-next.ensures.shorter in
+    let l : length (kinds_in after) < length (kinds_in before) = rw c.in-Some.is at c.in_ok-next.ensures.fewer in
     let pushed : map test_of c.push.new.self.items ≡ map test_of c.loop-tests.tests.items ++ test_of c.in-Some.next ∷ [] = rw c.in_ok-push.ensures.items (map_push _ c.loop-tests.tests.items c.in-Some.next) in
-    (rw pushed (goes_on_more (next_with (test_at c.args.depth)) (map test_of c.loop-tests.tests.items) (kinds before) (kinds after) (test_of c.in-Some.next) (behind (test_of c.args.first ∷ []) (many_at (next_with (test_at c.args.depth)) (length ts) ts)) c.loop-tests.invariant.0 e (omega (arith, length_kinds before, length_kinds after))), omega (arith, c.loop-tests.invariant.1))
+    (rw pushed (goes_on_more (next_with (test_at c.args.depth)) (map test_of c.loop-tests.tests.items) (kinds_in before) (kinds_in after) (test_of c.in-Some.next) (behind (test_of c.args.first ∷ []) (many_at (next_with (test_at c.args.depth)) (length ts) ts)) c.loop-tests.invariant.0 e l), omega (arith, c.loop-tests.invariant.1))
 
 pub with_others-returns-clause-value : goal.with_others-returns-clause-value
 with_others-returns-clause-value t c =
-    let ts = kinds c.args.tokens.now in
-    goes_on_ends (next_with (test_at c.args.depth)) (map test_of c.loop-tests.tests.items) (kinds c.loop-tests.rest.now) (behind (test_of c.args.first ∷ []) (many_at (next_with (test_at c.args.depth)) (length ts) ts)) c.loop-tests.invariant.0 (rw c.in_default.is at c.in_ok-next.ensures.value)
+    let ts = kinds_in c.args.text.now in
+    rw c.shrink_to_fit.ensures.items (goes_on_ends (next_with (test_at c.args.depth)) (map test_of c.loop-tests.tests.items) (kinds_in c.loop-tests.rest.now) (behind (test_of c.args.first ∷ []) (many_at (next_with (test_at c.args.depth)) (length ts) ts)) c.loop-tests.invariant.0 (rw c.in_default.is at c.in_ok-next.ensures.value))

@@ -1,7 +1,7 @@
 use Rattle.std.proofs.Common.{◌+◌, sym, ◌∙◌}
 use Rattle.sieve_text.specs.Tokens.{text_len}
 use Rattle.sieve_text.proofs.WithinLemmas.{no_text}
-use Rattle.sieve_text.proofs.scanner.kind.Goals as goal
+use Rattle.sieve_text.proofs.scanner.lexeme.Goals as goal
 
 pub returns-then-is_ascii_digit-clause-place : goal.returns-then-is_ascii_digit-clause-place
 returns-then-is_ascii_digit-clause-place c = c.token-then-is_ascii_digit.ensures.place (c.args.at + text_len c.args.rest.now)

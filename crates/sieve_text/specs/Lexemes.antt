@@ -1,0 +1,47 @@
+-- What the tokens say that are written in a script.
+use Rattle.std.specs.Prelude.{ℕ, zero, suc, List, [], ◌∷◌, length, drop, Result, Ok, Err}
+use Rattle.sieve_syntax.specs.declared.token.TokenKind.{TokenKind}
+use Rattle.sieve_syntax.specs.declared.token.TokenKind.TheVariants as kinds
+use Rattle.sieve_syntax.specs.declared.token.Token.{Token}
+use Rattle.sieve_text.specs.declared.fault.ScanRefusal.{ScanRefusal}
+use Rattle.sieve_text.specs.declared.lexeme.WrittenString.{WrittenString}
+use Rattle.sieve_text.specs.declared.lexeme.WrittenString.TheVariants.{Quoted, Lines}
+use Rattle.sieve_text.specs.declared.lexeme.Lexeme.{Lexeme}
+use Rattle.sieve_text.specs.declared.lexeme.Lexeme.TheVariants as lexemes
+use Rattle.sieve_text.specs.declared.lexeme.PlacedLexeme.{PlacedLexeme}
+use Rattle.sieve_text.specs.Gaps.{gap_len}
+use Rattle.sieve_text.specs.Strings.{quoted_value, lines_value}
+use Rattle.sieve_text.specs.Tokens.{kind_at}
+
+-- the value of a string
+abbrev pub string_of : WrittenString → List ℕ
+string_of (Quoted body) = quoted_value body.now
+string_of (Lines lines) = lines_value lines.now
+
+-- what a token says
+abbrev pub kind_of : Lexeme → TokenKind
+kind_of (lexemes.Identifier name) = kinds.Identifier name.now
+kind_of (lexemes.Tag name) = kinds.Tag name.now
+kind_of (lexemes.Number n) = kinds.Number n
+kind_of (lexemes.StringValue written) = kinds.StringValue (string_of written)
+kind_of (lexemes.Mark mark) = kinds.Mark mark
+
+-- what a token says, and how many octets it has
+abbrev pub read_of : Lexeme × ℕ → TokenKind × ℕ
+read_of x = (kind_of x.0, x.1)
+
+abbrev pub token_of : PlacedLexeme → Token
+token_of p = record { kind = kind_of p.lexeme; start = p.start; end = p.end }
+
+abbrev pub first_and : (List ℕ → List TokenKind) → List ℕ → Result (TokenKind × ℕ) ScanRefusal → List TokenKind
+first_and more bs (Ok k) = k.0 ∷ more (drop k.1 bs)
+first_and more bs (Err refusal) = []
+
+-- what the tokens of a text say, up to the first place where none is; no more than so many
+unfoldable pub kinds_within : ℕ → List ℕ → List TokenKind
+kinds_within zero bs = []
+kinds_within (suc n) bs = first_and (kinds_within n) (drop (gap_len 0 bs) bs) (kind_at (drop (gap_len 0 bs) bs))
+
+-- what the tokens of a text say, all of them up to the first place where none is, as each has an octet
+abbrev pub kinds_in : List ℕ → List TokenKind
+kinds_in bs = kinds_within (length bs) bs

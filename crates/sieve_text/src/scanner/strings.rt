@@ -1,0 +1,112 @@
+//! Strings of both kinds (RFC 5228, section 2.4.2): their limit and their values.
+
+ghost use Rattle.std.specs.Prelude.{◌≡◌, length, IfOk, ℕ, IfErr, nat_lt};
+ghost use Rattle.sieve_text.specs.Strings.{quoted_value, lines_value};
+ghost use Rattle.sieve_text.specs.Lexemes.{string_of, read_of};
+ghost use Rattle.sieve_text.specs.Tokens.{string_kind, Gives, StandsAt, either_place};
+
+use crate::fault::{FaultyPlace, ScanRefusal};
+use crate::lexeme::{Lexeme, WrittenString};
+use crate::scanner::{multi_line, octets, quoted};
+use sieve_syntax::Text;
+use std::alloc::{AllocError, Global};
+
+/// The most octets of a string's value.
+const MOST_OCTETS: usize = 65_535;
+
+/// A string of so many octets as written is within its limit, as no octet stands for more than two.
+const FEW_OCTETS: usize = 32_767;
+
+/// Whether the value of what stands between the quotation marks has more than 65,535 octets.
+#[tactic(auto, unfolding(crate::specs::Strings::unescaped, crate::specs::Strings::with_crlf))]
+fn quoted_too_long(body: &[u8]) -> bool
+    ensures { result ≡ nat_lt 65535 (length (quoted_value body.now)) }
+{
+    let mut room = MOST_OCTETS;
+    let mut escaped = false;
+    let mut after_cr = false;
+    for &b in body {
+        if b == b'\\' && !escaped {
+            escaped = true;
+        } else {
+            let octets = if b == b'\n' && !after_cr { 2 } else { 1 };
+            if room < octets {
+                return true;
+            }
+            room -= octets;
+            escaped = false;
+            after_cr = b == b'\r';
+        }
+    }
+    false
+}
+
+/// Whether what the lines stand for has more than 65,535 octets.
+#[tactic(auto, unfolding(crate::specs::Strings::unstuffed, crate::specs::Strings::with_crlf))]
+fn lines_too_long(lines: &[u8]) -> bool
+    ensures { result ≡ nat_lt 65535 (length (lines_value lines.now)) }
+{
+    let mut room = MOST_OCTETS;
+    let mut rest = lines;
+    let mut at_start = true;
+    let mut after_cr = false;
+    'octets: while let Some((&b, behind)) = rest.split_first() {
+        if at_start && b == b'.' && octets::starts_with(behind, b'.') {
+            at_start = false;
+        } else {
+            let octets = if b == b'\n' && !after_cr { 2 } else { 1 };
+            if room < octets {
+                return true;
+            }
+            room -= octets;
+            at_start = b == b'\n';
+            after_cr = b == b'\r';
+        }
+        rest = behind;
+    }
+    false
+}
+
+/// Whether the value of a string has more than 65,535 octets.
+fn is_too_long(written: WrittenString<'_>) -> bool
+    ensures { result ≡ nat_lt 65535 (length (string_of written.entry)) }
+{
+    match written {
+        WrittenString::Quoted(body) => body.len() > FEW_OCTETS && quoted_too_long(body),
+        WrittenString::Lines(lines) => lines.len() > FEW_OCTETS && lines_too_long(lines),
+    }
+}
+
+/// The string that is written so, whose token begins at this offset and has this length in octets.
+pub fn string(
+    written: WrittenString<'_>,
+    length: usize,
+    at: usize,
+) -> Result<(Lexeme<'_>, usize), FaultyPlace>
+    ensures value { Gives read_of result (string_kind (string_of written.entry) length) }
+    ensures same_length { IfOk result (λ x. x.1 ≡ length) }
+    ensures place { (octet : ℕ) → IfErr result (λ e. StandsAt (either_place at octet) e) }
+{
+    if is_too_long(written) {
+        return Err(FaultyPlace::new(ScanRefusal::StringTooLong, at));
+    }
+    Ok((Lexeme::StringValue(written), length))
+}
+
+/// The value of a string.
+pub fn string_text(alloc: Global, written: WrittenString<'_>) -> Result<Text, AllocError>
+    ensures { IfOk result (λ t. t ≡ string_of written.entry) }
+{
+    let octets = match written {
+        WrittenString::Quoted(body) => quoted::value(alloc, body)?,
+        WrittenString::Lines(lines) => multi_line::value(alloc, lines)?,
+    };
+    Ok(Text::from_vec(octets))
+}
+
+/// These octets as a text of their own.
+pub fn text(alloc: Global, octets: &[u8]) -> Result<Text, AllocError>
+    ensures { IfOk result (λ t. t ≡ octets.now) }
+{
+    Ok(Text::from_vec(Vec::from_slice(alloc, octets)?))
+}
