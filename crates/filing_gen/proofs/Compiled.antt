@@ -14,11 +14,11 @@ use Rattle.filing_flow.proofs.Well.{typed_is_well}
 use Rattle.filing_flow.proofs.Ended.{program_ends}
 use Rattle.sieve_meaning.specs.Case.{Facts}
 use Rattle.sieve_meaning.specs.Program.{Commands}
-use Rattle.sieve_meaning.specs.Meaning.{Ending, GoesOn, Returns, Stops, Faults, included, meaning, opening, main_names, no_library, Library}
+use Rattle.sieve_meaning.specs.Meaning.{Ending, GoesOn, Returns, Stops, Faults, included, meaning, opening, main_names, Library}
 use Rattle.sieve_meaning.specs.Outcome.{Outcome, outcome_at, outcome_of}
 use Rattle.sieve_meaning.specs.Weight.{linked_weight, included_weight}
 use Rattle.filing_gen.specs.Structured.{script_flow}
-use Rattle.filing_gen.specs.Linked.{Slots, linked_flow, HasSlots, Marked, no_slots}
+use Rattle.filing_gen.specs.Linked.{Slots, linked_flow, HasSlots, Marked}
 use Rattle.filing_gen.specs.Alike.{Marking, Related, filing_at, exit_of, Alike}
 use Rattle.filing_gen.specs.Adds.{IsCode, IsImageOf}
 use Rattle.filing_gen.specs.Emission.{commands_long}
@@ -96,10 +96,6 @@ module _ (lib : Library) (slot : Slots) (count : ℕ) (has : HasSlots lib slot c
 
   pub room : linked_weight lib known_as main ≤ 60000 → commands_long (λ i. size (linked_flow lib slot known_as i)) main + 1 < 2 ^ 16
   room small = omega (arith, small, script_small, flow_long (linked_flow lib slot known_as) 0 main)
-
--- no script needs a slot
-pub none_there : HasSlots no_library no_slots 0
-none_there = record { few = omega arith; inside = λ s x at. absurd (cc at); own = λ s t x y at there e. absurd (cc at) }
 
 -- a program that may run is refused for want of memory alone
 pub refused_for_memory : (p : Program) → IsWell p → (f : VerifyFault) → Fails f p → f ≡ faults.NoMemory

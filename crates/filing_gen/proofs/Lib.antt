@@ -13,3 +13,4 @@ mod Shelves
 pub mod Slots
 mod Stacked
 mod Rows
+mod LevelLemmas

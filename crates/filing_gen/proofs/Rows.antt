@@ -2,9 +2,8 @@
 use Rattle.std.proofs.Common.{◌≡◌, ℕ, List, [], ◌∷◌, true, false, Some, None, codes, refl}
 use Rattle.sieve_syntax.specs.declared.tree.Script.{Script}
 use Rattle.sieve_syntax.specs.View.{tree_of}
-use Rattle.sieve_meaning.specs.Meaning.{ScriptName}
 use Rattle.sieve_meaning.specs.Reading.{program_of}
-use Rattle.filing_gen.specs.Libraries.{NamedScript, Scripts, named, place_of, put, scripts_of, slots_of}
+use Rattle.filing_gen.specs.Libraries.{NamedScript, Scripts, named, put, scripts_of, slots_of}
 
 abbrev entry : List ℕ → Script → NamedScript
 entry name s = record { name = name; script = s }

@@ -1,14 +1,14 @@
 -- What a shelf holds, and what putting a script on it changes.
-use Rattle.std.proofs.Common.{◌≡◌, ◌≢◌, ℕ, suc, ◌+◌, ◌<◌, ◌≤◌, List, [], ◌∷◌, ◌++◌, Bool, true, false, not, cond, Option, Some, None, option_map, map, length, get_or, set, refl, sym, ap, ◌∙◌, arith, position, length-append, IsSome, is_some}
+use Rattle.std.proofs.Common.{◌≡◌, ℕ, suc, ◌+◌, ◌<◌, ◌≤◌, List, [], ◌∷◌, ◌++◌, Bool, true, false, not, cond, Some, None, option_map, map, length, set, refl, sym, ap, ◌∙◌, arith, position, length-append}
 use Rattle.std.specs.Prelude.{find}
 use Rattle.std.specs.List.{position_or_len, slice_get}
 use Rattle.std.specs.Str.{bytes_eq}
 use Rattle.std.proofs.lemmas.Slice.Eq.{bytes_eq-Decides}
 use Rattle.std.proofs.lemmas.Grind.{common_steps}
-use Rattle.std.proofs.lemmas.List.{length-set, map-set, length-map}
+use Rattle.std.proofs.lemmas.List.{length-set}
 use Rattle.std.proofs.lemmas.List.Folds.{find_at}
-use Rattle.std.proofs.lemmas.Option.{slice_get_past, slice_get-map, slice_get_read}
-use Rattle.filing_gen.specs.Libraries.{NamedScript, is_named, named, place_of, put, EachOnce, IsLocation, HasNoRoom, most_scripts}
+use Rattle.std.proofs.lemmas.Option.{slice_get_past}
+use Rattle.filing_gen.specs.Libraries.{NamedScript, is_named, named, put, EachOnce, IsLocation, most_scripts}
 
 -- PLACES
 

@@ -6,10 +6,9 @@ use Rattle.std.proofs.lemmas.List.Folds.{find_at}
 use Rattle.std.proofs.lemmas.Option.{slice_get_within}
 use Rattle.sieve_syntax.specs.declared.tree.Script.{Script}
 use Rattle.sieve_syntax.specs.View.{tree_of}
-use Rattle.sieve_meaning.specs.Meaning.{ScriptName}
 use Rattle.sieve_meaning.specs.Program.{Commands}
 use Rattle.sieve_meaning.specs.Reading.{program_of}
-use Rattle.filing_gen.specs.Libraries.{NamedScript, Scripts, IsLibrary, IsLocation, is_named, named, place_of, location_of, first_slot, scripts_of, slots_of, most_scripts, no_scripts}
+use Rattle.filing_gen.specs.Libraries.{NamedScript, Scripts, IsLibrary, is_named, named, place_of, location_of, first_slot, scripts_of, slots_of, most_scripts}
 use Rattle.filing_gen.specs.Linked.{HasSlots}
 use Rattle.filing_gen.proofs.Shelves.{found_passes, same_name}
 
@@ -36,9 +35,9 @@ place_own a b es x y h k same =
     let one : d.0 ≡ e.0 = cc at in
     sym (same_name d.0.name a (found_passes a es d.0 d.1)) ∙ ap (λ (n : NamedScript). n.name) one ∙ same_name e.0.name b (found_passes b es e.0 e.1)
 
-slot_below : (global : Bool) (name : List ℕ) (l : Scripts) → IsLibrary l → place_of name (location_of global l) < length (location_of global l) → (global ≡ false → first_slot global + place_of name (location_of global l) < 32) × (first_slot global + place_of name (location_of global l) < 64)
-slot_below true name l i h = (λ e. absurd (cc e), omega (arith, h, i.global.few))
-slot_below false name l i h = (λ e. omega (arith, h, i.personal.few), omega (arith, h, i.personal.few))
+slot_below : (l : Scripts) (count : ℕ) → length l.personal ≤ count → (0 < length l.global → most_scripts + length l.global ≤ count) → (global : Bool) (name : List ℕ) → place_of name (location_of global l) < length (location_of global l) → first_slot global + place_of name (location_of global l) < count
+slot_below l count p g true name h = let few : most_scripts + length l.global ≤ count = g (omega (arith, h)) in omega (arith, h, few)
+slot_below l count p g false name h = omega (arith, h, p)
 
 slot_own : (g k : Bool) (a b : List ℕ) (l : Scripts) (x y : Commands) → IsLibrary l → option_map program (named a (location_of g l)) ≡ Some x → option_map program (named b (location_of k l)) ≡ Some y → first_slot g + place_of a (location_of g l) ≡ first_slot k + place_of b (location_of k l) → (g ≡ k) × (a ≡ b)
 slot_own true true a b l x y i u v e = (refl, place_own a b l.global x y u v (omega (arith, e)))
@@ -46,12 +45,23 @@ slot_own false false a b l x y i u v e = (refl, place_own a b l.personal x y u v
 slot_own true false a b l x y i u v e = absurd (omega (arith, e, place_inside b l.personal y v, i.personal.few))
 slot_own false true a b l x y i u v e = absurd (omega (arith, e, place_inside a l.personal x u, i.personal.few))
 
-pub has_slots : (l : Scripts) → IsLibrary l → HasSlots (scripts_of l) (slots_of l) 64
-has_slots l i = record {
-  few = omega arith;
-  inside = λ s x h. (slot_below s.global s.name l i (place_inside s.name (location_of s.global l) x h)).1;
+slots_among : (l : Scripts) → IsLibrary l → (count : ℕ) → count ≤ 64 → length l.personal ≤ count → (0 < length l.global → most_scripts + length l.global ≤ count) → HasSlots (scripts_of l) (slots_of l) count
+slots_among l i count few p g = record {
+  few = few;
+  inside = λ s x h. slot_below l count p g s.global s.name (place_inside s.name (location_of s.global l) x h);
   own = λ s t x y h k e.
       let both = slot_own s.global t.global s.name t.name l x y i h k e in
       let pair : (s.global, s.name) ≡ (t.global, t.name) = let u : s.global ≡ t.global = both.0 in let v : s.name ≡ t.name = both.1 in cc in
       ap (λ (p : Bool × List ℕ). record { global = p.0; name = p.1 }) pair;
 }
+
+-- sixty-four are always enough
+pub has_slots : (l : Scripts) → IsLibrary l → HasSlots (scripts_of l) (slots_of l) 64
+has_slots l i = slots_among l i 64 (omega arith) (omega (arith, i.personal.few)) (λ _. omega (arith, i.global.few))
+
+-- where no script is global, as many as there are personal ones
+pub slots_personal : (l : Scripts) → IsLibrary l → (count : ℕ) → count ≡ length l.personal → length l.global ≡ 0 → HasSlots (scripts_of l) (slots_of l) count
+slots_personal l i count e none = slots_among l i count (omega (arith, e, i.personal.few)) (omega (arith, e)) (λ h. absurd (omega (arith, h, none)))
+
+pub slots_global : (l : Scripts) → IsLibrary l → (count : ℕ) → count ≡ most_scripts + length l.global → HasSlots (scripts_of l) (slots_of l) count
+slots_global l i count e = slots_among l i count (omega (arith, e, i.global.few)) (omega (arith, e, i.personal.few)) (λ _. omega (arith, e))

@@ -1,14 +1,14 @@
 -- A shelf as its entries lie in memory, and as a location of the library.
-use Rattle.std.proofs.Common.{◌≡◌, ℕ, ◌+◌, ◌<◌, ◌≤◌, List, [], ◌∷◌, ◌++◌, Bool, true, false, cond, nat_lt, Option, Some, None, IsSome, option_map, map, length, get_or, set, refl, sym, ap, ◌∙◌, subst, arith, position}
+use Rattle.std.proofs.Common.{◌≡◌, ℕ, ◌<◌, ◌≤◌, List, [], ◌∷◌, ◌++◌, Bool, cond, nat_lt, Some, None, IsSome, option_map, map, length, get_or, set, refl, sym, ap, ◌∙◌, subst, arith, position}
 use Rattle.std.specs.Prelude.{find}
-use Rattle.std.specs.List.{position_or_len, slice_get}
+use Rattle.std.specs.List.{position_or_len}
 use Rattle.std.proofs.lemmas.List.{map-set, length-map, map-append}
 use Rattle.std.proofs.lemmas.List.Quantifiers.{position-Some}
 use Rattle.std.proofs.lemmas.Option.{slice_get-map, slice_get_read}
 use Rattle.filing_gen.specs.declared.library.Entry.{Entry}
-use Rattle.filing_gen.specs.Libraries.{NamedScript, is_named, named, place_of, put, IsLocation, HasNoRoom, most_scripts}
+use Rattle.filing_gen.specs.Libraries.{NamedScript, is_named, named, place_of, put, IsLocation, HasNoRoom, IsFoundIn, most_scripts}
 use Rattle.filing_gen.specs.Shelves.{entry_of}
-use Rattle.filing_gen.proofs.Shelves.{position_or_len-map, placed, missing, there, same_name, put_there, put_behind, location_there, location_behind}
+use Rattle.filing_gen.proofs.Shelves.{position_or_len-map, placed, missing, there, same_name, put_there, put_behind, named_put, location_there, location_behind}
 
 position-map : {X Y : Type 0} (f : X → Y) (p : Y → Bool) (xs : List X) → position p (map f xs) ≡ position (λ x. p (f x)) xs
 position-map f p xs =
@@ -55,6 +55,10 @@ module _ (name : List ℕ) (items : List Entry) where
       let inside : position_or_len (is_named name) (map entry_of items) < length (map entry_of items) = omega (arith, at.0, at.1) in
       map-set entry_of items i x ∙ ap (set (map entry_of items) i) named_so ∙ ap (λ n. set (map entry_of items) n y) (sym at.0) ∙ sym (put_there y (map entry_of items) inside)
 
+  pub found_replaced : (i : ℕ) (e x : Entry) → At i → e ≡ get_or items i e → x.name.items ≡ e.name.items → IsFoundIn (record { name = name; script = x.script.value.script }) (map entry_of items) (map entry_of (set items i x))
+  found_replaced i e x h is same n =
+      ap (named n) (replaced i e x h is same) ∙ named_put (record { name = name; script = x.script.value.script }) n (map entry_of items)
+
   pub location_replaced : (i : ℕ) (e x : Entry) → At i → e ≡ get_or items i e → x.name.items ≡ e.name.items → IsLocation (map entry_of items) → IsLocation (map entry_of (set items i x))
   location_replaced i e x h is same l =
       let y : NamedScript = record { name = name; script = x.script.value.script } in
@@ -71,6 +75,10 @@ module _ (name : List ℕ) (items : List Entry) where
       let y : NamedScript = record { name = name; script = x.script.value.script } in
       let named_so : entry_of x ≡ y = ap (λ (n : List ℕ). record { name = n; script = x.script.value.script }) same in
       map-append entry_of items (x ∷ []) ∙ ap (λ (z : NamedScript). map entry_of items ++ z ∷ []) named_so ∙ sym (put_behind y (map entry_of items) (sym (script_missing h)))
+
+  pub found_added : (x : Entry) → Missing → x.name.items ≡ name → IsFoundIn (record { name = name; script = x.script.value.script }) (map entry_of items) (map entry_of (items ++ x ∷ []))
+  found_added x h same n =
+      ap (named n) (added x h same) ∙ named_put (record { name = name; script = x.script.value.script }) n (map entry_of items)
 
   pub location_added : (x : Entry) → Missing → x.name.items ≡ name → length items < most_scripts → IsLocation (map entry_of items) → IsLocation (map entry_of (items ++ x ∷ []))
   location_added x h same few l =

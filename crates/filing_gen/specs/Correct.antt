@@ -5,16 +5,16 @@ use Rattle.filing_verify.specs.Well.{IsWell}
 use Rattle.filing_table.specs.Ends.{HasOutcome}
 use Rattle.sieve_meaning.specs.Case.{Facts}
 use Rattle.sieve_meaning.specs.Program.{Commands}
-use Rattle.sieve_meaning.specs.Meaning.{Library, no_library, meaning}
-use Rattle.filing_gen.specs.declared.library.Library.{Library as OwnLibrary}
+use Rattle.sieve_meaning.specs.Meaning.{Library, meaning}
+use Rattle.filing_gen.specs.Libraries.{Scripts, scripts_of}
 use Rattle.sieve_meaning.specs.Outcome.{outcome_of}
 use Rattle.sieve_meaning.specs.Weight.{linked_weight}
 use Rattle.filing_gen.specs.declared.fault.GenFault.{GenFault}
 use Rattle.filing_gen.specs.declared.fault.GenFault.TheVariants.{TooLarge, NoMemory}
 
--- the scripts of a library, which has none so far
-abbrev pub library_of : OwnLibrary → Library
-library_of l = no_library
+-- what the includes find in a library
+abbrev pub library_of : Scripts → Library
+library_of l = scripts_of l
 
 -- The image of a main script, which may have a name: it declares the script's weight as its budget, it may run, and in
 -- every case it ends with the outcome of what the script means.

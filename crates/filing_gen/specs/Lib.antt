@@ -7,3 +7,5 @@ pub mod Weights
 pub mod Linked
 pub mod Libraries
 pub mod Shelves
+pub mod Levels
+pub mod Scopes

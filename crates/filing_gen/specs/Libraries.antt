@@ -1,6 +1,6 @@
 -- The scripts that can be included: those of the user and those of the site (RFC 6609, section 3.2, `:personal` and
 -- `:global`), each by its name.
-use Rattle.std.specs.Prelude.{◌≡◌, ℕ, ◌+◌, ◌≤◌, List, [], ◌∷◌, length, Bool, true, false, if◌then◌else◌, Option, None, option_map, find, refl}
+use Rattle.std.specs.Prelude.{◌≡◌, ℕ, ◌+◌, ◌≤◌, List, [], ◌∷◌, length, Bool, true, false, if◌then◌else◌, Option, Some, None, option_map, find, refl}
 use Rattle.std.specs.List.{position_or_len}
 use Rattle.std.specs.Str.{bytes_eq}
 use Rattle.std.specs.Coded.{Coded, code_by, coded×, coded_list, coded_ℕ}
@@ -38,6 +38,10 @@ place_of name es = position_or_len (is_named name) es
 abbrev pub put : NamedScript → List NamedScript → List NamedScript
 put x [] = x ∷ []
 put x (e ∷ es) = if is_named x.name e then x ∷ es else e ∷ put x es
+
+-- The one script is found at its name, and at each other name what was found before.
+abbrev pub IsFoundIn : NamedScript → (old new : List NamedScript) → Type 0
+IsFoundIn x old new = (name : List ℕ) → named name new ≡ (if bytes_eq x.name name then Some x.script else named name old)
 
 -- no name stands twice
 abbrev pub EachOnce : List NamedScript → Type 0

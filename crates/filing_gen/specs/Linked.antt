@@ -58,7 +58,3 @@ pub record Marked (lib : Library) (slot : Slots) (main chain entered : List Scri
   pub active : (s : ScriptName) → is_among chain s ≡ true → is_among entered s ≡ true
   pub found : (s : ScriptName) (x : Commands) → lib.find s ≡ Some x → is_among main s ≡ false → slice_index_or marks (slot s) false ≡ is_among entered s
   pub missing : (s : ScriptName) → lib.find s ≡ None → is_among entered s ≡ is_among main s
-
--- where no script can be included
-abbrev pub no_slots : Slots
-no_slots s = 0

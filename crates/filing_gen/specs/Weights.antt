@@ -1,40 +1,36 @@
--- The weight of commands, as the code adds it up from left to right.
-use Rattle.std.specs.Prelude.{ℕ, ◌+◌, ◌-◌, ◌^◌, min, [], Bool, true, false}
+-- The weight of commands of the tree, as it is taken from left to right.
+use Rattle.std.specs.Prelude.{◌≡◌, ℕ, ◌+◌, ◌<◌, List, Bool, true, false, Option, MatchOption}
 use Rattle.sieve_syntax.specs.Tree.{CommandTree, command, CommandTrees}
+use Rattle.sieve_syntax.specs.declared.tree.Argument.{Argument}
 use Rattle.sieve_meaning.specs.declared.words.CommandWord.{CommandWord}
 use Rattle.sieve_meaning.specs.declared.words.CommandWord.TheVariants as words
 use Rattle.sieve_meaning.specs.Words.{command_word}
-use Rattle.sieve_meaning.specs.Program.{Commands}
-use Rattle.sieve_meaning.specs.Reading.{only_in, block_in, program_of, branches_of}
-use Rattle.sieve_meaning.specs.Meaning.{no_library}
-use Rattle.sieve_meaning.specs.Weight.{test_weight, weight, branches_weight, included_weight}
+use Rattle.sieve_meaning.specs.Program.{Include}
+use Rattle.sieve_meaning.specs.Reading.{only_in, block_in, program_of, branches_of, include_of}
+use Rattle.sieve_meaning.specs.Weight.{test_weight, weight, branches_weight}
+use Rattle.filing_gen.specs.declared.part.Part.{Part}
+use Rattle.filing_gen.specs.declared.part.Part.TheVariants.{Branch, Otherwise, Plain}
 
--- a number of 64 bits that stands for this one: itself, or the greatest
-abbrev pub most : ℕ → ℕ
-most n = min n (2 ^ 64 - 1)
+-- what is left once something is taken, and nothing where less was left
+abbrev pub IsLeft : (left taken : ℕ) → Option ℕ → Type 0
+IsLeft left taken o = MatchOption o (left < taken) (λ rest. rest + taken ≡ left)
 
--- the weight of commands that include none
-abbrev pub weight_in : Commands → ℕ
-weight_in cs = weight (included_weight no_library 7 []) cs
+-- of a command that has no block; what begins no branch and ends none weighs nothing
+abbrev pub plain_weight : (Include → ℕ) → CommandWord → List Argument → ℕ
+plain_weight w words.If args = 0
+plain_weight w words.ElsIf args = 0
+plain_weight w words.Else args = 0
+plain_weight w words.Other args = 0
+plain_weight w words.Include args = 4 + w (include_of args)
+plain_weight w word args = 4
+
+-- of a command as a part
+abbrev pub part_weight : (Include → ℕ) → Part → CommandTree → ℕ
+part_weight w Branch (command name args inner finish) = 4 + test_weight (only_in inner) + weight w (block_in finish)
+part_weight w Otherwise (command name args inner finish) = 4 + weight w (block_in finish)
+part_weight w Plain (command name args inner finish) = plain_weight w (command_word name) args
 
 -- of commands, and of the branches that they begin with, where these belong to commands before them
-unfoldable pub weight_from : (follows : Bool) → CommandTrees → ℕ
-weight_from true cs = branches_weight (included_weight no_library 7 []) (branches_of cs) + weight_in (program_of cs)
-weight_from false cs = weight_in (program_of cs)
-
-abbrev pub own_weight : CommandWord → Bool → (test block : ℕ) → ℕ
-own_weight words.If follows t b = t + b + 4
-own_weight words.ElsIf true t b = t + b + 4
-own_weight words.ElsIf false t b = 0
-own_weight words.Else true t b = b + 4
-own_weight words.Else false t b = 0
-own_weight words.Other follows t b = 0
-own_weight word follows t b = 4
-
-abbrev pub follows_after : CommandWord → Bool → Bool
-follows_after words.If follows = true
-follows_after words.ElsIf follows = follows
-follows_after word follows = false
-
-abbrev pub command_weight : CommandTree → Bool → ℕ
-command_weight (command name args inner finish) follows = own_weight (command_word name) follows (test_weight (only_in inner)) (weight_in (block_in finish))
+abbrev pub weight_from : (Include → ℕ) → (is_open : Bool) → CommandTrees → ℕ
+weight_from w true cs = branches_weight w (branches_of cs) + weight w (program_of cs)
+weight_from w false cs = weight w (program_of cs)

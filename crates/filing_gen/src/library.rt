@@ -2,7 +2,8 @@
 
 ghost use Rattle.std.specs.Prelude.{◌≡◌, ◌↔◌, ◌<◌, [], Err, IsOk, IsSome, IfSome, OnOk, OnErr, length, bytes_eq, option_map, position};
 ghost use Rattle.sieve_meaning.specs.Meaning.{no_library};
-ghost use Rattle.filing_gen.specs.Libraries.{named, place_of, put, is_named, is_global, location_of, no_scripts, script_at, scripts_of, slots_of, IsLibrary, IsLocation, HasNoRoom};
+ghost use Rattle.filing_gen.specs.Libraries.{named, place_of, put, is_named, is_global, location_of, no_scripts, script_at, scripts_of, slots_of, IsLibrary, IsLocation, HasNoRoom, IsFoundIn};
+ghost use Rattle.filing_gen.specs.Linked.{HasSlots};
 ghost use Rattle.filing_gen.specs.Shelves.{entry_of, entries_of};
 ghost use Rattle.filing_gen.specs.declared.fault.LibraryFault.TheVariants.{Full};
 
@@ -64,6 +65,7 @@ impl Shelf {
         requires { IsLocation (entries_of self.old) }
         ensures location { IsLocation (entries_of self.new) }
         ensures ok { OnOk result (entries_of self.new ≡ put (record { name = name.now; script = script.value.script }) (entries_of self.old)) }
+        ensures found { OnOk result (IsFoundIn (record { name = name.now; script = script.value.script }) (entries_of self.old) (entries_of self.new)) }
         ensures full { result ≡ Err Full ↔ HasNoRoom (entries_of self.old) name.now }
         ensures replaced { IsSome (named name.now (entries_of self.old)) → IsOk result }
         ensures err { OnErr result (entries_of self.new ≡ entries_of self.old) }
@@ -125,6 +127,7 @@ impl Library {
     /// where thirty-two are there; `NoMemory`, 99, only for a new name. The library is then as before.
     pub fn set_personal(&mut self, name: &[u8], script: Rc<Checked>) -> Result<(), LibraryFault>
         ensures ok { OnOk result (self.new ≡ record self.old { personal = put (record { name = name.now; script = script.value.script }) self.old.personal }) }
+        ensures found { OnOk result (IsFoundIn (record { name = name.now; script = script.value.script }) self.old.personal self.new.personal) }
         ensures full { result ≡ Err Full ↔ HasNoRoom self.old.personal name.now }
         ensures replaced { IsSome (named name.now self.old.personal) → IsOk result }
         ensures err { OnErr result (self.new ≡ self.old) }
@@ -136,6 +139,7 @@ impl Library {
     /// name where thirty-two are there; `NoMemory`, 99, only for a new name. The library is then as before.
     pub fn set_global(&mut self, name: &[u8], script: Rc<Checked>) -> Result<(), LibraryFault>
         ensures ok { OnOk result (self.new ≡ record self.old { global = put (record { name = name.now; script = script.value.script }) self.old.global }) }
+        ensures found { OnOk result (IsFoundIn (record { name = name.now; script = script.value.script }) self.old.global self.new.global) }
         ensures full { result ≡ Err Full ↔ HasNoRoom self.old.global name.now }
         ensures replaced { IsSome (named name.now self.old.global) → IsOk result }
         ensures err { OnErr result (self.new ≡ self.old) }
@@ -166,6 +170,19 @@ impl Library {
                 Some((place, script)) => Some((MOST_SCRIPTS + place, script)),
                 None => None,
             },
+        }
+    }
+
+    /// How many slots are enough for the scripts: none where there is no script, and sixty-four at most.
+    pub(crate) fn slot_count(&self) -> u16
+        ensures { HasSlots (scripts_of self.now) (slots_of self.now) result }
+    {
+        let personal = self.personal.entries.len();
+        let global = self.global.entries.len();
+        if global == 0 {
+            personal as u16
+        } else {
+            (MOST_SCRIPTS + global) as u16
         }
     }
 }

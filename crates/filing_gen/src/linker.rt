@@ -5,6 +5,7 @@ ghost use Rattle.filing_flow.specs.Structure.{Flow, size};
 ghost use Rattle.sieve_meaning.specs.Program.{Include};
 ghost use Rattle.sieve_meaning.specs.Reading.{include_of};
 ghost use Rattle.filing_gen.specs.Adds.{Emits, HasRoom};
+ghost use Rattle.filing_gen.specs.Weights.{IsLeft};
 
 use crate::output::Output;
 use sieve_syntax::Argument;
@@ -14,6 +15,13 @@ use std::alloc::{AllocError, Global};
 pub trait Linker {
     /// The code of each include.
     ghost flow_of: { Self → Include → Flow };
+
+    /// What each include adds to the weight.
+    ghost weight_of: { Self → Include → ℕ };
+
+    /// Takes what an include adds to the weight from what is left; none where it is more.
+    fn weigh(&self, arguments: &[Argument], left: u32) -> Option<u32>
+        ensures { IsLeft left (weight_of self.now (include_of arguments.now)) result };
 
     /// How many operations the code of an include takes.
     fn size(&self, arguments: &[Argument]) -> usize

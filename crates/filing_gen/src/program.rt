@@ -1,9 +1,8 @@
 //! From a checked script to an image that may run.
 
-ghost use Rattle.std.specs.Prelude.{◌≡◌, ◌↔◌, ◌+◌, ◌<◌, ◌≤◌, ◌^◌, map, Err, IfOk, IfErr};
+ghost use Rattle.std.specs.Prelude.{◌≡◌, ◌↔◌, ◌+◌, ◌<◌, ◌≤◌, ◌^◌, map, Err, IfOk, IfErr, MatchOption};
 ghost use Rattle.std.specs.Option.{option_map};
 ghost use Rattle.sieve_syntax.specs.View.{command_of, commands_of, tree_of};
-ghost use Rattle.sieve_meaning.specs.Meaning.{no_library};
 ghost use Rattle.sieve_meaning.specs.Outcome.{greatest_weight};
 ghost use Rattle.sieve_meaning.specs.Reading.{program_of};
 ghost use Rattle.sieve_meaning.specs.Weight.{linked_weight};
@@ -16,22 +15,25 @@ ghost use Rattle.filing_gen.specs.Emission.{commands_long};
 ghost use Rattle.filing_gen.specs.Correct.{IsCompiled, library_of};
 ghost use Rattle.filing_gen.specs.declared.fault.GenFault.TheVariants.{NoMemory, TooLarge};
 
+use crate::chain::MainScript;
 use crate::emit_commands::emit_commands;
 use crate::fault::GenFault;
+use crate::finding::Scope;
+use crate::levels::{Above, Deepest, Includes};
 use crate::library::Library;
 use crate::linker::Linker;
 use crate::output::{Output, put};
 use crate::size_commands::commands_size;
-use crate::unlinked::Unlinked;
 use crate::weight::script_weight;
 use filing_image::{Image, Instruction, Operation};
 use filing_verify::{Verified, VerifyFault, verify};
 use sieve_check::Checked;
 use sieve_syntax::{Command, Script};
 use std::alloc::{AllocError, Global};
+use std::marker::PhantomData;
 
 /// The greatest weight of a script that is run.
-const GREATEST_WEIGHT: u64 = 60_000;
+const GREATEST_WEIGHT: u32 = 60_000;
 
 /// A script, and the end of the run behind it, to which a `return` of the script goes.
 fn emit_program<L: Linker>(
@@ -57,20 +59,20 @@ fn emit_program<L: Linker>(
 fn instructions(alloc: Global, code: &[Operation]) -> Result<Vec<Instruction>, AllocError>
     ensures { IfOk result (λ v. v.items ≡ map instruction_of code.now) }
 {
-    let mut instructions = Vec::new(alloc);
+    let mut instructions = Vec::with_capacity(alloc, code.len())?;
     for operation in code {
         instructions.push(operation.instruction())?;
     }
     Ok(instructions)
 }
 
-/// The image of what was written, with no slot. It has a form unless a string is too long for it.
-fn image_of(alloc: Global, budget: u32, out: Output) -> Result<Image, GenFault>
-    ensures made { IfOk result (λ i. IsImageOf budget 0 out i) }
+/// The image of what was written, with so many slots. It has a form unless a string is too long for it.
+fn image_of(alloc: Global, budget: u32, slots: u16, out: Output) -> Result<Image, GenFault>
+    ensures made { IfOk result (λ i. IsImageOf budget slots out i) }
     ensures refused { IfErr result (λ f. f ≡ NoMemory) }
 {
     let instructions = instructions(alloc, &out.code)?;
-    match Image::new(alloc, budget, out.texts, out.numbers, 0, instructions) {
+    match Image::new(alloc, budget, out.texts, out.numbers, slots, instructions) {
         Ok(image) => Ok(image),
         Err(_) => Err(GenFault::NoMemory),
     }
@@ -95,29 +97,50 @@ fn verified(alloc: Global, image: Image) -> Result<Verified, GenFault>
     }
 }
 
+/// The levels at which scripts are included: eight may be active, the main one among them.
+type Levels = Above<Above<Above<Above<Above<Above<Above<Deepest>>>>>>>;
+
 /// The image of a script of this weight, which is at most 60,000.
 fn build(
     alloc: Global,
     script: &Script,
-    known_as: Option<&[u8]>,
+    scope: Scope<'_>,
     weight: u32,
 ) -> Result<Verified, GenFault>
-    requires weight { weight ≡ linked_weight no_library (option_map (λ s. s.now) known_as) (program_of (tree_of script.now)) }
+    requires weight { weight ≡ linked_weight (library_of scope.library.now) (option_map (λ s. s.now) scope.main.known_as) (program_of (tree_of script.now)) }
     requires small { weight ≤ greatest_weight }
-    ensures compiled { IfOk result (λ v. IsCompiled no_library (option_map (λ s. s.now) known_as.entry) (program_of (tree_of script.now)) v) }
+    ensures compiled { IfOk result (λ v. IsCompiled (library_of scope.entry.library.now) (option_map (λ s. s.now) scope.entry.main.known_as) (program_of (tree_of script.now)) v) }
     ensures refused { IfErr result (λ f. f ≡ NoMemory) }
 {
-    let linker = Unlinked { known_as };
-    let out = emit_program(alloc, &linker, &script.commands)?;
-    let image = image_of(alloc, weight, out)?;
+    let includes: Includes<'_, MainScript<'_>, Levels> = Includes {
+        scope,
+        chain: &scope.main,
+        below: PhantomData,
+    };
+    let slots = scope.library.slot_count();
+    let out = emit_program(alloc, &includes, &script.commands)?;
+    let image = image_of(alloc, weight, slots, out)?;
     let verified = verified(alloc, image)?;
     Ok(verified)
+}
+
+/// The weight of a script and all that it includes; none where it is above 60,000.
+fn weigh(script: &Script, scope: Scope<'_>) -> Option<u32>
+    ensures { MatchOption result (greatest_weight < linked_weight (library_of scope.entry.library.now) (option_map (λ s. s.now) scope.entry.main.known_as) (program_of (tree_of script.now))) (λ w. (w ≡ linked_weight (library_of scope.entry.library.now) (option_map (λ s. s.now) scope.entry.main.known_as) (program_of (tree_of script.now))) × (w ≤ greatest_weight)) }
+{
+    let includes: Includes<'_, MainScript<'_>, Levels> = Includes {
+        scope,
+        chain: &scope.main,
+        below: PhantomData,
+    };
+    script_weight(&includes, script, GREATEST_WEIGHT)
 }
 
 /// The image of a checked script, which may be known by a personal name, and of the scripts that it includes. It
 /// declares the script's weight as its budget in steps, it is one that may run, and in every case its run ends with
 /// the outcome of what the script means. `TooLarge`, 5, exactly where the weight is above 60,000; `NoMemory`, 99, where
-/// an allocation was refused, or a string is too long for an image. Time and memory are linear in the weight.
+/// an allocation was refused, or a string is too long for an image. Memory is linear in the weight, and so is time, times
+/// how deep blocks and includes stand inside one another. A script that is too heavy takes time linear in 60,000.
 pub fn compile(
     alloc: Global,
     main: &Checked,
@@ -128,9 +151,12 @@ pub fn compile(
     ensures too_large { result ≡ Err TooLarge ↔ greatest_weight < linked_weight (library_of library.now) (option_map (λ s. s.now) known_as.entry) (program_of (tree_of main.now.script)) }
 {
     let script = main.script();
-    let weight = script_weight(script);
-    if weight > GREATEST_WEIGHT {
-        return Err(GenFault::TooLarge);
+    let scope = Scope {
+        library,
+        main: MainScript { known_as },
+    };
+    match weigh(script, scope) {
+        None => Err(GenFault::TooLarge),
+        Some(weight) => build(alloc, script, scope, weight),
     }
-    build(alloc, script, known_as, weight as u32)
 }

@@ -1,5 +1,6 @@
-//! Scripts built by hand: what their images declare, and what a library holds of them.
+//! Scripts built by hand: what their images declare, those with includes too, and what a library holds of them.
 
+mod includes;
 mod library;
 
 use crate::{GenFault, Library, compile};
@@ -50,13 +51,23 @@ fn if_header(alloc: Global, words: &[&[u8]], inner: Command) -> Result<Command, 
     })
 }
 
-/// The budget and the number of instructions of the script's image, or the number of its fault.
-fn image(alloc: Global, commands: Vec<Command>) -> Result<(u32, usize), u8> {
+/// The budget and the number of instructions of the image of the script `main`, which may include those of a library, or
+/// the number of its fault.
+fn image_over(
+    alloc: Global,
+    library: &Library,
+    commands: Vec<Command>,
+) -> Result<(u32, usize), u8> {
     let checked = check(Script { commands }).map_err(|fault| fault.number())?;
-    let verified = compile(alloc, &checked, None, &Library::new(alloc)).map_err(
+    let verified = compile(alloc, &checked, Some(b"main"), library).map_err(
         |fault| fault.number(),
     )?;
     Ok((verified.budget(), verified.image().code().len()))
+}
+
+/// The same where no script can be included.
+fn image(alloc: Global, commands: Vec<Command>) -> Result<(u32, usize), u8> {
+    image_over(alloc, &Library::new(alloc), commands)
 }
 
 /// So many commands `keep`.

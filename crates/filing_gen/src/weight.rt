@@ -1,162 +1,178 @@
-//! How heavy a script is: a bound on the code that it needs.
+//! How heavy a script is: a bound on the code that it needs. What may be weighed is handed through as what is left, and
+//! the weighing stops as soon as a part is heavier than that, however many more there are.
 
-ghost use Rattle.std.specs.Prelude.{◌≡◌, ℕ, List, Option, map, false};
+ghost use Rattle.std.specs.Prelude.{◌≡◌, ◌+◌, ◌*◌, ◌<◌, ◌≤◌, length, map, false, MatchOption};
+ghost use Rattle.sieve_syntax.specs.Arguments.{others_of};
 ghost use Rattle.sieve_syntax.specs.View.{test_of, inner_of, command_of, commands_of, ending_of, tree_of};
 ghost use Rattle.sieve_meaning.specs.Reading.{test_in, only_in, tests_in, string_lists, exists_of, header_of, comparator_from, match_type as match_type_of, block_in, program_of};
-ghost use Rattle.sieve_meaning.specs.Meaning.{no_library};
-ghost use Rattle.sieve_meaning.specs.Weight.{test_weight as test_weight_of, tests_weight as tests_weight_of, linked_weight};
-ghost use Rattle.filing_gen.specs.Weights.{most, own_weight, follows_after, command_weight as command_weight_of, weight_from, weight_in};
+ghost use Rattle.sieve_meaning.specs.Weight.{test_weight, tests_weight, weight};
+ghost use Rattle.filing_gen.specs.Weights.{IsLeft, plain_weight, part_weight};
 
+use crate::linker::Linker;
+use crate::part::{Part, is_branch, part_in};
 use sieve_meaning::reading::next_string_list;
 use sieve_meaning::{CommandWord, TestWord, command_word, test_word};
-use sieve_syntax::{Argument, Command, Ending, Script, Test, Tests};
+use sieve_syntax::{Argument, Command, Ending, Script, StringList, Test, Tests};
 
-/// Twice the number of names of an `exists`, and 4.
-fn exists_weight(arguments: &[Argument]) -> u64
-    ensures { result ≡ most (test_weight_of (exists_of (string_lists false arguments.now))) }
+/// Takes so much for each string of a list.
+fn weigh_strings(list: &StringList, each: u32, left: u32) -> Option<u32>
+    ensures { IsLeft left ((length (others_of list.now) + 1) * each) result }
 {
+    let weight = (list.others().len() as u64)
+        .saturating_add(1)
+        .saturating_mul(each as u64);
+    if weight > left as u64 {
+        return None;
+    }
+    Some(left - weight as u32)
+}
+
+/// Takes 4, and 2 for each name of an `exists`.
+fn weigh_exists(arguments: &[Argument], left: u32) -> Option<u32>
+    ensures { IsLeft left (test_weight (exists_of (string_lists false arguments.now))) result }
+{
+    let left = left.checked_sub(4)?;
     match next_string_list(arguments) {
-        None => 4,
-        Some((names, _)) => (names.others().len() as u64)
-            .saturating_add(1)
-            .saturating_mul(2)
-            .saturating_add(4),
+        None => Some(left),
+        Some((names, _)) => weigh_strings(names, 2, left),
     }
 }
 
-/// Twice the number of names of a `header`, three times the number of its keys, and 4.
-fn header_weight(arguments: &[Argument]) -> u64
-    ensures { result ≡ most (test_weight_of (header_of (match_type_of arguments.now) (comparator_from false arguments.now) (string_lists false arguments.now))) }
+/// Takes 4, 2 for each name of a `header`, and 3 for each of its keys.
+fn weigh_header(arguments: &[Argument], left: u32) -> Option<u32>
+    ensures { IsLeft left (test_weight (header_of (match_type_of arguments.now) (comparator_from false arguments.now) (string_lists false arguments.now))) result }
 {
+    let left = left.checked_sub(4)?;
     let Some((names, rest)) = next_string_list(arguments) else {
-        return 4;
+        return Some(left);
     };
     let Some((keys, _)) = next_string_list(rest) else {
-        return 4;
+        return Some(left);
     };
-    let names = (names.others().len() as u64)
-        .saturating_add(1)
-        .saturating_mul(2);
-    let keys = (keys.others().len() as u64)
-        .saturating_add(1)
-        .saturating_mul(3);
-    names.saturating_add(4).saturating_add(keys)
+    let left = weigh_strings(names, 2, left)?;
+    weigh_strings(keys, 3, left)
 }
 
-/// The weight of a test.
+/// Takes the weight of a test.
 #[cycle(test_weights)]
-fn test_weight(test: &Test) -> u64
-    ensures { result ≡ most (test_weight_of (test_in (test_of test.now))) }
+fn weigh_test(test: &Test, left: u32) -> Option<u32>
+    ensures { IsLeft left (test_weight (test_in (test_of test.now))) result }
 {
     let arguments = test.arguments.as_slice();
     match test_word(test.name.as_slice()) {
-        TestWord::True | TestWord::False | TestWord::Other | TestWord::Size => 4,
-        TestWord::Not => only_weight(&test.tests).saturating_add(4),
-        TestWord::AllOf | TestWord::AnyOf => tests_weight(&test.tests).saturating_add(4),
-        TestWord::Exists => exists_weight(arguments),
-        TestWord::Header => header_weight(arguments),
+        TestWord::True | TestWord::False | TestWord::Other | TestWord::Size => left.checked_sub(4),
+        TestWord::Not => weigh_only(&test.tests, left.checked_sub(4)?),
+        TestWord::AllOf | TestWord::AnyOf => weigh_tests(&test.tests, left.checked_sub(4)?),
+        TestWord::Exists => weigh_exists(arguments, left),
+        TestWord::Header => weigh_header(arguments, left),
     }
 }
 
-/// The weight of the only test.
+/// Takes the weight of the only test.
 #[cycle(test_weights)]
-fn only_weight(tests: &Tests) -> u64
-    ensures { result ≡ most (test_weight_of (only_in (inner_of tests.now))) }
+fn weigh_only(tests: &Tests, left: u32) -> Option<u32>
+    ensures { IsLeft left (test_weight (only_in (inner_of tests.now))) result }
 {
     match tests {
-        Tests::None => 4,
-        Tests::One(test) => test_weight(test),
+        Tests::None => left.checked_sub(4),
+        Tests::One(test) => weigh_test(test, left),
         Tests::Listed(list) => match list.first() {
-            Some(test) => test_weight(test),
-            None => 4,
+            Some(test) => weigh_test(test, left),
+            None => left.checked_sub(4),
         },
     }
 }
 
-/// The weight of all tests together.
+/// Takes the weight of all tests.
 #[cycle(test_weights)]
-fn tests_weight(tests: &Tests) -> u64
-    ensures { result ≡ most (tests_weight_of (tests_in (inner_of tests.now))) }
+fn weigh_tests(tests: &Tests, left: u32) -> Option<u32>
+    ensures { IsLeft left (tests_weight (tests_in (inner_of tests.now))) result }
 {
     match tests {
-        Tests::None => 0,
-        Tests::One(test) => test_weight(test),
+        Tests::None => Some(left),
+        Tests::One(test) => weigh_test(test, left),
         Tests::Listed(list) => {
-            let mut sum: u64 = 0;
+            let mut rest = left;
             for test in list {
-                sum = sum.saturating_add(test_weight(test));
+                rest = weigh_test(test, rest)?;
             }
-            sum
+            Some(rest)
         }
     }
 }
 
-/// What a command weighs, of which the test and the block weigh so much.
-fn own(word: CommandWord, follows: bool, test: u64, block: u64) -> u64
-    ensures { (t b : ℕ) → test ≡ most t → block ≡ most b → result ≡ most (own_weight word follows t b) }
+/// Takes the weight of a command that has no block: 4, and of an `include` also what it includes.
+fn weigh_plain<L: Linker>(
+    linker: &L,
+    word: CommandWord,
+    arguments: &[Argument],
+    left: u32,
+) -> Option<u32>
+    ensures { IsLeft left (plain_weight (L.weight_of linker.now) word arguments.now) result }
 {
     match word {
-        CommandWord::If => test.saturating_add(block).saturating_add(4),
-        CommandWord::ElsIf if follows => test.saturating_add(block).saturating_add(4),
-        CommandWord::Else if follows => block.saturating_add(4),
-        CommandWord::ElsIf | CommandWord::Else | CommandWord::Other => 0,
-        _ => 4,
+        CommandWord::If | CommandWord::ElsIf | CommandWord::Else | CommandWord::Other => Some(left),
+        CommandWord::Include => linker.weigh(arguments, left.checked_sub(4)?),
+        CommandWord::Require
+        | CommandWord::Keep
+        | CommandWord::Discard
+        | CommandWord::Stop
+        | CommandWord::Return
+        | CommandWord::FileInto => left.checked_sub(4),
     }
 }
 
-/// Whether an `elsif` or `else` behind a command belongs to it.
-fn leads_on(word: CommandWord, follows: bool) -> bool
-    ensures { result ≡ follows_after word follows }
-{
-    match word {
-        CommandWord::If => true,
-        CommandWord::ElsIf => follows,
-        _ => false,
-    }
-}
-
-/// The weight of a block.
+/// Takes the weight of a block.
 #[cycle(weights)]
-fn block_weight(ending: &Ending) -> u64
-    ensures { result ≡ most (weight_in (block_in (ending_of ending.now))) }
+fn weigh_block<L: Linker>(linker: &L, ending: &Ending, left: u32) -> Option<u32>
+    ensures { IsLeft left (weight (L.weight_of linker.now) (block_in (ending_of ending.now))) result }
 {
     match ending {
-        Ending::Semicolon => 0,
-        Ending::Block(commands) => commands_weight(commands),
+        Ending::Semicolon => Some(left),
+        Ending::Block(commands) => weigh_commands(linker, commands, left),
     }
 }
 
-/// The weight of a command, which follows an `if` or `elsif` directly or not.
+/// Takes the weight of a command as a part: 4, and of a branch also its test and its block.
 #[cycle(weights)]
-fn command_weight(command: &Command, follows: bool) -> u64
-    ensures { result ≡ most (command_weight_of (command_of command.now) follows) }
+fn weigh_part<L: Linker>(linker: &L, command: &Command, part: Part, left: u32) -> Option<u32>
+    ensures { IsLeft left (part_weight (L.weight_of linker.now) part (command_of command.now)) result }
 {
-    let word = command_word(command.name.as_slice());
-    own(
-        word,
-        follows,
-        only_weight(&command.tests),
-        block_weight(&command.ending),
-    )
+    match part {
+        Part::Branch => {
+            let left = weigh_only(&command.tests, left.checked_sub(4)?)?;
+            weigh_block(linker, &command.ending, left)
+        }
+        Part::Otherwise => weigh_block(linker, &command.ending, left.checked_sub(4)?),
+        Part::Plain => weigh_plain(
+            linker,
+            command_word(command.name.as_slice()),
+            command.arguments.as_slice(),
+            left,
+        ),
+    }
 }
 
-/// The weight of commands.
+/// Takes the weight of commands.
 #[cycle(weights)]
-fn commands_weight(commands: &Vec<Command>) -> u64
-    ensures { result ≡ most (weight_from false (commands_of (map command_of commands.now.items))) }
+pub fn weigh_commands<L: Linker>(linker: &L, commands: &Vec<Command>, left: u32) -> Option<u32>
+    ensures { IsLeft left (weight (L.weight_of linker.now) (program_of (commands_of (map command_of commands.now.items)))) result }
 {
-    let mut sum: u64 = 0;
-    let mut follows = false;
+    let mut rest = left;
+    let mut is_open = false;
     for command in commands {
-        sum = sum.saturating_add(command_weight(command, follows));
-        follows = leads_on(command_word(command.name.as_slice()), follows);
+        let part = part_in(command_word(command.name.as_slice()), is_open);
+        rest = weigh_part(linker, command, part, rest)?;
+        is_open = is_branch(part);
     }
-    sum
+    Some(rest)
 }
 
-/// The weight of a script that can include none, and 1; saturated at 2^64 - 1. The script's name adds nothing.
-pub fn script_weight(script: &Script) -> u64
-    ensures { (known_as : Option (List ℕ)) → result ≡ most (linked_weight no_library known_as (program_of (tree_of script.now))) }
+/// The weight of a script and all that it includes, and 1; none where it is above the greatest. It takes time linear in
+/// the smaller of both.
+pub fn script_weight<L: Linker>(linker: &L, script: &Script, greatest: u32) -> Option<u32>
+    ensures { MatchOption result (greatest < weight (L.weight_of linker.now) (program_of (tree_of script.now)) + 1) (λ w. (w ≡ weight (L.weight_of linker.now) (program_of (tree_of script.now)) + 1) × (w ≤ greatest)) }
 {
-    commands_weight(&script.commands).saturating_add(1)
+    let left = weigh_commands(linker, &script.commands, greatest.checked_sub(1)?)?;
+    Some(greatest - left)
 }

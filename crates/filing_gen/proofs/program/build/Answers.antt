@@ -1,22 +1,28 @@
 use Rattle.std.proofs.Common.{ℕ, List, Bor, sym, subst, arith}
 use Rattle.std.specs.Option.{option_map}
 use Rattle.filing_image.specs.Program.{Program}
+use Rattle.filing_verify.specs.Well.{IsWell}
 use Rattle.sieve_syntax.specs.View.{tree_of}
-use Rattle.sieve_meaning.specs.Meaning.{no_library}
 use Rattle.sieve_meaning.specs.Reading.{program_of}
-use Rattle.filing_gen.specs.Correct.{IsCompiled}
-use Rattle.filing_gen.specs.Linked.{no_slots}
-use Rattle.filing_gen.proofs.Compiled.{none_there, room, built_well, built}
+use Rattle.filing_gen.specs.Correct.{IsCompiled, library_of}
+use Rattle.filing_gen.specs.Libraries.{slots_of}
+use Rattle.filing_gen.proofs.Compiled.{room, built_well, built}
 use Rattle.filing_gen.proofs.program.build.Goals as goal
 
 pub emit_program-requires : goal.emit_program-requires
-emit_program-requires c = room no_library no_slots 0 none_there (option_map (λ (s : Bor (List ℕ)). s.now) c.args.known_as) (program_of (tree_of c.args.script.now)) (omega (arith, c.requires.weight, c.requires.small))
+emit_program-requires c =
+    let l = c.args.scope.library.now in
+    room (library_of l) (slots_of l) c.slot_count-slots.result c.slot_count-slots.ensures (option_map (λ (s : Bor (List ℕ)). s.now) c.args.scope.main.known_as) (program_of (tree_of c.args.script.now)) (omega (arith, c.requires.weight, c.requires.small))
 
 pub verified-requires : goal.verified-requires
-verified-requires c = built_well no_library no_slots 0 none_there (option_map (λ (s : Bor (List ℕ)). s.now) c.args.known_as) (program_of (tree_of c.args.script.now)) c.in_ok-out.out c.in_ok-image.image c.args.weight c.in_ok-out.ensures c.in_ok-image.ensures.made c.requires.weight c.requires.small
+verified-requires c =
+    let l = c.args.scope.library.now in
+    built_well (library_of l) (slots_of l) c.slot_count-slots.result c.slot_count-slots.ensures (option_map (λ (s : Bor (List ℕ)). s.now) c.args.scope.main.known_as) (program_of (tree_of c.args.script.now)) c.in_ok-out.out c.in_ok-image.image c.args.weight c.in_ok-out.ensures c.in_ok-image.ensures.made c.requires.weight c.requires.small
 
 pub returns-clause-compiled : goal.returns-clause-compiled
 returns-clause-compiled c =
-    let good = built_well no_library no_slots 0 none_there (option_map (λ (s : Bor (List ℕ)). s.now) c.args.known_as) (program_of (tree_of c.args.script.now)) c.in_ok-out.out c.in_ok-image.image c.args.weight c.in_ok-out.ensures c.in_ok-image.ensures.made c.requires.weight c.requires.small in
-    subst (λ (p : Program). IsCompiled no_library (option_map (λ (s : Bor (List ℕ)). s.now) c.args.known_as) (program_of (tree_of c.args.script.now)) p) (sym c.in_ok-verified.ensures.same)
-    (built no_library no_slots 0 none_there (option_map (λ (s : Bor (List ℕ)). s.now) c.args.known_as) (program_of (tree_of c.args.script.now)) c.in_ok-out.out c.in_ok-image.image c.args.weight c.in_ok-out.ensures c.in_ok-image.ensures.made good c.requires.weight)
+    let l = c.args.scope.library.now in
+    let good : IsWell c.in_ok-image.image =
+    built_well (library_of l) (slots_of l) c.slot_count-slots.result c.slot_count-slots.ensures (option_map (λ (s : Bor (List ℕ)). s.now) c.args.scope.main.known_as) (program_of (tree_of c.args.script.now)) c.in_ok-out.out c.in_ok-image.image c.args.weight c.in_ok-out.ensures c.in_ok-image.ensures.made c.requires.weight c.requires.small in
+    subst (λ (p : Program). IsCompiled (library_of l) (option_map (λ (s : Bor (List ℕ)). s.now) c.args.scope.main.known_as) (program_of (tree_of c.args.script.now)) p) (sym c.in_ok-verified.ensures.same)
+    (built (library_of l) (slots_of l) c.slot_count-slots.result c.slot_count-slots.ensures (option_map (λ (s : Bor (List ℕ)). s.now) c.args.scope.main.known_as) (program_of (tree_of c.args.script.now)) c.in_ok-out.out c.in_ok-image.image c.args.weight c.in_ok-out.ensures c.in_ok-image.ensures.made good c.requires.weight)

@@ -1,7 +1,7 @@
-use Rattle.std.proofs.Common.{◌≡◌, ◌+◌, ◌-◌, ◌^◌, ◌≤◌, drop, map, false}
+use Rattle.std.proofs.Common.{◌≡◌, ◌+◌, drop, map, false}
 use Rattle.sieve_syntax.specs.View.{command_of, commands_of}
-use Rattle.filing_gen.specs.Weights.{most, weight_from}
+use Rattle.filing_gen.specs.Weights.{weight_from}
 use Rattle.filing_gen.proofs.weight.+weights.Given as goal
 
-abbrev pub invariant-commands_weight-loop-command : goal.invariant-commands_weight-loop-command
-invariant-commands_weight-loop-command l = (most (l.sum + weight_from l.follows (commands_of (map command_of (drop l.command-index l.command-items)))) ≡ most (weight_from false (commands_of (map command_of l.commands.items)))) × (l.sum ≤ 2 ^ 64 - 1)
+abbrev pub invariant-weigh_commands-loop-command : goal.invariant-weigh_commands-loop-command
+invariant-weigh_commands-loop-command g l = l.left + weight_from (g.L.Linker.weight_of l.linker) l.is_open (commands_of (map command_of (drop l.command-index l.command-items))) ≡ l.rest + weight_from (g.L.Linker.weight_of l.linker) false (commands_of (map command_of l.commands.items))

@@ -1,6 +1,6 @@
 use Rattle.std.proofs.Common.{◌≡◌, None, length, ◌<◌, ◌≤◌, sym, ◌∙◌, refl, rules, arith}
 use Rattle.std.proofs.lemmas.Grind.{common_steps}
-use Rattle.filing_gen.proofs.Stacked.{replaced, location_replaced, has_room, added, location_added, not_there, no_room, room_left}
+use Rattle.filing_gen.proofs.Stacked.{replaced, found_replaced, location_replaced, has_room, added, found_added, location_added, not_there, no_room}
 use Rattle.filing_gen.proofs.library.Shelf.set.Goals as goal
 
 pub returns-in-Some-clause-location : goal.returns-in-Some-clause-location
@@ -10,6 +10,10 @@ returns-in-Some-clause-location c =
 pub returns-in-Some-clause-ok : goal.returns-in-Some-clause-ok
 returns-in-Some-clause-ok c =
     replaced c.args.name.now c.args.self.now.entries.items c.in-Some.place c.index_mut.result.now (record { name = c.index_mut.result.now.name; script = c.args.script }) (sym c.place.ensures ∙ c.in-Some.is) c.index_mut.ensures.value refl
+
+pub returns-in-Some-clause-found : goal.returns-in-Some-clause-found
+returns-in-Some-clause-found c =
+    found_replaced c.args.name.now c.args.self.now.entries.items c.in-Some.place c.index_mut.result.now (record { name = c.index_mut.result.now.name; script = c.args.script }) (sym c.place.ensures ∙ c.in-Some.is) c.index_mut.ensures.value refl
 
 pub returns-in-Some-clause-full : goal.returns-in-Some-clause-full
 returns-in-Some-clause-full c =
@@ -46,3 +50,8 @@ pub returns-clause-ok : goal.returns-clause-ok
 returns-clause-ok c =
     let none : c.place.result ≡ None = search rules in
     rw c.in_ok-push.ensures.items (added c.args.name.now c.args.self.now.entries.items (record { name = c.in_ok-name.name; script = c.args.script }) (sym c.place.ensures ∙ none) c.in_ok-name.ensures.items)
+
+pub returns-clause-found : goal.returns-clause-found
+returns-clause-found c =
+    let none : c.place.result ≡ None = search rules in
+    rw c.in_ok-push.ensures.items (found_added c.args.name.now c.args.self.now.entries.items (record { name = c.in_ok-name.name; script = c.args.script }) (sym c.place.ensures ∙ none) c.in_ok-name.ensures.items)

@@ -1,0 +1,113 @@
+-- Includes by what they come to.
+use Rattle.std.proofs.Common.{◌≡◌, ℕ, zero, suc, ◌+◌, ◌≤◌, List, [], ◌∷◌, Bool, true, false, Option, Some, None, length, ◌⊎◌, inl, inr, refl, sym, ap, ◌∙◌, arith}
+use Rattle.filing_image.specs.declared.instruction.Operation.TheVariants.{Marked, Mark, JumpIf}
+use Rattle.filing_flow.specs.Structure.{IsMarked, SetMark, Fail, Flow, action, sequence, block, leave_if, size}
+use Rattle.filing_flow.specs.Code.{only, end_at}
+use Rattle.sieve_meaning.specs.Program.{Include, Commands}
+use Rattle.sieve_meaning.specs.Meaning.{ScriptName, script_named, is_among, Library}
+use Rattle.sieve_meaning.specs.Weight.{weight, included_weight, unless_missing, unless_active}
+use Rattle.filing_gen.specs.declared.output.Output.{Output}
+use Rattle.filing_gen.specs.Structured.{flow}
+use Rattle.filing_gen.specs.Adds.{Adds, Emits}
+use Rattle.filing_gen.specs.declared.finding.Finding.{Finding}
+use Rattle.filing_gen.specs.declared.finding.Finding.TheVariants.{Pass, Fault}
+use Rattle.filing_gen.specs.Scopes.{told}
+use Rattle.filing_gen.specs.Linked.{Slots, is_passed, once_flow, active_flow, found_flow, included_flow}
+use Rattle.filing_gen.specs.Levels.{Judgement, Passes, Fails, Enters, judged, judgement, judged_flow, judged_weight, entered_flow, entered_weight}
+use Rattle.filing_gen.proofs.Emitted.{emits_sequence, emits_block}
+
+-- CODE
+
+flow_cases : (o : Option Commands) (passed active once : Bool) (slot : ℕ) (enter : Commands → Flow)
+    → found_flow o passed (λ script. active_flow active once (once_flow once slot (enter script))) ≡ judged_flow (judged o passed active once) once slot enter
+flow_cases None true active once slot enter = refl
+flow_cases None false active once slot enter = refl
+flow_cases (Some x) passed true true slot enter = refl
+flow_cases (Some x) passed true false slot enter = refl
+flow_cases (Some x) passed false once slot enter = refl
+
+pub flow_judged : (lib : Library) (slots : Slots) (main : List ScriptName) (left : ℕ) (chain : List ScriptName) (i : Include)
+    → included_flow lib slots main left chain i ≡ judged_flow (judgement lib main chain i) i.once (slots (script_named i)) (entered_flow lib slots main left (script_named i ∷ chain) (slots (script_named i)))
+flow_judged lib slots main zero chain i = flow_cases (lib.find (script_named i)) (is_passed main i) (is_among chain (script_named i)) i.once (slots (script_named i)) (λ script. action (Fail 4))
+flow_judged lib slots main (suc left) chain i =
+    flow_cases (lib.find (script_named i)) (is_passed main i) (is_among chain (script_named i)) i.once (slots (script_named i))
+    (λ script. block (sequence (action (SetMark (slots (script_named i)))) (flow (included_flow lib slots main left (script_named i ∷ chain)) 0 script)))
+
+-- WEIGHT
+
+no_weight : (j : Judgement) → judged_weight j (λ script. 0) ≡ 0
+no_weight Passes = refl
+no_weight (Fails n) = refl
+no_weight (Enters script) = refl
+
+weight_cases : (o : Option Commands) (passed active once : Bool) (enter : Commands → ℕ) → unless_missing o (λ script. unless_active active (enter script)) ≡ judged_weight (judged o passed active once) enter
+weight_cases None true active once enter = refl
+weight_cases None false active once enter = refl
+weight_cases (Some x) passed true true enter = refl
+weight_cases (Some x) passed true false enter = refl
+weight_cases (Some x) passed false once enter = refl
+
+pub weight_judged : (lib : Library) (main : List ScriptName) (left : ℕ) (chain : List ScriptName) (i : Include) → included_weight lib left chain i ≡ judged_weight (judgement lib main chain i) (entered_weight lib left (script_named i ∷ chain))
+weight_judged lib main zero chain i = sym (no_weight (judgement lib main chain i))
+weight_judged lib main (suc left) chain i = weight_cases (lib.find (script_named i)) (is_passed main i) (is_among chain (script_named i)) i.once (λ script. weight (included_weight lib left (script_named i ∷ chain)) script)
+
+-- BY WHAT THE CODE FINDS
+
+-- the chain with one more script
+pub chain_is : (s t : ScriptName) (a b : List ScriptName) → s ≡ t → a ≡ b → (s ∷ a) ≡ (t ∷ b)
+chain_is s t a b e f = ap (λ (x : ScriptName). x ∷ a) e ∙ ap (λ (l : List ScriptName). t ∷ l) f
+
+pub once_longer : (once : Bool) (slot : ℕ) (a : Flow) → size a ≤ size (once_flow once slot a)
+once_longer true slot a = omega arith
+once_longer false slot a = omega arith
+
+module _ (lib : Library) (slots : Slots) (main : List ScriptName) (left : ℕ) (chain : List ScriptName) (i : Include) where
+  pub flow_told : (j : Judgement) → j ≡ judgement lib main chain i → included_flow lib slots main left chain i ≡ judged_flow j i.once (slots (script_named i)) (entered_flow lib slots main left (script_named i ∷ chain) (slots (script_named i)))
+  flow_told j is = flow_judged lib slots main left chain i ∙ ap (λ (k : Judgement). judged_flow k i.once (slots (script_named i)) (entered_flow lib slots main left (script_named i ∷ chain) (slots (script_named i)))) (sym is)
+
+  pub weight_told : (j : Judgement) → j ≡ judgement lib main chain i → included_weight lib left chain i ≡ judged_weight j (entered_weight lib left (script_named i ∷ chain))
+  weight_told j is = weight_judged lib main left chain i ∙ ap (λ (k : Judgement). judged_weight k (entered_weight lib left (script_named i ∷ chain))) (sym is)
+
+  -- where no script is entered
+  pub nothing_weighed : (f : Finding) → told f ≡ judgement lib main chain i → (f ≡ Pass) ⊎ ((n : ℕ) × (f ≡ Fault n)) → included_weight lib left chain i ≡ 0
+  nothing_weighed f is (inl at) = weight_told Passes (sym (ap told at) ∙ is)
+  nothing_weighed f is (inr at) = weight_told (Fails at.0) (sym (ap told at.1) ∙ is)
+
+  -- where a script is entered behind these that are active
+  module _ (script : Commands) (k : List ScriptName) (is : Enters script ≡ judgement lib main chain i) (same : k ≡ script_named i ∷ chain) where
+    pub entry_weight : included_weight lib left chain i ≡ entered_weight lib left k script
+    entry_weight = weight_told (Enters script) is ∙ ap (λ (z : List ScriptName). entered_weight lib left z script) (sym same)
+
+    module _ (slot : ℕ) (at : slot ≡ slots (script_named i)) where
+      pub entry_flow : included_flow lib slots main left chain i ≡ once_flow i.once slot (entered_flow lib slots main left k slot script)
+      entry_flow =
+          flow_told (Enters script) is
+          ∙ ap (λ (n : ℕ). once_flow i.once n (entered_flow lib slots main left (script_named i ∷ chain) n script)) (sym at)
+          ∙ ap (λ (z : List ScriptName). once_flow i.once slot (entered_flow lib slots main left z slot script)) (sym same)
+
+      pub plain_entry : i.once ≡ false → included_flow lib slots main left chain i ≡ entered_flow lib slots main left k slot script
+      plain_entry once = entry_flow ∙ ap (λ (b : Bool). once_flow b slot (entered_flow lib slots main left k slot script)) once
+
+      pub once_entry : i.once ≡ true → included_flow lib slots main left chain i ≡ once_flow true slot (entered_flow lib slots main left k slot script)
+      once_entry once = entry_flow ∙ ap (λ (b : Bool). once_flow b slot (entered_flow lib slots main left k slot script)) once
+
+      pub plain_size : i.once ≡ false → size (included_flow lib slots main left chain i) ≡ size (entered_flow lib slots main left k slot script)
+      plain_size once = ap (λ (a : Flow). size a) (plain_entry once)
+
+      pub once_size : i.once ≡ true → size (included_flow lib slots main left chain i) ≡ size (entered_flow lib slots main left k slot script) + 2
+      once_size once = let e : size (included_flow lib slots main left chain i) ≡ size (once_flow true slot (entered_flow lib slots main left k slot script)) = ap (λ (a : Flow). size a) (once_entry once) in omega (arith, e)
+
+-- EMISSION
+
+-- the entry of a script under `:once`, behind a jump past it where it is marked
+pub once_emitted : (x y z w : Output) (slot end : ℕ) (a : Flow) (ends : List ℕ) → end ≡ length x.code.items + size (once_flow true slot a) → Adds x y (only (Marked slot ∷ [])) → Adds y z (only (JumpIf end ∷ [])) → Emits z w a (end ∷ ends) → Emits x w (once_flow true slot a) ends
+once_emitted x y z w slot end a ends is test jump h =
+    emits_block x w (sequence (action (IsMarked slot)) (sequence (leave_if true 0) a)) ends end is
+    (emits_sequence x y w (action (IsMarked slot)) (sequence (leave_if true 0) a) (end ∷ ends) test (emits_sequence y z w (leave_if true 0) a (end ∷ ends) jump h))
+
+-- a script that is marked and run, where its `return` goes to its end
+pub entry_emitted : (x y z : Output) (slot end : ℕ) (g : Include → Flow) (script : Commands) (ends : List ℕ) → end ≡ length x.code.items + size (block (sequence (action (SetMark slot)) (flow g 0 script))) → Adds x y (only (Mark slot ∷ []))
+    → ((n : ℕ) (ends : List ℕ) → end_at ends n ≡ end → Emits y z (flow g n script) ends) → Emits x z (block (sequence (action (SetMark slot)) (flow g 0 script))) ends
+entry_emitted x y z slot end g script ends is mark h =
+    emits_block x z (sequence (action (SetMark slot)) (flow g 0 script)) ends end is
+    (emits_sequence x y z (action (SetMark slot)) (flow g 0 script) (end ∷ ends) mark (h 0 (end ∷ ends) refl))

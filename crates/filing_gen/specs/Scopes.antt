@@ -1,0 +1,24 @@
+-- What the code knows of an include.
+use Rattle.std.specs.Prelude.{◌≡◌, ℕ, ◌<◌, List, option_map}
+use Rattle.sieve_syntax.specs.View.{tree_of}
+use Rattle.sieve_meaning.specs.Reading.{program_of}
+use Rattle.sieve_meaning.specs.Meaning.{ScriptName, main_names}
+use Rattle.filing_gen.specs.Levels.{Judgement, Passes, Fails, Enters}
+use Rattle.filing_gen.specs.declared.chain.MainScript.{MainScript}
+use Rattle.filing_gen.specs.declared.finding.Finding.{Finding}
+use Rattle.filing_gen.specs.declared.finding.Finding.TheVariants.{Pass, Fault, Entry}
+
+-- the main script's name, if it has one
+abbrev pub names_of : MainScript → List ScriptName
+names_of m = main_names (option_map (λ n. n.now) m.known_as)
+
+abbrev pub told : Finding → Judgement
+told Pass = Passes
+told (Fault n) = Fails n
+told (Entry slot script) = Enters (program_of (tree_of script.now))
+
+-- a script that is entered has this slot, of sixty-four
+abbrev pub EntersAt : Finding → ℕ → Type 0
+EntersAt Pass n = Unit {0}
+EntersAt (Fault k) n = Unit {0}
+EntersAt (Entry slot script) n = (slot ≡ n) × (slot < 64)

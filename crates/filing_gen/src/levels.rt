@@ -1,0 +1,205 @@
+//! The code of includes, level by level (RFC 6609, section 3.2): the code of the included script stands in the place of
+//! the include. A level is how many further scripts may be active, so that the code ends however the includes lead on.
+
+ghost use Rattle.std.specs.Prelude.{◌≡◌, ◌+◌, ◌<◌, ◌^◌, ℕ, zero, suc, List, length, OnOk};
+ghost use Rattle.sieve_syntax.specs.View.{tree_of};
+ghost use Rattle.sieve_meaning.specs.Meaning.{script_named};
+ghost use Rattle.sieve_meaning.specs.Reading.{program_of, include_of};
+ghost use Rattle.sieve_meaning.specs.Weight.{included_weight};
+ghost use Rattle.filing_flow.specs.Structure.{size};
+ghost use Rattle.filing_gen.specs.Adds.{Emits, HasRoom};
+ghost use Rattle.filing_gen.specs.Correct.{library_of};
+ghost use Rattle.filing_gen.specs.Levels.{entered_flow, entered_weight};
+ghost use Rattle.filing_gen.specs.Libraries.{script_at, slots_of};
+ghost use Rattle.filing_gen.specs.Linked.{included_flow};
+ghost use Rattle.filing_gen.specs.Scopes.{names_of};
+ghost use Rattle.filing_gen.specs.Weights.{IsLeft};
+
+use crate::arguments::first_text;
+use crate::chain::{Chain, Link};
+use crate::emit_commands::emit_commands;
+use crate::finding::{Finding, Scope, find, location_named};
+use crate::linker::Linker;
+use crate::output::{Output, put};
+use crate::size_commands::commands_size;
+use crate::weight::weigh_commands;
+use filing_image::Operation;
+use sieve_meaning::reading::has_tag;
+use sieve_syntax::{Argument, Script};
+use std::alloc::{AllocError, Global};
+use std::marker::PhantomData;
+
+/// How scripts are entered where so many further ones may be active. The chain ends with the script that is entered.
+pub trait Level {
+    /// How many.
+    ghost depth: { ℕ };
+
+    /// Takes what the script adds to the weight from what is left; none where it is more.
+    fn weigh<C: Chain>(scope: &Scope<'_>, chain: &C, script: &Script, left: u32) -> Option<u32>
+        ensures { IsLeft left (entered_weight (library_of scope.now.library.now) depth (C.names chain.now) (program_of (tree_of script.now))) result };
+
+    /// How many operations the entry of the script takes.
+    fn size<C: Chain>(scope: &Scope<'_>, chain: &C, slot: usize, script: &Script) -> usize
+        requires { size (entered_flow (library_of scope.now.library.now) (slots_of scope.now.library.now) (names_of scope.now.main) depth (C.names chain.now) slot (program_of (tree_of script.now))) < 2 ^ 16 }
+        ensures { result ≡ size (entered_flow (library_of scope.now.library.now) (slots_of scope.now.library.now) (names_of scope.now.main) depth (C.names chain.now) slot (program_of (tree_of script.now))) };
+
+    /// Writes the entry of the script, which ends at this place.
+    fn emit<C: Chain>(
+        alloc: Global,
+        scope: &Scope<'_>,
+        chain: &C,
+        out: &mut Output,
+        slot: usize,
+        script: &Script,
+        end: u16,
+    ) -> Result<(), AllocError>
+        requires slot { slot < 64 }
+        requires room { HasRoom out.old (size (entered_flow (library_of scope.now.library.now) (slots_of scope.now.library.now) (names_of scope.now.main) depth (C.names chain.now) slot (program_of (tree_of script.now)))) }
+        requires end { end ≡ length out.old.code.items + size (entered_flow (library_of scope.now.library.now) (slots_of scope.now.library.now) (names_of scope.now.main) depth (C.names chain.now) slot (program_of (tree_of script.now))) }
+        ensures adds { OnOk result ((ends : List ℕ) → Emits out.old out.new (entered_flow (library_of scope.now.library.now) (slots_of scope.now.library.now) (names_of scope.now.main) depth (C.names chain.now) slot (program_of (tree_of script.now))) ends) };
+}
+
+/// No further script may be active: the entry is fault 4.
+pub struct Deepest {}
+
+impl Level for Deepest {
+    ghost depth = { zero };
+
+    fn weigh<C: Chain>(_scope: &Scope<'_>, _chain: &C, _script: &Script, left: u32) -> Option<u32> {
+        Some(left)
+    }
+
+    fn size<C: Chain>(_scope: &Scope<'_>, _chain: &C, _slot: usize, _script: &Script) -> usize {
+        1
+    }
+
+    fn emit<C: Chain>(
+        _alloc: Global,
+        _scope: &Scope<'_>,
+        _chain: &C,
+        out: &mut Output,
+        _slot: usize,
+        _script: &Script,
+        _end: u16,
+    ) -> Result<(), AllocError> {
+        put(out, Operation::Fault(4))
+    }
+}
+
+/// One more script may be active than below: the entry marks the script and runs it.
+pub struct Above<L> {
+    below: PhantomData<L>,
+}
+
+impl<L: Level> Level for Above<L> {
+    ghost depth = { suc L.depth };
+
+    fn weigh<C: Chain>(scope: &Scope<'_>, chain: &C, script: &Script, left: u32) -> Option<u32> {
+        let includes: Includes<'_, C, L> = Includes {
+            scope: *scope,
+            chain,
+            below: PhantomData,
+        };
+        weigh_commands(&includes, &script.commands, left)
+    }
+
+    fn size<C: Chain>(scope: &Scope<'_>, chain: &C, _slot: usize, script: &Script) -> usize {
+        let includes: Includes<'_, C, L> = Includes {
+            scope: *scope,
+            chain,
+            below: PhantomData,
+        };
+        1 + commands_size(&includes, &script.commands)
+    }
+
+    fn emit<C: Chain>(
+        alloc: Global,
+        scope: &Scope<'_>,
+        chain: &C,
+        out: &mut Output,
+        slot: usize,
+        script: &Script,
+        end: u16,
+    ) -> Result<(), AllocError> {
+        let includes: Includes<'_, C, L> = Includes {
+            scope: *scope,
+            chain,
+            below: PhantomData,
+        };
+        put(out, Operation::Mark(slot as u16))?;
+        emit_commands(alloc, &includes, out, &script.commands, end)
+    }
+}
+
+/// The includes behind the scripts that are active, where so many further ones may be.
+#[derive(Drop)]
+pub struct Includes<'a, C, L> {
+    pub scope: Scope<'a>,
+    pub chain: &'a C,
+    pub below: PhantomData<L>,
+}
+
+impl<C: Chain, L: Level> Includes<'_, C, L> {
+    /// The chain with the script that an include names.
+    fn with<'b>(&'b self, arguments: &'b [Argument]) -> Link<'b, C>
+        ensures name { script_at result.location result.name.now ≡ script_named (include_of arguments.now) }
+        ensures before { result.before.now ≡ self.now.chain.now }
+    {
+        Link {
+            location: location_named(arguments),
+            name: first_text(arguments),
+            before: self.chain,
+        }
+    }
+}
+
+impl<C: Chain, L: Level> Linker for Includes<'_, C, L> {
+    ghost flow_of = { λ s. included_flow (library_of s.scope.library.now) (slots_of s.scope.library.now) (names_of s.scope.main) L.depth (C.names s.chain.now) };
+
+    ghost weight_of = { λ s. included_weight (library_of s.scope.library.now) L.depth (C.names s.chain.now) };
+
+    fn weigh(&self, arguments: &[Argument], left: u32) -> Option<u32> {
+        match find(&self.scope, self.chain, arguments) {
+            Finding::Pass | Finding::Fault(_) => Some(left),
+            Finding::Entry(_, script) => L::weigh(&self.scope, &self.with(arguments), script, left),
+        }
+    }
+
+    fn size(&self, arguments: &[Argument]) -> usize {
+        match find(&self.scope, self.chain, arguments) {
+            Finding::Pass => 0,
+            Finding::Fault(_) => 1,
+            Finding::Entry(slot, script) => {
+                let size = L::size(&self.scope, &self.with(arguments), slot, script);
+                if has_tag(arguments, b"once") {
+                    size + 2
+                } else {
+                    size
+                }
+            }
+        }
+    }
+
+    /// Nothing, a fault, or the entry of a script; under `:once` behind a jump past it where the script is marked.
+    fn emit(
+        &self,
+        alloc: Global,
+        out: &mut Output,
+        arguments: &[Argument],
+    ) -> Result<(), AllocError> {
+        let (slot, script) = match find(&self.scope, self.chain, arguments) {
+            Finding::Pass => return Ok(()),
+            Finding::Fault(number) => return put(out, Operation::Fault(number)),
+            Finding::Entry(slot, script) => (slot, script),
+        };
+        let chain = self.with(arguments);
+        let end = out.code.len() + L::size(&self.scope, &chain, slot, script);
+        if !has_tag(arguments, b"once") {
+            return L::emit(alloc, &self.scope, &chain, out, slot, script, end as u16);
+        }
+        let end = (end + 2) as u16;
+        put(out, Operation::Marked(slot as u16))?;
+        put(out, Operation::JumpIf(end))?;
+        L::emit(alloc, &self.scope, &chain, out, slot, script, end)
+    }
+}
