@@ -5,8 +5,8 @@ use Rattle.std.proofs.lemmas.Bool.{cases_lt, lt-ltb, le-ltb}
 use Rattle.filing_image.specs.Program.{Program}
 use Rattle.filing_table.specs.Ends.{HasOutcome}
 use Rattle.filing_table.proofs.Once.{one_outcome}
-use Rattle.filing_gen.specs.Correct.{IsCompiled}
-use Rattle.filing_gen.specs.Libraries.{Scripts, scripts_of}
+use Rattle.filing_gen.specs.Correct.{IsCompiled, library_of}
+use Rattle.filing_gen.specs.Libraries.{Scripts}
 use Rattle.sieve_meaning.specs.Case.{Facts}
 use Rattle.sieve_meaning.specs.Program.{Commands}
 use Rattle.sieve_meaning.specs.Meaning.{Library, meaning}
@@ -36,5 +36,5 @@ outcome_of_run facts lib main p n o compiled within ran =
     one_outcome p facts n m o (outcome_of (meaning facts lib None main)) ran meant ∙ sym (outcome_of_light facts lib main within)
 
 -- a library without personal scripts is that of its global ones
-pub globals_alone : (l : Scripts) → l.personal ≡ [] → scripts_of l ≡ scripts_of (record { personal = []; global = l.global })
-globals_alone l none = ap (λ p. scripts_of (record { personal = p; global = l.global })) none
+pub globals_alone : (l : Scripts) → l.personal ≡ [] → library_of l ≡ library_of (record { personal = []; global = l.global })
+globals_alone l none = ap (λ p. library_of (record { personal = p; global = l.global })) none

@@ -16,7 +16,7 @@ use Rattle.class_plan.specs.Plans as plans
 use Rattle.class_plan.specs.Changes as changes
 use Rattle.class_plan.specs.Document as documents
 use Rattle.sieve_meaning.specs.Reading.{program_of}
-use Rattle.sieve_meaning.specs.Meaning.{Library, no_library}
+use Rattle.sieve_meaning.specs.Meaning.{Library}
 use Rattle.sieve_meaning.specs.Outcome as meaning
 use Rattle.filing_image.specs.Program.{Program, parts}
 use Rattle.filing_image.specs.Spelling.{spelling, Fits}
@@ -26,6 +26,7 @@ use Rattle.filing_table.specs.Ends.{HasOutcome}
 use Rattle.filing_desk.specs.Answers.{Answer, done, captured, refused}
 use Rattle.filing_machine.specs.Message.{case_of}
 use Rattle.filing_desk.specs.Faults.{refused_by, has_place}
+use Rattle.filing_gen.specs.Correct.{library_of}
 use Rattle.filing_gen.specs.Libraries.{NamedScript, entries_code, put, HasNoRoom}
 use Rattle.filing_desk.specs.declared.fault.DeskFault.{DeskFault}
 use Rattle.filing_desk.specs.declared.desk.Outcome.{Outcome}
@@ -60,7 +61,7 @@ pub record IsGood (script : List ℕ) (tree : CommandTrees) : Type 0 where
 
 -- the scripts that can be included: the global ones, and no personal one
 abbrev pub library_in : State → Library
-library_in s = no_library
+library_in s = library_of (record { personal = []; global = s.globals })
 
 -- The outcome of a script for a message, in the message's case and the open classes of the plan. It can include the
 -- global scripts, and has no name.
