@@ -287,7 +287,6 @@ abbrev pub left : List ℕ → Option (Bor (List ℕ) × Bor (List ℕ)) → ℕ
 left value None = length value
 left value (Some s) = length s.1.now
 
-
 pub State-goes : (c : Comparator) (all : List Item) (value : List ℕ) (items next : List Item) (rest behind : List ℕ) (s : Option (Bor (List ℕ) × Bor (List ℕ))) (count more : ℕ) → State c all value items rest s count → turn_of c items rest ≡ goes next behind → more ≡ compared items rest → State c all value next behind s (count + more)
 State-goes c all value items next rest behind None count more h g m = Fresh-goes c all value items next rest behind count more h (goes_is c items rest next behind g) m
 State-goes c all value items next rest behind (Some s) count more h g m = Tried-goes c all value items next rest behind (items_of s.0.now) s.1.now count more h (goes_is c items rest next behind g) m
