@@ -25,6 +25,3 @@ mod weight;
 pub use fault::GenFault;
 pub use library::Library;
 pub use program::compile;
-
-#[cfg(test)]
-mod tests;

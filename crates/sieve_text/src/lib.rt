@@ -11,8 +11,6 @@ mod fault;
 mod laws;
 mod parser;
 mod scanner;
-#[cfg(test)]
-mod tests;
 
 pub use fault::{ScanFault, ScanRefusal, TextFault, TextRefusal};
 pub use laws::{cut, one_scan, one_verdict, some_verdict};

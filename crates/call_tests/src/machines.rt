@@ -3,8 +3,8 @@
 ghost use Rattle.std.specs.Prelude.{[], ◌∷◌, ◌||◌, codes};
 ghost use Rattle.std.specs.Str.{bytes_eq};
 
-use crate::{Case, Machine, run};
 use filing_image::{Image, Instruction, Operation};
+use filing_machine::{Case, Machine, run};
 use filing_verify::{Verified, verify};
 use sieve_meaning::Paths;
 use std::alloc::Global;

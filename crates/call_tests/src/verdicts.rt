@@ -1,7 +1,7 @@
 //! Images whose refusals are known from the format's examples and from another program's counts.
 
-use super::*;
 use filing_image::{Operation, decode, encode};
+use filing_verify::{VerifyFault, verify};
 use std::alloc::Global;
 use std::test::Fail;
 

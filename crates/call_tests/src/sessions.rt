@@ -1,9 +1,8 @@
 //! Sessions over memory. Commands that a desk answers are tried elsewhere; here the desk's answers don't matter.
 
-use crate::memory::{Hitch, MemorySink, MemorySource};
-use crate::session::{COMMANDS, ServeFault, serve};
-use crate::stream::Trouble;
 use filing_desk::Desk;
+use filing_session::memory::{Hitch, MemorySink, MemorySource};
+use filing_session::{COMMANDS, ServeFault, Trouble, serve};
 use std::alloc::Global;
 use std::process::Abort;
 use std::test::Fail;

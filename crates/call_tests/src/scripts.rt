@@ -1,9 +1,8 @@
 //! What no contract says: that scripts are accepted with ample memory, where refusals stand, and that the trees are
 //! those that the examples of RFC 5228 mean.
 
-use crate::fault::TextFault;
-use crate::parser::parse;
 use sieve_syntax::{Argument, Command, Ending, StringList, Test, Tests};
+use sieve_text::{TextFault, parse};
 use std::alloc::{AllocError, Global};
 use std::process::Abort;
 use std::test::Fail;

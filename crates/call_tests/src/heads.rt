@@ -1,7 +1,9 @@
 //! The examples, whole and in pieces, and what no clause says: that calls succeed.
 
-use super::examples::{LENIENT, Pair, STANDARD};
-use super::*;
+mod examples;
+
+use examples::{LENIENT, Pair, STANDARD};
+use mail_head::{Head, HeadFault, HeadReader, PieceHead, read_head};
 use std::process::Abort;
 use std::test::Fail;
 

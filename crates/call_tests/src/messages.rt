@@ -1,6 +1,6 @@
 //! Cases of messages, whole and in pieces: the headers of RFC 2047, section 8.
 
-use crate::{Case, PieceCase, WholeCase};
+use filing_machine::{Case, PieceCase, WholeCase};
 use mail_head::HeadFault;
 use std::alloc::{AllocError, Global};
 use std::collections::BTreeSet;

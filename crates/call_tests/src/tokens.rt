@@ -1,8 +1,8 @@
 //! What no contract says: that scripts have tokens where memory is ample, and that the definitions mean what the standard
 //! and its profile say. The expected values are worked out by hand.
 
-use crate::{ScanFault, scan};
 use sieve_syntax::{Mark, Token, TokenKind};
+use sieve_text::{ScanFault, scan};
 use std::alloc::{AllocError, Global};
 use std::str;
 use std::test::Fail;

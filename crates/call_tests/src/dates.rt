@@ -1,5 +1,5 @@
 //! Dates, beside those of Python's `datetime` and `calendar`.
-use crate::{Date, date_of, day_number, day_of, due_date, schedule_of_text};
+use class_plan::{Date, date_of, day_number, day_of, due_date, schedule_of_text};
 use std::test::Fail;
 
 /// Capture days, schedules, and the due dates and their day numbers as Python computes them.

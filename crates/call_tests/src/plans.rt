@@ -1,5 +1,5 @@
 //! Plans, their texts and their changes.
-use crate::{
+use class_plan::{
     Action, Plan, PlanFault, Schedule, Unit, day_number, day_of, schedule_of_text, schedule_text,
 };
 use std::alloc::Global;

@@ -1,6 +1,6 @@
 //! Scripts built by hand, with their refusals.
 
-use crate::{Checked, check};
+use sieve_check::{Checked, check};
 use sieve_syntax::{Argument, Arguments, Command, Ending, Script, StringList, Test, Tests, Text};
 use std::alloc::{AllocError, Global};
 use std::test::Fail;

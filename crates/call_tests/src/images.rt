@@ -1,6 +1,6 @@
 //! Images whose octets are known from the format's examples.
 
-use super::*;
+use filing_image::{FormFault, Image, Instruction, Operation, decode, encode};
 use std::alloc::Global;
 use std::test::Fail;
 

@@ -1,6 +1,6 @@
 //! Values from the standards: the examples of RFC 2047, section 8, and the vectors of RFC 4648, section 10.
 
-use super::*;
+use mail_words::value_of;
 use std::test::Fail;
 
 #[test]

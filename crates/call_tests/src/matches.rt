@@ -1,6 +1,6 @@
 //! Rows whose answers are known from outside.
 
-use super::*;
+use sieve_match::{Comparator, MatchType, contains, is, key_matches, matches, matches_counted};
 use std::process::Abort;
 
 /// Keys and values with the answer.
