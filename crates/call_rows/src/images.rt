@@ -1,17 +1,13 @@
 //! What images answer.
 
 use crate::messages::whole_case;
+use crate::told::{refused, word};
 use anyhow::{Context, Result, bail};
 use filing_image::{Image, Instruction, decode, encode};
 use filing_machine::{Outcome, run as run_program};
 use filing_verify::verify as verify_image;
 use std::alloc::Global;
 use std::str;
-
-/// A refusal as it is told.
-fn refused(alloc: Global, number: u8) -> Result<Vec<u8>> {
-    Ok(format!(in alloc; "refused {number}")?.into_bytes())
-}
 
 /// The parts of an image and its code as text.
 pub fn image(alloc: Global, octets: &[u8]) -> Result<Vec<u8>> {
@@ -54,7 +50,7 @@ fn refusal(alloc: Global, octets: &[u8]) -> u8 {
 /// Whether the image of some octets may run.
 pub fn verify(alloc: Global, octets: &[u8]) -> Result<Vec<u8>> {
     match refusal(alloc, octets) {
-        0 => Ok(Vec::from_slice(alloc, b"may run")?),
+        0 => word(alloc, "may run"),
         number => refused(alloc, number),
     }
 }

@@ -9,6 +9,7 @@ mod messages;
 mod plans;
 mod row;
 mod tokens;
+mod told;
 mod trees;
 
 use anyhow::Result;

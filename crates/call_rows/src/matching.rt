@@ -1,15 +1,10 @@
 //! What matching answers.
 
 use crate::call::Call;
+use crate::told::word;
 use anyhow::Result;
 use sieve_match::{Comparator, MatchType, contains, is, key_matches, matches};
 use std::alloc::Global;
-
-/// A truth as a word.
-fn truth(alloc: Global, answer: bool) -> Result<Vec<u8>> {
-    let word: &[u8] = if answer { b"true" } else { b"false" };
-    Ok(Vec::from_slice(alloc, word)?)
-}
 
 /// Whether a key matches a value, by the call and by its match type; the comparator is `octet` or `casemap`.
 pub fn matched(
@@ -30,9 +25,9 @@ pub fn matched(
         _ => (MatchType::Matches, matches(key, value, comparator)),
     };
     if key_matches(match_type, key, value, comparator) != answer {
-        return Ok(Vec::from_slice(alloc, b"one thing by the call, another by its match type")?);
+        return word(alloc, "one thing by the call, another by its match type");
     }
-    truth(alloc, answer)
+    word(alloc, if answer { "true" } else { "false" })
 }
 
 /// The letters that a number's digits stand for, of so many bits each.

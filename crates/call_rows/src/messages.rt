@@ -1,8 +1,9 @@
 //! What readers of messages answer.
 
+use crate::told::{size, word};
 use anyhow::{Result, bail};
 use filing_machine::{Case, PieceCase, WholeCase};
-use mail_head::{HeadReader, PieceHead, read_head};
+use mail_head::{HeadFault, HeadReader, PieceHead, read_head};
 use mail_words::value_of;
 use std::alloc::Global;
 use std::collections::BTreeSet;
@@ -72,16 +73,24 @@ pub fn fields(alloc: Global, message: &[u8]) -> Result<Vec<u8>> {
     Ok(whole)
 }
 
+/// A fault, and whether it is met again.
+fn told_fault(alloc: Global, fault: HeadFault, is_for_good: bool) -> Result<Vec<u8>> {
+    match (fault, is_for_good) {
+        (HeadFault::TooLong, true) => word(alloc, "too long, for good"),
+        (HeadFault::TooLong, false) => word(alloc, "too long, once"),
+        (HeadFault::NoMemory, _) => word(alloc, "no memory"),
+    }
+}
+
 /// How many octets and fields the header has of a message that comes in one piece.
 pub fn reader(alloc: Global, message: &[u8]) -> Result<Vec<u8>> {
     let mut reader = HeadReader::new(alloc);
     if let Err(fault) = reader.feed(message) {
         let is_for_good = reader.feed(b"") == Err(fault) && reader.finish().is_err();
-        return Ok(format!(in alloc; "{fault:?}, for good {is_for_good}")?.into_bytes());
+        return told_fault(alloc, fault, is_for_good);
     }
     let head = reader.finish()?;
-    let (size, count) = (head.size(), head.field_count());
-    Ok(format!(in alloc; "{size} octets, {count} fields")?.into_bytes())
+    size(alloc, head.size(), head.field_count())
 }
 
 /// How many octets and fields the case has of a message that comes in one piece.
@@ -89,13 +98,12 @@ pub fn pieces(alloc: Global, message: &[u8]) -> Result<Vec<u8>> {
     let mut coming = PieceCase::new(alloc, BTreeSet::new(alloc));
     if let Err(fault) = coming.feed(message) {
         let is_for_good = coming.feed(b"") == Err(fault) && coming.finish().is_err();
-        return Ok(format!(in alloc; "{fault:?}, for good {is_for_good}")?.into_bytes());
+        return told_fault(alloc, fault, is_for_good);
     }
     let Ok(case) = coming.finish() else {
         bail!("a case that was fed gives no case");
     };
-    let (size, count) = (case.size(), case.field_count());
-    Ok(format!(in alloc; "{size} octets, {count} fields")?.into_bytes())
+    size(alloc, case.size(), case.field_count())
 }
 
 /// The value of a body.

@@ -1,18 +1,13 @@
 //! What plans and dates answer. A date is told by its day number, which counts from 1970-01-01.
 
+use crate::told::{refused, word};
 use anyhow::{Context, Result, bail};
 use class_plan::{
-    Action, Date, Plan, PlanFault, Schedule, Unit, date_of, day_number, day_of, due_date,
-    schedule_of_text, schedule_text,
+    Action, Date, Plan, Schedule, Unit, date_of, day_number, day_of, due_date, schedule_of_text,
+    schedule_text,
 };
 use std::alloc::Global;
 use std::str;
-
-/// A refusal as it is told.
-fn refused(alloc: Global, fault: &PlanFault) -> Result<Vec<u8>> {
-    let number = fault.number();
-    Ok(format!(in alloc; "refused {number}")?.into_bytes())
-}
 
 /// The classes of a plan: whether each is open, and the schedule that it has or inherits.
 fn classes(alloc: Global, plan: &Plan) -> Result<Vec<u8>> {
@@ -31,7 +26,7 @@ fn classes(alloc: Global, plan: &Plan) -> Result<Vec<u8>> {
 pub fn plan(alloc: Global, text: &[u8]) -> Result<Vec<u8>> {
     match Plan::from_toml(alloc, text) {
         Ok(plan) => classes(alloc, &plan),
-        Err(fault) => refused(alloc, &fault),
+        Err(fault) => refused(alloc, fault.number()),
     }
 }
 
@@ -67,7 +62,7 @@ pub fn parts(alloc: Global, path: &[u8], state: &[u8], years: &[u8]) -> Result<V
     classes.push((Vec::from_slice(alloc, path)?, is_open, Some(after)))?;
     match Plan::from_parts(alloc, Schedule::Permanent, classes) {
         Ok(plan) => self::classes(alloc, &plan),
-        Err(fault) => refused(alloc, &fault),
+        Err(fault) => refused(alloc, fault.number()),
     }
 }
 
@@ -78,7 +73,7 @@ fn told(alloc: Global, date: Option<Date>) -> Result<Vec<u8>> {
             let number = day_number(date);
             Ok(format!(in alloc; "{number}")?.into_bytes())
         }
-        None => Ok(Vec::from_slice(alloc, b"none")?),
+        None => word(alloc, "none"),
     }
 }
 

@@ -47,15 +47,6 @@ impl Row {
     }
 }
 
-/// Where in an escape a text stands.
-#[derive(Clone, Copy)]
-enum Escape {
-    None,
-    Begun,
-    Hex,
-    HexDigit(u8),
-}
-
 /// The value of a hexadecimal digit; 0 for another octet.
 fn hex_value(octet: u8) -> u8 {
     match octet {
@@ -76,42 +67,59 @@ fn escaped(octet: u8) -> u8 {
     }
 }
 
+/// Where in an escape a text stands.
+#[derive(Clone, Copy)]
+enum Escape {
+    None,
+    Begun,
+    Hex,
+    HexDigit(u8),
+}
+
+impl Escape {
+    /// Where the text stands behind an octet, and the octet that it has read by then.
+    fn read(self, octet: u8) -> (Escape, Option<u8>) {
+        match self {
+            Escape::None if octet == b'\\' => (Escape::Begun, None),
+            Escape::None => (Escape::None, Some(octet)),
+            Escape::Begun if octet == b'x' => (Escape::Hex, None),
+            Escape::Begun => (Escape::None, Some(escaped(octet))),
+            Escape::Hex => (Escape::HexDigit(hex_value(octet)), None),
+            Escape::HexDigit(high) => {
+                let octet = high.wrapping_mul(16).wrapping_add(hex_value(octet));
+                (Escape::None, Some(octet))
+            }
+        }
+    }
+}
+
 /// The octets of a text with escapes.
 fn octets_of(alloc: Global, text: &str) -> Result<Vec<u8>, AllocError> {
     let mut octets = Vec::new(alloc);
     let mut escape = Escape::None;
     for octet in text.as_bytes() {
-        let octet = *octet;
-        escape = match (escape, octet) {
-            (Escape::None, b'\\') => Escape::Begun,
-            (Escape::Begun, b'x') => Escape::Hex,
-            (Escape::Hex, _) => Escape::HexDigit(hex_value(octet)),
-            (Escape::HexDigit(high), _) => {
-                octets.push(high.wrapping_mul(16).wrapping_add(hex_value(octet)))?;
-                Escape::None
-            }
-            (Escape::Begun, _) => {
-                octets.push(escaped(octet))?;
-                Escape::None
-            }
-            (Escape::None, _) => {
-                octets.push(octet)?;
-                Escape::None
-            }
-        };
+        let (next, read) = escape.read(*octet);
+        escape = next;
+        if let Some(octet) = read {
+            octets.push(octet)?;
+        }
     }
     Ok(octets)
 }
 
-/// Adds a text so many times.
+/// Adds octets so many times.
+fn repeat(octets: &mut Vec<u8>, times: usize, piece: &[u8]) -> Result<(), AllocError> {
+    for _ in 0..times {
+        octets.extend_from_slice(piece)?;
+    }
+    Ok(())
+}
+
+/// Adds the text of a line `more`.
 pub fn add_more(alloc: Global, front: &mut Vec<u8>, more: &str) -> Result<()> {
     let (times, text) = more.split_once(' ').context("a text is missing")?;
     let times: usize = times.parse().context("a number is wrong")?;
-    let octets = octets_of(alloc, text)?;
-    for _ in 0..times {
-        front.extend_from_slice(octets.as_slice())?;
-    }
-    Ok(())
+    Ok(repeat(front, times, octets_of(alloc, text)?.as_slice())?)
 }
 
 /// Reads a row, with what stands before its first text.

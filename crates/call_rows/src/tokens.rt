@@ -1,5 +1,6 @@
 //! What the scanner answers.
 
+use crate::told::{refused_at, word};
 use anyhow::{Result, bail};
 use sieve_syntax::{Mark, Token, TokenKind};
 use sieve_text::{ScanFault, scan};
@@ -59,11 +60,8 @@ fn tokens_text(alloc: Global, tokens: &[Token]) -> Result<Vec<u8>> {
 pub fn tokens(alloc: Global, script: &[u8]) -> Result<Vec<u8>> {
     match scan(alloc, script) {
         Ok(tokens) => tokens_text(alloc, tokens.as_slice()),
-        Err(ScanFault::NoMemory) => Ok(Vec::from_slice(alloc, b"no memory")?),
-        Err(ScanFault::Refused(refusal, at)) => {
-            let number = refusal.number();
-            Ok(format!(in alloc; "refused {number} at {at}")?.into_bytes())
-        }
+        Err(ScanFault::NoMemory) => word(alloc, "no memory"),
+        Err(ScanFault::Refused(refusal, at)) => refused_at(alloc, refusal.number(), at),
     }
 }
 

@@ -1,5 +1,6 @@
 //! What the parser answers, and the rules for its tree.
 
+use crate::told::{refused, refused_at, word};
 use anyhow::{Result, bail};
 use sieve_check::check as check_tree;
 use sieve_syntax::{Argument, Command, Ending, Script, StringList, Test, Tests};
@@ -111,11 +112,8 @@ fn tree_text(alloc: Global, script: &Script) -> Result<Vec<u8>> {
 pub fn tree(alloc: Global, script: &[u8]) -> Result<Vec<u8>> {
     match parse(alloc, script) {
         Ok(script) => tree_text(alloc, &script),
-        Err(TextFault::NoMemory) => Ok(Vec::from_slice(alloc, b"no memory")?),
-        Err(TextFault::Refused(refusal, at)) => {
-            let number = refusal.number();
-            Ok(format!(in alloc; "refused {number} at {at}")?.into_bytes())
-        }
+        Err(TextFault::NoMemory) => word(alloc, "no memory"),
+        Err(TextFault::Refused(refusal, at)) => refused_at(alloc, refusal.number(), at),
     }
 }
 
@@ -125,10 +123,7 @@ pub fn check(alloc: Global, script: &[u8]) -> Result<Vec<u8>> {
         bail!("a script has no tree");
     };
     match check_tree(script) {
-        Ok(_) => Ok(Vec::from_slice(alloc, b"well made")?),
-        Err(fault) => {
-            let number = fault.number();
-            Ok(format!(in alloc; "refused {number}")?.into_bytes())
-        }
+        Ok(_) => word(alloc, "well made"),
+        Err(fault) => refused(alloc, fault.number()),
     }
 }
