@@ -14,8 +14,6 @@ mod paths;
 mod plans;
 mod readers;
 mod schedules;
-#[cfg(test)]
-mod tests;
 mod texts;
 
 pub use dates::{date_of, day_number, day_of, due_date};

@@ -30,6 +30,3 @@ mod weight;
 pub use fault::{GenFault, LibraryFault};
 pub use library::{Library, Location};
 pub use program::compile;
-
-#[cfg(test)]
-mod tests;

@@ -24,8 +24,3 @@ pub use machine::{Machine, run};
 pub use outcome::Outcome;
 pub use pieces::PieceCase;
 pub use whole::WholeCase;
-
-#[cfg(test)]
-mod message_tests;
-#[cfg(test)]
-mod tests;

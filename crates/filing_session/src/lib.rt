@@ -15,8 +15,6 @@ mod payload;
 mod reply;
 mod session;
 mod stream;
-#[cfg(test)]
-mod tests;
 mod words;
 
 pub use session::{COMMANDS, ServeFault, serve};

@@ -20,6 +20,3 @@ mod shaping;
 pub use fault::VerifyFault;
 pub use judge::{Verified, verify};
 pub use kind::Kind;
-
-#[cfg(test)]
-mod tests;

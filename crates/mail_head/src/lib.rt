@@ -25,8 +25,3 @@ pub use laws::fields_are_decided;
 pub use owned::PieceHead;
 pub use pieces::{HeadFault, HeadReader, MOST_OCTETS};
 pub use reading::{Head, read_head};
-
-#[cfg(test)]
-mod examples;
-#[cfg(test)]
-mod tests;

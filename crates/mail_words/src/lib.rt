@@ -20,6 +20,3 @@ mod words;
 
 pub use laws::{meaning_is_decided, value_is_decided, words_stand_apart};
 pub use value::value_of;
-
-#[cfg(test)]
-mod tests;

@@ -33,6 +33,3 @@ mod walk;
 pub use checked::{Checked, check};
 pub use fault::CheckFault;
 pub use laws::{fileinto_law, header_law, if_law, name_law, shape_law, size_law};
-
-#[cfg(test)]
-mod tests;

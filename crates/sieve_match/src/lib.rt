@@ -32,6 +32,3 @@ pub fn key_matches(match_type: MatchType, key: &[u8], value: &[u8], comparator: 
         MatchType::Matches => matches(key, value, comparator),
     }
 }
-
-#[cfg(test)]
-mod tests;

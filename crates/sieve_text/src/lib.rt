@@ -12,8 +12,6 @@ mod laws;
 mod lexeme;
 mod parser;
 mod scanner;
-#[cfg(test)]
-mod tests;
 
 pub use fault::{ScanFault, ScanRefusal, TextFault, TextRefusal};
 pub use laws::{cut, one_scan, one_verdict, some_verdict};

@@ -16,8 +16,6 @@ mod commands;
 mod laws;
 mod stop;
 mod test_lists;
-#[cfg(test)]
-mod tests;
 
 use crate::fault::{TextFault, TextRefusal};
 use crate::scanner::{count_tokens, split_lexeme};

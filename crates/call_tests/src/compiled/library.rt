@@ -1,7 +1,7 @@
 //! Thirty-two names in each location, and what a name finds.
 
 use super::keeps;
-use crate::{Library, LibraryFault, Location};
+use filing_gen::{Library, LibraryFault, Location};
 use sieve_check::{Checked, check};
 use sieve_syntax::Script;
 use std::alloc::Global;

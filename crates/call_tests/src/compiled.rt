@@ -3,7 +3,7 @@
 mod includes;
 mod library;
 
-use crate::{GenFault, Library, compile};
+use filing_gen::{GenFault, Library, compile};
 use sieve_check::check;
 use sieve_syntax::{Argument, Arguments, Command, Ending, Script, StringList, Test, Tests, Text};
 use std::alloc::{AllocError, Global};

@@ -1,7 +1,7 @@
 //! Images of scripts that include others.
 
 use super::{command, image_over, keeps};
-use crate::Library;
+use filing_gen::Library;
 use sieve_check::check;
 use sieve_syntax::{Command, Script};
 use std::alloc::{AllocError, Global};

@@ -1,0 +1,76 @@
+//! The calls that a table may have.
+
+/// A call.
+#[derive(Clone, Copy)]
+pub enum Call {
+    Tokens,
+    Lengths,
+    Tree,
+    Check,
+    Is,
+    Contains,
+    Matches,
+    ShortPatterns,
+    Fields,
+    Reader,
+    Pieces,
+    Value,
+    Case,
+    Plan,
+    Revise,
+    Parts,
+    PlanDue,
+    Schedule,
+    Due,
+    Day,
+    Date,
+    Moment,
+    Image,
+    Stops,
+    Verify,
+    Changes,
+    Run,
+}
+
+/// Each call's word.
+const WORDS: [(&str, Call); 27] = [
+    ("tokens", Call::Tokens),
+    ("lengths", Call::Lengths),
+    ("tree", Call::Tree),
+    ("check", Call::Check),
+    ("is", Call::Is),
+    ("contains", Call::Contains),
+    ("matches", Call::Matches),
+    ("short_patterns", Call::ShortPatterns),
+    ("fields", Call::Fields),
+    ("reader", Call::Reader),
+    ("pieces", Call::Pieces),
+    ("value", Call::Value),
+    ("case", Call::Case),
+    ("plan", Call::Plan),
+    ("revise", Call::Revise),
+    ("parts", Call::Parts),
+    ("plan_due", Call::PlanDue),
+    ("schedule", Call::Schedule),
+    ("due", Call::Due),
+    ("day", Call::Day),
+    ("date", Call::Date),
+    ("moment", Call::Moment),
+    ("image", Call::Image),
+    ("stops", Call::Stops),
+    ("verify", Call::Verify),
+    ("changes", Call::Changes),
+    ("run", Call::Run),
+];
+
+impl Call {
+    /// The call of a word.
+    pub fn of(word: &str) -> Option<Call> {
+        for (name, call) in &WORDS {
+            if *name == word {
+                return Some(*call);
+            }
+        }
+        None
+    }
+}

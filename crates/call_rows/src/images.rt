@@ -1,0 +1,108 @@
+//! What images answer.
+
+use crate::messages::whole_case;
+use crate::told::{refused, word};
+use anyhow::{Context, Result, bail};
+use filing_image::{Image, Instruction, decode, encode};
+use filing_machine::{Outcome, run as run_program};
+use filing_verify::verify as verify_image;
+use std::alloc::Global;
+use std::str;
+
+/// The parts of an image and its code as text.
+pub fn image(alloc: Global, octets: &[u8]) -> Result<Vec<u8>> {
+    let image = match decode(alloc, octets) {
+        Ok(image) => image,
+        Err(fault) => return refused(alloc, fault.number()),
+    };
+    if encode(alloc, &image)?.as_slice() != octets {
+        bail!("an image has another spelling");
+    }
+    let (budget, texts, slots) = (image.budget(), image.text_count(), image.slots());
+    let numbers = image.numbers();
+    Ok(format!(in alloc;
+        "budget {budget}, {texts} texts, numbers {numbers:?}, {slots} slots\n{image}"
+    )?.into_bytes())
+}
+
+/// The octets of an image with budget 1 of so many STOP.
+pub fn stops(alloc: Global, count: &[u8]) -> Result<Vec<u8>> {
+    let count: usize = str::from_utf8(count)?.parse().context("a number is wrong")?;
+    let stop = Instruction { op: 20, a: 0, b: 0 };
+    let code = vec![in alloc; stop; count]?;
+    match Image::new(alloc, 1, Vec::new(alloc), Vec::new(alloc), 0, code) {
+        Ok(image) => Ok(encode(alloc, &image)?),
+        Err(fault) => refused(alloc, fault.number()),
+    }
+}
+
+/// By which number octets are refused, as an image or by the verifier; 0 where their image may run.
+fn refusal(alloc: Global, octets: &[u8]) -> u8 {
+    match decode(alloc, octets) {
+        Err(fault) => fault.number(),
+        Ok(image) => match verify_image(alloc, image) {
+            Err((fault, _)) => fault.number(),
+            Ok(_) => 0,
+        },
+    }
+}
+
+/// Whether the image of some octets may run.
+pub fn verify(alloc: Global, octets: &[u8]) -> Result<Vec<u8>> {
+    match refusal(alloc, octets) {
+        0 => word(alloc, "may run"),
+        number => refused(alloc, number),
+    }
+}
+
+/// Adds by which numbers an image is refused with another octet in a place.
+fn add_changes(refusals: &mut Vec<u8>, alloc: Global, octets: &[u8], place: usize) -> Result<()> {
+    let mut changed = Vec::from_slice(alloc, octets)?;
+    for value in 0..=255u8 {
+        if let Some(octet) = changed.get_mut(place) {
+            *octet = value;
+        }
+        if changed.as_slice() != octets {
+            refusals.push(refusal(alloc, changed.as_slice()))?;
+        }
+    }
+    Ok(())
+}
+
+/// How many of an image's changes in one octet are refused by each number.
+pub fn changes(alloc: Global, octets: &[u8]) -> Result<Vec<u8>> {
+    let mut refusals = Vec::new(alloc);
+    for place in 0..octets.len() {
+        add_changes(&mut refusals, alloc, octets, place)?;
+    }
+    let mut out = Vec::new(alloc);
+    for number in [0u8, 60, 61, 62, 63, 64, 65, 66] {
+        let count = refusals.iter().filter(|other| **other == number).count();
+        out.extend_from_slice(format!(in alloc; "{number}: {count}, ")?.as_bytes())?;
+    }
+    Ok(out)
+}
+
+/// What a run captured.
+fn captured(alloc: Global, outcome: &Outcome) -> Result<Vec<u8>> {
+    let mut out = Vec::new(alloc);
+    for class in outcome.classes.as_slice() {
+        out.extend_from_slice(class.as_slice())?;
+        out.push(b' ')?;
+    }
+    let (fault, steps) = (outcome.fault, outcome.steps);
+    out.extend_from_slice(format!(in alloc; "{fault:?} {steps}")?.as_bytes())?;
+    Ok(out)
+}
+
+/// What the run of an image captures in the case of a message.
+pub fn run(alloc: Global, octets: &[u8], message: &[u8]) -> Result<Vec<u8>> {
+    let Ok(image) = decode(alloc, octets) else {
+        bail!("no image");
+    };
+    let Ok(program) = verify_image(alloc, image) else {
+        bail!("an image that may not run");
+    };
+    let outcome = run_program(alloc, &program, &whole_case(alloc, message)?)?;
+    captured(alloc, &outcome)
+}

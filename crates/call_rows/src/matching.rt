@@ -1,0 +1,67 @@
+//! What matching answers.
+
+use crate::call::Call;
+use crate::told::word;
+use anyhow::Result;
+use sieve_match::{Comparator, MatchType, contains, is, key_matches, matches};
+use std::alloc::Global;
+
+/// Whether a key matches a value, by the call and by its match type; the comparator is `octet` or `casemap`.
+pub fn matched(
+    alloc: Global,
+    call: Call,
+    value: &[u8],
+    key: &[u8],
+    comparator: &[u8],
+) -> Result<Vec<u8>> {
+    let comparator = if comparator == b"octet".as_slice() {
+        Comparator::Octet
+    } else {
+        Comparator::Casemap
+    };
+    let (match_type, answer) = match call {
+        Call::Is => (MatchType::Is, is(key, value, comparator)),
+        Call::Contains => (MatchType::Contains, contains(key, value, comparator)),
+        _ => (MatchType::Matches, matches(key, value, comparator)),
+    };
+    if key_matches(match_type, key, value, comparator) != answer {
+        return word(alloc, "one thing by the call, another by its match type");
+    }
+    word(alloc, if answer { "true" } else { "false" })
+}
+
+/// The letters that a number's digits stand for, of so many bits each.
+fn spelled(number: u16, bits: u32, letters: &[u8; 4]) -> [u8; 5] {
+    let mut text = [b'a'; 5];
+    let mut rest = number;
+    for octet in text.iter_mut() {
+        *octet = letters[(rest % 4) as usize];
+        rest = rest.checked_shr(bits).unwrap_or(0);
+    }
+    text
+}
+
+/// How many of the values of up to five octets over two a pattern matches.
+fn count_matches(pattern: &[u8]) -> u32 {
+    let mut count = 0u32;
+    for (length, numbers) in [(0, 1), (1, 2), (2, 4), (3, 8), (4, 16), (5, 32)] {
+        for number in 0..numbers {
+            let text = spelled(number, 1, b"abab");
+            let answer = matches(pattern, &text[..length.min(5)], Comparator::Octet);
+            count = count.saturating_add(u32::from(answer));
+        }
+    }
+    count
+}
+
+/// How many pairs match of all patterns of up to five items over two octets and all values of up to five.
+pub fn short_patterns(alloc: Global) -> Result<Vec<u8>> {
+    let mut count = 0u32;
+    for (length, numbers) in [(0, 1), (1, 4), (2, 16), (3, 64), (4, 256), (5, 1024)] {
+        for number in 0..numbers {
+            let text = spelled(number, 2, b"ab?*");
+            count = count.saturating_add(count_matches(&text[..length.min(5)]));
+        }
+    }
+    Ok(format!(in alloc; "{count}")?.into_bytes())
+}

@@ -1,3 +1,0 @@
-//! Examples from outside: worked rows, and another program's answers.
-mod dates;
-mod plans;

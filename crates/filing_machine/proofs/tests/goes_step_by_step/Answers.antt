@@ -1,4 +1,0 @@
-use Rattle.filing_machine.proofs.tests.goes_step_by_step.Goals as goal
-
-pub step-requires-clause-stands : goal.step-requires-clause-stands
-step-requires-clause-stands g c = c.in_ok-machine.ensures.stands _

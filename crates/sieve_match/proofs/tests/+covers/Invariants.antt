@@ -1,5 +1,0 @@
-use Rattle.std.proofs.Common.{◌+◌, length}
-use Rattle.sieve_match.proofs.tests.+covers.Given as goal
-
-abbrev pub decreases-covers : goal.decreases-covers
-decreases-covers l = length l.pattern.now + length l.value.now
