@@ -1,6 +1,6 @@
-use Rattle.std.proofs.Common.{sym, ◌≡◌, ◌∷◌, Ok, Err, drop, length, arith}
+use Rattle.std.proofs.Common.{sym, ◌≡◌, Ok, Err, drop, length, arith}
 use Rattle.sieve_text.specs.Gaps.{gap_len}
-use Rattle.sieve_text.specs.Lexemes.{kind_of, read_of, kinds_in, left_in}
+use Rattle.sieve_text.specs.Lexemes.{read_of}
 use Rattle.sieve_text.specs.Tokens.{kind_at}
 use Rattle.sieve_text.proofs.LexemeLemmas.{first_in, none_in, left_first, left_none}
 use Rattle.sieve_text.proofs.scanner.split_lexeme.Goals as goal
