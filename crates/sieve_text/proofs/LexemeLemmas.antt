@@ -1,6 +1,7 @@
 -- The tokens that are read one after another are those of the text.
-use Rattle.std.proofs.Common.{◌≡◌, ℕ, zero, suc, ◌+◌, ◌<◌, ◌≤◌, ◌⊎◌, true, false, List, [], ◌∷◌, length, drop, nat_lt, Option, Some, None, Result, Ok, Err, refl, sym, ap, ◌∙◌, arith, inl, inr}
-use Rattle.std.proofs.lemmas.Bool.{ltb-false}
+use Rattle.std.proofs.Common.{◌≡◌, ℕ, zero, suc, ◌+◌, ◌<◌, ◌≤◌, ◌⊎◌, Bool, true, false, List, [], ◌∷◌, length, drop, nat_lt, Option, Some, None, Result, Ok, Err, refl, sym, ap, ◌∙◌, arith, inl, inr}
+use Rattle.std.specs.Prelude.{if◌then◌else◌}
+use Rattle.std.proofs.lemmas.Bool.{ltb-false, ltb-true}
 use Rattle.std.proofs.lemmas.List.{length-drop, drop_all}
 use Rattle.sieve_syntax.specs.declared.token.Token.{Token}
 use Rattle.sieve_syntax.specs.declared.token.TokenKind.{TokenKind}
@@ -8,8 +9,9 @@ use Rattle.sieve_text.specs.declared.fault.ScanRefusal.{ScanRefusal}
 use Rattle.sieve_text.specs.declared.fault.ScanRefusal.TheVariants.{NoToken}
 use Rattle.sieve_text.specs.Gaps.{gap_len}
 use Rattle.sieve_text.specs.Grammar.{kinds}
-use Rattle.sieve_text.specs.Lexemes.{first_and, kinds_within, kinds_in}
-use Rattle.sieve_text.specs.Tokens.{kind_at, token_at, Reads, IsScan, ◌>>=◌}
+use Rattle.sieve_text.specs.Lexemes.{first_and, kinds_within, kinds_in, left_behind, left_within, left_in}
+use Rattle.sieve_text.specs.Tokens.{kind_at, token_at, Reads, IsSound, IsScan, IsFaulty, ◌>>=◌}
+use Rattle.sieve_text.proofs.ScanLemmas.{some_verdict, sound_once}
 use Rattle.sieve_text.proofs.KindLemmas.{read_as, tested, bound_parts}
 use Rattle.sieve_text.proofs.GapLemmas.{drop_more}
 use Rattle.sieve_text.proofs.WithinLemmas.{kind_within, token_parts, token_within}
@@ -108,3 +110,107 @@ read_from script at (t ∷ ts) end w h e =
 
 pub read_all : (script : List ℕ) (ts : List Token) → IsScan script ts → kinds ts ≡ kinds_in script
 read_all script ts h = read_from script 0 ts h.1.0 (omega arith) h.1.1 h.1.2
+
+left_nothing : (n : ℕ) → left_within n [] ≡ []
+unfolding left_within kind_at gap_len
+left_nothing zero = refl
+left_nothing (suc n) = refl
+
+left_same : (f g : List ℕ → List ℕ) (bs : List ℕ) (read : Result (TokenKind × ℕ) ScanRefusal) → ((k : TokenKind × ℕ) → read ≡ Ok k → f (drop k.1 bs) ≡ g (drop k.1 bs)) → left_behind f bs read ≡ left_behind g bs read
+left_same f g bs (Ok k) h = h k refl
+left_same f g bs (Err refusal) h = refl
+
+left_enough : (m n : ℕ) (bs : List ℕ) → length bs ≤ m → length bs ≤ n → left_within m bs ≡ left_within n bs
+unfolding left_within
+left_enough m n [] h l = left_nothing m ∙ sym (left_nothing n)
+left_enough zero n (b ∷ bs) h l = absurd (omega arith)
+left_enough (suc m) zero (b ∷ bs) h l = absurd (omega arith)
+left_enough (suc m) (suc n) (b ∷ bs) h l =
+    let rest : List ℕ = drop (gap_len 0 (b ∷ bs)) (b ∷ bs) in
+    let d = length-drop (gap_len 0 (b ∷ bs)) (b ∷ bs) in
+    left_same (left_within m) (left_within n) rest (kind_at rest) (λ (k : TokenKind × ℕ) (e : kind_at rest ≡ Ok k).
+    let s = shorter_behind rest k e in left_enough m n (drop k.1 rest) (omega arith) (omega arith))
+
+left_first_within : (m : ℕ) (bs : List ℕ) (k : TokenKind × ℕ) → length bs ≤ m → kind_at (drop (gap_len 0 bs) bs) ≡ Ok k → left_within m bs ≡ left_in (drop k.1 (drop (gap_len 0 bs) bs))
+unfolding left_within
+left_first_within zero bs k h e =
+    let s = shorter_behind (drop (gap_len 0 bs) bs) k e in
+    let d = length-drop (gap_len 0 bs) bs in
+    absurd (omega arith)
+left_first_within (suc m) bs k h e =
+    let rest : List ℕ = drop (gap_len 0 bs) bs in
+    let s = shorter_behind rest k e in
+    let d = length-drop (gap_len 0 bs) bs in
+    rw e (left_enough m (length (drop k.1 rest)) (drop k.1 rest) (omega arith) (omega arith))
+
+-- what is left behind a first token
+pub left_first : (bs : List ℕ) (k : TokenKind × ℕ) → kind_at (drop (gap_len 0 bs) bs) ≡ Ok k → left_in bs ≡ left_in (drop k.1 (drop (gap_len 0 bs) bs))
+left_first bs k e = left_first_within (length bs) bs k (omega arith) e
+
+left_none_within : (m : ℕ) (bs : List ℕ) (refusal : ScanRefusal) → kind_at (drop (gap_len 0 bs) bs) ≡ Err refusal → left_within (suc m) bs ≡ drop (gap_len 0 bs) bs
+unfolding left_within
+left_none_within m bs refusal e = rw e refl
+
+-- what is left where no token stands first
+pub left_none : (bs : List ℕ) (refusal : ScanRefusal) → kind_at (drop (gap_len 0 bs) bs) ≡ Err refusal → left_in bs ≡ drop (gap_len 0 bs) bs
+left_none bs refusal e = left_enough (length bs) (suc (length bs)) bs (omega arith) (omega arith) ∙ left_none_within (length bs) bs refusal e
+
+-- what is left of a script is what is left behind some of its tokens
+left_from : (script : List ℕ) (at : ℕ) (ts : List Token) (end : ℕ) → at ≤ length script → Reads script at ts end → left_in (drop at script) ≡ left_in (drop end script)
+left_from script at [] end w h = ap (λ (n : ℕ). left_in (drop n script)) h
+left_from script at (t ∷ ts) end w h =
+    let p = token_parts script at t h.0 in
+    let i = token_within script at t w h.0 in
+    let gap : ℕ = gap_len 0 (drop at script) in
+    let start : drop t.start script ≡ drop gap (drop at script) = ap (λ (n : ℕ). drop n script) p.begins ∙ drop_more at gap script in
+    let behind : drop t.end script ≡ drop p.kind.1 (drop gap (drop at script)) = ap (λ (n : ℕ). drop n script) p.ends ∙ drop_more t.start p.kind.1 script ∙ ap (λ (bs : List ℕ). drop p.kind.1 bs) start in
+    let first = left_first (drop at script) p.kind (ap kind_at (sym start) ∙ p.read) in
+    first ∙ ap left_in (sym behind) ∙ left_from script t.end ts end (omega (arith, i.2)) h.1
+
+abbrev fault_as : ScanRefusal → Result (Option Token) ScanRefusal
+fault_as r = Err r
+
+-- where a faulty place is found the script has not ended
+fails_at : (script : List ℕ) (at : ℕ) (refusal : ScanRefusal) → token_at script at ≡ Err refusal → (at + gap_len 0 (drop at script) < length script) × (kind_at (drop (at + gap_len 0 (drop at script)) script) ≡ Err refusal)
+unfolding token_at
+fails_at script at refusal e = go (nat_lt start (length script)) refl (kind_at (drop start script)) refl e
+  where
+    start : ℕ
+    start = at + gap_len 0 (drop at script)
+
+    made : TokenKind × ℕ → Result (Option Token) ScanRefusal
+    made k = Ok (Some (record { kind = k.0; start = start; end = start + k.1 }))
+
+    none : read_as {A = Option Token} None ≡ Err refusal → ⊥
+    none f = cc
+
+    some : (t : Token) → read_as {A = Option Token} (Some t) ≡ Err refusal → ⊥
+    some t f = cc
+
+    same : (r : ScanRefusal) → fault_as r ≡ fault_as refusal → r ≡ refusal
+    same r f = cc
+
+    go : (t : Bool) → nat_lt start (length script) ≡ t → (x : Result (TokenKind × ℕ) ScanRefusal) → kind_at (drop start script) ≡ x → (if t then (x >>= made) else Ok None) ≡ Err refusal → (start < length script) × (kind_at (drop start script) ≡ Err refusal)
+    go false b x k f = absurd (none f)
+    go true b (Ok y) k f = absurd (some (record { kind = y.0; start = start; end = start + y.1 }) f)
+    go true b (Err r) k f = (ltb-true start (length script) b, k ∙ ap (λ (q : ScanRefusal). Err q) (same r f))
+
+-- a script of which nothing is left has tokens
+pub nothing_left : (script : List ℕ) → IsSound script → left_in script ≡ [] → (ts : List Token) × IsScan script ts
+nothing_left script sound none = go (some_verdict script)
+  where
+    clash : (ts : List Token) (end : ℕ) (refusal : ScanRefusal) → Reads script 0 ts end → token_at script end ≡ Err refusal → ⊥
+    clash ts end refusal h e =
+        let f = fails_at script end refusal e in
+        let gap : ℕ = gap_len 0 (drop end script) in
+        let whole = left_from script 0 ts end (omega arith) h in
+        let there : kind_at (drop gap (drop end script)) ≡ Err refusal = ap kind_at (sym (drop_more end gap script)) ∙ f.1 in
+        let rest : drop gap (drop end script) ≡ [] = sym (left_none (drop end script) refusal there) ∙ sym whole ∙ none in
+        let d = length-drop (end + gap) script in
+        let n : length (drop (end + gap) script) ≡ 0 = ap (λ (bs : List ℕ). length bs) (drop_more end gap script ∙ rest) in
+        omega (arith, f.0)
+
+    go : ((ts : List Token) × IsScan script ts) ⊎ ((refusal : ScanRefusal) × IsFaulty script refusal) → (ts : List Token) × IsScan script ts
+    go (inl h) = h
+    go (inr (refusal, inl unsound)) = absurd (sound_once script refusal sound unsound)
+    go (inr (refusal, inr (s, (ts, end, h, e)))) = absurd (clash ts end refusal h e)

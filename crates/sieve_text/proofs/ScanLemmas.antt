@@ -43,7 +43,7 @@ one_end script at (t ∷ ts) (u ∷ us) m n x y h e s k f r =
 pub one_scan : (script : List ℕ) (ts us : List Token) → IsScan script ts → IsScan script us → ts ≡ us
 one_scan script ts us h k = (one_end script 0 ts us h.1.0 k.1.0 (Ok None) (Ok None) h.1.1 h.1.2 none_stops k.1.1 k.1.2 none_stops).0
 
-sound_once : (script : List ℕ) (refusal : ScanRefusal) → IsSound script → IsUnsound script refusal → ⊥
+pub sound_once : (script : List ℕ) (refusal : ScanRefusal) → IsSound script → IsUnsound script refusal → ⊥
 sound_once script ScriptTooLong h k = omega arith
 sound_once script NotUtf8 h k = k.1 h.1
 sound_once script NoToken h k = omega arith

@@ -45,3 +45,16 @@ kinds_within (suc n) bs = first_and (kinds_within n) (drop (gap_len 0 bs) bs) (k
 -- what the tokens of a text say, all of them up to the first place where none is, as each has an octet
 abbrev pub kinds_in : List ℕ → List TokenKind
 kinds_in bs = kinds_within (length bs) bs
+
+abbrev pub left_behind : (List ℕ → List ℕ) → List ℕ → Result (TokenKind × ℕ) ScanRefusal → List ℕ
+left_behind more bs (Ok k) = more (drop k.1 bs)
+left_behind more bs (Err refusal) = bs
+
+-- what is left of a text from the first place on where no token is; no more than so many tokens stand before it
+unfoldable pub left_within : ℕ → List ℕ → List ℕ
+left_within zero bs = bs
+left_within (suc n) bs = left_behind (left_within n) (drop (gap_len 0 bs) bs) (kind_at (drop (gap_len 0 bs) bs))
+
+-- what is left of a text from the first place on where no token is: nothing where tokens go on to its end
+abbrev pub left_in : List ℕ → List ℕ
+left_in bs = left_within (length bs) bs

@@ -1,14 +1,16 @@
 //! The tree of a text (RFC 5228, section 8.2). Its tokens are read from left to right, with no step back, and no deeper
 //! than the limits on tests and blocks inside one another.
 
-ghost use Rattle.std.specs.Prelude.{IfOk, IfErr, map};
+ghost use Rattle.std.specs.Prelude.{◌≡◌, length, List, IfOk, IfErr, OnOk, map, Result};
+ghost use Rattle.sieve_syntax.specs.declared.token.Token.{Token};
 ghost use Rattle.sieve_syntax.specs.Tree.{CommandTrees};
 ghost use Rattle.sieve_syntax.specs.View.{tree_of, command_of, commands_of};
 ghost use Rattle.sieve_text.specs.declared.fault.ScanRefusal.{ScanRefusal};
 ghost use Rattle.sieve_text.specs.declared.fault.TextRefusal.{TextRefusal};
-ghost use Rattle.sieve_text.specs.Lexemes.{kinds_in};
+ghost use Rattle.sieve_text.specs.Lexemes.{kinds_in, left_in};
 ghost use Rattle.sieve_text.specs.Grammar.{Spells, IsScript, IsDeep, AnswersTree, AnswersRefusal, Explains};
-ghost use Rattle.sieve_text.specs.Tokens.{IsFaulty};
+ghost use Rattle.sieve_text.specs.declared.parser.stop.Misfit.{Misfit};
+ghost use Rattle.sieve_text.specs.Tokens.{IsSound, IsScan, IsFaulty, FaultsBy};
 ghost use Rattle.sieve_text.specs.Reading.{Gives, GivesScript, script_at};
 
 mod arguments;
@@ -17,41 +19,59 @@ mod laws;
 mod stop;
 mod test_lists;
 
-use crate::fault::{TextFault, TextRefusal};
-use crate::scanner::{count_tokens, split_lexeme};
+use crate::fault::{ScanFault, TextFault, TextRefusal};
+use crate::scanner::{count_tokens, judge, split_lexeme};
 use commands::commands;
 pub use laws::one_tree;
 use sieve_syntax::{Command, Script};
 use std::alloc::Global;
-use stop::{Misfit, Stop, syntax};
+use stop::{Misfit, Stop, left_from, syntax};
 
 /// How many blocks may stand inside one another.
 const BLOCK_DEPTH: u8 = 32;
 
-/// The commands that the tokens of a text are, all of them.
+/// The commands that the tokens of a text are, up to the first place where none is, and how many octets there are from
+/// that place on.
 #[tactic(auto, unfolding(crate::specs::Reading::script_at))]
-fn all_commands(alloc: Global, text: &[u8]) -> Result<Vec<Command>, Stop>
-    ensures { Gives (λ v. commands_of (map command_of v.items)) result (script_at 32 32 (kinds_in text.now)) }
+fn all_commands(alloc: Global, text: &[u8]) -> Result<(Vec<Command>, usize), Stop>
+    ensures value { Gives (λ x. commands_of (map command_of x.0.items)) result (script_at 32 32 (kinds_in text.now)) }
+    ensures left { IfOk result (λ x. x.1 ≡ length (left_in text.now)) }
 {
     let (commands, rest) = commands(alloc, BLOCK_DEPTH, text)?;
-    if split_lexeme(rest).is_none() {
-        Ok(commands)
-    } else {
-        Err(syntax(rest))
+    if split_lexeme(rest).is_some() {
+        return Err(syntax(rest));
     }
+    Ok((commands, left_from(rest)))
 }
 
-/// The tree of the tokens of a text.
-fn parse_tokens(alloc: Global, text: &[u8]) -> Result<Script, TextFault>
-    ensures { GivesScript result (script_at 32 32 (kinds_in text.now)) }
+/// Judges whether a script that is judged as a whole has tokens, which is so where its commands were read and nothing is
+/// left behind them.
+fn judge_tokens(script: &[u8], read: &Result<(Vec<Command>, usize), Stop>) -> Result<(), ScanFault>
+    requires sound { IsSound script.now }
+    requires left { IfOk read.now (λ x. x.1 ≡ length (left_in script.now)) }
+    ensures tokens { OnOk result ((ts : List Token) × IsScan script.now ts) }
+    ensures fault { IfErr result (λ e. FaultsBy script.now e) }
 {
-    let (refusal, left) = match all_commands(alloc, text) {
-        Ok(commands) => return Ok(Script { commands }),
+    if let Ok((_, left)) = read {
+        if *left == 0 {
+            return Ok(());
+        }
+    }
+    let _count = count_tokens(script)?;
+    Ok(())
+}
+
+/// The tree that was read, or the refusal, in a text of `end` octets.
+fn answer(read: Result<(Vec<Command>, usize), Stop>, end: usize) -> Result<Script, TextFault>
+    ensures { (want : Result CommandTrees Misfit) → Gives (λ x. commands_of (map command_of x.0.items)) read want → GivesScript result want }
+{
+    let (refusal, left) = match read {
+        Ok((commands, _)) => return Ok(Script { commands }),
         Err(Stop::NoMemory) => return Err(TextFault::NoMemory),
         Err(Stop::Refused(Misfit::Syntax, left)) => (TextRefusal::Syntax, left),
         Err(Stop::Refused(Misfit::Nesting, left)) => (TextRefusal::Nesting, left),
     };
-    Err(TextFault::Refused(refusal, text.len().saturating_sub(left)))
+    Err(TextFault::Refused(refusal, end.saturating_sub(left)))
 }
 
 /// The tree of a script (RFC 5228, section 8.2), which keeps whether a string or a test stood in brackets.
@@ -76,6 +96,8 @@ pub fn parse(alloc: Global, script: &[u8]) -> Result<Script, TextFault>
     // Each refusal says what the text lacks.
     ensures refused { IfErr result (λ e. Explains script.now e) }
 {
-    let _tokens = count_tokens(script)?;
-    parse_tokens(alloc, script)
+    judge(script)?;
+    let read = all_commands(alloc, script);
+    judge_tokens(script, &read)?;
+    answer(read, script.len())
 }

@@ -12,7 +12,8 @@ mod strings;
 
 ghost use Rattle.std.specs.Prelude.{◌≡◌, ◌≤◌, ◌<◌, ◌+◌, ◌^◌, [], ◌∷◌, length, drop, suc, IfOk, IfErr, IfSome, MatchOption, Ok, OnOk, ℕ, List, option_map};
 ghost use Rattle.sieve_syntax.specs.declared.token.Token.{Token};
-ghost use Rattle.sieve_text.specs.Lexemes.{kind_of, read_of, token_of, kinds_in};
+ghost use Rattle.sieve_text.specs.Gaps.{gap_len};
+ghost use Rattle.sieve_text.specs.Lexemes.{kind_of, read_of, token_of, kinds_in, left_in};
 ghost use Rattle.sieve_text.specs.Tokens.{mark_of, kind_at, tag_at, identifier_at, token_at, Gives, IsSound, IsScan, FaultsBy, StandsAt, StandsIn, either_place, text_len, fault_place};
 
 use crate::fault::{FaultyPlace, ScanFault, ScanRefusal};
@@ -26,6 +27,7 @@ pub use strings::{string_text, text};
 /// The octets of the longest script.
 const MOST_OCTETS: usize = 262_144;
 
+#[inline(always)]
 fn mark(b: u8) -> Option<Mark>
     ensures { result ≡ mark_of b }
 {
@@ -43,6 +45,7 @@ fn mark(b: u8) -> Option<Mark>
 }
 
 /// An identifier, and how many octets it has.
+#[inline(always)]
 fn identifier(rest: &[u8]) -> (Lexeme<'_>, usize)
     ensures value { identifier_at rest.now ≡ Ok (read_of result) }
     ensures within { result.1 ≤ length rest.now }
@@ -53,6 +56,7 @@ fn identifier(rest: &[u8]) -> (Lexeme<'_>, usize)
 
 /// A tag behind its colon, which stands at this offset.
 #[tactic(auto, unfolding(crate::specs::Tokens::tag_at))]
+#[inline(always)]
 fn tag(behind: &[u8], at: usize) -> Result<(Lexeme<'_>, usize), FaultyPlace>
     ensures value { Gives read_of result (tag_at behind.now) }
     ensures within { IfOk result (λ x. x.1 ≤ suc (length behind.now)) }
@@ -70,6 +74,7 @@ fn tag(behind: &[u8], at: usize) -> Result<(Lexeme<'_>, usize), FaultyPlace>
 
 /// The token that begins here, at this offset, and how many octets it has.
 #[tactic(auto, unfolding(crate::specs::Tokens::kind_at))]
+#[inline(always)]
 fn lexeme(rest: &[u8], at: usize) -> Result<(Lexeme<'_>, usize), FaultyPlace>
     requires { at + length rest.now < 2 ^ 64 }
     ensures value { Gives read_of result (kind_at rest.now) }
@@ -103,6 +108,7 @@ fn lexeme(rest: &[u8], at: usize) -> Result<(Lexeme<'_>, usize), FaultyPlace>
 
 /// The next token from an offset on, if there is one.
 #[tactic(auto, unfolding(crate::specs::Tokens::token_at))]
+#[inline(always)]
 fn placed_lexeme(script: &[u8], at: usize) -> Result<Option<PlacedLexeme<'_>>, FaultyPlace>
     requires length { length script.now ≤ 262144 }
     requires within { at ≤ length script.now }
@@ -125,7 +131,7 @@ fn placed_lexeme(script: &[u8], at: usize) -> Result<Option<PlacedLexeme<'_>>, F
 }
 
 /// Judges a script as a whole: its length, then that it is UTF-8, then that each octet may stand in a text.
-fn judge(script: &[u8]) -> Result<(), ScanFault>
+pub fn judge(script: &[u8]) -> Result<(), ScanFault>
     ensures sound { OnOk result (IsSound script.now) }
     ensures fault { IfErr result (λ e. FaultsBy script.now e) }
     ensures place { IfErr result (λ e. StandsIn script.now e) }
@@ -148,6 +154,7 @@ fn judge(script: &[u8]) -> Result<(), ScanFault>
 pub fn split_lexeme(text: &[u8]) -> Option<(Lexeme<'_>, &[u8])>
     ensures cases { MatchOption result (kinds_in text.now ≡ []) (λ x. kinds_in text.now ≡ kind_of x.0 ∷ kinds_in x.1.now) }
     ensures fewer { IfSome result (λ x. length (kinds_in x.1.now) < length (kinds_in text.now)) }
+    ensures left { MatchOption result (left_in text.now ≡ drop (gap_len 0 text.now) text.now) (λ x. left_in x.1.now ≡ left_in text.now) }
 {
     let (_, rest) = text.split_at(gap_length(text));
     let Ok((lexeme, length)) = lexeme(rest, 0) else {

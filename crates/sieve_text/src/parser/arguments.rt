@@ -1,7 +1,7 @@
 //! Strings and arguments.
 
 ghost use Rattle.std.specs.Prelude.{◌≡◌, ◌≤◌, ◌<◌, length, IfOk, IfSome, option_map};
-ghost use Rattle.sieve_text.specs.Lexemes.{kinds_in};
+ghost use Rattle.sieve_text.specs.Lexemes.{kinds_in, left_in};
 ghost use Rattle.sieve_text.specs.Reading.{Gives, string_at, behind_bracket, next_with, other_strings_at, string_list_at, argument_at, arguments_at};
 
 use crate::lexeme::Lexeme;
@@ -15,6 +15,7 @@ use std::alloc::Global;
 fn read_string(alloc: Global, text: &[u8]) -> Result<(Text, &[u8]), Stop>
     ensures value { Gives (λ x. (x.0, kinds_in x.1.now)) result (string_at (kinds_in text.now)) }
     ensures fewer { IfOk result (λ x. length (kinds_in x.1.now) < length (kinds_in text.now)) }
+    ensures left { IfOk result (λ x. left_in x.1.now ≡ left_in text.now) }
 {
     match split_lexeme(text) {
         Some((Lexeme::StringValue(written), rest)) => Ok((string_text(alloc, written)?, rest)),
@@ -26,6 +27,7 @@ fn read_string(alloc: Global, text: &[u8]) -> Result<(Text, &[u8]), Stop>
 fn next_string(alloc: Global, text: &[u8]) -> Result<Option<(Text, &[u8])>, Stop>
     ensures value { Gives (option_map (λ x. (x.0, kinds_in x.1.now))) result (next_with string_at (kinds_in text.now)) }
     ensures fewer { IfOk result (λ o. IfSome o (λ x. length (kinds_in x.1.now) < length (kinds_in text.now))) }
+    ensures left { IfOk result (λ o. IfSome o (λ x. left_in x.1.now ≡ left_in text.now)) }
 {
     match split_lexeme(text) {
         Some((Lexeme::Mark(Mark::Comma), rest)) => Ok(Some(read_string(alloc, rest)?)),
@@ -37,6 +39,7 @@ fn next_string(alloc: Global, text: &[u8]) -> Result<Option<(Text, &[u8])>, Stop
 fn behind_bracket(text: &[u8]) -> Result<&[u8], Stop>
     ensures value { Gives (λ x. kinds_in x.now) result (behind_bracket (kinds_in text.now)) }
     ensures fewer { IfOk result (λ x. length (kinds_in x.now) < length (kinds_in text.now)) }
+    ensures left { IfOk result (λ x. left_in x.now ≡ left_in text.now) }
 {
     match split_lexeme(text) {
         Some((Lexeme::Mark(Mark::CloseBracket), rest)) => Ok(rest),
@@ -48,6 +51,7 @@ fn behind_bracket(text: &[u8]) -> Result<&[u8], Stop>
 fn other_strings(alloc: Global, text: &[u8]) -> Result<(Texts, &[u8]), Stop>
     ensures value { Gives (λ x. (x.0, kinds_in x.1.now)) result (other_strings_at (kinds_in text.now)) }
     ensures fewer { IfOk result (λ x. length (kinds_in x.1.now) ≤ length (kinds_in text.now)) }
+    ensures left { IfOk result (λ x. left_in x.1.now ≡ left_in text.now) }
 {
     let mut others = Texts::new(alloc);
     let mut rest = text;
@@ -64,6 +68,7 @@ fn other_strings(alloc: Global, text: &[u8]) -> Result<(Texts, &[u8]), Stop>
 fn string_list(alloc: Global, text: &[u8]) -> Result<(StringList, &[u8]), Stop>
     ensures value { Gives (λ x. (x.0, kinds_in x.1.now)) result (string_list_at (kinds_in text.now)) }
     ensures fewer { IfOk result (λ x. length (kinds_in x.1.now) < length (kinds_in text.now)) }
+    ensures left { IfOk result (λ x. left_in x.1.now ≡ left_in text.now) }
 {
     let (first, rest) = read_string(alloc, text)?;
     let (others, rest) = other_strings(alloc, rest)?;
@@ -76,6 +81,7 @@ fn string_list(alloc: Global, text: &[u8]) -> Result<(StringList, &[u8]), Stop>
 fn next_argument(alloc: Global, text: &[u8]) -> Result<Option<(Argument, &[u8])>, Stop>
     ensures value { Gives (option_map (λ x. (x.0, kinds_in x.1.now))) result (argument_at (kinds_in text.now)) }
     ensures fewer { IfOk result (λ o. IfSome o (λ x. length (kinds_in x.1.now) < length (kinds_in text.now))) }
+    ensures left { IfOk result (λ o. IfSome o (λ x. left_in x.1.now ≡ left_in text.now)) }
 {
     let Some((lexeme, rest)) = split_lexeme(text) else {
         return Ok(None);
@@ -99,6 +105,7 @@ fn next_argument(alloc: Global, text: &[u8]) -> Result<Option<(Argument, &[u8])>
 pub fn arguments(alloc: Global, text: &[u8]) -> Result<(Arguments, &[u8]), Stop>
     ensures value { Gives (λ x. (x.0, kinds_in x.1.now)) result (arguments_at (kinds_in text.now)) }
     ensures fewer { IfOk result (λ x. length (kinds_in x.1.now) ≤ length (kinds_in text.now)) }
+    ensures left { IfOk result (λ x. left_in x.1.now ≡ left_in text.now) }
 {
     let mut arguments = Arguments::new(alloc);
     let mut rest = text;

@@ -2,7 +2,7 @@
 
 ghost use Rattle.std.specs.Prelude.{◌≡◌, ◌≤◌, ◌<◌, length, map, IfOk, IfSome, option_map, Ok};
 ghost use Rattle.sieve_syntax.specs.View.{command_of, ending_of, commands_of};
-ghost use Rattle.sieve_text.specs.Lexemes.{kinds_in};
+ghost use Rattle.sieve_text.specs.Lexemes.{kinds_in, left_in};
 ghost use Rattle.sieve_text.specs.Reading.{Gives, many_at, inside_at, command_with, commands_with, ending_with, behind_brace};
 
 use crate::lexeme::Lexeme;
@@ -22,6 +22,7 @@ const TEST_DEPTH: u8 = 32;
 pub fn commands(alloc: Global, depth: u8, text: &[u8]) -> Result<(Vec<Command>, &[u8]), Stop>
     ensures value { Gives (λ x. (map command_of x.0.items, kinds_in x.1.now)) result (many_at (command_with 32 (inside_at 32 depth)) (length (kinds_in text.now)) (kinds_in text.now)) }
     ensures fewer { IfOk result (λ x. length (kinds_in x.1.now) ≤ length (kinds_in text.now)) }
+    ensures left { IfOk result (λ x. left_in x.1.now ≡ left_in text.now) }
 {
     let mut commands = Vec::new(alloc);
     let mut rest = text;
@@ -38,6 +39,7 @@ pub fn commands(alloc: Global, depth: u8, text: &[u8]) -> Result<(Vec<Command>, 
 fn next_command(alloc: Global, depth: u8, text: &[u8]) -> Result<Option<(Command, &[u8])>, Stop>
     ensures value { Gives (option_map (λ x. (command_of x.0, kinds_in x.1.now))) result (command_with 32 (inside_at 32 depth) (kinds_in text.now)) }
     ensures fewer { IfOk result (λ o. IfSome o (λ x. length (kinds_in x.1.now) < length (kinds_in text.now))) }
+    ensures left { IfOk result (λ o. IfSome o (λ x. left_in x.1.now ≡ left_in text.now)) }
 {
     let Some((Lexeme::Identifier(name), rest)) = split_lexeme(text) else {
         return Ok(None);
@@ -63,6 +65,7 @@ fn next_command(alloc: Global, depth: u8, text: &[u8]) -> Result<Option<(Command
 fn read_ending(alloc: Global, depth: u8, text: &[u8]) -> Result<(Ending, &[u8]), Stop>
     ensures value { Gives (λ x. (ending_of x.0, kinds_in x.1.now)) result (ending_with (inside_at 32 depth) (kinds_in text.now)) }
     ensures fewer { IfOk result (λ x. length (kinds_in x.1.now) < length (kinds_in text.now)) }
+    ensures left { IfOk result (λ x. left_in x.1.now ≡ left_in text.now) }
 {
     match split_lexeme(text) {
         Some((Lexeme::Mark(Mark::Semicolon), rest)) => Ok((Ending::Semicolon, rest)),
@@ -82,6 +85,7 @@ fn read_ending(alloc: Global, depth: u8, text: &[u8]) -> Result<(Ending, &[u8]),
 fn behind_brace(text: &[u8]) -> Result<&[u8], Stop>
     ensures value { Gives (λ x. kinds_in x.now) result (behind_brace (kinds_in text.now)) }
     ensures fewer { IfOk result (λ x. length (kinds_in x.now) < length (kinds_in text.now)) }
+    ensures left { IfOk result (λ x. left_in x.now ≡ left_in text.now) }
 {
     match split_lexeme(text) {
         Some((Lexeme::Mark(Mark::CloseBrace), rest)) => Ok(rest),

@@ -1,6 +1,7 @@
 //! Why reading stops before a tree is whole.
 
-ghost use Rattle.std.specs.Prelude.{◌≡◌, ℕ};
+ghost use Rattle.std.specs.Prelude.{◌≡◌, ℕ, length, drop};
+ghost use Rattle.sieve_text.specs.Gaps.{gap_len};
 ghost use Rattle.sieve_text.specs.declared.parser.stop.Misfit.TheVariants.{Syntax};
 ghost use Rattle.sieve_text.specs.declared.parser.stop.Stop.TheVariants.{Refused};
 
@@ -46,7 +47,9 @@ impl<T: Drop> From<AllocFailed<T>> for Stop {
 }
 
 /// How many octets there are from the first token of a text on, or from where no token begins.
-pub fn left_from(text: &[u8]) -> usize {
+pub fn left_from(text: &[u8]) -> usize
+    ensures { result ≡ length (drop (gap_len 0 text.now) text.now) }
+{
     let (_, rest) = text.split_at(gap_length(text));
     rest.len()
 }

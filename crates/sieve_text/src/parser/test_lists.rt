@@ -2,7 +2,7 @@
 
 ghost use Rattle.std.specs.Prelude.{◌≡◌, ◌≤◌, ◌<◌, [], ◌∷◌, length, map, IfOk, IfSome, option_map};
 ghost use Rattle.sieve_syntax.specs.View.{test_of, inner_of};
-ghost use Rattle.sieve_text.specs.Lexemes.{kinds_in};
+ghost use Rattle.sieve_text.specs.Lexemes.{kinds_in, left_in};
 ghost use Rattle.sieve_text.specs.Reading.{Gives, behind, behind_paren, next_with, many_at, test_at, test_list_with, inner_with};
 
 use crate::lexeme::Lexeme;
@@ -19,6 +19,7 @@ use std::alloc::Global;
 fn read_test(alloc: Global, depth: u8, text: &[u8]) -> Result<(Test, &[u8]), Stop>
     ensures value { Gives (λ x. (test_of x.0, kinds_in x.1.now)) result (test_at depth (kinds_in text.now)) }
     ensures fewer { IfOk result (λ x. length (kinds_in x.1.now) < length (kinds_in text.now)) }
+    ensures left { IfOk result (λ x. left_in x.1.now ≡ left_in text.now) }
 {
     let Some((Lexeme::Identifier(name), rest)) = split_lexeme(text) else {
         return Err(syntax(text));
@@ -44,6 +45,7 @@ fn read_test(alloc: Global, depth: u8, text: &[u8]) -> Result<(Test, &[u8]), Sto
 pub fn inner_tests(alloc: Global, depth: u8, text: &[u8]) -> Result<(Tests, &[u8]), Stop>
     ensures value { Gives (λ x. (inner_of x.0, kinds_in x.1.now)) result (inner_with (test_at depth) (kinds_in text.now)) }
     ensures fewer { IfOk result (λ x. length (kinds_in x.1.now) ≤ length (kinds_in text.now)) }
+    ensures left { IfOk result (λ x. left_in x.1.now ≡ left_in text.now) }
 {
     match split_lexeme(text) {
         Some((Lexeme::Identifier(_), _)) => {
@@ -60,6 +62,7 @@ pub fn inner_tests(alloc: Global, depth: u8, text: &[u8]) -> Result<(Tests, &[u8
 fn test_list(alloc: Global, depth: u8, text: &[u8]) -> Result<(Tests, &[u8]), Stop>
     ensures value { Gives (λ x. (inner_of x.0, kinds_in x.1.now)) result (test_list_with (test_at depth) (kinds_in text.now)) }
     ensures fewer { IfOk result (λ x. length (kinds_in x.1.now) < length (kinds_in text.now)) }
+    ensures left { IfOk result (λ x. left_in x.1.now ≡ left_in text.now) }
 {
     let (first, rest) = read_test(alloc, depth, text)?;
     let (tests, rest) = with_others(alloc, depth, first, rest)?;
@@ -77,6 +80,7 @@ fn with_others(
 ) -> Result<(Vec<Test>, &[u8]), Stop>
     ensures value { Gives (λ x. (map test_of x.0.items, kinds_in x.1.now)) result (behind (test_of first ∷ []) (many_at (next_with (test_at depth)) (length (kinds_in text.now)) (kinds_in text.now))) }
     ensures fewer { IfOk result (λ x. length (kinds_in x.1.now) ≤ length (kinds_in text.now)) }
+    ensures left { IfOk result (λ x. left_in x.1.now ≡ left_in text.now) }
 {
     let mut tests = vec![in alloc; first]?;
     let mut rest = text;
@@ -93,6 +97,7 @@ fn with_others(
 fn next_test(alloc: Global, depth: u8, text: &[u8]) -> Result<Option<(Test, &[u8])>, Stop>
     ensures value { Gives (option_map (λ x. (test_of x.0, kinds_in x.1.now))) result (next_with (test_at depth) (kinds_in text.now)) }
     ensures fewer { IfOk result (λ o. IfSome o (λ x. length (kinds_in x.1.now) < length (kinds_in text.now))) }
+    ensures left { IfOk result (λ o. IfSome o (λ x. left_in x.1.now ≡ left_in text.now)) }
 {
     match split_lexeme(text) {
         Some((Lexeme::Mark(Mark::Comma), rest)) => Ok(Some(read_test(alloc, depth, rest)?)),
@@ -104,6 +109,7 @@ fn next_test(alloc: Global, depth: u8, text: &[u8]) -> Result<Option<(Test, &[u8
 fn behind_paren(text: &[u8]) -> Result<&[u8], Stop>
     ensures value { Gives (λ x. kinds_in x.now) result (behind_paren (kinds_in text.now)) }
     ensures fewer { IfOk result (λ x. length (kinds_in x.now) < length (kinds_in text.now)) }
+    ensures left { IfOk result (λ x. left_in x.now ≡ left_in text.now) }
 {
     match split_lexeme(text) {
         Some((Lexeme::Mark(Mark::CloseParen), rest)) => Ok(rest),

@@ -1,44 +1,61 @@
 use Rattle.std.proofs.lemmas.Result.{err_from_is_err_and}
+use Rattle.sieve_text.specs.Lexemes.{kinds_in}
+use Rattle.sieve_text.specs.Reading.{script_at}
 use Rattle.sieve_text.proofs.LexemeLemmas.{read_all}
 use Rattle.sieve_text.proofs.ScriptLaws.{script_found, script_only, script_deep, script_faulty, script_explained, fault_only, fault_deep, fault_faulty}
 use Rattle.sieve_text.proofs.parser.parse.Goals as goal
 
-pub returns-in_err-_tokens-clause-only : goal.returns-in_err-_tokens-clause-only
-returns-in_err-_tokens-clause-only c =
+pub returns-in_err-judge-clause-only : goal.returns-in_err-judge-clause-only
+returns-in_err-judge-clause-only c =
     let p = err_from_is_err_and c.from_residual.result c.from_residual.ensures.1 in
-    rw (p.1, p.2) (fault_only c.args.script.now c.in_err-_tokens.field-0.0 c.in_err-_tokens.ensures.fault)
+    rw (p.1, p.2) (fault_only c.args.script.now c.in_err-judge.field-0.0 c.in_err-judge.ensures.fault)
 
-pub returns-in_err-_tokens-clause-nests : goal.returns-in_err-_tokens-clause-nests
-returns-in_err-_tokens-clause-nests c =
+pub returns-in_err-judge-clause-nests : goal.returns-in_err-judge-clause-nests
+returns-in_err-judge-clause-nests c =
     let p = err_from_is_err_and c.from_residual.result c.from_residual.ensures.1 in
-    rw (p.1, p.2) (λ t i d. fault_deep c.args.script.now c.in_err-_tokens.field-0.0 c.in_err-_tokens.ensures.fault t i)
+    rw (p.1, p.2) (λ t i d. fault_deep c.args.script.now c.in_err-judge.field-0.0 c.in_err-judge.ensures.fault t i)
 
-pub returns-in_err-_tokens-clause-faulty : goal.returns-in_err-_tokens-clause-faulty
-returns-in_err-_tokens-clause-faulty c =
+pub returns-in_err-judge-clause-faulty : goal.returns-in_err-judge-clause-faulty
+returns-in_err-judge-clause-faulty c =
     let p = err_from_is_err_and c.from_residual.result c.from_residual.ensures.1 in
-    rw (p.1, p.2) (fault_faulty c.args.script.now c.in_err-_tokens.field-0.0 c.in_err-_tokens.ensures.fault)
+    rw (p.1, p.2) (fault_faulty c.args.script.now c.in_err-judge.field-0.0 c.in_err-judge.ensures.fault)
+
+pub returns-in_err-judge_tokens-clause-only : goal.returns-in_err-judge_tokens-clause-only
+returns-in_err-judge_tokens-clause-only c =
+    let p = err_from_is_err_and c.from_residual-in_err-judge_tokens.result c.from_residual-in_err-judge_tokens.ensures.1 in
+    rw (p.1, p.2) (fault_only c.args.script.now c.in_err-judge_tokens.field-0.0 c.in_err-judge_tokens.ensures.fault)
+
+pub returns-in_err-judge_tokens-clause-nests : goal.returns-in_err-judge_tokens-clause-nests
+returns-in_err-judge_tokens-clause-nests c =
+    let p = err_from_is_err_and c.from_residual-in_err-judge_tokens.result c.from_residual-in_err-judge_tokens.ensures.1 in
+    rw (p.1, p.2) (λ t i d. fault_deep c.args.script.now c.in_err-judge_tokens.field-0.0 c.in_err-judge_tokens.ensures.fault t i)
+
+pub returns-in_err-judge_tokens-clause-faulty : goal.returns-in_err-judge_tokens-clause-faulty
+returns-in_err-judge_tokens-clause-faulty c =
+    let p = err_from_is_err_and c.from_residual-in_err-judge_tokens.result c.from_residual-in_err-judge_tokens.ensures.1 in
+    rw (p.1, p.2) (fault_faulty c.args.script.now c.in_err-judge_tokens.field-0.0 c.in_err-judge_tokens.ensures.fault)
 
 pub returns-clause-found : goal.returns-clause-found
 returns-clause-found c =
-    let ts = c.in_ok-_tokens.ensures.tokens in
-    script_found c.args.script.now ts.0 c.parse_tokens.result ts.1 (rw (read_all c.args.script.now ts.0 ts.1) c.parse_tokens.ensures)
+    let ts = c.in_ok-judge_tokens.ensures.tokens in
+    script_found c.args.script.now ts.0 c.answer.result ts.1 (rw (read_all c.args.script.now ts.0 ts.1) (c.answer.ensures (script_at 32 32 (kinds_in c.args.script.now)) c.all_commands-read.ensures.value))
 
 pub returns-clause-only : goal.returns-clause-only
 returns-clause-only c =
-    let ts = c.in_ok-_tokens.ensures.tokens in
-    script_only c.args.script.now ts.0 c.parse_tokens.result ts.1 (rw (read_all c.args.script.now ts.0 ts.1) c.parse_tokens.ensures)
+    let ts = c.in_ok-judge_tokens.ensures.tokens in
+    script_only c.args.script.now ts.0 c.answer.result ts.1 (rw (read_all c.args.script.now ts.0 ts.1) (c.answer.ensures (script_at 32 32 (kinds_in c.args.script.now)) c.all_commands-read.ensures.value))
 
 pub returns-clause-nests : goal.returns-clause-nests
 returns-clause-nests c =
-    let ts = c.in_ok-_tokens.ensures.tokens in
-    script_deep c.args.script.now ts.0 c.parse_tokens.result ts.1 (rw (read_all c.args.script.now ts.0 ts.1) c.parse_tokens.ensures)
+    let ts = c.in_ok-judge_tokens.ensures.tokens in
+    script_deep c.args.script.now ts.0 c.answer.result ts.1 (rw (read_all c.args.script.now ts.0 ts.1) (c.answer.ensures (script_at 32 32 (kinds_in c.args.script.now)) c.all_commands-read.ensures.value))
 
 pub returns-clause-faulty : goal.returns-clause-faulty
 returns-clause-faulty c =
-    let ts = c.in_ok-_tokens.ensures.tokens in
-    script_faulty c.args.script.now ts.0 c.parse_tokens.result ts.1
+    let ts = c.in_ok-judge_tokens.ensures.tokens in
+    script_faulty c.args.script.now ts.0 c.answer.result ts.1
 
 pub returns-clause-refused : goal.returns-clause-refused
 returns-clause-refused c =
-    let ts = c.in_ok-_tokens.ensures.tokens in
-    script_explained c.args.script.now ts.0 c.parse_tokens.result ts.1 (rw (read_all c.args.script.now ts.0 ts.1) c.parse_tokens.ensures)
+    let ts = c.in_ok-judge_tokens.ensures.tokens in
+    script_explained c.args.script.now ts.0 c.answer.result ts.1 (rw (read_all c.args.script.now ts.0 ts.1) (c.answer.ensures (script_at 32 32 (kinds_in c.args.script.now)) c.all_commands-read.ensures.value))

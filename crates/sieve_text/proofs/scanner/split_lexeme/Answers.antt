@@ -1,8 +1,8 @@
-use Rattle.std.proofs.Common.{◌≡◌, ◌∷◌, Ok, Err, drop, length, arith}
+use Rattle.std.proofs.Common.{sym, ◌≡◌, Ok, Err, drop, length, arith}
 use Rattle.sieve_text.specs.Gaps.{gap_len}
-use Rattle.sieve_text.specs.Lexemes.{kind_of, read_of, kinds_in}
+use Rattle.sieve_text.specs.Lexemes.{read_of}
 use Rattle.sieve_text.specs.Tokens.{kind_at}
-use Rattle.sieve_text.proofs.LexemeLemmas.{first_in, none_in}
+use Rattle.sieve_text.proofs.LexemeLemmas.{first_in, none_in, left_first, left_none}
 use Rattle.sieve_text.proofs.scanner.split_lexeme.Goals as goal
 
 pub returns-in_default-clause-cases : goal.returns-in_default-clause-cases
@@ -17,3 +17,13 @@ returns-clause-cases c =
 
 pub returns-clause-fewer : goal.returns-clause-fewer
 returns-clause-fewer c = rw (returns-clause-cases c) (omega arith)
+
+pub returns-in_default-clause-left : goal.returns-in_default-clause-left
+returns-in_default-clause-left c =
+    let read : kind_at (drop (gap_len 0 c.args.text.now) c.args.text.now) ≡ Err c.in_default.field-0.refusal = rw (c.in_default.is, c.split_at.ensures.back, c.gap_length.ensures.value) at c.lexeme.ensures.value in
+    left_none c.args.text.now c.in_default.field-0.refusal read
+
+pub returns-clause-left : goal.returns-clause-left
+returns-clause-left c =
+    let read : kind_at (drop (gap_len 0 c.args.text.now) c.args.text.now) ≡ Ok (read_of (c.in-Ok.lexeme, c.in-Ok.length)) = rw (c.in-Ok.is, c.split_at.ensures.back, c.gap_length.ensures.value) at c.lexeme.ensures.value in
+    rw (c.split_at-2.ensures.back, c.split_at.ensures.back, c.gap_length.ensures.value) (sym (left_first c.args.text.now (read_of (c.in-Ok.lexeme, c.in-Ok.length)) read))

@@ -1,13 +1,13 @@
-use Rattle.std.proofs.Common.{◌<◌, length, arith, refl}
+use Rattle.std.proofs.Common.{◌≡◌, ◌∙◌, ◌<◌, length, arith, refl}
 use Rattle.std.proofs.lemmas.Result.{err_from_is_err_and}
-use Rattle.sieve_text.specs.Lexemes.{kinds_in}
+use Rattle.sieve_text.specs.Lexemes.{kinds_in, left_in}
 use Rattle.sieve_text.specs.Reading.{string_at, next_with, other_strings_at}
 use Rattle.sieve_text.proofs.Many.{goes_on_first, goes_on_more, goes_on_ends, goes_on_fails}
 use Rattle.sieve_text.proofs.parser.arguments.other_strings.Goals as goal
 
 pub loop-others-init : goal.loop-others-init
 unfolding other_strings_at
-loop-others-init c = (rw c.new-others.ensures (goes_on_first (next_with string_at) (kinds_in c.args.text.now)), omega arith)
+loop-others-init c = (rw c.new-others.ensures (goes_on_first (next_with string_at) (kinds_in c.args.text.now)), omega arith, refl)
 
 pub returns-in_err-next-clause-value : goal.returns-in_err-next-clause-value
 returns-in_err-next-clause-value c =
@@ -19,8 +19,9 @@ loop-others-preserved c =
     let before = c.loop-others.rest.now in
     let after = c.in-Some.after.now in
     let e = rw c.in-Some.is at c.in_ok-next.ensures.value in
+    let rest_left : left_in after ≡ left_in before = rw c.in-Some.is at c.in_ok-next.ensures.left in
     let l : length (kinds_in after) < length (kinds_in before) = rw c.in-Some.is at c.in_ok-next.ensures.fewer in
-    (rw c.in_ok-push.ensures.ok (goes_on_more (next_with string_at) c.loop-others.others (kinds_in before) (kinds_in after) c.in-Some.next (other_strings_at (kinds_in c.args.text.now)) c.loop-others.invariant.0 e l), omega (arith, c.loop-others.invariant.1))
+    (rw c.in_ok-push.ensures.ok (goes_on_more (next_with string_at) c.loop-others.others (kinds_in before) (kinds_in after) c.in-Some.next (other_strings_at (kinds_in c.args.text.now)) c.loop-others.invariant.0 e l), omega (arith, c.loop-others.invariant.1), rest_left ∙ c.loop-others.invariant.2)
 
 pub returns-clause-value : goal.returns-clause-value
 returns-clause-value c = rw c.shrink_to_fit.ensures (goes_on_ends (next_with string_at) c.loop-others.others (kinds_in c.loop-others.rest.now) (other_strings_at (kinds_in c.args.text.now)) c.loop-others.invariant.0 (rw c.in_default.is at c.in_ok-next.ensures.value))

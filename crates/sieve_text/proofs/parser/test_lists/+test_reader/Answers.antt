@@ -1,8 +1,8 @@
-use Rattle.std.proofs.Common.{◌≡◌, ◌<◌, ◌∷◌, ◌++◌, [], length, map, refl, arith}
+use Rattle.std.proofs.Common.{◌∙◌, ◌≡◌, ◌<◌, ◌∷◌, ◌++◌, [], length, map, refl, arith}
 use Rattle.std.proofs.lemmas.Result.{err_from_is_err_and}
 use Rattle.std.proofs.lemmas.List.{map_push}
 use Rattle.sieve_syntax.specs.View.{test_of}
-use Rattle.sieve_text.specs.Lexemes.{kinds_in}
+use Rattle.sieve_text.specs.Lexemes.{kinds_in, left_in}
 use Rattle.sieve_text.specs.Reading.{next_with, many_at, test_at, behind}
 use Rattle.sieve_text.proofs.Many.{goes_on_more, goes_on_ends, goes_on_fails}
 use Rattle.sieve_text.proofs.parser.test_lists.+test_reader.Goals as goal
@@ -19,9 +19,10 @@ with_others-loop-tests-preserved t c =
     let after = c.in-Some.after.now in
     let ts = kinds_in c.args.text.now in
     let e = rw c.in-Some.is at c.in_ok-next.ensures.value in
+    let rest_left : left_in after ≡ left_in before = rw c.in-Some.is at c.in_ok-next.ensures.left in
     let l : length (kinds_in after) < length (kinds_in before) = rw c.in-Some.is at c.in_ok-next.ensures.fewer in
     let pushed : map test_of c.push.new.self.items ≡ map test_of c.loop-tests.tests.items ++ test_of c.in-Some.next ∷ [] = rw c.in_ok-push.ensures.items (map_push _ c.loop-tests.tests.items c.in-Some.next) in
-    (rw pushed (goes_on_more (next_with (test_at c.args.depth)) (map test_of c.loop-tests.tests.items) (kinds_in before) (kinds_in after) (test_of c.in-Some.next) (behind (test_of c.args.first ∷ []) (many_at (next_with (test_at c.args.depth)) (length ts) ts)) c.loop-tests.invariant.0 e l), omega (arith, c.loop-tests.invariant.1))
+    (rw pushed (goes_on_more (next_with (test_at c.args.depth)) (map test_of c.loop-tests.tests.items) (kinds_in before) (kinds_in after) (test_of c.in-Some.next) (behind (test_of c.args.first ∷ []) (many_at (next_with (test_at c.args.depth)) (length ts) ts)) c.loop-tests.invariant.0 e l), omega (arith, c.loop-tests.invariant.1), rest_left ∙ c.loop-tests.invariant.2)
 
 pub with_others-returns-clause-value : goal.with_others-returns-clause-value
 with_others-returns-clause-value t c =

@@ -1,6 +1,6 @@
-use Rattle.std.proofs.Common.{◌+◌, ◌*◌, ◌≤◌, [], ◌∷◌, length, map}
+use Rattle.std.proofs.Common.{◌≡◌, ◌+◌, ◌*◌, ◌≤◌, [], ◌∷◌, length, map}
 use Rattle.sieve_syntax.specs.View.{test_of}
-use Rattle.sieve_text.specs.Lexemes.{kinds_in}
+use Rattle.sieve_text.specs.Lexemes.{kinds_in, left_in}
 use Rattle.sieve_text.specs.Reading.{next_with, many_at, test_at, behind}
 use Rattle.sieve_text.proofs.Many.{GoesOn}
 use Rattle.sieve_text.proofs.parser.test_lists.+test_reader.Given as goal
@@ -21,7 +21,7 @@ abbrev pub decreases-inner_tests : goal.decreases-inner_tests
 decreases-inner_tests l = 5 * l.depth + 4
 
 abbrev pub invariant-with_others-loop-tests : goal.invariant-with_others-loop-tests
-invariant-with_others-loop-tests l = GoesOn (next_with (test_at l.depth)) (map test_of l.tests.items) (kinds_in l.rest) (behind (test_of l.fn.first ∷ []) (many_at (next_with (test_at l.depth)) (length (kinds_in l.fn.text)) (kinds_in l.fn.text))) × (length (kinds_in l.rest) ≤ length (kinds_in l.fn.text))
+invariant-with_others-loop-tests l = GoesOn (next_with (test_at l.depth)) (map test_of l.tests.items) (kinds_in l.rest) (behind (test_of l.fn.first ∷ []) (many_at (next_with (test_at l.depth)) (length (kinds_in l.fn.text)) (kinds_in l.fn.text))) × (length (kinds_in l.rest) ≤ length (kinds_in l.fn.text)) × (left_in l.rest ≡ left_in l.fn.text)
 
 abbrev pub decreases-with_others-loop-tests : goal.decreases-with_others-loop-tests
 decreases-with_others-loop-tests l = length (kinds_in l.rest)
