@@ -8,7 +8,9 @@ pub mod KindLemmas
 pub mod LexemeLemmas
 pub mod Longest
 pub mod Many
+pub mod MarkLemmas
 pub mod NumberLemmas
+pub mod PlainLemmas
 mod Rows
 pub mod ScanLemmas
 pub mod ScriptLaws

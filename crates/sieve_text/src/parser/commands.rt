@@ -7,11 +7,11 @@ ghost use Rattle.sieve_text.specs.Reading.{Gives, many_at, inside_at, command_wi
 
 use crate::lexeme::Lexeme;
 use crate::parser::arguments::arguments;
+use crate::parser::rows;
 use crate::parser::stop::{Misfit, Stop, left_from, syntax};
 use crate::parser::test_lists::inner_tests;
-use crate::scanner;
 use crate::scanner::split_lexeme;
-use sieve_syntax::{Command, Ending, Mark};
+use sieve_syntax::{Command, Ending, Mark, Text};
 use std::alloc::Global;
 
 /// How many tests may stand inside one another.
@@ -27,7 +27,7 @@ pub fn commands(alloc: Global, depth: u8, text: &[u8]) -> Result<(Vec<Command>, 
     let mut commands = Vec::new(alloc);
     let mut rest = text;
     while let Some((next, after)) = next_command(alloc, depth, rest)? {
-        commands.push(next)?;
+        rows::push(&mut commands, next)?;
         rest = after;
     }
     commands.shrink_to_fit();
@@ -47,7 +47,7 @@ fn next_command(alloc: Global, depth: u8, text: &[u8]) -> Result<Option<(Command
     let (arguments, rest) = arguments(alloc, rest)?;
     let (tests, rest) = inner_tests(alloc, TEST_DEPTH, rest)?;
     let (ending, rest) = read_ending(alloc, depth, rest)?;
-    let name = scanner::text(alloc, name)?;
+    let name = Text::from_slice(alloc, name)?;
     Ok(Some((
         Command {
             name,
@@ -75,7 +75,7 @@ fn read_ending(alloc: Global, depth: u8, text: &[u8]) -> Result<(Ending, &[u8]),
             }
             let (inside, rest) = commands(alloc, depth - 1, rest)?;
             let rest = behind_brace(rest)?;
-            Ok((Ending::Block(inside), rest))
+            Ok((Ending::Block(Box::new(alloc, inside)?), rest))
         }
         _ => Err(syntax(text)),
     }

@@ -22,7 +22,7 @@ pub emit_block-emit_commands-requires : goal.emit_block-emit_commands-requires
 emit_block-emit_commands-requires g t c κs within =
     let e = ap (λ (x : Ending). commands_long (λ i. size (g.L.Linker.flow_of c.args.linker.now i)) (block_in (ending_of x))) c.in-Block.is in
     let d = ap (λ (x : EndingTree). commands_long (λ i. size (g.L.Linker.flow_of c.args.linker.now i)) (block_in x)) (ending_of-Block c.in-Block.commands) in
-    let room : HasRoom c.args.out.now (commands_long (λ i. size (g.L.Linker.flow_of c.args.linker.now i)) (program_of (commands_of (map command_of c.in-Block.commands.items)))) =
+    let room : HasRoom c.args.out.now (commands_long (λ i. size (g.L.Linker.flow_of c.args.linker.now i)) (program_of (commands_of (map command_of c.in-Block.commands.value.items)))) =
     (omega (arith, c.requires, e, d), omega (arith, c.requires, e, d), omega (arith, c.requires, e, d)) in
     search (rules, the_lemmas, room)
 

@@ -16,7 +16,7 @@ pub block_size-commands_size-requires : goal.block_size-commands_size-requires
 block_size-commands_size-requires g t c κs within =
     let e = ap (λ (x : Ending). commands_long (λ i. size (g.L.Linker.flow_of c.args.linker.now i)) (block_in (ending_of x))) c.in-Block.is in
     let d = ap (λ (x : EndingTree). commands_long (λ i. size (g.L.Linker.flow_of c.args.linker.now i)) (block_in x)) (ending_of-Block c.in-Block.commands) in
-    let room : commands_long (λ i. size (g.L.Linker.flow_of c.args.linker.now i)) (program_of (commands_of (map command_of c.in-Block.commands.items))) < 2 ^ 16 = omega (arith, c.requires, e, d) in
+    let room : commands_long (λ i. size (g.L.Linker.flow_of c.args.linker.now i)) (program_of (commands_of (map command_of c.in-Block.commands.value.items))) < 2 ^ 16 = omega (arith, c.requires, e, d) in
     search (rules, the_lemmas, room)
 
 pub block_size-returns-in-Block : goal.block_size-returns-in-Block
