@@ -84,7 +84,7 @@ pub enum AcceptedText {
     Numbers,
     /// Commands with eight tests in brackets.
     TestLists,
-    /// Commands with tests inside one another, as many as may be, each of three octets.
+    /// Commands with tests inside one another, as many as may be, each of four octets.
     Nested,
     /// Commands with thirty arguments of three octets a pair.
     Arguments,
@@ -125,8 +125,8 @@ const WORDS: &[u8] =
 const TESTS: &[u8] =
     b"if header :contains [\"subject\", \"x-subject\"] \"invoice\" { fileinto \"finance\"; }\r\n";
 
-/// A command with an argument, and thirty-two tests with one each inside one another.
-const NESTED: &[u8] = b"a\"\"a\"\"a\"\"a\"\"a\"\"a\"\"a\"\"a\"\"a\"\"a\"\"a\"\"a\"\"a\"\"a\"\"a\"\"a\"\"a\"\"a\"\"a\"\"a\"\"a\"\"a\"\"a\"\"a\"\"a\"\"a\"\"a\"\"a\"\"a\"\"a\"\"a\"\"a\"\"a\"\";";
+/// A command with two arguments, and thirty-two tests with two each inside one another.
+const NESTED: &[u8] = b"a\"\"1a\"\"1a\"\"1a\"\"1a\"\"1a\"\"1a\"\"1a\"\"1a\"\"1a\"\"1a\"\"1a\"\"1a\"\"1a\"\"1a\"\"1a\"\"1a\"\"1a\"\"1a\"\"1a\"\"1a\"\"1a\"\"1a\"\"1a\"\"1a\"\"1a\"\"1a\"\"1a\"\"1a\"\"1a\"\"1a\"\"1a\"\"1a\"\"1;";
 
 impl Measure {
     /// How often a run does its work.

@@ -110,7 +110,7 @@ pub const ROWS: [Row; 42] = [
     },
     Row {
         measure: Measure::Accepted(AcceptedText::Nested),
-        title: "`parse`, tests of three octets, 32 inside one another",
+        title: "`parse`, tests of four octets, 32 inside one another",
         asked: LINEAR,
         baseline: Baseline::Words,
     },
@@ -146,7 +146,7 @@ pub const ROWS: [Row; 42] = [
     },
     Row {
         measure: Measure::Tree(AcceptedText::Nested),
-        title: "memory of the tree, tests of three octets, 32 inside one another",
+        title: "memory of the tree, tests of four octets, 32 inside one another",
         asked: SMALL,
         baseline: Baseline::Copy,
     },

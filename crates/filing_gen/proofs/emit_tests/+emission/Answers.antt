@@ -37,7 +37,7 @@ emit_row-returns t c = record {
 pub emit_tests-loop-test-init : goal.emit_tests-loop-test-init
 emit_tests-loop-test-init t c =
     let whole : Flow = tests_flow c.args.stop (tests_in (inner_of c.args.tests.now)) in
-    let e : tests_flow c.args.stop (tests_in (inner_of c.args.tests.now)) ≡ row_flow c.args.stop (map test_of c.as_slice-test-items.result.now) = rw (c.as_slice-test-items.ensures.value, c.deref.ensures, c.in-Listed.is, inner_of-Listed c.in-Listed.list) (flow-listed c.args.stop (map test_of c.in-Listed.list.value.items)) in
+    let e : tests_flow c.args.stop (tests_in (inner_of c.args.tests.now)) ≡ row_flow c.args.stop (map test_of c.as_slice-test-items.result.now) = rw (c.as_slice-test-items.ensures.value, c.deref-in-Listed.ensures, c.in-Listed.is, inner_of-Listed c.in-Listed.list) (flow-listed c.args.stop (map test_of c.in-Listed.list.value.items)) in
     subst (λ (a : Flow). Leads c.args.out.now c.args.out.now a whole (To c.args.stopped)) e (leads_first c.args.out.now whole (To c.args.stopped))
 
 pub emit_tests-loop-test-preserved : goal.emit_tests-loop-test-preserved

@@ -23,7 +23,7 @@ test_fault-returns-in-Some t c =
     rw (test_of_out c.args.test.now) (c.lesser.ensures ∙ ap (λ (o : Option ℕ). lesser o (option_map number_of c.tests_fault.result)) c.form_fault-own.ensures ∙ ap (λ (o : Option ℕ). lesser (first_broken (form_rules (has_of c.args.named) (form_view c.in-Some.row.now.form) (pieces (form_view c.in-Some.row.now.form).tags node.arguments) (inner_of node.tests))) o) c.tests_fault.ensures ∙ whole)
 
 pub tests_fault-loop-test-init : goal.tests_fault-loop-test-init
-tests_fault-loop-test-init t c = rw (c.as_slice-test-items.ensures.value, c.deref.ensures, c.in-Listed.is, inner_of-Listed c.in-Listed.list) (ap least (sym (listed_is_each (has_of c.args.named) (map test_of c.in-Listed.list.value.items))))
+tests_fault-loop-test-init t c = rw (c.as_slice-test-items.ensures.value, c.deref-in-Listed.ensures, c.in-Listed.is, inner_of-Listed c.in-Listed.list) (ap least (sym (listed_is_each (has_of c.args.named) (map test_of c.in-Listed.list.value.items))))
 
 pub tests_fault-loop-test-preserved : goal.tests_fault-loop-test-preserved
 tests_fault-loop-test-preserved t c =
