@@ -126,7 +126,8 @@ const TESTS: &[u8] =
     b"if header :contains [\"subject\", \"x-subject\"] \"invoice\" { fileinto \"finance\"; }\r\n";
 
 /// A command with two arguments, and thirty-two tests with two each inside one another.
-const NESTED: &[u8] = b"a\"\"1a\"\"1a\"\"1a\"\"1a\"\"1a\"\"1a\"\"1a\"\"1a\"\"1a\"\"1a\"\"1a\"\"1a\"\"1a\"\"1a\"\"1a\"\"1a\"\"1a\"\"1a\"\"1a\"\"1a\"\"1a\"\"1a\"\"1a\"\"1a\"\"1a\"\"1a\"\"1a\"\"1a\"\"1a\"\"1a\"\"1a\"\"1a\"\"1;";
+const NESTED: &[u8] =
+    b"a\"\"1a\"\"1a\"\"1a\"\"1a\"\"1a\"\"1a\"\"1a\"\"1a\"\"1a\"\"1a\"\"1a\"\"1a\"\"1a\"\"1a\"\"1a\"\"1a\"\"1a\"\"1a\"\"1a\"\"1a\"\"1a\"\"1a\"\"1a\"\"1a\"\"1a\"\"1a\"\"1a\"\"1a\"\"1a\"\"1a\"\"1a\"\"1a\"\"1;";
 
 impl Measure {
     /// How often a run does its work.
@@ -202,9 +203,9 @@ impl Measure {
             Measure::PlainValue | Measure::EncodedValue | Measure::Beginnings => Ok(value_of(
                 alloc, input,
             )?.len()),
-            Measure::Script | Measure::Accepted(_) | Measure::Hostile(_) => Ok(
-                parse(alloc, input).map_or(0, |script| script.commands.len()),
-            ),
+            Measure::Script | Measure::Accepted(_) | Measure::Hostile(_) => Ok(parse(
+                alloc, input,
+            ).map_or(0, |script| script.commands.len())),
             Measure::Tree(_) => Ok(parse(alloc, input).map_or(0, |script| octets_of_tree(&script))),
             Measure::AbsentOctet => Ok(usize::from(contains(
                 b"lazy cat",
@@ -255,7 +256,8 @@ impl AcceptedText {
             AcceptedText::Numbers => b"a 1;",
             AcceptedText::TestLists => b"a(a,a,a,a,a,a,a,a);",
             AcceptedText::Nested => NESTED,
-            AcceptedText::Arguments => b"a 1\"\"1\"\"1\"\"1\"\"1\"\"1\"\"1\"\"1\"\"1\"\"1\"\"1\"\"1\"\"1\"\"1\"\"1\"\";",
+            AcceptedText::Arguments =>
+                b"a 1\"\"1\"\"1\"\"1\"\"1\"\"1\"\"1\"\"1\"\"1\"\"1\"\"1\"\"1\"\"1\"\"1\"\"1\"\";",
         }
     }
 }

@@ -1,4 +1,5 @@
 pub mod Again
+pub mod Bare
 pub mod CutLemmas
 pub mod Depths
 pub mod GapGrammar

@@ -10,8 +10,11 @@ mod octets;
 mod quoted;
 mod strings;
 
-ghost use Rattle.std.specs.Prelude.{◌≡◌, ◌≤◌, ◌<◌, ◌+◌, ◌^◌, [], ◌∷◌, length, drop, suc, IfOk, IfErr, IfSome, MatchOption, Ok, OnOk, ℕ, List, option_map, Some};
+ghost use Rattle.std.specs.Prelude.{true, ◌≡◌, ◌≤◌, ◌<◌, ◌+◌, ◌^◌, [], ◌∷◌, length, drop, suc, IfOk, IfErr, IfSome, MatchOption, Ok, OnOk, ℕ, List, option_map, Some};
+ghost use Rattle.sieve_syntax.specs.declared.token.Mark.TheVariants.{Semicolon};
 ghost use Rattle.sieve_syntax.specs.declared.token.Token.{Token};
+ghost use Rattle.sieve_syntax.specs.declared.token.TokenKind.{TokenKind};
+ghost use Rattle.sieve_syntax.specs.declared.token.TokenKind.TheVariants as kinds;
 ghost use Rattle.sieve_text.specs.Gaps.{gap_len};
 ghost use Rattle.sieve_text.specs.Lexemes.{kind_of, read_of, token_of, kinds_in, left_in};
 ghost use Rattle.sieve_text.specs.Tokens.{mark_of, kind_at, tag_at, identifier_at, token_at, Gives, IsSound, IsScan, FaultsBy, StandsAt, StandsIn, either_place, text_len, fault_place};
@@ -156,6 +159,14 @@ fn split_mark(text: &[u8]) -> Option<(Mark, &[u8])>
 {
     let (&first, behind) = text.split_first()?;
     Some((mark(first)?, behind))
+}
+
+/// Whether a semicolon stands first, with no gap before it.
+#[inline(always)]
+pub fn begins_with_semicolon(text: &[u8]) -> bool
+    ensures { result ≡ true → (rest : List TokenKind) × (kinds_in text.now ≡ kinds.Mark Semicolon ∷ rest) }
+{
+    octets::starts_with(text, b';')
 }
 
 /// The first token of a text, as it is written, and the text behind it; `None` where no token stands first behind white

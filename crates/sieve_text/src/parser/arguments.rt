@@ -7,7 +7,7 @@ ghost use Rattle.sieve_text.specs.Reading.{Gives, string_at, behind_bracket, nex
 use crate::lexeme::Lexeme;
 use crate::parser::rows;
 use crate::parser::stop::{Stop, syntax};
-use crate::scanner::{split_lexeme, string_text};
+use crate::scanner::{begins_with_semicolon, split_lexeme, string_text};
 use sieve_syntax::{Argument, Arguments, Mark, StringList, Text, Texts};
 use std::alloc::Global;
 
@@ -101,7 +101,7 @@ fn next_argument(alloc: Global, text: &[u8]) -> Result<Option<(Argument, &[u8])>
 }
 
 /// The arguments, and the tokens behind them.
-pub fn arguments(alloc: Global, text: &[u8]) -> Result<(Arguments, &[u8]), Stop>
+fn some_arguments(alloc: Global, text: &[u8]) -> Result<(Arguments, &[u8]), Stop>
     ensures value { Gives (λ x. (x.0, kinds_in x.1.now)) result (arguments_at (kinds_in text.now)) }
     ensures fewer { IfOk result (λ x. length (kinds_in x.1.now) ≤ length (kinds_in text.now)) }
     ensures left { IfOk result (λ x. left_in x.1.now ≡ left_in text.now) }
@@ -113,4 +113,17 @@ pub fn arguments(alloc: Global, text: &[u8]) -> Result<(Arguments, &[u8]), Stop>
         rest = after;
     }
     Ok((Arguments::from_vec(alloc, arguments)?, rest))
+}
+
+/// The arguments, and the tokens behind them; none where a semicolon stands first.
+#[inline(always)]
+pub fn arguments(alloc: Global, text: &[u8]) -> Result<(Arguments, &[u8]), Stop>
+    ensures value { Gives (λ x. (x.0, kinds_in x.1.now)) result (arguments_at (kinds_in text.now)) }
+    ensures fewer { IfOk result (λ x. length (kinds_in x.1.now) ≤ length (kinds_in text.now)) }
+    ensures left { IfOk result (λ x. left_in x.1.now ≡ left_in text.now) }
+{
+    if begins_with_semicolon(text) {
+        return Ok((Arguments::none(), text));
+    }
+    some_arguments(alloc, text)
 }

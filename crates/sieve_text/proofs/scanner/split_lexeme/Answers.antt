@@ -1,4 +1,4 @@
-use Rattle.std.proofs.Common.{sym, ◌≡◌, Ok, Err, drop, length, arith}
+use Rattle.std.proofs.Common.{sym, ◌≡◌, Ok, Err, drop, arith}
 use Rattle.sieve_text.specs.Gaps.{gap_len}
 use Rattle.sieve_text.specs.Lexemes.{read_of}
 use Rattle.sieve_text.specs.Tokens.{kind_at}
