@@ -5,7 +5,7 @@ ghost use Rattle.std.specs.Prelude.{◌≡◌, ◌≤◌, [], length, IfOk};
 use std::alloc::{AllocError, Global};
 use std::marker::Model;
 
-/// A text of at most so many octets takes no memory of its own.
+/// So many octets lie in the text itself; more are a vector behind a box.
 const FEW: usize = 14;
 
 /// Where the octets of a text lie.
@@ -16,7 +16,8 @@ enum Octets {
     Many(Box<Vec<u8>>),
 }
 
-/// The octets of a name or of a string's value. Contracts see it as a list of octets.
+/// The octets of a name or of a string's value; at most 14 take no memory beside the text. Contracts see it as a list of
+/// octets.
 #[derive(Drop)]
 pub struct Text {
     octets: Octets,
@@ -47,7 +48,7 @@ fn few(octets: &[u8]) -> Text
 }
 
 impl Text {
-    /// The text of these octets; the only error is want of memory.
+    /// The text of a copy of these octets; the only error is want of memory.
     pub fn from_slice(alloc: Global, octets: &[u8]) -> Result<Text, AllocError>
         ensures { IfOk result (λ t. t ≡ octets.now) }
     {

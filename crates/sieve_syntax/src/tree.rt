@@ -54,7 +54,7 @@ enum Held {
     Many(Box<Vec<Argument>>),
 }
 
-/// Arguments in order. Contracts see it as a list.
+/// Arguments in order; none take no memory. Contracts see it as a list.
 #[derive(Drop)]
 pub struct Arguments {
     held: Held,
