@@ -12,6 +12,7 @@ mod plans;
 mod rows;
 mod settings;
 mod timing;
+mod trees;
 
 use anyhow::Result;
 use rows::{Asked, ROWS, Row};
@@ -32,20 +33,22 @@ fn asked_for(rt: &(impl Env + Alloc)) -> Result<Option<(usize, u32)>> {
 }
 
 /// Tells what a row took: its title, what was asked, the octets and nanoseconds of a run, those of a run on half as
-/// much, the name and nanoseconds of the plain pass, and what was answered, with tabs between them.
+/// much, the name and nanoseconds of the plain pass, what one run answered, and what all did, with tabs between them.
 fn tell(rt: &impl Print, row: &Row, whole: Timing, half: Timing) -> Result<()> {
     let (title, baseline) = (row.title, row.baseline.name());
     let (word, number) = match row.asked {
         Asked::Rate(rate) => ("rate", rate),
         Asked::Time(time) => ("time", time),
         Asked::Growth(growth) => ("growth", growth),
+        Asked::Memory(times) => ("memory", times),
         Asked::Nothing => ("nothing", 0),
     };
     let (octets, spent, plain) = (whole.octets, whole.measure, whole.baseline);
-    let (half_octets, half_spent) = (half.octets, half.measure);
+    let (half_octets, half_spent, answer) = (half.octets, half.measure, whole.answer);
     let answers = whole.answers.wrapping_add(half.answers);
     print!(rt; "{title}\t{word}\t{number}\t{octets}\t{spent}\t")?;
-    println!(rt; "{half_octets}\t{half_spent}\t{baseline}\t{plain}\t{answers}")?;
+    print!(rt; "{half_octets}\t{half_spent}\t{baseline}\t{plain}\t")?;
+    println!(rt; "{answer}\t{answers}")?;
     Ok(())
 }
 

@@ -7,6 +7,7 @@ use crate::filings::{
 use crate::inputs::{image_of_code, image_of_steps, image_of_texts, repeated};
 use crate::plans::{class_path, plan_text, schedules, taken_over};
 use crate::settings::Setting;
+use crate::trees::octets_of_tree;
 use mail_head::{HeadReader, read_head};
 use mail_words::value_of;
 use sieve_match::{Comparator, contains, matches};
@@ -30,6 +31,10 @@ pub enum Measure {
     Beginnings,
     /// `parse` of a script of header tests.
     Script,
+    /// `parse` of a script of one thing repeated.
+    Accepted(AcceptedText),
+    /// The memory of the tree of such a script.
+    Tree(AcceptedText),
     /// `parse` of a text that it refuses.
     Hostile(HostileText),
     /// `contains` of a key that is not there, by octets.
@@ -68,6 +73,23 @@ pub enum Measure {
     Filings,
 }
 
+/// A script of one thing repeated.
+#[derive(Clone, Copy, Debug, PartialEq, Eq)]
+pub enum AcceptedText {
+    /// `keep;` alone.
+    Keeps,
+    /// `a;` alone.
+    Commands,
+    /// `a 1;` alone.
+    Numbers,
+    /// Commands with eight tests in brackets.
+    TestLists,
+    /// Commands with tests inside one another, as many as may be, each of four octets.
+    Nested,
+    /// Commands with thirty arguments of three octets a pair.
+    Arguments,
+}
+
 /// A text that is refused, of one thing repeated.
 #[derive(Clone, Copy, Debug, PartialEq, Eq)]
 pub enum HostileText {
@@ -103,6 +125,10 @@ const WORDS: &[u8] =
 const TESTS: &[u8] =
     b"if header :contains [\"subject\", \"x-subject\"] \"invoice\" { fileinto \"finance\"; }\r\n";
 
+/// A command with two arguments, and thirty-two tests with two each inside one another.
+const NESTED: &[u8] =
+    b"a\"\"1a\"\"1a\"\"1a\"\"1a\"\"1a\"\"1a\"\"1a\"\"1a\"\"1a\"\"1a\"\"1a\"\"1a\"\"1a\"\"1a\"\"1a\"\"1a\"\"1a\"\"1a\"\"1a\"\"1a\"\"1a\"\"1a\"\"1a\"\"1a\"\"1a\"\"1a\"\"1a\"\"1a\"\"1a\"\"1a\"\"1a\"\"1a\"\"1;";
+
 impl Measure {
     /// How often a run does its work.
     pub fn times(self) -> usize {
@@ -128,6 +154,12 @@ impl Measure {
                 b"require \"fileinto\";\r\n",
                 TESTS,
                 (octets / 4).min(262_000),
+            ),
+            Measure::Accepted(text) | Measure::Tree(text) => repeated(
+                alloc,
+                b"",
+                text.repeated(),
+                (octets / 4).min(262_144),
             ),
             Measure::Hostile(text) => repeated(
                 alloc,
@@ -171,9 +203,10 @@ impl Measure {
             Measure::PlainValue | Measure::EncodedValue | Measure::Beginnings => Ok(value_of(
                 alloc, input,
             )?.len()),
-            Measure::Script | Measure::Hostile(_) => Ok(parse(alloc, input).map_or(0, |script| {
-                script.commands.len()
-            })),
+            Measure::Script | Measure::Accepted(_) | Measure::Hostile(_) => Ok(parse(
+                alloc, input,
+            ).map_or(0, |script| script.commands.len())),
+            Measure::Tree(_) => Ok(parse(alloc, input).map_or(0, |script| octets_of_tree(&script))),
             Measure::AbsentOctet => Ok(usize::from(contains(
                 b"lazy cat",
                 input,
@@ -210,6 +243,21 @@ impl Measure {
             Measure::HalfScript | Measure::LongScript => Ok(weight_of(alloc, input)),
             Measure::Filings => octets_answered(alloc, input),
             _ => Ok(parts_that_may_run(alloc, input)),
+        }
+    }
+}
+
+impl AcceptedText {
+    /// What is repeated.
+    fn repeated(self) -> &'static [u8] {
+        match self {
+            AcceptedText::Keeps => b"keep;",
+            AcceptedText::Commands => b"a;",
+            AcceptedText::Numbers => b"a 1;",
+            AcceptedText::TestLists => b"a(a,a,a,a,a,a,a,a);",
+            AcceptedText::Nested => NESTED,
+            AcceptedText::Arguments =>
+                b"a 1\"\"1\"\"1\"\"1\"\"1\"\"1\"\"1\"\"1\"\"1\"\"1\"\"1\"\"1\"\"1\"\"1\"\"1\"\";",
         }
     }
 }

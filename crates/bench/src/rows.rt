@@ -1,7 +1,7 @@
 //! The table that is measured, as data: what, what was asked of it, and the plain pass beside it.
 
 use crate::baselines::Baseline;
-use crate::measures::{HostileText, Measure};
+use crate::measures::{AcceptedText, HostileText, Measure};
 
 /// What was asked of a measure.
 #[derive(Clone, Copy, Debug, PartialEq, Eq)]
@@ -12,6 +12,8 @@ pub enum Asked {
     Time(u32),
     /// At most so many tenths of the time of a run on half the octets.
     Growth(u32),
+    /// At most so many times the memory of the input.
+    Memory(u32),
     /// Nothing; it is measured to be compared with another.
     Nothing,
 }
@@ -21,6 +23,9 @@ const LINEAR: Asked = Asked::Growth(30);
 
 /// At most one and a half times as long on twice the octets.
 const CONSTANT: Asked = Asked::Growth(15);
+
+/// At most forty times the memory of the script.
+const SMALL: Asked = Asked::Memory(40);
 
 /// A row of the table.
 #[derive(Clone, Copy)]
@@ -36,7 +41,7 @@ pub struct Row {
 }
 
 /// Each row, in the order of a message's way.
-pub const ROWS: [Row; 30] = [
+pub const ROWS: [Row; 42] = [
     Row {
         measure: Measure::Header,
         title: "`read_head`, a header in fields of 80 octets",
@@ -78,6 +83,78 @@ pub const ROWS: [Row; 30] = [
         title: "`parse`, header tests",
         asked: Asked::Rate(50),
         baseline: Baseline::Words,
+    },
+    Row {
+        measure: Measure::Accepted(AcceptedText::Keeps),
+        title: "`parse`, `keep;` alone",
+        asked: Asked::Rate(50),
+        baseline: Baseline::Words,
+    },
+    Row {
+        measure: Measure::Accepted(AcceptedText::Commands),
+        title: "`parse`, `a;` alone",
+        asked: LINEAR,
+        baseline: Baseline::Words,
+    },
+    Row {
+        measure: Measure::Accepted(AcceptedText::Numbers),
+        title: "`parse`, `a 1;` alone",
+        asked: LINEAR,
+        baseline: Baseline::Words,
+    },
+    Row {
+        measure: Measure::Accepted(AcceptedText::TestLists),
+        title: "`parse`, commands of eight tests, `a(a,a,a,a,a,a,a,a);`",
+        asked: LINEAR,
+        baseline: Baseline::Words,
+    },
+    Row {
+        measure: Measure::Accepted(AcceptedText::Nested),
+        title: "`parse`, tests of four octets, 32 inside one another",
+        asked: LINEAR,
+        baseline: Baseline::Words,
+    },
+    Row {
+        measure: Measure::Accepted(AcceptedText::Arguments),
+        title: "`parse`, arguments of three octets a pair",
+        asked: LINEAR,
+        baseline: Baseline::Words,
+    },
+    Row {
+        measure: Measure::Tree(AcceptedText::Keeps),
+        title: "memory of the tree, `keep;` alone",
+        asked: SMALL,
+        baseline: Baseline::Copy,
+    },
+    Row {
+        measure: Measure::Tree(AcceptedText::Commands),
+        title: "memory of the tree, `a;` alone",
+        asked: SMALL,
+        baseline: Baseline::Copy,
+    },
+    Row {
+        measure: Measure::Tree(AcceptedText::Numbers),
+        title: "memory of the tree, `a 1;` alone",
+        asked: SMALL,
+        baseline: Baseline::Copy,
+    },
+    Row {
+        measure: Measure::Tree(AcceptedText::TestLists),
+        title: "memory of the tree, commands of eight tests",
+        asked: SMALL,
+        baseline: Baseline::Copy,
+    },
+    Row {
+        measure: Measure::Tree(AcceptedText::Nested),
+        title: "memory of the tree, tests of four octets, 32 inside one another",
+        asked: SMALL,
+        baseline: Baseline::Copy,
+    },
+    Row {
+        measure: Measure::Tree(AcceptedText::Arguments),
+        title: "memory of the tree, arguments of three octets a pair",
+        asked: SMALL,
+        baseline: Baseline::Copy,
     },
     Row {
         measure: Measure::Hostile(HostileText::Brackets),

@@ -16,6 +16,8 @@ pub struct Timing {
     pub measure: u128,
     /// The nanoseconds of the plain pass over the same input, as often.
     pub baseline: u128,
+    /// What the last run of the measure answered.
+    pub answer: usize,
     /// What all runs answered, added up; it is told so that the work is done.
     pub answers: usize,
 }
@@ -42,6 +44,7 @@ pub fn timing_of(
         octets: input.len(),
         measure: u128::MAX,
         baseline: u128::MAX,
+        answer: 0,
         answers: 0,
     };
     for _ in 0..rounds {
@@ -51,6 +54,7 @@ pub fn timing_of(
         let start = Instant::now(rt)?;
         let passed = row.baseline.run(alloc, &input, measure.times())?;
         timing.baseline = timing.baseline.min(start.elapsed(rt)?.as_nanos());
+        timing.answer = answer;
         timing.answers = timing.answers.wrapping_add(answer).wrapping_add(passed);
     }
     Ok(timing)

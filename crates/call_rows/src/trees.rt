@@ -63,7 +63,7 @@ fn write_tests(alloc: Global, out: &mut Vec<u8>, tests: &Tests) -> Result<(), Al
         }
         Tests::Listed(list) => {
             out.extend_from_slice(b" (")?;
-            for test in list {
+            for test in list.as_slice() {
                 write_test(alloc, out, test)?;
                 out.push(b',')?;
             }
@@ -83,7 +83,7 @@ fn write_command(alloc: Global, out: &mut Vec<u8>, command: &Command) -> Result<
         Ending::Semicolon => out.extend_from_slice(b";"),
         Ending::Block(commands) => {
             out.push(b'{')?;
-            for command in commands {
+            for command in commands.as_slice() {
                 write_command(alloc, out, command)?;
             }
             out.extend_from_slice(b"}")

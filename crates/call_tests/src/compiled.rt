@@ -10,19 +10,19 @@ use std::alloc::{AllocError, Global};
 use std::test::Fail;
 
 fn text(alloc: Global, octets: &[u8]) -> Result<Text, AllocError> {
-    Ok(Text::from_vec(Vec::from_slice(alloc, octets)?))
+    Text::from_slice(alloc, octets)
 }
 
 /// A word that begins with a colon is a tag, another a string outside brackets.
 fn arguments(alloc: Global, words: &[&[u8]]) -> Result<Arguments, AllocError> {
-    let mut arguments = Arguments::new(alloc);
+    let mut arguments = Vec::new(alloc);
     for word in words {
         arguments.push(match word {
             [b':', name @ ..] => Argument::Tag(text(alloc, name)?),
             _ => Argument::Strings(StringList::One(text(alloc, word)?)),
         })?;
     }
-    Ok(arguments)
+    Arguments::from_vec(alloc, arguments)
 }
 
 fn command(alloc: Global, name: &[u8], words: &[&[u8]]) -> Result<Command, AllocError> {
@@ -45,9 +45,9 @@ fn if_header(alloc: Global, words: &[&[u8]], inner: Command) -> Result<Command, 
     block.push(inner)?;
     Ok(Command {
         name: text(alloc, b"if")?,
-        arguments: Arguments::new(alloc),
+        arguments: Arguments::none(),
         tests: Tests::One(Box::new(alloc, test)?),
-        ending: Ending::Block(block),
+        ending: Ending::Block(Box::new(alloc, block)?),
     })
 }
 

@@ -339,7 +339,7 @@ fn emit_tests(
             put_jump(out, stop, stopped)
         }
         Tests::Listed(list) => {
-            for test in list {
+            for test in list.as_slice() {
                 emit_test(alloc, out, test)?;
                 put_jump(out, stop, stopped)?;
             }

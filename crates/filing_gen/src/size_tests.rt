@@ -80,7 +80,7 @@ pub fn tests_size(tests: &Tests, stop: bool) -> usize
         Tests::One(test) => test_size(test) + 1,
         Tests::Listed(list) => {
             let mut sum = 0;
-            for test in list {
+            for test in list.as_slice() {
                 sum += test_size(test) + 1;
             }
             sum

@@ -93,7 +93,7 @@ fn weigh_tests(tests: &Tests, left: u32) -> Option<u32>
         Tests::One(test) => weigh_test(test, left),
         Tests::Listed(list) => {
             let mut rest = left;
-            for test in list {
+            for test in list.as_slice() {
                 rest = weigh_test(test, rest)?;
             }
             Some(rest)

@@ -179,7 +179,7 @@ fn are_all_true(case: &Case<'_>, tests: &Tests) -> bool
         Tests::None => true,
         Tests::One(test) => is_true(case, test),
         Tests::Listed(list) => {
-            for test in list {
+            for test in list.as_slice() {
                 if !is_true(case, test) {
                     return false;
                 }
@@ -198,7 +198,7 @@ fn is_some_true(case: &Case<'_>, tests: &Tests) -> bool
         Tests::None => false,
         Tests::One(test) => is_true(case, test),
         Tests::Listed(list) => {
-            for test in list {
+            for test in list.as_slice() {
                 if is_true(case, test) {
                     return true;
                 }

@@ -77,7 +77,7 @@ fn tests_fault(tests: &Tests, named: Named) -> Option<CheckFault>
         Tests::One(test) => test_fault(test, named),
         Tests::Listed(list) => {
             let mut fault = None;
-            for test in list {
+            for test in list.as_slice() {
                 fault = lesser(fault, test_fault(test, named));
             }
             fault

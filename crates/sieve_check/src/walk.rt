@@ -73,7 +73,7 @@ fn pass_ending(ending: &Ending, context: Context) -> Result<Context, CheckFault>
         Ending::Block(commands) => {
             let mut known = context;
             let mut follows_branch = false;
-            for command in commands {
+            for command in commands.as_slice() {
                 let (behind, is_branch) = pass_command(command, known, follows_branch)?;
                 known = behind;
                 follows_branch = is_branch;

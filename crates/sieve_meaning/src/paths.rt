@@ -66,7 +66,7 @@ impl Paths {
         let Some(at) = missing_place(self.items.as_slice(), path) else {
             return Ok(());
         };
-        let path = Text::from_vec(Vec::from_slice(alloc, path)?);
+        let path = Text::from_slice(alloc, path)?;
         self.items.insert(at, path)?;
         Ok(())
     }

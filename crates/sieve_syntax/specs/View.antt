@@ -23,7 +23,7 @@ listed_of (t ∷ ts) = listed_tests t (row_of ts)
 abbrev pub tests_step : Tests-F InnerTests TestTree → InnerTests
 tests_step Tests-F.None = no_tests
 tests_step (Tests-F.One t) = one_test t.value
-tests_step (Tests-F.Listed v) = listed_of v.items
+tests_step (Tests-F.Listed v) = listed_of v.value.items
 
 abbrev pub test_step : Test-F InnerTests TestTree → TestTree
 test_step t = test t.name t.arguments t.tests
@@ -40,7 +40,7 @@ commands_of (c ∷ cs) = command_then c (commands_of cs)
 
 abbrev pub ending_step : Ending-F EndingTree CommandTree → EndingTree
 ending_step Ending-F.Semicolon = semicolon
-ending_step (Ending-F.Block v) = block (commands_of v.items)
+ending_step (Ending-F.Block v) = block (commands_of v.value.items)
 
 abbrev pub command_step : Command-F EndingTree CommandTree → CommandTree
 command_step c = command c.name c.arguments (inner_of c.tests) c.ending

@@ -3,7 +3,8 @@
 //!
 //! The types are shared by the scanner and parser (`sieve_text`), the checker (`sieve_check`) and whatever
 //! reads a checked script. In `specs/`, `Tree` has the same trees without where they lie in memory, their one
-//! spelling as tokens and their two depths; `View` leads from the trees of this crate to those.
+//! spelling as tokens and their two depths; `View` leads from the trees of this crate to those. `Held` and `HeldArguments`
+//! say what texts and arguments hold, wherever it lies.
 #![tactic(auto)]
 
 mod text;

@@ -1,14 +1,26 @@
 //! Octets that a token or a tree owns, and lists of these.
 
-ghost use Rattle.std.specs.Prelude.{◌≡◌, [], ◌∷◌, ◌++◌, IfOk, OnOk, OnErr, map};
+ghost use Rattle.std.specs.Prelude.{◌≡◌, ◌≤◌, [], length, IfOk};
 
 use std::alloc::{AllocError, Global};
 use std::marker::Model;
 
-/// The octets of a name or of a string's value. Contracts see it as a list of octets.
+/// So many octets lie in the text itself; more are a vector behind a box.
+const FEW: usize = 14;
+
+/// Where the octets of a text lie.
+#[derive(Drop)]
+enum Octets {
+    /// The first ones of the array, so many.
+    Few(u8, [u8; 14]),
+    Many(Box<Vec<u8>>),
+}
+
+/// The octets of a name or of a string's value; at most 14 take no memory beside the text. Contracts see it as a list of
+/// octets.
 #[derive(Drop)]
 pub struct Text {
-    octets: Vec<u8>,
+    octets: Octets,
 }
 
 impl Model for Text {
@@ -16,38 +28,73 @@ impl Model for Text {
 
     ghost Value = { List ℕ };
 
-    ghost view = { λ t. t.octets.items };
+    ghost use Rattle.sieve_syntax.specs.Held.{octets_in, IsWithin};
+
+    ghost view = { λ t. octets_in t.octets };
+
+    ghost invariant = { λ t. IsWithin t.octets };
+}
+
+/// A text of a few octets.
+fn few(octets: &[u8]) -> Text
+    requires { length octets.now ≤ 14 }
+    ensures { result ≡ octets.now }
+{
+    let mut kept = [0; FEW];
+    kept[..octets.len()].copy_from_slice(octets);
+    Text {
+        octets: Octets::Few(octets.len() as u8, kept),
+    }
 }
 
 impl Text {
-    /// The text of these octets; takes no memory.
-    pub fn from_vec(octets: Vec<u8>) -> Text
-        ensures { result ≡ octets.items }
+    /// The text of a copy of these octets; the only error is want of memory.
+    pub fn from_slice(alloc: Global, octets: &[u8]) -> Result<Text, AllocError>
+        ensures { IfOk result (λ t. t ≡ octets.now) }
     {
-        Text { octets }
+        if octets.len() <= FEW {
+            return Ok(few(octets));
+        }
+        let octets = Vec::from_slice(alloc, octets)?;
+        Ok(Text {
+            octets: Octets::Many(Box::new(alloc, octets)?),
+        })
+    }
+
+    /// The text of these octets; the only error is want of memory.
+    pub fn from_vec(alloc: Global, octets: Vec<u8>) -> Result<Text, AllocError>
+        ensures { IfOk result (λ t. t ≡ octets.items) }
+    {
+        if octets.len() <= FEW {
+            return Ok(few(octets.as_slice()));
+        }
+        Ok(Text {
+            octets: Octets::Many(Box::new(alloc, octets)?),
+        })
     }
 
     /// The octets.
     pub fn as_slice(&self) -> &[u8]
         ensures { result.now ≡ self.now }
     {
-        self.octets.as_slice()
+        match &self.octets {
+            Octets::Few(length, octets) => &octets[..usize::from(*length)],
+            Octets::Many(octets) => octets.as_slice(),
+        }
     }
 
     /// The same octets again; the only error is want of memory.
     pub fn copy(&self, alloc: Global) -> Result<Text, AllocError>
         ensures { IfOk result (λ t. t ≡ self.now) }
     {
-        Ok(Text {
-            octets: Vec::from_slice(alloc, self.octets.as_slice())?,
-        })
+        Text::from_slice(alloc, self.as_slice())
     }
 }
 
 /// Texts in order. Contracts see it as a list of lists of octets.
 #[derive(Drop)]
 pub struct Texts {
-    items: Vec<Text>,
+    items: Box<Vec<Text>>,
 }
 
 impl Model for Texts {
@@ -55,33 +102,18 @@ impl Model for Texts {
 
     ghost Value = { List (List ℕ) };
 
-    ghost view = { λ t. t.items.items };
+    ghost view = { λ t. t.items.value.items };
 }
 
 impl Texts {
-    /// No text; takes no memory.
-    pub fn new(alloc: Global) -> Texts
-        ensures { result ≡ [] }
+    /// These texts, without the room that none takes; the only error is want of memory.
+    pub fn from_vec(alloc: Global, mut items: Vec<Text>) -> Result<Texts, AllocError>
+        ensures { IfOk result (λ t. t ≡ items.items) }
     {
-        Texts {
-            items: Vec::new(alloc),
-        }
-    }
-
-    /// Adds a text at the end; the only error is want of memory, and the list is then as before.
-    pub fn push(&mut self, text: Text) -> Result<(), AllocError>
-        ensures ok { OnOk result (self.new ≡ self.old ++ text ∷ []) }
-        ensures err { OnErr result (self.new ≡ self.old) }
-    {
-        self.items.push(text)?;
-        Ok(())
-    }
-
-    /// Gives room back that no text takes.
-    pub fn shrink_to_fit(&mut self)
-        ensures { self.new ≡ self.old }
-    {
-        self.items.shrink_to_fit();
+        items.shrink_to_fit();
+        Ok(Texts {
+            items: Box::new(alloc, items)?,
+        })
     }
 
     /// The texts.

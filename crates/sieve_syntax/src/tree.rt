@@ -1,11 +1,12 @@
 //! The tree of a script (RFC 5228, section 8.2). It keeps whether a string or a test stood in brackets.
 
-ghost use Rattle.std.specs.Prelude.{◌≡◌, [], ◌∷◌, ◌++◌, OnOk, OnErr};
+ghost use Rattle.std.specs.Prelude.{◌≡◌, [], IfOk};
 ghost use Rattle.sieve_syntax.specs.Arguments.{strings_of, others_of, first_of};
 
 use crate::text::{Text, Texts};
 use std::alloc::{AllocError, Global};
 use std::marker::Model;
+use std::slice;
 
 /// One string, or a list in brackets, which has a first string and perhaps others.
 #[derive(Drop)]
@@ -45,10 +46,18 @@ pub enum Argument {
     Tag(Text),
 }
 
-/// Arguments in order. Contracts see it as a list.
+/// Where arguments lie.
+#[derive(Drop)]
+enum Held {
+    None,
+    One(Box<Argument>),
+    Many(Box<Vec<Argument>>),
+}
+
+/// Arguments in order; none take no memory. Contracts see it as a list.
 #[derive(Drop)]
 pub struct Arguments {
-    items: Vec<Argument>,
+    held: Held,
 }
 
 impl Model for Arguments {
@@ -57,40 +66,46 @@ impl Model for Arguments {
 
     ghost Value = { List Argument };
 
-    ghost view = { λ a. a.items.items };
+    ghost use Rattle.sieve_syntax.specs.HeldArguments.{arguments_in};
+
+    ghost view = { λ a. arguments_in a.held };
 }
 
 impl Arguments {
     /// No argument; takes no memory.
-    pub fn new(alloc: Global) -> Arguments
+    pub fn none() -> Arguments
         ensures { result ≡ [] }
     {
-        Arguments {
-            items: Vec::new(alloc),
+        Arguments { held: Held::None }
+    }
+
+    /// These arguments, without the room that none takes; the only error is want of memory.
+    pub fn from_vec(alloc: Global, mut items: Vec<Argument>) -> Result<Arguments, AllocError>
+        ensures { IfOk result (λ a. a ≡ items.items) }
+    {
+        if items.len() > 1 {
+            items.shrink_to_fit();
+            return Ok(Arguments {
+                held: Held::Many(Box::new(alloc, items)?),
+            });
         }
-    }
-
-    /// Adds an argument at the end; the only error is want of memory, and the list is then as before.
-    pub fn push(&mut self, argument: Argument) -> Result<(), AllocError>
-        ensures ok { OnOk result (self.new ≡ self.old ++ argument ∷ []) }
-        ensures err { OnErr result (self.new ≡ self.old) }
-    {
-        self.items.push(argument)?;
-        Ok(())
-    }
-
-    /// Gives room back that no argument takes.
-    pub fn shrink_to_fit(&mut self)
-        ensures { self.new ≡ self.old }
-    {
-        self.items.shrink_to_fit();
+        let Some(only) = items.pop() else {
+            return Ok(Arguments::none());
+        };
+        Ok(Arguments {
+            held: Held::One(Box::new(alloc, only)?),
+        })
     }
 
     /// The arguments.
     pub fn as_slice(&self) -> &[Argument]
         ensures { result.now ≡ self.now }
     {
-        self.items.as_slice()
+        match &self.held {
+            Held::None => &[],
+            Held::One(only) => slice::from_ref(only),
+            Held::Many(items) => items.as_slice(),
+        }
     }
 }
 
@@ -111,7 +126,7 @@ pub enum Tests {
     /// One test outside brackets.
     One(Box<Test>),
     /// Tests in brackets, at least one.
-    Listed(Vec<Test>),
+    Listed(Box<Vec<Test>>),
 }
 
 /// A command: its name as it was written, its arguments, its tests, and how it ends.
@@ -129,7 +144,7 @@ pub struct Command {
 #[derive(Drop)]
 pub enum Ending {
     Semicolon,
-    Block(Vec<Command>),
+    Block(Box<Vec<Command>>),
 }
 
 /// A whole script.

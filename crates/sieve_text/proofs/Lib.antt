@@ -1,4 +1,5 @@
 pub mod Again
+pub mod Bare
 pub mod CutLemmas
 pub mod Depths
 pub mod GapGrammar
@@ -8,7 +9,9 @@ pub mod KindLemmas
 pub mod LexemeLemmas
 pub mod Longest
 pub mod Many
+pub mod MarkLemmas
 pub mod NumberLemmas
+pub mod PlainLemmas
 mod Rows
 pub mod ScanLemmas
 pub mod ScriptLaws

@@ -24,9 +24,6 @@ pub record GoesOn {A : Type 0} (read : Tries A) (before : List A) (rest : List T
 pub goes_on_first : {A : Type 0} (read : Tries A) (ts : List TokenKind) → GoesOn read [] ts (many_at read (length ts) ts)
 goes_on_first read ts = record { turns = length ts; enough = omega arith; same = behind_none (many_at read (length ts) ts) }
 
-pub goes_on_behind : {A : Type 0} (read : Tries A) (before : List A) (ts : List TokenKind) → GoesOn read before ts (behind before (many_at read (length ts) ts))
-goes_on_behind read before ts = record { turns = length ts; enough = omega arith; same = refl }
-
 pub goes_on_more : {A : Type 0} (read : Tries A) (before : List A) (rest after : List TokenKind) (a : A) (whole : Result (List A × List TokenKind) Misfit) → GoesOn read before rest whole → read rest ≡ Ok (Some (a, after)) → length after < length rest → GoesOn read (before ++ a ∷ []) after whole
 unfolding many_at
 goes_on_more {A} read before rest after a whole h e l = from h.turns refl

@@ -1,5 +1,5 @@
 -- A token takes an octet at least, and ends within the script.
-use Rattle.std.proofs.Common.{◌≡◌, ℕ, zero, suc, ◌+◌, ◌-◌, ◌<◌, ◌≤◌, ◌⊎◌, Bool, true, false, List, [], ◌∷◌, length, drop, nat_lt, Option, Some, None, Result, Ok, Err, sym, ap, ◌∙◌, arith, inl, inr}
+use Rattle.std.proofs.Common.{◌≡◌, ℕ, suc, ◌+◌, ◌<◌, ◌≤◌, ◌⊎◌, Bool, true, false, List, [], ◌∷◌, length, drop, nat_lt, Option, Some, None, Result, Ok, Err, sym, ap, ◌∙◌, arith, inl, inr}
 use Rattle.std.specs.Prelude.{if◌then◌else◌, ◌==◌, ◌&&◌, ◌||◌, codes}
 use Rattle.std.specs.List.{prefix_len}
 use Rattle.std.specs.Char.{is_ascii_digit, to_ascii_lowercase}
@@ -10,8 +10,8 @@ use Rattle.sieve_syntax.specs.declared.token.Token.{Token}
 use Rattle.sieve_syntax.specs.declared.token.TokenKind.{TokenKind}
 use Rattle.sieve_text.specs.declared.fault.ScanRefusal.{ScanRefusal}
 use Rattle.sieve_text.specs.declared.fault.ScanRefusal.TheVariants.{NoToken, StringNotClosed}
-use Rattle.sieve_text.specs.Octets.{is_blank, is_start, is_word, is_white, begins_with, not_lf, line_end_len}
-use Rattle.sieve_text.specs.Gaps.{gap_len, comment_len}
+use Rattle.sieve_text.specs.Octets.{is_blank, is_start, is_word, begins_with, not_lf, line_end_len}
+use Rattle.sieve_text.specs.Gaps.{gap_len}
 use Rattle.sieve_text.specs.Strings.{begins_as, begins_text, opening_end_at, lines_len}
 use Rattle.sieve_text.specs.Tokens.{text_len, mark_of, lines_at, multi_line_at, factor_at, kind_at, token_at, ◌>>=◌}
 use Rattle.sieve_text.proofs.KindLemmas.{read_as, tested, bound_parts, same_kind, no_kind, quoted_parts, lines_parts, multi_line_parts, tag_parts, number_parts, mark_parts, branch, lines, name, digits, colon, quote, one}
@@ -106,18 +106,6 @@ kind_within (b ∷ bs) k e = elim (branch b bs k e) [
   | quote t h ↦ (let p = quoted_parts bs k h in let n = ap (λ (k : TokenKind × ℕ). k.1) p.2 in (omega arith, omega arith))
   | one s d c q h ↦ (let p = mark_parts (mark_of b) k h in let n = ap (λ (k : TokenKind × ℕ). k.1) p.2 in (omega arith, omega arith))
 ]
-
-gap_inside_within : (n : ℕ) (bs : List ℕ) → gap_len n bs ≤ length bs
-unfolding gap_len
-gap_inside_within n [] = omega arith
-gap_inside_within (suc n) (b ∷ bs) = let r = gap_inside_within n bs in omega arith
-gap_inside_within zero (b ∷ bs) =
-    let r = gap_inside_within 0 bs in
-    let s = gap_inside_within (comment_len (b ∷ bs) - 1) bs in
-    if_le (is_white b) (suc (gap_len 0 bs)) _ (length (b ∷ bs)) (omega arith) (if_le (nat_lt 0 (comment_len (b ∷ bs))) (suc (gap_len (comment_len (b ∷ bs) - 1) bs)) 0 (length (b ∷ bs)) (omega arith) (omega arith))
-
-pub gap_within : (bs : List ℕ) → gap_len 0 bs ≤ length bs
-gap_within bs = gap_inside_within 0 bs
 
 some_token : (t u : Token) → read_as (Some t) ≡ Ok (Some u) → t ≡ u
 some_token t u e = cc

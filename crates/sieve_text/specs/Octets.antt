@@ -18,6 +18,10 @@ is_start b = is_ascii_alphabetic b || (b == 95)
 abbrev pub is_word : ℕ → Bool
 is_word b = is_start b || is_ascii_digit b
 
+-- in a quoted string, an octet that stands for itself, whatever stands before it
+abbrev pub is_plain : ℕ → Bool
+is_plain b = not ((b == 92) || (b == 10))
+
 abbrev pub not_lf : ℕ → Bool
 not_lf b = not (b == 10)
 

@@ -10,8 +10,11 @@ mod octets;
 mod quoted;
 mod strings;
 
-ghost use Rattle.std.specs.Prelude.{◌≡◌, ◌≤◌, ◌<◌, ◌+◌, ◌^◌, [], ◌∷◌, length, drop, suc, IfOk, IfErr, IfSome, MatchOption, Ok, OnOk, ℕ, List, option_map};
+ghost use Rattle.std.specs.Prelude.{true, ◌≡◌, ◌≤◌, ◌<◌, ◌+◌, ◌^◌, [], ◌∷◌, length, drop, suc, IfOk, IfErr, IfSome, MatchOption, Ok, OnOk, ℕ, List, option_map, Some};
+ghost use Rattle.sieve_syntax.specs.declared.token.Mark.TheVariants.{Semicolon};
 ghost use Rattle.sieve_syntax.specs.declared.token.Token.{Token};
+ghost use Rattle.sieve_syntax.specs.declared.token.TokenKind.{TokenKind};
+ghost use Rattle.sieve_syntax.specs.declared.token.TokenKind.TheVariants as kinds;
 ghost use Rattle.sieve_text.specs.Gaps.{gap_len};
 ghost use Rattle.sieve_text.specs.Lexemes.{kind_of, read_of, token_of, kinds_in, left_in};
 ghost use Rattle.sieve_text.specs.Tokens.{mark_of, kind_at, tag_at, identifier_at, token_at, Gives, IsSound, IsScan, FaultsBy, StandsAt, StandsIn, either_place, text_len, fault_place};
@@ -19,10 +22,10 @@ ghost use Rattle.sieve_text.specs.Tokens.{mark_of, kind_at, tag_at, identifier_a
 use crate::fault::{FaultyPlace, ScanFault, ScanRefusal};
 use crate::lexeme::{Lexeme, PlacedLexeme};
 pub use gap::gap_length;
-use sieve_syntax::{Mark, Token, TokenKind};
+use sieve_syntax::{Mark, Text, Token, TokenKind};
 use std::alloc::{AllocError, Global};
 use std::str;
-pub use strings::{string_text, text};
+pub use strings::string_text;
 
 /// The octets of the longest script.
 const MOST_OCTETS: usize = 262_144;
@@ -149,6 +152,23 @@ pub fn judge(script: &[u8]) -> Result<(), ScanFault>
     Ok(())
 }
 
+/// The mark that a text begins with, with no gap before it, and the text behind it.
+#[inline(always)]
+fn split_mark(text: &[u8]) -> Option<(Mark, &[u8])>
+    ensures { IfSome result (λ x. (octet : ℕ) × (text.now ≡ octet ∷ x.1.now) × (mark_of octet ≡ Some x.0)) }
+{
+    let (&first, behind) = text.split_first()?;
+    Some((mark(first)?, behind))
+}
+
+/// Whether a semicolon stands first, with no gap before it.
+#[inline(always)]
+pub fn begins_with_semicolon(text: &[u8]) -> bool
+    ensures { result ≡ true → (rest : List TokenKind) × (kinds_in text.now ≡ kinds.Mark Semicolon ∷ rest) }
+{
+    octets::starts_with(text, b';')
+}
+
 /// The first token of a text, as it is written, and the text behind it; `None` where no token stands first behind white
 /// space and comments.
 pub fn split_lexeme(text: &[u8]) -> Option<(Lexeme<'_>, &[u8])>
@@ -156,6 +176,9 @@ pub fn split_lexeme(text: &[u8]) -> Option<(Lexeme<'_>, &[u8])>
     ensures fewer { IfSome result (λ x. length (kinds_in x.1.now) < length (kinds_in text.now)) }
     ensures left { MatchOption result (left_in text.now ≡ drop (gap_len 0 text.now) text.now) (λ x. left_in x.1.now ≡ left_in text.now) }
 {
+    if let Some((mark, behind)) = split_mark(text) {
+        return Some((Lexeme::Mark(mark), behind));
+    }
     let (_, rest) = text.split_at(gap_length(text));
     let Ok((lexeme, length)) = lexeme(rest, 0) else {
         return None;
@@ -185,8 +208,8 @@ fn token(alloc: Global, placed: PlacedLexeme<'_>) -> Result<Token, AllocError>
     ensures { IfOk result (λ t. t ≡ token_of placed.entry) }
 {
     let kind = match placed.lexeme {
-        Lexeme::Identifier(name) => TokenKind::Identifier(text(alloc, name)?),
-        Lexeme::Tag(name) => TokenKind::Tag(text(alloc, name)?),
+        Lexeme::Identifier(name) => TokenKind::Identifier(Text::from_slice(alloc, name)?),
+        Lexeme::Tag(name) => TokenKind::Tag(Text::from_slice(alloc, name)?),
         Lexeme::Number(number) => TokenKind::Number(number),
         Lexeme::StringValue(written) => TokenKind::StringValue(string_text(alloc, written)?),
         Lexeme::Mark(mark) => TokenKind::Mark(mark),

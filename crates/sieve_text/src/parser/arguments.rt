@@ -5,9 +5,9 @@ ghost use Rattle.sieve_text.specs.Lexemes.{kinds_in, left_in};
 ghost use Rattle.sieve_text.specs.Reading.{Gives, string_at, behind_bracket, next_with, other_strings_at, string_list_at, argument_at, arguments_at};
 
 use crate::lexeme::Lexeme;
+use crate::parser::rows;
 use crate::parser::stop::{Stop, syntax};
-use crate::scanner;
-use crate::scanner::{split_lexeme, string_text};
+use crate::scanner::{begins_with_semicolon, split_lexeme, string_text};
 use sieve_syntax::{Argument, Arguments, Mark, StringList, Text, Texts};
 use std::alloc::Global;
 
@@ -53,14 +53,13 @@ fn other_strings(alloc: Global, text: &[u8]) -> Result<(Texts, &[u8]), Stop>
     ensures fewer { IfOk result (λ x. length (kinds_in x.1.now) ≤ length (kinds_in text.now)) }
     ensures left { IfOk result (λ x. left_in x.1.now ≡ left_in text.now) }
 {
-    let mut others = Texts::new(alloc);
+    let mut others = Vec::new(alloc);
     let mut rest = text;
     while let Some((next, after)) = next_string(alloc, rest)? {
-        others.push(next)?;
+        rows::push(&mut others, next)?;
         rest = after;
     }
-    others.shrink_to_fit();
-    Ok((others, rest))
+    Ok((Texts::from_vec(alloc, others)?, rest))
 }
 
 /// A list of strings, behind its opening bracket.
@@ -87,7 +86,7 @@ fn next_argument(alloc: Global, text: &[u8]) -> Result<Option<(Argument, &[u8])>
         return Ok(None);
     };
     match lexeme {
-        Lexeme::Tag(name) => Ok(Some((Argument::Tag(scanner::text(alloc, name)?), rest))),
+        Lexeme::Tag(name) => Ok(Some((Argument::Tag(Text::from_slice(alloc, name)?), rest))),
         Lexeme::Number(number) => Ok(Some((Argument::Number(number), rest))),
         Lexeme::StringValue(written) => {
             let one = StringList::One(string_text(alloc, written)?);
@@ -102,17 +101,29 @@ fn next_argument(alloc: Global, text: &[u8]) -> Result<Option<(Argument, &[u8])>
 }
 
 /// The arguments, and the tokens behind them.
+fn some_arguments(alloc: Global, text: &[u8]) -> Result<(Arguments, &[u8]), Stop>
+    ensures value { Gives (λ x. (x.0, kinds_in x.1.now)) result (arguments_at (kinds_in text.now)) }
+    ensures fewer { IfOk result (λ x. length (kinds_in x.1.now) ≤ length (kinds_in text.now)) }
+    ensures left { IfOk result (λ x. left_in x.1.now ≡ left_in text.now) }
+{
+    let mut arguments = Vec::new(alloc);
+    let mut rest = text;
+    while let Some((next, after)) = next_argument(alloc, rest)? {
+        rows::push(&mut arguments, next)?;
+        rest = after;
+    }
+    Ok((Arguments::from_vec(alloc, arguments)?, rest))
+}
+
+/// The arguments, and the tokens behind them; none where a semicolon stands first.
+#[inline(always)]
 pub fn arguments(alloc: Global, text: &[u8]) -> Result<(Arguments, &[u8]), Stop>
     ensures value { Gives (λ x. (x.0, kinds_in x.1.now)) result (arguments_at (kinds_in text.now)) }
     ensures fewer { IfOk result (λ x. length (kinds_in x.1.now) ≤ length (kinds_in text.now)) }
     ensures left { IfOk result (λ x. left_in x.1.now ≡ left_in text.now) }
 {
-    let mut arguments = Arguments::new(alloc);
-    let mut rest = text;
-    while let Some((next, after)) = next_argument(alloc, rest)? {
-        arguments.push(next)?;
-        rest = after;
+    if begins_with_semicolon(text) {
+        return Ok((Arguments::none(), text));
     }
-    arguments.shrink_to_fit();
-    Ok((arguments, rest))
+    some_arguments(alloc, text)
 }

@@ -1,17 +1,17 @@
 //! Commands and blocks.
 
 ghost use Rattle.std.specs.Prelude.{◌≡◌, ◌≤◌, ◌<◌, length, map, IfOk, IfSome, option_map, Ok};
-ghost use Rattle.sieve_syntax.specs.View.{command_of, ending_of, commands_of};
+ghost use Rattle.sieve_syntax.specs.View.{command_of, ending_of, commands_of, inner_of};
 ghost use Rattle.sieve_text.specs.Lexemes.{kinds_in, left_in};
-ghost use Rattle.sieve_text.specs.Reading.{Gives, many_at, inside_at, command_with, commands_with, ending_with, behind_brace};
+ghost use Rattle.sieve_text.specs.Reading.{Gives, many_at, inside_at, inner_with, test_at, command_with, commands_with, ending_with, behind_brace};
 
 use crate::lexeme::Lexeme;
 use crate::parser::arguments::arguments;
+use crate::parser::rows;
 use crate::parser::stop::{Misfit, Stop, left_from, syntax};
 use crate::parser::test_lists::inner_tests;
-use crate::scanner;
-use crate::scanner::split_lexeme;
-use sieve_syntax::{Command, Ending, Mark};
+use crate::scanner::{begins_with_semicolon, split_lexeme};
+use sieve_syntax::{Command, Ending, Mark, Tests, Text};
 use std::alloc::Global;
 
 /// How many tests may stand inside one another.
@@ -27,11 +27,24 @@ pub fn commands(alloc: Global, depth: u8, text: &[u8]) -> Result<(Vec<Command>, 
     let mut commands = Vec::new(alloc);
     let mut rest = text;
     while let Some((next, after)) = next_command(alloc, depth, rest)? {
-        commands.push(next)?;
+        rows::push(&mut commands, next)?;
         rest = after;
     }
     commands.shrink_to_fit();
     Ok((commands, rest))
+}
+
+/// The tests of a command, and the tokens behind them; none where a semicolon stands first.
+#[inline(always)]
+fn command_tests(alloc: Global, text: &[u8]) -> Result<(Tests, &[u8]), Stop>
+    ensures value { Gives (λ x. (inner_of x.0, kinds_in x.1.now)) result (inner_with (test_at 32) (kinds_in text.now)) }
+    ensures fewer { IfOk result (λ x. length (kinds_in x.1.now) ≤ length (kinds_in text.now)) }
+    ensures left { IfOk result (λ x. left_in x.1.now ≡ left_in text.now) }
+{
+    if begins_with_semicolon(text) {
+        return Ok((Tests::None, text));
+    }
+    inner_tests(alloc, TEST_DEPTH, text)
 }
 
 /// A command, where the tokens begin with one, with no more than `depth` blocks inside one another.
@@ -45,9 +58,9 @@ fn next_command(alloc: Global, depth: u8, text: &[u8]) -> Result<Option<(Command
         return Ok(None);
     };
     let (arguments, rest) = arguments(alloc, rest)?;
-    let (tests, rest) = inner_tests(alloc, TEST_DEPTH, rest)?;
+    let (tests, rest) = command_tests(alloc, rest)?;
     let (ending, rest) = read_ending(alloc, depth, rest)?;
-    let name = scanner::text(alloc, name)?;
+    let name = Text::from_slice(alloc, name)?;
     Ok(Some((
         Command {
             name,
@@ -75,7 +88,7 @@ fn read_ending(alloc: Global, depth: u8, text: &[u8]) -> Result<(Ending, &[u8]),
             }
             let (inside, rest) = commands(alloc, depth - 1, rest)?;
             let rest = behind_brace(rest)?;
-            Ok((Ending::Block(inside), rest))
+            Ok((Ending::Block(Box::new(alloc, inside)?), rest))
         }
         _ => Err(syntax(text)),
     }

@@ -7,10 +7,10 @@ ghost use Rattle.sieve_text.specs.Reading.{Gives, behind, behind_paren, next_wit
 
 use crate::lexeme::Lexeme;
 use crate::parser::arguments::arguments;
+use crate::parser::rows;
 use crate::parser::stop::{Misfit, Stop, left_from, syntax};
-use crate::scanner;
 use crate::scanner::split_lexeme;
-use sieve_syntax::{Mark, Test, Tests};
+use sieve_syntax::{Mark, Test, Tests, Text};
 use std::alloc::Global;
 
 /// A test, with no more than `depth` tests inside one another, itself counted.
@@ -29,7 +29,7 @@ fn read_test(alloc: Global, depth: u8, text: &[u8]) -> Result<(Test, &[u8]), Sto
     }
     let (arguments, rest) = arguments(alloc, rest)?;
     let (tests, rest) = inner_tests(alloc, depth - 1, rest)?;
-    let name = scanner::text(alloc, name)?;
+    let name = Text::from_slice(alloc, name)?;
     Ok((
         Test {
             name,
@@ -67,7 +67,7 @@ fn test_list(alloc: Global, depth: u8, text: &[u8]) -> Result<(Tests, &[u8]), St
     let (first, rest) = read_test(alloc, depth, text)?;
     let (tests, rest) = with_others(alloc, depth, first, rest)?;
     let rest = behind_paren(rest)?;
-    Ok((Tests::Listed(tests), rest))
+    Ok((Tests::Listed(Box::new(alloc, tests)?), rest))
 }
 
 /// The first test of a list, and those behind it.
@@ -85,7 +85,7 @@ fn with_others(
     let mut tests = vec![in alloc; first]?;
     let mut rest = text;
     while let Some((next, after)) = next_test(alloc, depth, rest)? {
-        tests.push(next)?;
+        rows::push(&mut tests, next)?;
         rest = after;
     }
     tests.shrink_to_fit();

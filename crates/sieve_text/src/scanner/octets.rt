@@ -2,7 +2,7 @@
 
 ghost use Rattle.std.specs.Prelude.{◌≡◌, ◌≤◌, length};
 ghost use Rattle.std.specs.List.{prefix_len};
-ghost use Rattle.sieve_text.specs.Octets.{is_blank, is_white, is_start, is_word, not_lf, begins_with, line_end_len, stray_len};
+ghost use Rattle.sieve_text.specs.Octets.{is_blank, is_white, is_start, is_word, is_plain, not_lf, begins_with, line_end_len, stray_len};
 
 fn is_blank_octet(b: u8) -> bool
     ensures { result ≡ is_blank b }
@@ -28,6 +28,12 @@ fn is_word_octet(b: u8) -> bool
     ensures { result ≡ is_word b }
 {
     starts_word(b) || b.is_ascii_digit()
+}
+
+fn is_plain_octet(b: u8) -> bool
+    ensures { result ≡ is_plain b }
+{
+    !(b == b'\\' || b == b'\n')
 }
 
 fn is_not_line_feed(b: u8) -> bool
@@ -58,6 +64,14 @@ pub fn word_length(rest: &[u8]) -> usize
     ensures within { result ≤ length rest.now }
 {
     rest.iter().take_while(|b| is_word_octet(**b)).count()
+}
+
+/// How many octets stand before the first backslash or LF, or all there are.
+pub fn plain_length(rest: &[u8]) -> usize
+    ensures value { result ≡ prefix_len is_plain rest.now }
+    ensures within { result ≤ length rest.now }
+{
+    rest.iter().take_while(|b| is_plain_octet(**b)).count()
 }
 
 /// How many octets stand before the first LF, or all there are.

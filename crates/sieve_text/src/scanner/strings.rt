@@ -93,20 +93,22 @@ pub fn string(
     Ok((Lexeme::StringValue(written), length))
 }
 
+/// The value of what stands between the quotation marks: just that, where it has no backslash and no LF.
+fn quoted_text(alloc: Global, body: &[u8]) -> Result<Text, AllocError>
+    ensures { IfOk result (λ t. t ≡ quoted_value body.now) }
+{
+    if octets::plain_length(body) == body.len() {
+        return Text::from_slice(alloc, body);
+    }
+    Text::from_vec(alloc, quoted::value(alloc, body)?)
+}
+
 /// The value of a string.
 pub fn string_text(alloc: Global, written: WrittenString<'_>) -> Result<Text, AllocError>
     ensures { IfOk result (λ t. t ≡ string_of written.entry) }
 {
-    let octets = match written {
-        WrittenString::Quoted(body) => quoted::value(alloc, body)?,
-        WrittenString::Lines(lines) => multi_line::value(alloc, lines)?,
-    };
-    Ok(Text::from_vec(octets))
-}
-
-/// These octets as a text of their own.
-pub fn text(alloc: Global, octets: &[u8]) -> Result<Text, AllocError>
-    ensures { IfOk result (λ t. t ≡ octets.now) }
-{
-    Ok(Text::from_vec(Vec::from_slice(alloc, octets)?))
+    match written {
+        WrittenString::Quoted(body) => quoted_text(alloc, body),
+        WrittenString::Lines(lines) => Text::from_vec(alloc, multi_line::value(alloc, lines)?),
+    }
 }

@@ -1,4 +1,4 @@
-use Rattle.std.proofs.Common.{◌≡◌, ◌+◌, ◌<◌, ◌^◌, rules, [], ◌∷◌, map, sym, ap, subst, ◌∙◌, arith, refl, List, length, drop}
+use Rattle.std.proofs.Common.{◌≡◌, ◌+◌, ◌<◌, ◌^◌, rules, [], ◌∷◌, map, sym, ap, subst, ◌∙◌, arith, refl, List, length, drop, Vec, Global}
 use Rattle.std.proofs.lemmas.Result.{on_ok_weaker}
 use Rattle.sieve_syntax.specs.View.{command_of, commands_of, inner_of, ending_of}
 use Rattle.sieve_syntax.specs.declared.tree.Command.{Command}
@@ -22,8 +22,9 @@ pub emit_block-emit_commands-requires : goal.emit_block-emit_commands-requires
 emit_block-emit_commands-requires g t c κs within =
     let e = ap (λ (x : Ending). commands_long (λ i. size (g.L.Linker.flow_of c.args.linker.now i)) (block_in (ending_of x))) c.in-Block.is in
     let d = ap (λ (x : EndingTree). commands_long (λ i. size (g.L.Linker.flow_of c.args.linker.now i)) (block_in x)) (ending_of-Block c.in-Block.commands) in
-    let room : HasRoom c.args.out.now (commands_long (λ i. size (g.L.Linker.flow_of c.args.linker.now i)) (program_of (commands_of (map command_of c.in-Block.commands.items)))) =
-    (omega (arith, c.requires, e, d), omega (arith, c.requires, e, d), omega (arith, c.requires, e, d)) in
+    let inside = ap (λ (v : Vec Command Global). commands_long (λ i. size (g.L.Linker.flow_of c.args.linker.now i)) (program_of (commands_of (map command_of v.items)))) c.deref.ensures in
+    let room : HasRoom c.args.out.now (commands_long (λ i. size (g.L.Linker.flow_of c.args.linker.now i)) (program_of (commands_of (map command_of c.deref.result.now.items)))) =
+    (omega (arith, c.requires, e, d, inside), omega (arith, c.requires, e, d, inside), omega (arith, c.requires, e, d, inside)) in
     search (rules, the_lemmas, room)
 
 pub emit_branch-emit_block-requires : goal.emit_branch-emit_block-requires

@@ -37,11 +37,11 @@ emit_row-returns t c = record {
 pub emit_tests-loop-test-init : goal.emit_tests-loop-test-init
 emit_tests-loop-test-init t c =
     let whole : Flow = tests_flow c.args.stop (tests_in (inner_of c.args.tests.now)) in
-    let e : tests_flow c.args.stop (tests_in (inner_of c.args.tests.now)) ≡ row_flow c.args.stop (map test_of c.deref-test-items.result.now) = rw (c.deref-test-items.ensures.value, c.in-Listed.is, inner_of-Listed c.in-Listed.list) (flow-listed c.args.stop (map test_of c.in-Listed.list.items)) in
+    let e : tests_flow c.args.stop (tests_in (inner_of c.args.tests.now)) ≡ row_flow c.args.stop (map test_of c.as_slice-test-items.result.now) = rw (c.as_slice-test-items.ensures.value, c.deref-in-Listed.ensures, c.in-Listed.is, inner_of-Listed c.in-Listed.list) (flow-listed c.args.stop (map test_of c.in-Listed.list.value.items)) in
     subst (λ (a : Flow). Leads c.args.out.now c.args.out.now a whole (To c.args.stopped)) e (leads_first c.args.out.now whole (To c.args.stopped))
 
 pub emit_tests-loop-test-preserved : goal.emit_tests-loop-test-preserved
-emit_tests-loop-test-preserved t c = tests_turn c.args.out.now c.loop-test.out c.emit_test-in-loop-test.new.out c.put_jump-in-loop-test.new.out c.deref-test-items.result.now c.loop-test.test-index c.test-item.result c.loop-test-test.true c.test-item.is _ c.args.stop c.args.stopped c.loop-test.invariant c.in_ok-emit_test-in-Listed.ensures.adds c.in_ok-put_jump-in-Listed.ensures.adds
+emit_tests-loop-test-preserved t c = tests_turn c.args.out.now c.loop-test.out c.emit_test-in-loop-test.new.out c.put_jump-in-loop-test.new.out c.as_slice-test-items.result.now c.loop-test.test-index c.test-item.result c.loop-test-test.true c.test-item.is _ c.args.stop c.args.stopped c.loop-test.invariant c.in_ok-emit_test-in-Listed.ensures.adds c.in_ok-put_jump-in-Listed.ensures.adds
 
 pub emit_tests-returns-in_ok-emit_test-in-One : goal.emit_tests-returns-in_ok-emit_test-in-One
 emit_tests-returns-in_ok-emit_test-in-One t c =
@@ -53,4 +53,4 @@ emit_tests-returns-in_ok-emit_test-in-One t c =
     }
 
 pub emit_tests-returns-after-loop-test : goal.emit_tests-returns-after-loop-test
-emit_tests-returns-after-loop-test t c = record { adds = leads_last c.args.out.now c.loop-test.out _ _ (To c.args.stopped) c.loop-test.invariant (ap (λ (ys : List Test). row_flow c.args.stop (map test_of ys)) (no_turn c.deref-test-items.result.now c.loop-test.test-index c.loop-test-test.false)) }
+emit_tests-returns-after-loop-test t c = record { adds = leads_last c.args.out.now c.loop-test.out _ _ (To c.args.stopped) c.loop-test.invariant (ap (λ (ys : List Test). row_flow c.args.stop (map test_of ys)) (no_turn c.as_slice-test-items.result.now c.loop-test.test-index c.loop-test-test.false)) }

@@ -1,5 +1,6 @@
-use Rattle.std.proofs.Common.{◌<◌, ◌^◌, rules, map, sym, ap, ◌∙◌, arith}
+use Rattle.std.proofs.Common.{◌<◌, ◌^◌, rules, map, sym, ap, ◌∙◌, arith, Vec, Global}
 use Rattle.sieve_syntax.specs.View.{command_of, commands_of, ending_of}
+use Rattle.sieve_syntax.specs.declared.tree.Command.{Command}
 use Rattle.sieve_syntax.specs.declared.tree.Ending.{Ending}
 use Rattle.sieve_syntax.specs.declared.tree.Ending.TheViews.{the_lemmas}
 use Rattle.sieve_syntax.specs.Tree.{EndingTree}
@@ -16,11 +17,12 @@ pub block_size-commands_size-requires : goal.block_size-commands_size-requires
 block_size-commands_size-requires g t c κs within =
     let e = ap (λ (x : Ending). commands_long (λ i. size (g.L.Linker.flow_of c.args.linker.now i)) (block_in (ending_of x))) c.in-Block.is in
     let d = ap (λ (x : EndingTree). commands_long (λ i. size (g.L.Linker.flow_of c.args.linker.now i)) (block_in x)) (ending_of-Block c.in-Block.commands) in
-    let room : commands_long (λ i. size (g.L.Linker.flow_of c.args.linker.now i)) (program_of (commands_of (map command_of c.in-Block.commands.items))) < 2 ^ 16 = omega (arith, c.requires, e, d) in
+    let inside = ap (λ (v : Vec Command Global). commands_long (λ i. size (g.L.Linker.flow_of c.args.linker.now i)) (program_of (commands_of (map command_of v.items)))) c.deref.ensures in
+    let room : commands_long (λ i. size (g.L.Linker.flow_of c.args.linker.now i)) (program_of (commands_of (map command_of c.deref.result.now.items))) < 2 ^ 16 = omega (arith, c.requires, e, d, inside) in
     search (rules, the_lemmas, room)
 
 pub block_size-returns-in-Block : goal.block_size-returns-in-Block
-block_size-returns-in-Block g t c = rw (c.in-Block.is, ending_of-Block c.in-Block.commands) c.commands_size.ensures
+block_size-returns-in-Block g t c = rw (c.in-Block.is, ending_of-Block c.in-Block.commands, ← c.deref.ensures) c.commands_size.ensures
 
 pub commands_size-part_size-sum-requires : goal.commands_size-part_size-sum-requires
 commands_size-part_size-sum-requires g t c κs within =

@@ -23,13 +23,13 @@ test_fault-returns-in-Some t c =
     rw (test_of_out c.args.test.now) (c.lesser.ensures ∙ ap (λ (o : Option ℕ). lesser o (option_map number_of c.tests_fault.result)) c.form_fault-own.ensures ∙ ap (λ (o : Option ℕ). lesser (first_broken (form_rules (has_of c.args.named) (form_view c.in-Some.row.now.form) (pieces (form_view c.in-Some.row.now.form).tags node.arguments) (inner_of node.tests))) o) c.tests_fault.ensures ∙ whole)
 
 pub tests_fault-loop-test-init : goal.tests_fault-loop-test-init
-tests_fault-loop-test-init t c = rw (c.deref-test-items.ensures.value, c.in-Listed.is, inner_of-Listed c.in-Listed.list) (ap least (sym (listed_is_each (has_of c.args.named) (map test_of c.in-Listed.list.items))))
+tests_fault-loop-test-init t c = rw (c.as_slice-test-items.ensures.value, c.deref-in-Listed.ensures, c.in-Listed.is, inner_of-Listed c.in-Listed.list) (ap least (sym (listed_is_each (has_of c.args.named) (map test_of c.in-Listed.list.value.items))))
 
 pub tests_fault-loop-test-preserved : goal.tests_fault-loop-test-preserved
 tests_fault-loop-test-preserved t c =
-    judge_turn (has_of c.args.named) c.deref-test-items.result.now c.loop-test.test-index c.test-item.result (option_map number_of c.loop-test.fault) (option_map number_of c.test_fault-in-loop-test.result) (option_map number_of c.lesser-fault.result) (least (broken_by_inner (has_of c.args.named) (inner_of c.args.tests.now))) (omega arith) c.test-item.is c.loop-test.invariant c.test_fault-in-loop-test.ensures c.lesser-fault.ensures
+    judge_turn (has_of c.args.named) c.as_slice-test-items.result.now c.loop-test.test-index c.test-item.result (option_map number_of c.loop-test.fault) (option_map number_of c.test_fault-in-loop-test.result) (option_map number_of c.lesser-fault.result) (least (broken_by_inner (has_of c.args.named) (inner_of c.args.tests.now))) (omega arith) c.test-item.is c.loop-test.invariant c.test_fault-in-loop-test.ensures c.lesser-fault.ensures
 
 pub tests_fault-returns-after-loop-test : goal.tests_fault-returns-after-loop-test
 tests_fault-returns-after-loop-test t c =
     judge_done (has_of c.args.named) (option_map number_of c.loop-test.fault) (least (broken_by_inner (has_of c.args.named) (inner_of c.args.tests.now)))
-    (rw (drop_all c.loop-test.test-index c.deref-test-items.result.now (omega arith)) at c.loop-test.invariant)
+    (rw (drop_all c.loop-test.test-index c.as_slice-test-items.result.now (omega arith)) at c.loop-test.invariant)

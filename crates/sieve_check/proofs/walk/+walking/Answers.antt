@@ -37,15 +37,15 @@ pass_command-returns-clause-value t c =
 pub pass_ending-returns-in_err-behind-in-Block : goal.pass_ending-returns-in_err-behind-in-Block
 pass_ending-returns-in_err-behind-in-Block t c =
     let p = err_from_is_err_and c.from_residual.result c.from_residual.ensures.1 in
-    rw (p.1, p.2) (walk_stops c.deref-command-items.result.now c.loop-command.command-index c.command-item.result c.loop-command.known c.loop-command.follows_branch (number_of c.in_err-behind-in-Block.field-0.0) (walk c.args.context (ending_in_order (ending_of c.args.ending.now))) (omega arith) c.command-item.is c.loop-command.invariant c.in_err-behind-in-Block.ensures.value)
+    rw (p.1, p.2) (walk_stops c.as_slice-command-items.result.now c.loop-command.command-index c.command-item.result c.loop-command.known c.loop-command.follows_branch (number_of c.in_err-behind-in-Block.field-0.0) (walk c.args.context (ending_in_order (ending_of c.args.ending.now))) (omega arith) c.command-item.is c.loop-command.invariant c.in_err-behind-in-Block.ensures.value)
 
 pub pass_ending-loop-command-preserved : goal.pass_ending-loop-command-preserved
 pass_ending-loop-command-preserved t c =
-    walk_turn c.deref-command-items.result.now c.loop-command.command-index c.command-item.result c.loop-command.known c.in_ok-behind-in-Block.behind c.loop-command.follows_branch c.in_ok-behind-in-Block.is_branch (walk c.args.context (ending_in_order (ending_of c.args.ending.now))) (omega arith) c.command-item.is c.loop-command.invariant c.in_ok-behind-in-Block.ensures.value c.in_ok-behind-in-Block.ensures.branch
+    walk_turn c.as_slice-command-items.result.now c.loop-command.command-index c.command-item.result c.loop-command.known c.in_ok-behind-in-Block.behind c.loop-command.follows_branch c.in_ok-behind-in-Block.is_branch (walk c.args.context (ending_in_order (ending_of c.args.ending.now))) (omega arith) c.command-item.is c.loop-command.invariant c.in_ok-behind-in-Block.ensures.value c.in_ok-behind-in-Block.ensures.branch
 
 pub pass_ending-returns-after-loop-command : goal.pass_ending-returns-after-loop-command
 unfolding walk
-pass_ending-returns-after-loop-command t c = rw (drop_all c.loop-command.command-index c.deref-command-items.result.now (omega arith)) at c.loop-command.invariant
+pass_ending-returns-after-loop-command t c = rw (drop_all c.loop-command.command-index c.as_slice-command-items.result.now (omega arith)) at c.loop-command.invariant
 
 pub pass_ending-returns-in-Semicolon : goal.pass_ending-returns-in-Semicolon
 unfolding walk

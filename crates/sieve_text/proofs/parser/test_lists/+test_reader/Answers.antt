@@ -21,7 +21,7 @@ with_others-loop-tests-preserved t c =
     let e = rw c.in-Some.is at c.in_ok-next.ensures.value in
     let rest_left : left_in after ≡ left_in before = rw c.in-Some.is at c.in_ok-next.ensures.left in
     let l : length (kinds_in after) < length (kinds_in before) = rw c.in-Some.is at c.in_ok-next.ensures.fewer in
-    let pushed : map test_of c.push.new.self.items ≡ map test_of c.loop-tests.tests.items ++ test_of c.in-Some.next ∷ [] = rw c.in_ok-push.ensures.items (map_push _ c.loop-tests.tests.items c.in-Some.next) in
+    let pushed : map test_of c.push.new.rows.items ≡ map test_of c.loop-tests.tests.items ++ test_of c.in-Some.next ∷ [] = rw c.in_ok-push.ensures.ok (map_push _ c.loop-tests.tests.items c.in-Some.next) in
     (rw pushed (goes_on_more (next_with (test_at c.args.depth)) (map test_of c.loop-tests.tests.items) (kinds_in before) (kinds_in after) (test_of c.in-Some.next) (behind (test_of c.args.first ∷ []) (many_at (next_with (test_at c.args.depth)) (length ts) ts)) c.loop-tests.invariant.0 e l), omega (arith, c.loop-tests.invariant.1), rest_left ∙ c.loop-tests.invariant.2)
 
 pub with_others-returns-clause-value : goal.with_others-returns-clause-value
