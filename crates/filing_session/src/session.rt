@@ -8,7 +8,7 @@ ghost use Rattle.filing_session.specs.Lines.{behind_line};
 ghost use Rattle.filing_session.specs.Payloads.{IsOf};
 ghost use Rattle.filing_session.specs.Replies.{answer_of};
 ghost use Rattle.filing_session.specs.Session.{session_of, heard, heard_line, with_payload, with_payloads, ending_octets, left_by, IsServed, IsAnswered, IsCutInAnswer, IsCutInEnding, EndsByInput, EndsBefore};
-ghost use Rattle.filing_session.specs.Streams.{IsBehind, Rises};
+ghost use Rattle.filing_session.specs.Streams.{IsBehind, Rises, GivesUp};
 ghost use Rattle.filing_session.specs.Words.{asked_as};
 
 use crate::lines::{LineBuffer, LineEnd, read_line};
@@ -122,7 +122,8 @@ fn read_and_file<S: Source>(
     ensures ended { IfOk result (λ a. EndsOnlyAtEnd a (S.ends source.old) (S.ends source.new)) }
     ensures ends { S.ends source.old ≤ S.ends source.new }
     ensures troubles { S.troubles source.old ≤ S.troubles source.new }
-    ensures fault { OnErr result (Rises (S.troubles source.old) (S.troubles source.new)) }
+    ensures fault { OnErr result (GivesUp (S.troubles source.old) (S.failures source.old) (S.troubles source.new) (S.failures source.new)) }
+    ensures outlasts { OnOk result (S.failures source.new ≡ S.failures source.old) }
 {
     let Some(script) = read_payload(alloc, source, script, SCRIPT_OCTETS)? else {
         return Ok(Said::End(Ending::CutShort));
@@ -165,7 +166,8 @@ fn read_and_try<S: Source>(
     ensures ended { IfOk result (λ a. EndsOnlyAtEnd a (S.ends source.old) (S.ends source.new)) }
     ensures ends { S.ends source.old ≤ S.ends source.new }
     ensures troubles { S.troubles source.old ≤ S.troubles source.new }
-    ensures fault { OnErr result (Rises (S.troubles source.old) (S.troubles source.new)) }
+    ensures fault { OnErr result (GivesUp (S.troubles source.old) (S.failures source.old) (S.troubles source.new) (S.failures source.new)) }
+    ensures outlasts { OnOk result (S.failures source.new ≡ S.failures source.old) }
 {
     let Some(image) = read_payload(alloc, source, image, IMAGE_OCTETS)? else {
         return Ok(Said::End(Ending::CutShort));
@@ -203,7 +205,8 @@ fn read_and_set_plan<S: Source>(
     ensures ended { IfOk result (λ a. EndsOnlyAtEnd a (S.ends source.old) (S.ends source.new)) }
     ensures ends { S.ends source.old ≤ S.ends source.new }
     ensures troubles { S.troubles source.old ≤ S.troubles source.new }
-    ensures fault { OnErr result (Rises (S.troubles source.old) (S.troubles source.new)) }
+    ensures fault { OnErr result (GivesUp (S.troubles source.old) (S.failures source.old) (S.troubles source.new) (S.failures source.new)) }
+    ensures outlasts { OnOk result (S.failures source.new ≡ S.failures source.old) }
 {
     let Some(text) = read_payload(alloc, source, text, PLAN_OCTETS)? else {
         return Ok(Said::End(Ending::CutShort));
@@ -240,7 +243,8 @@ fn read_and_set_global<S: Source>(
     ensures ended { IfOk result (λ a. EndsOnlyAtEnd a (S.ends source.old) (S.ends source.new)) }
     ensures ends { S.ends source.old ≤ S.ends source.new }
     ensures troubles { S.troubles source.old ≤ S.troubles source.new }
-    ensures fault { OnErr result (Rises (S.troubles source.old) (S.troubles source.new)) }
+    ensures fault { OnErr result (GivesUp (S.troubles source.old) (S.failures source.old) (S.troubles source.new) (S.failures source.new)) }
+    ensures outlasts { OnOk result (S.failures source.new ≡ S.failures source.old) }
 {
     let Some(text) = read_payload(alloc, source, text, SCRIPT_OCTETS)? else {
         return Ok(Said::End(Ending::CutShort));
@@ -262,7 +266,8 @@ fn answer<S: Source>(
     ensures ended { IfOk result (λ a. EndsOnlyAtEnd a (S.ends source.old) (S.ends source.new)) }
     ensures ends { S.ends source.old ≤ S.ends source.new }
     ensures troubles { S.troubles source.old ≤ S.troubles source.new }
-    ensures fault { OnErr result (Rises (S.troubles source.old) (S.troubles source.new)) }
+    ensures fault { OnErr result (GivesUp (S.troubles source.old) (S.failures source.old) (S.troubles source.new) (S.failures source.new)) }
+    ensures outlasts { OnOk result (S.failures source.new ≡ S.failures source.old) }
 {
     match request {
         Request::AddClass(path) => Ok(Said::Reply(add_class(desk, path))),
@@ -303,7 +308,8 @@ fn next<S: Source>(
     ensures ended { IfOk result (λ a. EndsOnlyAtEnd a (S.ends source.old) (S.ends source.new)) }
     ensures ends { S.ends source.old ≤ S.ends source.new }
     ensures troubles { S.troubles source.old ≤ S.troubles source.new }
-    ensures fault { OnErr result (Rises (S.troubles source.old) (S.troubles source.new)) }
+    ensures fault { OnErr result (GivesUp (S.troubles source.old) (S.failures source.old) (S.troubles source.new) (S.failures source.new)) }
+    ensures outlasts { OnOk result (S.failures source.new ≡ S.failures source.old) }
 {
     match read_line(source, line)? {
         LineEnd::Whole => answer(alloc, source, desk, read_request(line.as_slice())),
@@ -329,7 +335,8 @@ fn write_ending<K: Sink>(sink: &mut K, ending: Ending) -> Result<(), ServeFault>
     ensures written { K.tells → OnOk result (K.written sink.new ≡ K.written sink.old ++ ending_octets ending) }
     ensures prefix { K.tells → OnErr result (IsBehind (K.written sink.old) (ending_octets ending) (K.written sink.new)) }
     ensures read { result ≢ Err ServeFault.Read }
-    ensures fault { OnErr result (Rises (K.troubles sink.old) (K.troubles sink.new)) }
+    ensures fault { OnErr result (GivesUp (K.troubles sink.old) (K.failures sink.old) (K.troubles sink.new) (K.failures sink.new)) }
+    ensures outlasts { OnOk result (K.failures sink.new ≡ K.failures sink.old) }
 {
     if write_all(sink, ending_text(ending).as_bytes()).is_err() {
         return Err(ServeFault::Write);
@@ -357,8 +364,9 @@ pub fn serve<S: Source, K: Sink>(
     ensures unheard { S.tells → K.tells → IsErrOf result ServeFault.Read → IsAnswered (session_of 1000000 (S.left source.old)) desk.old (K.written sink.old) (K.written sink.new) desk.new }
     ensures unsaid { S.tells → K.tells → IsErrOf result ServeFault.Write →
         IsCutInAnswer (session_of 1000000 (S.left source.old)) desk.old (K.written sink.old) (K.written sink.new) desk.new ⊎ IsCutInEnding (session_of 1000000 (S.left source.old)) desk.old (K.written sink.old) (K.written sink.new) desk.new }
-    ensures read { IsErrOf result ServeFault.Read → Rises (S.troubles source.old) (S.troubles source.new) }
-    ensures write { IsErrOf result ServeFault.Write → Rises (K.troubles sink.old) (K.troubles sink.new) }
+    ensures read { IsErrOf result ServeFault.Read → GivesUp (S.troubles source.old) (S.failures source.old) (S.troubles source.new) (S.failures source.new) }
+    ensures write { IsErrOf result ServeFault.Write → GivesUp (K.troubles sink.old) (K.failures sink.old) (K.troubles sink.new) (K.failures sink.new) }
+    ensures outlasts { OnOk result ((S.failures source.new ≡ S.failures source.old) × (K.failures sink.new ≡ K.failures sink.old)) }
     ensures ending { S.tells → K.tells → result ≡ Ok tt → EndsByInput (session_of 1000000 (S.left source.old)).ending → Rises (S.ends source.old) (S.ends source.new) }
     ensures unread { S.tells → K.tells → result ≡ Ok tt → EndsBefore (session_of 1000000 (S.left source.old)).ending → S.left source.new ≡ left_by 1000000 (S.left source.old) }
 {

@@ -8,7 +8,7 @@ use Rattle.filing_session.specs.Replies.{answer_of, reply_octets}
 use Rattle.filing_session.specs.declared.session.Ending.{Ending}
 use Rattle.filing_session.specs.declared.session.Ending.TheVariants.{Limit}
 use Rattle.filing_session.specs.declared.session.Said.{Said}
-use Rattle.filing_session.proofs.Pieces.{written_ok, written_fault}
+use Rattle.filing_session.proofs.Pieces.{written_ok, written_fault, outlasted}
 use Rattle.filing_session.proofs.Served.{Served, more, answered_now, cut_in_answer, all_ends, one_less, ended_ok, ended_cut, limit_ends, stop_ends}
 use Rattle.filing_session.proofs.Unread.{left_more, left_stop, left_limit}
 use Rattle.filing_session.proofs.session.serve.Goals as goal
@@ -20,6 +20,8 @@ loop-init g c = record {
   ends = omega arith;
   reads = omega arith;
   writes = omega arith;
+  read_failures = refl;
+  write_failures = refl;
 }
 
 pub returns-in_default-clause-unheard : goal.returns-in_default-clause-unheard
@@ -44,6 +46,8 @@ loop-preserved g c =
       ends = omega (arith, c.next.ensures.ends);
       reads = omega (arith, c.next.ensures.troubles);
       writes = omega (arith, c.write_reply.ensures.troubles);
+      read_failures = c.in-Ok.ensures.outlasts ∙ c.loop.invariant.read_failures;
+      write_failures = outlasted c.write_reply.result c.write_reply.ensures.outlasts (sym c.is_err.ensures.value ∙ c.if-is_err.false) ∙ c.loop.invariant.write_failures;
     }
 
 pub returns-then-is_err-clause-unsaid : goal.returns-then-is_err-clause-unsaid

@@ -10,4 +10,6 @@ invariant-loop g l = record {
   ends : g.S.Source.ends l.fn.source ≤ g.S.Source.ends l.source;
   reads : g.S.Source.troubles l.fn.source ≤ g.S.Source.troubles l.source;
   writes : g.K.Sink.troubles l.fn.sink ≤ g.K.Sink.troubles l.sink;
+  read_failures : g.S.Source.failures l.source ≡ g.S.Source.failures l.fn.source;
+  write_failures : g.K.Sink.failures l.sink ≡ g.K.Sink.failures l.fn.sink;
 }
