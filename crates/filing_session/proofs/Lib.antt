@@ -5,3 +5,4 @@ pub mod Skips
 pub mod BothPayloads
 pub mod Pieces
 pub mod Served
+pub mod Unread

@@ -1,6 +1,6 @@
 -- Writing in pieces.
 use Rattle.std.proofs.Common.{◌≡◌, ℕ, ◌+◌, ◌<◌, List, ◌∷◌, ◌++◌, length, take, drop, min, get_or, ap, sym, ◌∙◌, append_assoc, add-one, subst}
-use Rattle.std.specs.Prelude.{flat_map, Result, Ok, Err}
+use Rattle.std.specs.Prelude.{flat_map, Result, Ok, Err, OnOk}
 use Rattle.std.specs.Result.{IsErr, is_err}
 use Rattle.std.specs.Prelude.{true, false}
 use Rattle.std.proofs.lemmas.List.{take_min, take-append-le, take_more, flat_map_more}
@@ -58,6 +58,10 @@ as_fault (Ok u) old xs new is b = absurd (false≢true is)
 pub written_ok : (r : Result (Unit {0}) WriteFault) (old xs new : List ℕ) → Writes r old xs new → is_err r ≡ false → new ≡ old ++ xs
 written_ok (Ok u) old xs new w e = w
 written_ok (Err f) old xs new w e = absurd (false≢true (sym e))
+
+pub outlasted : {P : Type 0} (r : Result (Unit {0}) WriteFault) → OnOk r P → is_err r ≡ false → P
+outlasted (Ok u) p e = p
+outlasted (Err f) p e = absurd (false≢true (sym e))
 
 pub written_fault : (r : Result (Unit {0}) WriteFault) (old xs new : List ℕ) → Writes r old xs new → is_err r ≡ true → IsBehind old xs new
 written_fault (Ok u) old xs new w e = absurd (false≢true e)

@@ -1,14 +1,13 @@
 -- How far a session has come.
-use Rattle.std.proofs.Common.{◌≡◌, ◌<◌, ◌≤◌, ◌+◌, ◌-◌, ◌++◌, ◌∷◌, [], ℕ, zero, suc, List, length, take, min, refl, arith, ap, ◌∙◌, sym, subst, append_assoc, Result, Ok, Err}
-use Rattle.std.specs.Prelude.{OnOk, OnErr}
-use Rattle.std.proofs.lemmas.List.{append-nil, take_min, take-append-le}
-use Rattle.std.proofs.Math.Nat.{min-le_right}
-use Rattle.std.proofs.Math.Seq.{take-append_seam, take-append-add}
+use Rattle.std.proofs.Common.{◌≡◌, ◌<◌, ◌≤◌, ◌+◌, ◌-◌, ◌++◌, ◌∷◌, [], ℕ, zero, suc, List, length, take, refl, arith, ap, ◌∙◌, sym, subst, append_assoc, Result, Ok, Err}
+use Rattle.std.specs.Prelude.{OnOk, OnErr, IsErrOf}
+use Rattle.std.proofs.lemmas.List.{append-nil}
+use Rattle.std.proofs.Math.Seq.{take-append_seam}
 use Rattle.std.proofs.lemmas.Grind.{flat_map-append}
 use Rattle.filing_session.specs.Streams.{IsBehind}
 use Rattle.filing_desk.specs.Answers.{Answer}
 use Rattle.filing_desk.specs.Steps.{State}
-use Rattle.filing_session.specs.Session.{Item, Got, Stop, heard, Session, go_on, session_of, ending_octets, answers_octets, ItemStep, Run, IsServed, IsBroken}
+use Rattle.filing_session.specs.Session.{Item, Got, Stop, heard, Session, go_on, session_of, ending_octets, answers_octets, ItemStep, Run, IsServed, IsAnswered, IsCutInAnswer, IsCutInEnding}
 use Rattle.filing_session.specs.Replies.{reply_octets}
 use Rattle.filing_session.specs.declared.session.Ending.{Ending}
 use Rattle.filing_session.specs.declared.session.Ending.TheVariants.{Limit}
@@ -65,36 +64,27 @@ ends_now n all s₀ w₀ left s w e w' h stop ew =
     let is = all_ends n all s₀ w₀ left s w e h stop in
     rw is (h.answers, h.run, ew ∙ ap (λ x. x ++ ending_octets e) h.written)
 
--- a fault in the middle: what was written of the next octets is some prefix of them
-pub breaks_at : (n k : ℕ) (all : Session) (s₀ : State) (w₀ left : List ℕ) (s : State) (w w' : List ℕ) → Served n all s₀ w₀ left s w → w' ≡ w → IsBroken all s₀ w₀ w' s
-breaks_at n k all s₀ w₀ left s w w' h same =
+-- a fault between items
+pub answered_now : (n : ℕ) (all : Session) (s₀ : State) (w₀ left : List ℕ) (s : State) (w w' : List ℕ) → Served n all s₀ w₀ left s w → w' ≡ w → IsAnswered all s₀ w₀ w' s
+answered_now n all s₀ w₀ left s w w' h same =
     let first : take (length h.items) all.items ≡ h.items = ap (λ x. take (length h.items) x.items) h.rest ∙ take-append_seam h.items (session_of n left).items in
     let P : List Item → Type 0 = λ x. Run s₀ x h.answers s in
-    let part : take (length (answers_octets h.answers)) (answers_octets h.answers ++ ending_octets all.ending) ≡ answers_octets h.answers = take-append_seam (answers_octets h.answers) (ending_octets all.ending) in
-    (length h.items, h.answers, subst P (sym first) h.run, (length (answers_octets h.answers), same ∙ h.written ∙ ap (λ x. w₀ ++ x) (sym part)))
+    (length h.items, h.answers, subst P (sym first) h.run, same ∙ h.written)
 
-pub breaks_in : (n : ℕ) (all : Session) (s₀ : State) (w₀ left : List ℕ) (s : State) (w : List ℕ) (item : Item) (r : Answer) (rest : List ℕ) (s' : State) (w' : List ℕ) → Served (suc n) all s₀ w₀ left s w → heard left ≡ Got item rest → ItemStep s item r s' → IsBehind w (reply_octets r) w' → IsBroken all s₀ w₀ w' s'
+-- a fault in an answer
+pub cut_in_answer : (n : ℕ) (all : Session) (s₀ : State) (w₀ left : List ℕ) (s : State) (w : List ℕ) (item : Item) (r : Answer) (rest : List ℕ) (s' : State) (w' : List ℕ) → Served (suc n) all s₀ w₀ left s w → heard left ≡ Got item rest → ItemStep s item r s' → IsBehind w (reply_octets r) w' → IsCutInAnswer all s₀ w₀ w' s'
 unfolding more
-breaks_in n all s₀ w₀ left s w item r rest s' w' h e step b =
+cut_in_answer n all s₀ w₀ left s w item r rest s' w' h e step b =
     let next : Served n all s₀ w₀ rest s' (w ++ reply_octets r) = more n all s₀ w₀ left s w item r rest s' (w ++ reply_octets r) h e step refl in
-    let k : ℕ = min b.0 (length (reply_octets r)) in
-    let said = answers_octets h.answers in
-    let end = ending_octets all.ending in
     let first : take (length next.items) all.items ≡ next.items = ap (λ x. take (length next.items) x.items) next.rest ∙ take-append_seam next.items (session_of n rest).items in
     let P : List Item → Type 0 = λ x. Run s₀ x next.answers s' in
-    let part : take k (reply_octets r ++ end) ≡ take b.0 (reply_octets r) = take-append-le k (reply_octets r) end (min-le_right b.0 (length (reply_octets r))) ∙ take_min b.0 (reply_octets r) in
-    let all_said : answers_octets next.answers ++ end ≡ said ++ (reply_octets r ++ end) = ap (λ x. x ++ end) (answers_more h.answers r) ∙ append_assoc said (reply_octets r) end in
-    let cut : take (length said + k) (answers_octets next.answers ++ end) ≡ said ++ take b.0 (reply_octets r) = ap (take (length said + k)) all_said ∙ take-append-add said (reply_octets r ++ end) k ∙ ap (λ x. said ++ x) part in
-    (length next.items, next.answers, subst P (sym first) next.run, (length said + k, b.1 ∙ ap (λ x. x ++ take b.0 (reply_octets r)) h.written ∙ append_assoc w₀ said (take b.0 (reply_octets r)) ∙ ap (λ x. w₀ ++ x) (sym cut)))
+    (length next.items, h.answers, r, subst P (sym first) next.run, (b.0, b.1 ∙ ap (λ x. x ++ take b.0 (reply_octets r)) h.written))
 
-pub breaks_end : (n : ℕ) (all : Session) (s₀ : State) (w₀ left : List ℕ) (s : State) (w : List ℕ) (e : Ending) (w' : List ℕ) → Served n all s₀ w₀ left s w → session_of n left ≡ record { items = []; ending = e } → IsBehind w (ending_octets e) w' → IsBroken all s₀ w₀ w' s
-breaks_end n all s₀ w₀ left s w e w' h stop b =
-    let said = answers_octets h.answers in
-    let first : take (length h.items) all.items ≡ h.items = ap (λ x. take (length h.items) x.items) h.rest ∙ take-append_seam h.items (session_of n left).items in
-    let P : List Item → Type 0 = λ x. Run s₀ x h.answers s in
-    let same : ending_octets all.ending ≡ ending_octets e = ap (λ x. ending_octets x.ending) (all_ends n all s₀ w₀ left s w e h stop) in
-    let cut : take (length said + b.0) (said ++ ending_octets all.ending) ≡ said ++ take b.0 (ending_octets e) = take-append-add said (ending_octets all.ending) b.0 ∙ ap (λ x. said ++ take b.0 x) same in
-    (length h.items, h.answers, subst P (sym first) h.run, (length said + b.0, b.1 ∙ ap (λ x. x ++ take b.0 (ending_octets e)) h.written ∙ append_assoc w₀ said (take b.0 (ending_octets e)) ∙ ap (λ x. w₀ ++ x) (sym cut)))
+-- a fault in the ending
+pub cut_in_ending : (n : ℕ) (all : Session) (s₀ : State) (w₀ left : List ℕ) (s : State) (w : List ℕ) (e : Ending) (w' : List ℕ) → Served n all s₀ w₀ left s w → session_of n left ≡ record { items = []; ending = e } → IsBehind w (ending_octets e) w' → IsCutInEnding all s₀ w₀ w' s
+cut_in_ending n all s₀ w₀ left s w e w' h stop b =
+    let is = all_ends n all s₀ w₀ left s w e h stop in
+    rw is (h.answers, h.run, (b.0, b.1 ∙ ap (λ x. x ++ take b.0 (ending_octets e)) h.written))
 
 pub stops : (n : ℕ) (left : List ℕ) (e : Ending) → heard left ≡ Stop e → session_of (suc n) left ≡ record { items = []; ending = e }
 stops n left e h = session_more n left ∙ ap (λ x. go_on x (λ y. session_of n y)) h
@@ -115,6 +105,9 @@ pub ended_ok : {E : Type 0} (r : Result (Unit {0}) E) (n : ℕ) (all : Session) 
 ended_ok (Ok x) n all s₀ w₀ left s w e w' h stop ew = ends_now n all s₀ w₀ left s w e w' h stop ew
 ended_ok (Err x) n all s₀ w₀ left s w e w' h stop ew = tt
 
-pub ended_err : {E : Type 0} (r : Result (Unit {0}) E) (n : ℕ) (all : Session) (s₀ : State) (w₀ left : List ℕ) (s : State) (w : List ℕ) (e : Ending) (w' : List ℕ) → Served n all s₀ w₀ left s w → session_of n left ≡ record { items = []; ending = e } → OnErr r (IsBehind w (ending_octets e) w') → OnErr r (IsBroken all s₀ w₀ w' s)
-ended_err (Err x) n all s₀ w₀ left s w e w' h stop b = breaks_end n all s₀ w₀ left s w e w' h stop b
-ended_err (Ok x) n all s₀ w₀ left s w e w' h stop b = tt
+ok_no_err : {E : Type 0} (x : Unit {0}) (f : E) → Ok x ≡ Err f → ⊥
+ok_no_err x f h = cc
+
+pub ended_cut : {E : Type 0} (r : Result (Unit {0}) E) (f : E) (n : ℕ) (all : Session) (s₀ : State) (w₀ left : List ℕ) (s : State) (w : List ℕ) (e : Ending) (w' : List ℕ) → Served n all s₀ w₀ left s w → session_of n left ≡ record { items = []; ending = e } → OnErr r (IsBehind w (ending_octets e) w') → IsErrOf r f → IsCutInEnding all s₀ w₀ w' s
+ended_cut (Err x) f n all s₀ w₀ left s w e w' h stop b is = cut_in_ending n all s₀ w₀ left s w e w' h stop b
+ended_cut (Ok x) f n all s₀ w₀ left s w e w' h stop b is = absurd (ok_no_err x f is)

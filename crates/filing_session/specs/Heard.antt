@@ -2,7 +2,7 @@
 use Rattle.std.specs.Prelude.{◌≡◌, ℕ, List}
 use Rattle.filing_desk.specs.Steps.{State}
 use Rattle.filing_session.specs.Replies.{answer_of}
-use Rattle.filing_session.specs.Session.{Item, Heard, Got, Stop, ItemStep, EndsByInput}
+use Rattle.filing_session.specs.Session.{Item, Heard, Got, Stop, ItemStep, EndsByInput, EndsBefore}
 use Rattle.filing_session.specs.Streams.{Rises}
 use Rattle.filing_session.specs.declared.session.Said.{Said}
 use Rattle.filing_session.specs.declared.session.Said.TheVariants as said
@@ -16,3 +16,8 @@ Answers s h (said.End e) new rest = (h ≡ Stop e) × (new ≡ s)
 abbrev pub EndsOnlyAtEnd : Said → (before now : ℕ) → Type 0
 EndsOnlyAtEnd (said.Reply r) before now = Unit {0}
 EndsOnlyAtEnd (said.End e) before now = EndsByInput e → Rises before now
+
+-- where the session ends before its input does, this is what is left
+abbrev pub LeavesRest : Said → (rest left : List ℕ) → Type 0
+LeavesRest (said.Reply r) rest left = Unit {0}
+LeavesRest (said.End e) rest left = EndsBefore e → left ≡ rest

@@ -19,6 +19,10 @@ pub data Line : Type 0 where
 abbrev pub line_length : List ℕ → ℕ
 line_length input = position_or_len (λ o. o == 10) input
 
+-- what stands behind the first LF of an input
+abbrev pub behind_line : List ℕ → List ℕ
+behind_line input = drop (line_length input + 1) input
+
 -- an input that ends without LF
 abbrev pub cut_at : List ℕ → Line
 cut_at [] = End

@@ -2,7 +2,7 @@
 use Rattle.std.specs.Prelude.{◌≡◌, ℕ, zero, suc, ◌+◌, List, [], ◌∷◌, ◌++◌, if◌then◌else◌, nat_le, None, length, take, drop, codes, flat_map}
 use Rattle.filing_desk.specs.Answers.{Answer, refused}
 use Rattle.filing_desk.specs.Steps.{State, Command, add_class, file, set_global, set_plan, try_image, Step}
-use Rattle.filing_session.specs.Lines.{Line, Whole, TooLong, Cut, End, line_of}
+use Rattle.filing_session.specs.Lines.{Line, Whole, TooLong, Cut, End, line_of, behind_line}
 use Rattle.filing_session.specs.Words.{Asked, AddClass, File, SetGlobal, SetPlan, Try, Quit, Unknown, BadWord, asked}
 use Rattle.filing_session.specs.Replies.{reply_octets}
 use Rattle.filing_session.specs.Streams.{IsBehind}
@@ -67,6 +67,25 @@ unfoldable pub session_of : ℕ → List ℕ → Session
 session_of zero input = record { items = []; ending = ending.Limit }
 session_of (suc most) input = go_on (heard input) (λ rest. session_of most rest)
 
+-- what is left unread: behind an item what is left of the rest, and else what stands behind the line
+abbrev pub left_behind : Heard → (behind : List ℕ) → (List ℕ → List ℕ) → List ℕ
+left_behind (Got item rest) behind next = next rest
+left_behind (Stop e) behind next = behind
+
+-- What a session of so many items at most leaves unread of an input, where it ends before the input does: what stands
+-- behind the line that ends it, or behind its last item.
+unfoldable pub left_by : ℕ → List ℕ → List ℕ
+left_by zero input = input
+left_by (suc most) input = left_behind (heard input) (behind_line input) (λ rest. left_by most rest)
+
+-- the session ended before its input did: by its command, or after the last item that it may have
+abbrev pub EndsBefore : Ending → Type 0
+EndsBefore ending.Quit = Unit {0}
+EndsBefore ending.Limit = Unit {0}
+EndsBefore ending.Ended = ⊥
+EndsBefore ending.CutShort = ⊥
+EndsBefore ending.LongLine = ⊥
+
 -- what is written at the end
 abbrev pub ending_octets : Ending → List ℕ
 ending_octets ending.Quit = codes "end\n"
@@ -96,9 +115,18 @@ Run s (i ∷ items) [] new = ⊥
 abbrev pub IsServed : Session → State → (old written : List ℕ) → State → Type 0
 IsServed session s old written new = (answers : List Answer) × Run s session.items answers new × (written ≡ old ++ answers_octets answers ++ ending_octets session.ending)
 
--- some first items were done, and a prefix of their answers and of the ending was written
-abbrev pub IsBroken : Session → State → (old written : List ℕ) → State → Type 0
-IsBroken session s old written new = (n : ℕ) × (answers : List Answer) × Run s (take n session.items) answers new × IsBehind old (answers_octets answers ++ ending_octets session.ending) written
+-- some first items were done, and all their answers were written
+abbrev pub IsAnswered : Session → State → (old written : List ℕ) → State → Type 0
+IsAnswered session s old written new = (n : ℕ) × (answers : List Answer) × Run s (take n session.items) answers new × (written ≡ old ++ answers_octets answers)
+
+-- some first items were done, all their answers but the last were written, and of the last a prefix
+abbrev pub IsCutInAnswer : Session → State → (old written : List ℕ) → State → Type 0
+IsCutInAnswer session s old written new =
+    (n : ℕ) × (answers : List Answer) × (last : Answer) × Run s (take n session.items) (answers ++ last ∷ []) new × IsBehind (old ++ answers_octets answers) (reply_octets last) written
+
+-- all items were done, all their answers were written, and of the ending a prefix
+abbrev pub IsCutInEnding : Session → State → (old written : List ℕ) → State → Type 0
+IsCutInEnding session s old written new = (answers : List Answer) × Run s session.items answers new × IsBehind (old ++ answers_octets answers) (ending_octets session.ending) written
 
 -- the input ended, between items or inside one
 abbrev pub EndsByInput : Ending → Type 0

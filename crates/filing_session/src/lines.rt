@@ -1,8 +1,8 @@
 //! Lines of the input, in a fixed array.
 
-ghost use Rattle.std.specs.Prelude.{◌≡◌, ℕ, List, ◌<◌, ◌≤◌, ◌++◌, ◌∷◌, [], length, IfOk, OnErr, Ok, ◌==◌};
+ghost use Rattle.std.specs.Prelude.{◌≡◌, ℕ, List, ◌<◌, ◌≤◌, ◌++◌, ◌∷◌, [], length, IfOk, OnOk, OnErr, Ok, ◌==◌};
 ghost use Rattle.filing_session.specs.Lines.{line_of, line_as, cut_at};
-ghost use Rattle.filing_session.specs.Streams.{Rises};
+ghost use Rattle.filing_session.specs.Streams.{Rises, GivesUp};
 
 use crate::stream::{ReadFault, Source, read_one};
 use std::marker::Model;
@@ -95,7 +95,8 @@ pub fn read_line<S: Source>(source: &mut S, line: &mut LineBuffer) -> Result<Lin
     ensures ended_between { result ≡ Ok LineEnd.Nothing → Rises (S.ends source.old) (S.ends source.new) }
     ensures ends { S.ends source.old ≤ S.ends source.new }
     ensures troubles { S.troubles source.old ≤ S.troubles source.new }
-    ensures fault { OnErr result (Rises (S.troubles source.old) (S.troubles source.new)) }
+    ensures fault { OnErr result (GivesUp (S.troubles source.old) (S.failures source.old) (S.troubles source.new) (S.failures source.new)) }
+    ensures outlasts { OnOk result (S.failures source.new ≡ S.failures source.old) }
 {
     line.clear();
     for _ in 0..LINE_OCTETS {

@@ -19,6 +19,7 @@ pub struct MemorySource<'a> {
     before: usize,
     times: u64,
     troubles: u64,
+    failures: u64,
     ends: u64,
 }
 
@@ -34,6 +35,7 @@ impl<'a> MemorySource<'a> {
             before: 0,
             times: 0,
             troubles: 0,
+            failures: 0,
             ends: 0,
         }
     }
@@ -75,6 +77,8 @@ impl Source for MemorySource<'_> {
 
     ghost troubles = { λ s. s.troubles };
 
+    ghost failures = { λ s. s.failures };
+
     ghost ends = { λ s. s.ends };
 
     fn read(&mut self, room: &mut [u8]) -> Result<usize, Trouble> {
@@ -83,7 +87,11 @@ impl Source for MemorySource<'_> {
             if self.before == 0 {
                 self.times -= 1;
                 self.troubles = self.troubles.saturating_add(1);
-                return Err(self.trouble);
+                if let Trouble::Interrupted = self.trouble {
+                    return Err(Trouble::Interrupted);
+                }
+                self.failures = self.failures.saturating_add(1);
+                return Err(Trouble::Failed);
             }
             count = count.min(self.before);
             self.before -= count;
@@ -120,6 +128,7 @@ pub struct MemorySink {
     before: usize,
     times: u64,
     troubles: u64,
+    failures: u64,
 }
 
 impl MemorySink {
@@ -134,6 +143,7 @@ impl MemorySink {
             before: 0,
             times: 0,
             troubles: 0,
+            failures: 0,
         }
     }
 
@@ -174,16 +184,21 @@ impl Sink for MemorySink {
 
     ghost troubles = { λ s. s.troubles };
 
+    ghost failures = { λ s. s.failures };
+
     fn write(&mut self, octets: &[u8]) -> Result<usize, Trouble> {
         let mut count = octets.len().min(self.piece.max(1));
         if self.times > 0 && !octets.is_empty() {
             if self.before == 0 {
                 self.times -= 1;
                 self.troubles = self.troubles.saturating_add(1);
+                if let Hitch::Interrupted = self.hitch {
+                    return Err(Trouble::Interrupted);
+                }
+                self.failures = self.failures.saturating_add(1);
                 return match self.hitch {
-                    Hitch::Interrupted => Err(Trouble::Interrupted),
-                    Hitch::Failed => Err(Trouble::Failed),
                     Hitch::Idle => Ok(0),
+                    _ => Err(Trouble::Failed),
                 };
             }
             count = count.min(self.before);
@@ -191,6 +206,7 @@ impl Sink for MemorySink {
         }
         if self.written.extend_from_slice(&octets[..count]).is_err() {
             self.troubles = self.troubles.saturating_add(1);
+            self.failures = self.failures.saturating_add(1);
             return Err(Trouble::Failed);
         }
         Ok(count)

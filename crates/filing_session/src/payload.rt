@@ -1,9 +1,9 @@
 //! Payloads: so many octets as the line before them said. One that is not kept is read through all the same, so that
 //! the next line is where it should be.
 
-ghost use Rattle.std.specs.Prelude.{◌≡◌, ℕ, List, ◌+◌, ◌<◌, ◌≤◌, ◌++◌, length, drop, IfOk, OnErr, Ok, None, true, false, vec_len, vec_capacity};
+ghost use Rattle.std.specs.Prelude.{◌≡◌, ℕ, List, ◌+◌, ◌<◌, ◌≤◌, ◌++◌, length, drop, IfOk, OnOk, OnErr, Ok, None, true, false, vec_len, vec_capacity};
 ghost use Rattle.filing_session.specs.Payloads.{IsRead};
-ghost use Rattle.filing_session.specs.Streams.{Rises};
+ghost use Rattle.filing_session.specs.Streams.{Rises, GivesUp};
 
 use crate::stream::{ReadFault, Source, read_some};
 use std::alloc::Global;
@@ -29,7 +29,8 @@ fn skip<S: Source>(source: &mut S, size: usize) -> Result<bool, ReadFault>
     ensures ended { result ≡ Ok false → Rises (S.ends source.old) (S.ends source.new) }
     ensures ends { S.ends source.old ≤ S.ends source.new }
     ensures troubles { S.troubles source.old ≤ S.troubles source.new }
-    ensures fault { OnErr result (Rises (S.troubles source.old) (S.troubles source.new)) }
+    ensures fault { OnErr result (GivesUp (S.troubles source.old) (S.failures source.old) (S.troubles source.new) (S.failures source.new)) }
+    ensures outlasts { OnOk result (S.failures source.new ≡ S.failures source.old) }
 {
     let mut room = [0u8; PIECE];
     let mut got = 0;
@@ -63,7 +64,8 @@ fn fill<S: Source>(source: &mut S, octets: &mut Vec<u8>, size: usize) -> Result<
     ensures ended { result ≡ Ok false → Rises (S.ends source.old) (S.ends source.new) }
     ensures ends { S.ends source.old ≤ S.ends source.new }
     ensures troubles { S.troubles source.old ≤ S.troubles source.new }
-    ensures fault { OnErr result (Rises (S.troubles source.old) (S.troubles source.new)) }
+    ensures fault { OnErr result (GivesUp (S.troubles source.old) (S.failures source.old) (S.troubles source.new) (S.failures source.new)) }
+    ensures outlasts { OnOk result (S.failures source.new ≡ S.failures source.old) }
 {
     let mut room = [0u8; PIECE];
     while octets.len() < size {
@@ -89,7 +91,8 @@ pub fn read_payload<S: Source>(
     ensures ended { result ≡ Ok None → Rises (S.ends source.old) (S.ends source.new) }
     ensures ends { S.ends source.old ≤ S.ends source.new }
     ensures troubles { S.troubles source.old ≤ S.troubles source.new }
-    ensures fault { OnErr result (Rises (S.troubles source.old) (S.troubles source.new)) }
+    ensures fault { OnErr result (GivesUp (S.troubles source.old) (S.failures source.old) (S.troubles source.new) (S.failures source.new)) }
+    ensures outlasts { OnOk result (S.failures source.new ≡ S.failures source.old) }
 {
     if size > limit {
         return Ok(skip(source, size)?.then_some(Payload::TooLong));

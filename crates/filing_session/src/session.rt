@@ -1,13 +1,14 @@
 //! The session: commands are read, done and answered, one after the other.
 
-ghost use Rattle.std.specs.Prelude.{◌≡◌, ◌≢◌, ℕ, List, ◌≤◌, ◌++◌, IfOk, OnOk, OnErr, Ok, Err, None, IsErrOf};
+ghost use Rattle.std.specs.Prelude.{◌≡◌, ◌≢◌, ◌⊎◌, ℕ, List, ◌≤◌, ◌++◌, IfOk, OnOk, OnErr, Ok, Err, None, IsErrOf};
 ghost use Rattle.filing_desk.specs.Answers.{refused as refused_answer};
 ghost use Rattle.filing_desk.specs.Steps.{add_class as class_command, file as file_command, set_global as global_command, set_plan as plan_command, try_image as try_command, Step};
-ghost use Rattle.filing_session.specs.Heard.{Answers, EndsOnlyAtEnd};
+ghost use Rattle.filing_session.specs.Heard.{Answers, EndsOnlyAtEnd, LeavesRest};
+ghost use Rattle.filing_session.specs.Lines.{behind_line};
 ghost use Rattle.filing_session.specs.Payloads.{IsOf};
 ghost use Rattle.filing_session.specs.Replies.{answer_of};
-ghost use Rattle.filing_session.specs.Session.{session_of, heard, heard_line, with_payload, with_payloads, ending_octets, IsServed, IsBroken, EndsByInput};
-ghost use Rattle.filing_session.specs.Streams.{IsBehind, Rises};
+ghost use Rattle.filing_session.specs.Session.{session_of, heard, heard_line, with_payload, with_payloads, ending_octets, left_by, IsServed, IsAnswered, IsCutInAnswer, IsCutInEnding, EndsByInput, EndsBefore};
+ghost use Rattle.filing_session.specs.Streams.{IsBehind, Rises, GivesUp};
 ghost use Rattle.filing_session.specs.Words.{asked_as};
 
 use crate::lines::{LineBuffer, LineEnd, read_line};
@@ -117,10 +118,12 @@ fn read_and_file<S: Source>(
     message: usize,
 ) -> Result<Said, ReadFault>
     ensures said { S.tells → IfOk result (λ a. Answers desk.now (with_payloads script message file_command (S.left source.old)) a desk.now (S.left source.new)) }
+    ensures unread { S.tells → IfOk result (λ a. LeavesRest a (S.left source.old) (S.left source.new)) }
     ensures ended { IfOk result (λ a. EndsOnlyAtEnd a (S.ends source.old) (S.ends source.new)) }
     ensures ends { S.ends source.old ≤ S.ends source.new }
     ensures troubles { S.troubles source.old ≤ S.troubles source.new }
-    ensures fault { OnErr result (Rises (S.troubles source.old) (S.troubles source.new)) }
+    ensures fault { OnErr result (GivesUp (S.troubles source.old) (S.failures source.old) (S.troubles source.new) (S.failures source.new)) }
+    ensures outlasts { OnOk result (S.failures source.new ≡ S.failures source.old) }
 {
     let Some(script) = read_payload(alloc, source, script, SCRIPT_OCTETS)? else {
         return Ok(Said::End(Ending::CutShort));
@@ -159,10 +162,12 @@ fn read_and_try<S: Source>(
     message: usize,
 ) -> Result<Said, ReadFault>
     ensures said { S.tells → IfOk result (λ a. Answers desk.now (with_payloads image message try_command (S.left source.old)) a desk.now (S.left source.new)) }
+    ensures unread { S.tells → IfOk result (λ a. LeavesRest a (S.left source.old) (S.left source.new)) }
     ensures ended { IfOk result (λ a. EndsOnlyAtEnd a (S.ends source.old) (S.ends source.new)) }
     ensures ends { S.ends source.old ≤ S.ends source.new }
     ensures troubles { S.troubles source.old ≤ S.troubles source.new }
-    ensures fault { OnErr result (Rises (S.troubles source.old) (S.troubles source.new)) }
+    ensures fault { OnErr result (GivesUp (S.troubles source.old) (S.failures source.old) (S.troubles source.new) (S.failures source.new)) }
+    ensures outlasts { OnOk result (S.failures source.new ≡ S.failures source.old) }
 {
     let Some(image) = read_payload(alloc, source, image, IMAGE_OCTETS)? else {
         return Ok(Said::End(Ending::CutShort));
@@ -196,10 +201,12 @@ fn read_and_set_plan<S: Source>(
 ) -> Result<Said, ReadFault>
     ensures said { S.tells → IfOk result (λ a. Answers desk.old (with_payload text plan_command (S.left source.old)) a desk.new (S.left source.new)) }
     ensures same { OnErr result (desk.new ≡ desk.old) }
+    ensures unread { S.tells → IfOk result (λ a. LeavesRest a (S.left source.old) (S.left source.new)) }
     ensures ended { IfOk result (λ a. EndsOnlyAtEnd a (S.ends source.old) (S.ends source.new)) }
     ensures ends { S.ends source.old ≤ S.ends source.new }
     ensures troubles { S.troubles source.old ≤ S.troubles source.new }
-    ensures fault { OnErr result (Rises (S.troubles source.old) (S.troubles source.new)) }
+    ensures fault { OnErr result (GivesUp (S.troubles source.old) (S.failures source.old) (S.troubles source.new) (S.failures source.new)) }
+    ensures outlasts { OnOk result (S.failures source.new ≡ S.failures source.old) }
 {
     let Some(text) = read_payload(alloc, source, text, PLAN_OCTETS)? else {
         return Ok(Said::End(Ending::CutShort));
@@ -232,10 +239,12 @@ fn read_and_set_global<S: Source>(
 ) -> Result<Said, ReadFault>
     ensures said { S.tells → IfOk result (λ a. Answers desk.old (with_payload text (global_command name.now) (S.left source.old)) a desk.new (S.left source.new)) }
     ensures same { OnErr result (desk.new ≡ desk.old) }
+    ensures unread { S.tells → IfOk result (λ a. LeavesRest a (S.left source.old) (S.left source.new)) }
     ensures ended { IfOk result (λ a. EndsOnlyAtEnd a (S.ends source.old) (S.ends source.new)) }
     ensures ends { S.ends source.old ≤ S.ends source.new }
     ensures troubles { S.troubles source.old ≤ S.troubles source.new }
-    ensures fault { OnErr result (Rises (S.troubles source.old) (S.troubles source.new)) }
+    ensures fault { OnErr result (GivesUp (S.troubles source.old) (S.failures source.old) (S.troubles source.new) (S.failures source.new)) }
+    ensures outlasts { OnOk result (S.failures source.new ≡ S.failures source.old) }
 {
     let Some(text) = read_payload(alloc, source, text, SCRIPT_OCTETS)? else {
         return Ok(Said::End(Ending::CutShort));
@@ -253,10 +262,12 @@ fn answer<S: Source>(
 ) -> Result<Said, ReadFault>
     ensures said { S.tells → IfOk result (λ a. Answers desk.old (heard_line (asked_as request.entry) (S.left source.old)) a desk.new (S.left source.new)) }
     ensures same { OnErr result (desk.new ≡ desk.old) }
+    ensures unread { S.tells → IfOk result (λ a. LeavesRest a (S.left source.old) (S.left source.new)) }
     ensures ended { IfOk result (λ a. EndsOnlyAtEnd a (S.ends source.old) (S.ends source.new)) }
     ensures ends { S.ends source.old ≤ S.ends source.new }
     ensures troubles { S.troubles source.old ≤ S.troubles source.new }
-    ensures fault { OnErr result (Rises (S.troubles source.old) (S.troubles source.new)) }
+    ensures fault { OnErr result (GivesUp (S.troubles source.old) (S.failures source.old) (S.troubles source.new) (S.failures source.new)) }
+    ensures outlasts { OnOk result (S.failures source.new ≡ S.failures source.old) }
 {
     match request {
         Request::AddClass(path) => Ok(Said::Reply(add_class(desk, path))),
@@ -293,10 +304,12 @@ fn next<S: Source>(
 ) -> Result<Said, ReadFault>
     ensures said { S.tells → IfOk result (λ a. Answers desk.old (heard (S.left source.old)) a desk.new (S.left source.new)) }
     ensures same { OnErr result (desk.new ≡ desk.old) }
+    ensures unread { S.tells → IfOk result (λ a. LeavesRest a (behind_line (S.left source.old)) (S.left source.new)) }
     ensures ended { IfOk result (λ a. EndsOnlyAtEnd a (S.ends source.old) (S.ends source.new)) }
     ensures ends { S.ends source.old ≤ S.ends source.new }
     ensures troubles { S.troubles source.old ≤ S.troubles source.new }
-    ensures fault { OnErr result (Rises (S.troubles source.old) (S.troubles source.new)) }
+    ensures fault { OnErr result (GivesUp (S.troubles source.old) (S.failures source.old) (S.troubles source.new) (S.failures source.new)) }
+    ensures outlasts { OnOk result (S.failures source.new ≡ S.failures source.old) }
 {
     match read_line(source, line)? {
         LineEnd::Whole => answer(alloc, source, desk, read_request(line.as_slice())),
@@ -322,7 +335,8 @@ fn write_ending<K: Sink>(sink: &mut K, ending: Ending) -> Result<(), ServeFault>
     ensures written { K.tells → OnOk result (K.written sink.new ≡ K.written sink.old ++ ending_octets ending) }
     ensures prefix { K.tells → OnErr result (IsBehind (K.written sink.old) (ending_octets ending) (K.written sink.new)) }
     ensures read { result ≢ Err ServeFault.Read }
-    ensures fault { OnErr result (Rises (K.troubles sink.old) (K.troubles sink.new)) }
+    ensures fault { OnErr result (GivesUp (K.troubles sink.old) (K.failures sink.old) (K.troubles sink.new) (K.failures sink.new)) }
+    ensures outlasts { OnOk result (K.failures sink.new ≡ K.failures sink.old) }
 {
     if write_all(sink, ending_text(ending).as_bytes()).is_err() {
         return Err(ServeFault::Write);
@@ -331,7 +345,9 @@ fn write_ending<K: Sink>(sink: &mut K, ending: Ending) -> Result<(), ServeFault>
 }
 
 /// Serves a session: reads commands from a source, does them at a desk, and writes their answers to a sink, until a
-/// command or the input ends the session, or a fault does. What was done before a fault stays done.
+/// command or the input ends the session, or a fault does. What was done before a fault stays done, and nothing is done
+/// behind it: on a read fault all that was done is answered, and on a write fault all but a rest of the last answer or of
+/// the ending. Nothing is read behind `QUIT`, nor behind the last command that a session may have.
 ///
 /// Memory is taken for payloads and by the desk's calls, and for nothing else.
 ///
@@ -345,10 +361,14 @@ pub fn serve<S: Source, K: Sink>(
     desk: &mut Desk,
 ) -> Result<(), ServeFault>
     ensures ok { S.tells → K.tells → OnOk result (IsServed (session_of 1000000 (S.left source.old)) desk.old (K.written sink.old) (K.written sink.new) desk.new) }
-    ensures fault { S.tells → K.tells → OnErr result (IsBroken (session_of 1000000 (S.left source.old)) desk.old (K.written sink.old) (K.written sink.new) desk.new) }
-    ensures read { IsErrOf result ServeFault.Read → Rises (S.troubles source.old) (S.troubles source.new) }
-    ensures write { IsErrOf result ServeFault.Write → Rises (K.troubles sink.old) (K.troubles sink.new) }
+    ensures unheard { S.tells → K.tells → IsErrOf result ServeFault.Read → IsAnswered (session_of 1000000 (S.left source.old)) desk.old (K.written sink.old) (K.written sink.new) desk.new }
+    ensures unsaid { S.tells → K.tells → IsErrOf result ServeFault.Write →
+        IsCutInAnswer (session_of 1000000 (S.left source.old)) desk.old (K.written sink.old) (K.written sink.new) desk.new ⊎ IsCutInEnding (session_of 1000000 (S.left source.old)) desk.old (K.written sink.old) (K.written sink.new) desk.new }
+    ensures read { IsErrOf result ServeFault.Read → GivesUp (S.troubles source.old) (S.failures source.old) (S.troubles source.new) (S.failures source.new) }
+    ensures write { IsErrOf result ServeFault.Write → GivesUp (K.troubles sink.old) (K.failures sink.old) (K.troubles sink.new) (K.failures sink.new) }
+    ensures outlasts { OnOk result ((S.failures source.new ≡ S.failures source.old) × (K.failures sink.new ≡ K.failures sink.old)) }
     ensures ending { S.tells → K.tells → result ≡ Ok tt → EndsByInput (session_of 1000000 (S.left source.old)).ending → Rises (S.ends source.old) (S.ends source.new) }
+    ensures unread { S.tells → K.tells → result ≡ Ok tt → EndsBefore (session_of 1000000 (S.left source.old)).ending → S.left source.new ≡ left_by 1000000 (S.left source.old) }
 {
     let mut line = LineBuffer::new();
     for _ in 0..COMMANDS {

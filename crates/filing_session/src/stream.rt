@@ -1,10 +1,11 @@
 //! Where the octets of a session come from and go to, and calls that try again after an interruption.
 //!
 //! Nothing is known of the octets of a terminal, a file or a pipe. So the two traits leave it to the type whether it
-//! tells its octets, and count what each type can count: troubles, and reads that told the input's end.
+//! tells its octets, and count what each type can count: troubles, those among them that were no interruptions, and reads
+//! that told the input's end.
 
-ghost use Rattle.std.specs.Prelude.{◌≡◌, ℕ, List, ◌+◌, ◌<◌, ◌≤◌, ◌++◌, ◌∷◌, [], length, take, drop, IfOk, OnErr, IfSome, IfNone, is_err, true, Ok, flat_map};
-ghost use Rattle.filing_session.specs.Streams.{Counts, tells_end, is_trouble, moved, Rises};
+ghost use Rattle.std.specs.Prelude.{◌≡◌, ℕ, List, ◌+◌, ◌<◌, ◌≤◌, ◌++◌, ◌∷◌, [], length, take, drop, IfOk, OnOk, OnErr, IfSome, IfNone, is_err, true, Ok, flat_map};
+ghost use Rattle.filing_session.specs.Streams.{Counts, tells_end, is_trouble, fails_to_read, fails_to_write, moved, Rises, GivesUp};
 ghost use Rattle.filing_session.specs.Written.{Writes};
 
 /// Why a call moved no octet.
@@ -27,6 +28,9 @@ pub trait Source {
     /// How many reads met trouble. The count stays at its greatest value, 2^64 - 1.
     ghost troubles: { Self → ℕ };
 
+    /// How many reads failed, and were not only interrupted. The count stays at its greatest value, 2^64 - 1.
+    ghost failures: { Self → ℕ };
+
     /// How many reads told the input's end. The count stays at its greatest value, 2^64 - 1.
     ghost ends: { Self → ℕ };
 
@@ -38,6 +42,7 @@ pub trait Source {
         ensures left { tells → left self.new ≡ drop (moved result) (left self.old) }
         ensures end { tells → tells_end (length room.old) result ≡ true → left self.old ≡ [] }
         ensures troubles { Counts (is_err result) (troubles self.old) (troubles self.new) }
+        ensures failures { Counts (fails_to_read result) (failures self.old) (failures self.new) }
         ensures ends { Counts (tells_end (length room.old) result) (ends self.old) (ends self.new) };
 }
 
@@ -53,11 +58,16 @@ pub trait Sink {
     /// greatest value, 2^64 - 1.
     ghost troubles: { Self → ℕ };
 
+    /// How many writes failed, and were not only interrupted; one that took no octet of one or more is among them. The
+    /// count stays at its greatest value, 2^64 - 1.
+    ghost failures: { Self → ℕ };
+
     /// Takes octets from the front, and answers how many.
     fn write(&mut self, octets: &[u8]) -> Result<usize, Trouble>
         ensures within { IfOk result (λ n. n ≤ length octets.now) }
         ensures written { tells → written self.new ≡ written self.old ++ take (moved result) octets.now }
-        ensures troubles { Counts (is_trouble (length octets.now) result) (troubles self.old) (troubles self.new) };
+        ensures troubles { Counts (is_trouble (length octets.now) result) (troubles self.old) (troubles self.new) }
+        ensures failures { Counts (fails_to_write (length octets.now) result) (failures self.old) (failures self.new) };
 }
 
 /// A read that met trouble.
@@ -80,7 +90,9 @@ pub fn read_some<S: Source>(source: &mut S, room: &mut [u8]) -> Result<usize, Re
     ensures ended { result ≡ Ok 0 → Rises (S.ends source.old) (S.ends source.new) }
     ensures ends { S.ends source.old ≤ S.ends source.new }
     ensures troubles { S.troubles source.old ≤ S.troubles source.new }
-    ensures fault { OnErr result (Rises (S.troubles source.old) (S.troubles source.new)) }
+    ensures fault { OnErr result (GivesUp (S.troubles source.old) (S.failures source.old) (S.troubles source.new) (S.failures source.new)) }
+    ensures outlasts { OnOk result (S.failures source.new ≡ S.failures source.old) }
+    ensures patience { OnOk result (S.troubles source.new ≤ S.troubles source.old + 63) }
 {
     for _ in 0..PATIENCE {
         match source.read(room) {
@@ -99,7 +111,9 @@ pub fn read_one<S: Source>(source: &mut S) -> Result<Option<u8>, ReadFault>
     ensures ended { IfOk result (λ o. IfNone o (Rises (S.ends source.old) (S.ends source.new))) }
     ensures ends { S.ends source.old ≤ S.ends source.new }
     ensures troubles { S.troubles source.old ≤ S.troubles source.new }
-    ensures fault { OnErr result (Rises (S.troubles source.old) (S.troubles source.new)) }
+    ensures fault { OnErr result (GivesUp (S.troubles source.old) (S.failures source.old) (S.troubles source.new) (S.failures source.new)) }
+    ensures outlasts { OnOk result (S.failures source.new ≡ S.failures source.old) }
+    ensures patience { OnOk result (S.troubles source.new ≤ S.troubles source.old + 63) }
 {
     let mut room = [0u8; 1];
     for _ in 0..PATIENCE {
@@ -120,7 +134,9 @@ fn write_some<K: Sink>(sink: &mut K, octets: &[u8]) -> Result<usize, WriteFault>
     ensures written { K.tells → IfOk result (λ n. K.written sink.new ≡ K.written sink.old ++ take n octets.now) }
     ensures same { K.tells → OnErr result (K.written sink.new ≡ K.written sink.old) }
     ensures troubles { K.troubles sink.old ≤ K.troubles sink.new }
-    ensures fault { OnErr result (Rises (K.troubles sink.old) (K.troubles sink.new)) }
+    ensures fault { OnErr result (GivesUp (K.troubles sink.old) (K.failures sink.old) (K.troubles sink.new) (K.failures sink.new)) }
+    ensures outlasts { OnOk result (K.failures sink.new ≡ K.failures sink.old) }
+    ensures patience { OnOk result (K.troubles sink.new ≤ K.troubles sink.old + 63) }
 {
     for _ in 0..PATIENCE {
         match sink.write(octets) {
@@ -137,7 +153,8 @@ fn write_some<K: Sink>(sink: &mut K, octets: &[u8]) -> Result<usize, WriteFault>
 pub fn write_all<K: Sink>(sink: &mut K, octets: &[u8]) -> Result<(), WriteFault>
     ensures written { K.tells → Writes result (K.written sink.old) octets.now (K.written sink.new) }
     ensures troubles { K.troubles sink.old ≤ K.troubles sink.new }
-    ensures fault { OnErr result (Rises (K.troubles sink.old) (K.troubles sink.new)) }
+    ensures fault { OnErr result (GivesUp (K.troubles sink.old) (K.failures sink.old) (K.troubles sink.new) (K.failures sink.new)) }
+    ensures outlasts { OnOk result (K.failures sink.new ≡ K.failures sink.old) }
 {
     let mut at = 0;
     while at < octets.len() {
@@ -150,7 +167,8 @@ pub fn write_all<K: Sink>(sink: &mut K, octets: &[u8]) -> Result<(), WriteFault>
 pub fn write_pieces<K: Sink>(sink: &mut K, pieces: &[&[u8]]) -> Result<(), WriteFault>
     ensures written { K.tells → Writes result (K.written sink.old) (flat_map (λ p. p.now) pieces.now) (K.written sink.new) }
     ensures troubles { K.troubles sink.old ≤ K.troubles sink.new }
-    ensures fault { OnErr result (Rises (K.troubles sink.old) (K.troubles sink.new)) }
+    ensures fault { OnErr result (GivesUp (K.troubles sink.old) (K.failures sink.old) (K.troubles sink.new) (K.failures sink.new)) }
+    ensures outlasts { OnOk result (K.failures sink.new ≡ K.failures sink.old) }
 {
     for piece in pieces {
         write_all(sink, *piece)?;

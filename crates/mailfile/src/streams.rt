@@ -27,6 +27,7 @@ pub struct Input<R> {
     start: usize,
     end: usize,
     troubles: u64,
+    failures: u64,
     ends: u64,
 }
 
@@ -39,6 +40,7 @@ impl<R> Input<R> {
             start: 0,
             end: 0,
             troubles: 0,
+            failures: 0,
             ends: 0,
         }
     }
@@ -52,6 +54,8 @@ impl<R: Read> Source for Input<R> {
     ghost left = { λ _. [] };
 
     ghost troubles = { λ s. s.troubles };
+
+    ghost failures = { λ s. s.failures };
 
     ghost ends = { λ s. s.ends };
 
@@ -80,7 +84,11 @@ impl<R: Read> Source for Input<R> {
             }
             Err(error) => {
                 self.troubles = self.troubles.saturating_add(1);
-                Err(trouble_of(&error))
+                if let Trouble::Interrupted = trouble_of(&error) {
+                    return Err(Trouble::Interrupted);
+                }
+                self.failures = self.failures.saturating_add(1);
+                Err(Trouble::Failed)
             }
         }
     }
@@ -95,6 +103,7 @@ pub struct Output<W> {
     start: usize,
     end: usize,
     troubles: u64,
+    failures: u64,
 }
 
 impl<W> Output<W> {
@@ -106,6 +115,7 @@ impl<W> Output<W> {
             start: 0,
             end: 0,
             troubles: 0,
+            failures: 0,
         }
     }
 }
@@ -115,6 +125,7 @@ impl<W: Write> Output<W> {
     fn hold(&mut self, octets: &[u8]) -> usize
         ensures within { result ≤ length octets.now }
         ensures troubles { self.new.troubles ≡ self.old.troubles }
+        ensures failures { self.new.failures ≡ self.old.failures }
     {
         let Some(room) = self.held.get_mut(self.end..) else {
             return 0;
@@ -127,7 +138,8 @@ impl<W: Write> Output<W> {
 
     /// Writes what is held; false where a write took no octet.
     fn send_held(&mut self) -> io::Result<bool>
-        ensures { self.new.troubles ≡ self.old.troubles }
+        ensures troubles { self.new.troubles ≡ self.old.troubles }
+        ensures failures { self.new.failures ≡ self.old.failures }
     {
         while self.start < self.end {
             let Some(held) = self.held.get(self.start..self.end) else {
@@ -148,6 +160,7 @@ impl<W: Write> Output<W> {
     fn write_through(&mut self, octets: &[u8]) -> io::Result<usize>
         ensures within { IfOk result (λ n. n ≤ length octets.now) }
         ensures troubles { self.new.troubles ≡ self.old.troubles }
+        ensures failures { self.new.failures ≡ self.old.failures }
     {
         if !self.send_held()? {
             return Ok(0);
@@ -165,6 +178,8 @@ impl<W: Write> Sink for Output<W> {
 
     ghost troubles = { λ s. s.troubles };
 
+    ghost failures = { λ s. s.failures };
+
     fn write(&mut self, octets: &[u8]) -> Result<usize, Trouble> {
         if octets.is_empty() {
             return Ok(0);
@@ -178,12 +193,17 @@ impl<W: Write> Sink for Output<W> {
         match self.write_through(octets) {
             Ok(0) => {
                 self.troubles = self.troubles.saturating_add(1);
+                self.failures = self.failures.saturating_add(1);
                 Ok(0)
             }
             Ok(count) => Ok(count),
             Err(error) => {
                 self.troubles = self.troubles.saturating_add(1);
-                Err(trouble_of(&error))
+                if let Trouble::Interrupted = trouble_of(&error) {
+                    return Err(Trouble::Interrupted);
+                }
+                self.failures = self.failures.saturating_add(1);
+                Err(Trouble::Failed)
             }
         }
     }

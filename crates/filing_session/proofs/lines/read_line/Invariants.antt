@@ -8,4 +8,5 @@ invariant-loop g l = record {
   rest : g.S.Source.tells → line_from 512 [] (g.S.Source.left l.fn.source) ≡ line_from (512 - l.counter) l.line (g.S.Source.left l.source);
   ends : g.S.Source.ends l.fn.source ≤ g.S.Source.ends l.source;
   troubles : g.S.Source.troubles l.fn.source ≤ g.S.Source.troubles l.source;
+  failures : g.S.Source.failures l.source ≡ g.S.Source.failures l.fn.source;
 }

@@ -9,6 +9,7 @@ invariant-loop-room g l = record {
   rest : g.S.Source.tells → g.S.Source.left l.fn.source ≡ l.octets.items ++ g.S.Source.left l.source;
   ends : g.S.Source.ends l.fn.source ≤ g.S.Source.ends l.source;
   troubles : g.S.Source.troubles l.fn.source ≤ g.S.Source.troubles l.source;
+  failures : g.S.Source.failures l.source ≡ g.S.Source.failures l.fn.source;
 }
 
 abbrev pub decreases-loop-room : goal.decreases-loop-room

@@ -18,4 +18,5 @@ loop-got-preserved g c =
       rest = λ t. (passed_over _ _ _ c.read_some.new.room _ _ (c.loop-got.invariant.enough t) (c.loop-got.invariant.rest t) (c.in_ok-count.ensures.octets t) fits).1;
       ends = grind (arith, common_steps);
       troubles = grind (arith, common_steps);
+      failures = grind (arith, common_steps);
     }

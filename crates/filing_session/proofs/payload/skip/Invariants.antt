@@ -8,6 +8,7 @@ invariant-loop-got g l = record {
   rest : g.S.Source.tells → g.S.Source.left l.source ≡ drop l.got (g.S.Source.left l.fn.source);
   ends : g.S.Source.ends l.fn.source ≤ g.S.Source.ends l.source;
   troubles : g.S.Source.troubles l.fn.source ≤ g.S.Source.troubles l.source;
+  failures : g.S.Source.failures l.source ≡ g.S.Source.failures l.fn.source;
 }
 
 abbrev pub decreases-loop-got : goal.decreases-loop-got

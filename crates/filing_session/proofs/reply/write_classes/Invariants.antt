@@ -7,4 +7,5 @@ abbrev pub invariant-loop-path : goal.invariant-loop-path
 invariant-loop-path g l = record {
   written : g.K.Sink.tells → g.K.Sink.written l.sink ≡ g.K.Sink.written l.fn.sink ++ flat_map class_octets (take l.path-index l.paths);
   troubles : g.K.Sink.troubles l.fn.sink ≤ g.K.Sink.troubles l.sink;
+  failures : g.K.Sink.failures l.sink ≡ g.K.Sink.failures l.fn.sink;
 }

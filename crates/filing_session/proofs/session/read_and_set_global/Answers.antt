@@ -1,4 +1,4 @@
-use Rattle.std.proofs.Common.{ℕ, List, Option, take, drop, subst}
+use Rattle.std.proofs.Common.{Option, take, subst}
 use Rattle.filing_desk.specs.Steps.{set_global}
 use Rattle.filing_session.specs.Payloads.{IsRead}
 use Rattle.filing_session.specs.declared.payload.Payload.{Payload}

@@ -6,6 +6,7 @@ invariant-loop-at g l = record {
   within : l.at ≤ length l.octets;
   written : g.K.Sink.tells → g.K.Sink.written l.sink ≡ g.K.Sink.written l.fn.sink ++ take l.at l.octets;
   troubles : g.K.Sink.troubles l.fn.sink ≤ g.K.Sink.troubles l.sink;
+  failures : g.K.Sink.failures l.sink ≡ g.K.Sink.failures l.fn.sink;
 }
 
 abbrev pub decreases-loop-at : goal.decreases-loop-at

@@ -6,4 +6,5 @@ abbrev pub invariant-loop-piece : goal.invariant-loop-piece
 invariant-loop-piece g l = record {
   written : g.K.Sink.tells → g.K.Sink.written l.sink ≡ g.K.Sink.written l.fn.sink ++ flat_map (λ p. p.now) (take l.piece-index l.pieces);
   troubles : g.K.Sink.troubles l.fn.sink ≤ g.K.Sink.troubles l.sink;
+  failures : g.K.Sink.failures l.sink ≡ g.K.Sink.failures l.fn.sink;
 }
