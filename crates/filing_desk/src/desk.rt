@@ -6,19 +6,18 @@ ghost use Rattle.sieve_syntax.specs.View.{tree_of};
 ghost use Rattle.sieve_meaning.specs.Reading.{program_of};
 ghost use Rattle.filing_gen.specs.Correct.{library_of};
 ghost use Rattle.sieve_meaning.specs.Outcome.{outcome_at, outcome};
-ghost use Rattle.filing_desk.specs.Case.{facts_of};
 ghost use Rattle.filing_desk.specs.Judging.{RefusesScript, RefusesImage, IsFaultOf, outcome_view};
 ghost use Rattle.filing_desk.specs.Steps.{add_class, file, set_global, set_plan, try_image, Step, settled, filed, IsGood, IsGoodImage, RefusesPlan};
 ghost use Rattle.filing_desk.specs.Faults.{refused_by};
 ghost use Rattle.filing_desk.specs.declared.fault.DeskFault.TheVariants.{NoMemory};
 ghost use Rattle.filing_table.specs.Ends.{HasOutcome};
 
-use crate::case::{Case, read_case};
+use crate::classes::PlanClasses;
 use crate::fault::DeskFault;
 use class_plan::{Plan, PlanFault};
 use filing_gen::{GenFault, Library, compile};
 use filing_image::decode;
-use filing_machine::run;
+use filing_machine::{BorrowedCase, Case, run};
 use filing_verify::{Verified, verify};
 use sieve_check::{Checked, check};
 use sieve_meaning::Paths;
@@ -81,8 +80,8 @@ fn faulty(alloc: Global, fault: u8) -> Result<Outcome, AllocError>
 }
 
 /// The outcome of an image's run in a case.
-fn run_image(alloc: Global, program: &Verified, case: &Case<'_>) -> Result<Outcome, AllocError>
-    ensures { IfOk result (λ o. (n : ℕ) × HasOutcome program.now (facts_of case.now) n (outcome_view o)) }
+fn run_image<C: Case>(alloc: Global, program: &Verified, case: &C) -> Result<Outcome, AllocError>
+    ensures { IfOk result (λ o. (n : ℕ) × HasOutcome program.now (C.facts case.now) n (outcome_view o)) }
 {
     let ran = run(alloc, program, case)?;
     Ok(Outcome {
@@ -92,13 +91,13 @@ fn run_image(alloc: Global, program: &Verified, case: &Case<'_>) -> Result<Outco
 }
 
 /// The outcome of a script in a case: that of the run of its image, or fault 5 where the script is too heavy for one.
-fn outcome_of(
+fn outcome_of<C: Case>(
     alloc: Global,
-    case: &Case<'_>,
+    case: &C,
     script: &Checked,
     library: &Library,
 ) -> Result<Outcome, DeskFault>
-    ensures outcome { IfOk result (λ o. outcome_view o ≡ outcome (facts_of case.now) (library_of library.now) None (program_of (tree_of script.now.script))) }
+    ensures outcome { IfOk result (λ o. outcome_view o ≡ outcome (C.facts case.now) (library_of library.now) None (program_of (tree_of script.now.script))) }
     ensures refused { IfErr result (λ f. f ≡ NoMemory) }
 {
     match compile(alloc, script, None, library) {
@@ -220,7 +219,7 @@ impl Desk {
         if message.len() > GREATEST_MESSAGE {
             return Err(DeskFault::MessageTooLong);
         }
-        let case = read_case(self.alloc, message, &self.plan)?;
+        let case = BorrowedCase::read(self.alloc, message, PlanClasses(&self.plan))?;
         let outcome = run_image(self.alloc, &program, &case)?;
         Ok(outcome)
     }
@@ -255,7 +254,7 @@ impl Desk {
         if message.len() > GREATEST_MESSAGE {
             return Err(DeskFault::MessageTooLong);
         }
-        let case = read_case(self.alloc, message, &self.plan)?;
+        let case = BorrowedCase::read(self.alloc, message, PlanClasses(&self.plan))?;
         let outcome = outcome_of(self.alloc, &case, &checked, &self.library)?;
         Ok(outcome)
     }

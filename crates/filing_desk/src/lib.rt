@@ -3,7 +3,7 @@
 //! In `specs/`, `Steps` says what each command may be answered and what it leaves.
 #![tactic(auto)]
 
-mod case;
+mod classes;
 mod desk;
 mod fault;
 

@@ -6,6 +6,7 @@
 #![tactic(auto)]
 
 mod act;
+mod borrowed;
 mod case;
 mod fields;
 mod laws;
@@ -18,6 +19,7 @@ mod state;
 mod values;
 mod whole;
 
+pub use borrowed::{BorrowedCase, BorrowedField, OpenPaths};
 pub use case::Case;
 pub use laws::every_run_ends;
 pub use machine::{Machine, run};
