@@ -55,10 +55,6 @@ slots_among l i count few p g = record {
       ap (λ (p : Bool × List ℕ). record { global = p.0; name = p.1 }) pair;
 }
 
--- sixty-four are always enough
-pub has_slots : (l : Scripts) → IsLibrary l → HasSlots (scripts_of l) (slots_of l) 64
-has_slots l i = slots_among l i 64 (omega arith) (omega (arith, i.personal.few)) (λ _. omega (arith, i.global.few))
-
 -- where no script is global, as many as there are personal ones
 pub slots_personal : (l : Scripts) → IsLibrary l → (count : ℕ) → count ≡ length l.personal → length l.global ≡ 0 → HasSlots (scripts_of l) (slots_of l) count
 slots_personal l i count e none = slots_among l i count (omega (arith, e, i.personal.few)) (omega (arith, e)) (λ h. absurd (omega (arith, h, none)))
