@@ -17,8 +17,9 @@ use crate::fault::DeskFault;
 use class_plan::{Plan, PlanFault};
 use filing_gen::{GenFault, Library, compile};
 use filing_image::decode;
-use filing_machine::{BorrowedCase, Case, run};
+use filing_machine::{BorrowedCase, Case, default_class_alone, run};
 use filing_verify::{Verified, verify};
+use mail_head::MOST_OCTETS;
 use sieve_check::{Checked, check};
 use sieve_meaning::Paths;
 use sieve_text::{ScanRefusal, TextRefusal, parse};
@@ -27,16 +28,13 @@ use std::marker::Model;
 use std::rc::Rc;
 
 /// The greatest length of a message, in octets.
-pub const GREATEST_MESSAGE: usize = 8_388_608;
+pub const GREATEST_MESSAGE: usize = MOST_OCTETS as usize;
 
 /// The greatest length of a plan's text, in octets.
-const GREATEST_PLAN: usize = 1_048_576;
+pub const GREATEST_PLAN: usize = 1_048_576;
 
 /// The greatest length of an image, in octets.
-const GREATEST_IMAGE: usize = 16_777_216;
-
-/// The default class.
-const UNFILED: &[u8] = b"unfiled";
+pub const GREATEST_IMAGE: usize = 16_777_216;
 
 /// What a run captures: the classes in byte order, each once, and the number of its fault, if it ended in one.
 #[derive(Drop)]
@@ -71,10 +69,8 @@ impl Model for Desk {
 fn faulty(alloc: Global, fault: u8) -> Result<Outcome, AllocError>
     ensures { IfOk result (λ o. outcome_view o ≡ outcome_at (Some fault) [] false false) }
 {
-    let mut classes = Paths::new(alloc);
-    classes.insert(alloc, UNFILED)?;
     Ok(Outcome {
-        classes,
+        classes: default_class_alone(alloc)?,
         fault: Some(fault),
     })
 }
