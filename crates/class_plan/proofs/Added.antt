@@ -1,6 +1,7 @@
 -- Where a class is added.
-use Rattle.std.proofs.Common.{◌≡◌, ℕ, ◌<◌, nat_le, Bool, true, false, not, List, length, None, Ok, ap, sym, subst, arith, refl}
+use Rattle.std.proofs.Common.{◌≡◌, ℕ, ◌<◌, nat_le, Bool, true, false, List, length, None, Ok, ap, sym, subst, arith}
 use Rattle.std.proofs.lemmas.Bool.Decides.{nat_tests}
+use Rattle.std.proofs.lemmas.Bool.{not-false}
 use Rattle.class_plan.specs.declared.faults.PlanFault.{PlanFault}
 use Rattle.class_plan.specs.declared.faults.PlanFault.TheVariants.{BadPath, ParentMissing, TooManyClasses}
 use Rattle.class_plan.specs.Paths.{is_path, has_parent_in}
@@ -8,10 +9,6 @@ use Rattle.class_plan.specs.Plans.{Listing, has}
 use Rattle.class_plan.specs.Faults.{first_fault, HoldsNone, judged, answer}
 use Rattle.class_plan.specs.Changes.{speaks_against}
 use Rattle.class_plan.proofs.Judged.{Says, first-says}
-
-not_not : (b : Bool) → not b ≡ false → b ≡ true
-not_not true e = refl
-not_not false e = sym e
 
 below_full : (n : ℕ) → nat_le 4096 n ≡ false → n < 4096
 below_full n h = grind (arith, nat_tests)
@@ -24,10 +21,10 @@ pub judged-ok : {A : Type 0} (h : PlanFault → Bool) (a : A) → None ≡ first
 judged-ok h a e = ap (λ o. answer o a) (sym e)
 
 pub free-path : (p : Listing) (q : List ℕ) → None ≡ first_fault (speaks_against p q) → is_path q ≡ true
-free-path p q e = not_not (is_path q) (none-holds (speaks_against p q) e BadPath (omega arith))
+free-path p q e = not-false (is_path q) (none-holds (speaks_against p q) e BadPath (omega arith))
 
 pub free-parent : (p : Listing) (q : List ℕ) → None ≡ first_fault (speaks_against p q) → has_parent_in (has p.rows) q ≡ true
-free-parent p q e = not_not (has_parent_in (has p.rows) q) (none-holds (speaks_against p q) e ParentMissing (omega arith))
+free-parent p q e = not-false (has_parent_in (has p.rows) q) (none-holds (speaks_against p q) e ParentMissing (omega arith))
 
 pub free-count : (p : Listing) (q : List ℕ) → None ≡ first_fault (speaks_against p q) → length p.rows < 4096
 free-count p q e = below_full (length p.rows) (none-holds (speaks_against p q) e TooManyClasses (omega arith))

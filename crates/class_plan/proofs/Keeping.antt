@@ -1,6 +1,7 @@
 -- What each plan keeps, over its map, and where a class is added.
-use Rattle.std.proofs.Common.{◌≡◌, ℕ, ◌<◌, Bool, true, false, ◌||◌, cond, List, [], ◌∷◌, length, Vec, Global, Ordering, Less, nat_cmp, refl, ◌∙◌, arith}
+use Rattle.std.proofs.Common.{◌≡◌, ℕ, ◌<◌, Bool, true, false, cond, List, [], ◌∷◌, length, Vec, Global, Ordering, Less, nat_cmp, refl, ◌∙◌, arith}
 use Rattle.std.proofs.lemmas.List.Elements.{All-from_recursion, recursion_from_All, All-weaker}
+use Rattle.std.proofs.lemmas.Bool.{or_right}
 use Rattle.std.specs.List.{AllByRecursion}
 use Rattle.std.specs.List.Sorted.{IsStrictlySortedBy}
 use Rattle.std.specs.Cmp.Lexicographic.{slice_cmp}
@@ -28,12 +29,8 @@ pub passes-more : (f g : List ℕ → Bool) → ((q : List ℕ) → f q ≡ true
 passes-more f g h [] e = refl
 passes-more f g h (p ∷ ps) e = h p e
 
-or_true : (a b : Bool) → b ≡ true → (a || b) ≡ true
-or_true true b e = refl
-or_true false b e = e
-
 pub has-more : (r : Row) (rs : List Row) (q : List ℕ) → has rs q ≡ true → has (put r rs) q ≡ true
-has-more r rs q h = has-put q r rs ∙ or_true (bytes_eq q r.path) (has rs q) h
+has-more r rs q h = has-put q r rs ∙ or_right (bytes_eq q r.path) (has rs q) h
 
 -- a class keeps its own where another is put
 pub class-more : (r : Row) (rs : List Row) (c : Row) → IsClass rs c → IsClass (put r rs) c

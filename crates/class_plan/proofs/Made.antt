@@ -3,6 +3,7 @@ use Rattle.std.proofs.Common.{◌≡◌, ℕ, ◌≤◌, nat_lt, Bool, true, fal
 use Rattle.std.proofs.lemmas.Bool.Decides.{nat_tests}
 use Rattle.std.proofs.lemmas.List.Elements.{All-from_recursion, recursion_from_All}
 use Rattle.std.proofs.lemmas.Slice.Eq.{bytes_eq-Decides}
+use Rattle.std.proofs.lemmas.Bool.{or_parts, not-false}
 use Rattle.std.specs.Str.{bytes_eq}
 use Rattle.std.specs.List.{AllByRecursion, list_any}
 use Rattle.std.specs.List.Sorted.{IsStrictlySortedBy}
@@ -19,22 +20,10 @@ use Rattle.class_plan.proofs.Put.{has-put, open-put, all-put}
 use Rattle.class_plan.proofs.Twice.{has-listing, length-listing}
 use Rattle.class_plan.proofs.Judging.{first-same}
 
-or_left : (a b : Bool) → (a || b) ≡ false → a ≡ false
-or_left true b e = e
-or_left false b e = refl
-
-or_right : (a b : Bool) → (a || b) ≡ false → b ≡ false
-or_right true b e = absurd (let h : true ≡ false = e in (cc))
-or_right false b e = e
-
 -- a test that no entry passes fails at each
 none_pass : (p : Entry → Bool) (es : List Entry) → list_any p es ≡ false → AllByRecursion (λ e. p e ≡ false) es
 none_pass p [] h = tt
-none_pass p (e ∷ es) h = (or_left (p e) (list_any p es) h, none_pass p es (or_right (p e) (list_any p es) h))
-
-not_not : (b : Bool) → not b ≡ false → b ≡ true
-not_not true e = refl
-not_not false e = sym e
+none_pass p (e ∷ es) h = let parts = or_parts (p e) (list_any p es) h in (parts.0, none_pass p es parts.1)
 
 -- what is true of each entry's row is true of the rows
 all-rows_from : (P : Row → Type 0) (rs : List Row) (es : List Entry) → AllByRecursion P rs → AllByRecursion (λ e. P (row_of e)) es → AllByRecursion P (rows_from rs es)
@@ -48,7 +37,7 @@ all_unfiled P rs false here h = all-put P (open_row unfiled) rs here h
 -- a listed class is one of the plan
 class_of_entry : (rs : List Row) (es : List Entry) (e : Entry) → ((q : List ℕ) → has rs q ≡ is_known es q) → not (is_path e.path) ≡ false → not (has_parent_in (is_known es) e.path) ≡ false → IsListableEntry e → IsClass rs (row_of e)
 class_of_entry rs es e same path parent listable =
-    record { path = not_not (is_path e.path) path; parent = first-same (has rs) (is_known es) same (ancestors e.path) ∙ not_not (has_parent_in (is_known es) e.path) parent; range = listable.range }
+    record { path = not-false (is_path e.path) path; parent = first-same (has rs) (is_known es) same (ancestors e.path) ∙ not-false (has_parent_in (is_known es) e.path) parent; range = listable.range }
 
 classes_of_entries : (rs : List Row) (all es : List Entry) → ((q : List ℕ) → has rs q ≡ is_known all q) → AllByRecursion (λ e. not (is_path e.path) ≡ false) es → AllByRecursion (λ e. not (has_parent_in (is_known all) e.path) ≡ false) es
     → AllByRecursion IsListableEntry es → AllByRecursion (λ e. IsClass rs (row_of e)) es

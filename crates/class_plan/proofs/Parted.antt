@@ -2,6 +2,7 @@
 use Rattle.std.proofs.Common.{◌≡◌, ◌≢◌, ℕ, ◌≤◌, nat_le, Bool, true, false, not, ◌&&◌, ◌||◌, if◌then◌else◌, List, [], ◌∷◌, map, Option, Some, None, option_map, Ok, Err, refl, ap, sym, arith}
 use Rattle.std.proofs.lemmas.Bool.Decides.{nat_tests}
 use Rattle.std.proofs.lemmas.List.Elements.{All-from_recursion}
+use Rattle.std.proofs.lemmas.Bool.{or_parts}
 use Rattle.std.specs.Str.{bytes_eq}
 use Rattle.std.specs.List.{AllByRecursion, list_any}
 use Rattle.class_plan.specs.declared.faults.PlanFault.{PlanFault}
@@ -60,18 +61,10 @@ open_of b true e h = refl
 open_of true false e h = absurd (let k : true ≡ false = e in (cc))
 open_of false false e h = absurd (let k : false ≡ true = h in (cc))
 
-or_left : (a b : Bool) → (a || b) ≡ false → a ≡ false
-or_left true b e = e
-or_left false b e = refl
-
-or_right : (a b : Bool) → (a || b) ≡ false → b ≡ false
-or_right true b e = absurd (let h : true ≡ false = e in (cc))
-or_right false b e = e
-
 entries_listable : (ps : List Part) → list_any is_closed_unfiled (map part_entry ps) ≡ false → AllByRecursion IsListableEntry (map part_entry ps)
 entries_listable [] h = tt
 entries_listable (p ∷ ps) h =
-    (record { range = own_range p.2; unfiled_open = open_of (bytes_eq p.0.items unfiled) p.1 (or_left _ _ h) }, entries_listable ps (or_right (is_closed_unfiled (part_entry p)) _ h))
+    (record { range = own_range p.2; unfiled_open = open_of (bytes_eq p.0.items unfiled) p.1 (or_parts _ _ h).0 }, entries_listable ps (or_parts (is_closed_unfiled (part_entry p)) _ h).1)
 
 -- the contents of parts are fit to be judged where `unfiled` is not closed
 pub parts-listable : (root : Schedule) (ps : List Part) → list_any is_closed_unfiled (map part_entry ps) ≡ false → IsListable (parts_contents root ps)

@@ -7,6 +7,7 @@ use Rattle.std.proofs.lemmas.List.{append-nil}
 use Rattle.std.proofs.lemmas.List.Elements.{recursion_from_All}
 use Rattle.std.proofs.lemmas.Map.Text.{is_eq-slice_cmp}
 use Rattle.std.proofs.lemmas.Slice.Eq.{bytes_eq-Decides}
+use Rattle.std.proofs.Math.Bool.{and-false}
 use Rattle.std.specs.Str.{bytes_eq}
 use Rattle.std.specs.List.{AllByRecursion, list_any}
 use Rattle.std.specs.List.Sorted.{IsStrictlySortedBy}
@@ -90,10 +91,6 @@ flip_eq p q false e = elim (cases_Bool (bytes_eq q p)) [
   | inr other ↦ other
 ]
 
-and_false : (a : Bool) → (a && false) ≡ false
-and_false true = refl
-and_false false = refl
-
 closed_of : (rs : List Row) → IsStrictlySortedBy path_cmp (paths_of rs) → open_at rs unfiled ≡ true → AllByRecursion (λ r. closes r ≡ false) rs
 unfolding IsStrictlySortedBy
 closed_of [] s h = tt
@@ -102,7 +99,7 @@ closed_of (x ∷ xs) s h = elim (cases_Bool (bytes_eq unfiled x.path)) [
       let here : x.path ≡ unfiled = sym ((bytes_eq-Decides unfiled x.path).0 is) in
       let opened : x.is_open ≡ true = rw is at h in
       let apart = paths_apart x.path xs s.0 in
-      (rw (opened) (and_false (bytes_eq x.path unfiled)), none_closed xs (subst (λ q. AllByRecursion (λ r. bytes_eq r.path q ≡ false) xs) here apart))
+      (rw (opened) (and-false (bytes_eq x.path unfiled)), none_closed xs (subst (λ q. AllByRecursion (λ r. bytes_eq r.path q ≡ false) xs) here apart))
   | inr other ↦ (rw (flip_eq unfiled x.path false other), closed_of xs s.1 (rw other at h))
 ]
 

@@ -1,8 +1,10 @@
 -- Paths, octet by octet.
 use Rattle.std.proofs.Common.{◌≡◌, ℕ, suc, ◌+◌, ◌<◌, ◌≤◌, ◌==◌, nat_le, Bool, true, false, ◌&&◌, List, [], ◌∷◌, ◌++◌, length, drop, get_or, refl, ap, ◌∙◌, arith, inl, inr, length-append}
 use Rattle.std.proofs.lemmas.List.{drop_more}
+use Rattle.std.proofs.lemmas.List.Folds.{list_all-append}
 use Rattle.std.proofs.lemmas.Bool.{cases_Bool}
 use Rattle.std.proofs.lemmas.Bool.Decides.{nat_tests}
+use Rattle.std.proofs.Math.Bool.{and-true, and-false}
 use Rattle.std.specs.List.{list_all}
 use Rattle.class_plan.specs.Paths.{is_mark, is_segment, segments_from, is_path}
 
@@ -19,17 +21,8 @@ pub path-start : (p : List ℕ) → is_path p ≡ goes_on 0 [] p
 unfolding is_path
 path-start p = ap (λ n. nat_le n 8 && list_all is_segment (segments_from [] p)) (omega arith)
 
-and_true : (a : Bool) → (a && true) ≡ a
-and_true true = refl
-and_true false = refl
-
-and_assoc : (a b c : Bool) → (a && (b && c)) ≡ ((a && b) && c)
-and_assoc true b c = refl
-and_assoc false b c = refl
-
 all_append : (xs : List ℕ) (c : ℕ) → list_all is_mark (xs ++ c ∷ []) ≡ (list_all is_mark xs && is_mark c)
-all_append [] c = and_true (is_mark c)
-all_append (x ∷ xs) c = ap (λ b. is_mark x && b) (all_append xs c) ∙ and_assoc (is_mark x) (list_all is_mark xs) (is_mark c)
+all_append xs c = list_all-append is_mark xs (c ∷ []) ∙ ap (λ b. list_all is_mark xs && b) (and-true (is_mark c))
 
 pub begun-none : Begun [] 0
 begun-none = record { long = refl; marks = refl }
@@ -50,10 +43,6 @@ some_segment now (c ∷ cs) = elim (cases_Bool (c == 47)) [
   | inr other ↦ rw other (some_segment (now ++ c ∷ []) cs)
 ]
 
-and_false : (a : Bool) → (a && false) ≡ false
-and_false true = refl
-and_false false = refl
-
 -- a segment that is none stays one
 bad_marks : (now cs : List ℕ) → list_all is_mark now ≡ false → list_all is_segment (segments_from now cs) ≡ false
 bad_marks now [] e = rw e (grind (arith, nat_tests))
@@ -73,7 +62,7 @@ pub next-slash : (p now : List ℕ) (i n run : ℕ) → i < length p → get_or 
 next-slash p now i n run h c b low high = rw (drop_more p i 0 h, c, whole now run b low high) (ap (λ k. nat_le k 8 && list_all is_segment (segments_from [] (drop (i + 1) p))) (omega arith))
 
 pub next-empty : (p now : List ℕ) (i n : ℕ) → i < length p → get_or p i 0 ≡ 47 → Begun now 0 → goes_on n now (drop i p) ≡ false
-next-empty p now i n h c b = rw (drop_more p i 0 h, c, short now b.long) (and_false (nat_le (n + suc (length (segments_from [] (drop (i + 1) p)))) 8))
+next-empty p now i n h c b = rw (drop_more p i 0 h, c, short now b.long) (and-false (nat_le (n + suc (length (segments_from [] (drop (i + 1) p)))) 8))
 
 pub next-many : (p now : List ℕ) (i n : ℕ) → i < length p → get_or p i 0 ≡ 47 → 7 ≤ n → goes_on n now (drop i p) ≡ false
 next-many p now i n h c b =
@@ -85,8 +74,8 @@ next-mark p now i n h c = rw (drop_more p i 0 h, c)
 
 pub next-other : (p now : List ℕ) (i n : ℕ) → i < length p → (get_or p i 0 == 47) ≡ false → is_mark (get_or p i 0) ≡ false → goes_on n now (drop i p) ≡ false
 next-other p now i n h c m =
-    next-mark p now i n h c ∙ ap (λ b. nat_le (n + length (segments_from (now ++ get_or p i 0 ∷ []) (drop (i + 1) p))) 8 && b) (bad_marks (now ++ get_or p i 0 ∷ []) (drop (i + 1) p) (all_append now (get_or p i 0) ∙ rw m (and_false (list_all is_mark now)))) ∙ and_false (nat_le (n + length (segments_from (now ++ get_or p i 0 ∷ []) (drop (i + 1) p))) 8)
+    next-mark p now i n h c ∙ ap (λ b. nat_le (n + length (segments_from (now ++ get_or p i 0 ∷ []) (drop (i + 1) p))) 8 && b) (bad_marks (now ++ get_or p i 0 ∷ []) (drop (i + 1) p) (all_append now (get_or p i 0) ∙ rw m (and-false (list_all is_mark now)))) ∙ and-false (nat_le (n + length (segments_from (now ++ get_or p i 0 ∷ []) (drop (i + 1) p))) 8)
 
 pub next-long : (p now : List ℕ) (i n : ℕ) → i < length p → (get_or p i 0 == 47) ≡ false → 40 ≤ length now → goes_on n now (drop i p) ≡ false
 next-long p now i n h c m =
-    next-mark p now i n h c ∙ ap (λ b. nat_le (n + length (segments_from (now ++ get_or p i 0 ∷ []) (drop (i + 1) p))) 8 && b) (too_long (now ++ get_or p i 0 ∷ []) (drop (i + 1) p) (omega (arith, length-append now (get_or p i 0 ∷ [])))) ∙ and_false (nat_le (n + length (segments_from (now ++ get_or p i 0 ∷ []) (drop (i + 1) p))) 8)
+    next-mark p now i n h c ∙ ap (λ b. nat_le (n + length (segments_from (now ++ get_or p i 0 ∷ []) (drop (i + 1) p))) 8 && b) (too_long (now ++ get_or p i 0 ∷ []) (drop (i + 1) p) (omega (arith, length-append now (get_or p i 0 ∷ [])))) ∙ and-false (nat_le (n + length (segments_from (now ++ get_or p i 0 ∷ []) (drop (i + 1) p))) 8)

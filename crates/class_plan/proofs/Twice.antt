@@ -2,6 +2,8 @@
 use Rattle.std.proofs.Common.{◌≡◌, ℕ, suc, ◌+◌, Bool, true, false, ◌||◌, cond, List, [], ◌∷◌, length, Some, is_some, Ordering, Less, Equal, Greater, nat_cmp, is_eq, refl, ap, sym, ◌∙◌, arith, if◌then◌else◌}
 use Rattle.std.proofs.lemmas.Map.Text.{is_eq-slice_cmp}
 use Rattle.std.proofs.lemmas.Slice.Eq.{bytes_eq-Decides}
+use Rattle.std.proofs.lemmas.Bool.{or_parts}
+use Rattle.std.proofs.Math.Bool.{or-false, or_assoc}
 use Rattle.std.specs.Str.{bytes_eq}
 use Rattle.std.specs.Cmp.Lexicographic.{slice_cmp}
 use Rattle.std.specs.Ordering.{match_ordering}
@@ -16,18 +18,10 @@ or_swap true false s = refl
 or_swap false true s = refl
 or_swap false false s = refl
 
-or_assoc : (a b s : Bool) → (a || (b || s)) ≡ ((a || b) || s)
-or_assoc true b s = refl
-or_assoc false b s = refl
-
-pub or_false : (a : Bool) → (a || false) ≡ a
-or_false true = refl
-or_false false = refl
-
 -- which paths the rows of listed classes have
 pub has-rows_from : (q : List ℕ) (rs : List Row) (es : List Entry) → has (rows_from rs es) q ≡ (is_listed q es || has rs q)
 has-rows_from q rs [] = refl
-has-rows_from q rs (e ∷ es) = has-rows_from q (put (row_of e) rs) es ∙ ap (λ b. is_listed q es || b) (has-put q (row_of e) rs) ∙ or_swap (is_listed q es) (bytes_eq q e.path) (has rs q) ∙ or_assoc (bytes_eq q e.path) (is_listed q es) (has rs q)
+has-rows_from q rs (e ∷ es) = has-rows_from q (put (row_of e) rs) es ∙ ap (λ b. is_listed q es || b) (has-put q (row_of e) rs) ∙ or_swap (is_listed q es) (bytes_eq q e.path) (has rs q) ∙ sym (or_assoc (bytes_eq q e.path) (is_listed q es) (has rs q))
 
 -- a path comes twice, after those of the rows
 abbrev pub again : List Row → List Entry → Bool
@@ -47,21 +41,13 @@ rows-step all rs more e rest xs cut is so = so ∙ rw (cut, is)
 pub again-step : (all : List Entry) (rs more : List Row) (e : Entry) (rest xs : List Entry) (before now old : Bool) → xs ≡ e ∷ rest → more ≡ put (row_of e) rs → old ≡ has rs e.path → now ≡ (before || old)
     → again [] all ≡ (before || again rs xs) → again [] all ≡ (now || again more rest)
 again-step all rs more e rest xs before now old cut is seen joins so =
-    so ∙ rw (cut, is, joins, seen) (or_assoc before (has rs e.path) (again (put (row_of e) rs) rest))
+    so ∙ rw (cut, is, joins, seen) (sym (or_assoc before (has rs e.path) (again (put (row_of e) rs) rest)))
 
 pub again-none : (es : List Entry) → comes_again [] es ≡ again [] es
 again-none es = comes_again-again [] [] es (λ q. refl)
 
 pub again-all : (all : List Entry) (twice : Bool) (rs : List Row) (xs : List Entry) → xs ≡ [] → again [] all ≡ (twice || again rs xs) → again [] all ≡ twice
-again-all all twice rs xs none so = so ∙ rw none (or_false twice)
-
-or_left : (a b : Bool) → (a || b) ≡ false → a ≡ false
-or_left true b e = e
-or_left false b e = refl
-
-or_right : (a b : Bool) → (a || b) ≡ false → b ≡ false
-or_right true b e = absurd (let h : true ≡ false = e in (cc))
-or_right false b e = e
+again-all all twice rs xs none so = so ∙ rw none (or-false twice)
 
 -- the rows of a new path are one more
 placed_new : (r x : Row) (xs : List Row) (o : Ordering) → o ≡ slice_cmp nat_cmp r.path x.path → bytes_eq r.path x.path ≡ false → length (put r xs) ≡ suc (length xs)
@@ -78,17 +64,17 @@ pub length-put-new : (r : Row) (xs : List Row) → has xs r.path ≡ false → l
 length-put-new r [] h = refl
 length-put-new r (x ∷ xs) h =
     let both : (bytes_eq r.path x.path || has xs r.path) ≡ false = sym (has-cons r.path x xs (bytes_eq r.path x.path)) ∙ h in
-    placed_new r x xs (slice_cmp nat_cmp r.path x.path) refl (or_left _ _ both) (length-put-new r xs (or_right _ _ both))
+    placed_new r x xs (slice_cmp nat_cmp r.path x.path) refl (or_parts _ _ both).0 (length-put-new r xs (or_parts _ _ both).1)
 
 length-rows_from : (rs : List Row) (es : List Entry) → again rs es ≡ false → length (rows_from rs es) ≡ length rs + length es
 length-rows_from rs [] h = omega arith
 length-rows_from rs (e ∷ es) h =
-    let more : length (rows_from (put (row_of e) rs) es) ≡ length (put (row_of e) rs) + length es = length-rows_from (put (row_of e) rs) es (or_right _ _ h) in
-    let one : length (put (row_of e) rs) ≡ suc (length rs) = length-put-new (row_of e) rs (or_left _ _ h) in
+    let more : length (rows_from (put (row_of e) rs) es) ≡ length (put (row_of e) rs) + length es = length-rows_from (put (row_of e) rs) es (or_parts _ _ h).1 in
+    let one : length (put (row_of e) rs) ≡ suc (length rs) = length-put-new (row_of e) rs (or_parts _ _ h).0 in
     omega arith
 
 pub has-rows : (q : List ℕ) (es : List Entry) → has (rows_from [] es) q ≡ is_listed q es
-has-rows q es = has-rows_from q [] es ∙ or_false (is_listed q es)
+has-rows q es = has-rows_from q [] es ∙ or-false (is_listed q es)
 
 length_unfiled : (rs : List Row) (b : Bool) → b ≡ has rs unfiled → length (if b then rs else put (open_row unfiled) rs) ≡ length rs + (if b then 0 else 1)
 length_unfiled rs true e = omega arith

@@ -1,12 +1,11 @@
 -- Outcomes of scripts, by their weight and by the runs of their images.
-use Rattle.std.proofs.Common.{◌≡◌, ℕ, ◌<◌, ◌≤◌, [], true, false, inl, inr, refl, sym, ap, ◌∙◌}
+use Rattle.std.proofs.Common.{◌≡◌, ℕ, ◌<◌, ◌≤◌, [], true, false, inl, inr, refl, sym, ◌∙◌}
 use Rattle.std.specs.Prelude.{Some, None, Ok, Err}
 use Rattle.std.proofs.lemmas.Bool.{cases_lt, lt-ltb, le-ltb}
 use Rattle.filing_image.specs.Program.{Program}
 use Rattle.filing_table.specs.Ends.{HasOutcome}
 use Rattle.filing_table.proofs.Once.{one_outcome}
-use Rattle.filing_gen.specs.Correct.{IsCompiled, library_of}
-use Rattle.filing_gen.specs.Libraries.{Scripts}
+use Rattle.filing_gen.specs.Correct.{IsCompiled}
 use Rattle.sieve_meaning.specs.Case.{Facts}
 use Rattle.sieve_meaning.specs.Program.{Commands}
 use Rattle.sieve_meaning.specs.Meaning.{Library, meaning}
@@ -34,7 +33,3 @@ pub outcome_of_run : (facts : Facts) (lib : Library) (main : Commands) (p : Prog
 outcome_of_run facts lib main p n o compiled within ran =
     let (m, meant) = compiled.outcomes facts in
     one_outcome p facts n m o (outcome_of (meaning facts lib None main)) ran meant ∙ sym (outcome_of_light facts lib main within)
-
--- a library without personal scripts is that of its global ones
-pub globals_alone : (l : Scripts) → l.personal ≡ [] → library_of l ≡ library_of (record { personal = []; global = l.global })
-globals_alone l none = ap (λ p. library_of (record { personal = p; global = l.global })) none

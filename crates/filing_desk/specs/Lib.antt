@@ -2,4 +2,3 @@ pub mod Answers
 pub mod Faults
 pub mod Steps
 pub mod Judging
-pub mod Case

@@ -6,20 +6,20 @@ ghost use Rattle.sieve_syntax.specs.View.{tree_of};
 ghost use Rattle.sieve_meaning.specs.Reading.{program_of};
 ghost use Rattle.filing_gen.specs.Correct.{library_of};
 ghost use Rattle.sieve_meaning.specs.Outcome.{outcome_at, outcome};
-ghost use Rattle.filing_desk.specs.Case.{facts_of};
 ghost use Rattle.filing_desk.specs.Judging.{RefusesScript, RefusesImage, IsFaultOf, outcome_view};
 ghost use Rattle.filing_desk.specs.Steps.{add_class, file, set_global, set_plan, try_image, Step, settled, filed, IsGood, IsGoodImage, RefusesPlan};
 ghost use Rattle.filing_desk.specs.Faults.{refused_by};
 ghost use Rattle.filing_desk.specs.declared.fault.DeskFault.TheVariants.{NoMemory};
 ghost use Rattle.filing_table.specs.Ends.{HasOutcome};
 
-use crate::case::{Case, read_case};
+use crate::classes::PlanClasses;
 use crate::fault::DeskFault;
 use class_plan::{Plan, PlanFault};
 use filing_gen::{GenFault, Library, compile};
 use filing_image::decode;
-use filing_machine::run;
+use filing_machine::{BorrowedCase, Case, default_class_alone, run};
 use filing_verify::{Verified, verify};
+use mail_head::MOST_OCTETS;
 use sieve_check::{Checked, check};
 use sieve_meaning::Paths;
 use sieve_text::{ScanRefusal, TextRefusal, parse};
@@ -28,16 +28,13 @@ use std::marker::Model;
 use std::rc::Rc;
 
 /// The greatest length of a message, in octets.
-pub const GREATEST_MESSAGE: usize = 8_388_608;
+pub const GREATEST_MESSAGE: usize = MOST_OCTETS as usize;
 
 /// The greatest length of a plan's text, in octets.
-const GREATEST_PLAN: usize = 1_048_576;
+pub const GREATEST_PLAN: usize = 1_048_576;
 
 /// The greatest length of an image, in octets.
-const GREATEST_IMAGE: usize = 16_777_216;
-
-/// The default class.
-const UNFILED: &[u8] = b"unfiled";
+pub const GREATEST_IMAGE: usize = 16_777_216;
 
 /// What a run captures: the classes in byte order, each once, and the number of its fault, if it ended in one.
 #[derive(Drop)]
@@ -72,17 +69,15 @@ impl Model for Desk {
 fn faulty(alloc: Global, fault: u8) -> Result<Outcome, AllocError>
     ensures { IfOk result (λ o. outcome_view o ≡ outcome_at (Some fault) [] false false) }
 {
-    let mut classes = Paths::new(alloc);
-    classes.insert(alloc, UNFILED)?;
     Ok(Outcome {
-        classes,
+        classes: default_class_alone(alloc)?,
         fault: Some(fault),
     })
 }
 
 /// The outcome of an image's run in a case.
-fn run_image(alloc: Global, program: &Verified, case: &Case<'_>) -> Result<Outcome, AllocError>
-    ensures { IfOk result (λ o. (n : ℕ) × HasOutcome program.now (facts_of case.now) n (outcome_view o)) }
+fn run_image<C: Case>(alloc: Global, program: &Verified, case: &C) -> Result<Outcome, AllocError>
+    ensures { IfOk result (λ o. (n : ℕ) × HasOutcome program.now (C.facts case.now) n (outcome_view o)) }
 {
     let ran = run(alloc, program, case)?;
     Ok(Outcome {
@@ -92,13 +87,13 @@ fn run_image(alloc: Global, program: &Verified, case: &Case<'_>) -> Result<Outco
 }
 
 /// The outcome of a script in a case: that of the run of its image, or fault 5 where the script is too heavy for one.
-fn outcome_of(
+fn outcome_of<C: Case>(
     alloc: Global,
-    case: &Case<'_>,
+    case: &C,
     script: &Checked,
     library: &Library,
 ) -> Result<Outcome, DeskFault>
-    ensures outcome { IfOk result (λ o. outcome_view o ≡ outcome (facts_of case.now) (library_of library.now) None (program_of (tree_of script.now.script))) }
+    ensures outcome { IfOk result (λ o. outcome_view o ≡ outcome (C.facts case.now) (library_of library.now) None (program_of (tree_of script.now.script))) }
     ensures refused { IfErr result (λ f. f ≡ NoMemory) }
 {
     match compile(alloc, script, None, library) {
@@ -220,7 +215,7 @@ impl Desk {
         if message.len() > GREATEST_MESSAGE {
             return Err(DeskFault::MessageTooLong);
         }
-        let case = read_case(self.alloc, message, &self.plan)?;
+        let case = BorrowedCase::read(self.alloc, message, PlanClasses(&self.plan))?;
         let outcome = run_image(self.alloc, &program, &case)?;
         Ok(outcome)
     }
@@ -255,7 +250,7 @@ impl Desk {
         if message.len() > GREATEST_MESSAGE {
             return Err(DeskFault::MessageTooLong);
         }
-        let case = read_case(self.alloc, message, &self.plan)?;
+        let case = BorrowedCase::read(self.alloc, message, PlanClasses(&self.plan))?;
         let outcome = outcome_of(self.alloc, &case, &checked, &self.library)?;
         Ok(outcome)
     }

@@ -3,9 +3,9 @@
 //! In `specs/`, `Steps` says what each command may be answered and what it leaves.
 #![tactic(auto)]
 
-mod case;
+mod classes;
 mod desk;
 mod fault;
 
-pub use desk::{Desk, GREATEST_MESSAGE, Outcome};
+pub use desk::{Desk, GREATEST_IMAGE, GREATEST_MESSAGE, GREATEST_PLAN, Outcome};
 pub use fault::{DeskFault, Refusal};

@@ -2,9 +2,7 @@
 use Rattle.std.proofs.Common.{◌≡◌, ℕ, ◌+◌, ◌<◌, ◌≤◌, ◌^◌, List, [], ◌∷◌, Option, Some, None, false, refl, sym, ap, ◌∙◌, subst, arith}
 use Rattle.std.proofs.lemmas.List.{length-replicate, get_or-replicate}
 use Rattle.filing_image.specs.Program.{Program}
-use Rattle.filing_verify.specs.Well.{IsWell, Fails}
-use Rattle.filing_verify.specs.declared.fault.VerifyFault.{VerifyFault}
-use Rattle.filing_verify.specs.declared.fault.VerifyFault.TheVariants as faults
+use Rattle.filing_verify.specs.Well.{IsWell}
 use Rattle.filing_table.specs.Ends.{HasOutcome}
 use Rattle.filing_flow.specs.Structure.{Flow, action, size, End, IsSound}
 use Rattle.filing_flow.specs.Effect.{Exit, EndsRun, effect, caught}
@@ -96,12 +94,3 @@ module _ (lib : Library) (slot : Slots) (count : ℕ) (has : HasSlots lib slot c
 
   pub room : linked_weight lib known_as main ≤ 60000 → commands_long (λ i. size (linked_flow lib slot known_as i)) main + 1 < 2 ^ 16
   room small = omega (arith, small, script_small, flow_long (linked_flow lib slot known_as) 0 main)
-
--- a program that may run is refused for want of memory alone
-pub refused_for_memory : (p : Program) → IsWell p → (f : VerifyFault) → Fails f p → f ≡ faults.NoMemory
-refused_for_memory p good faults.NoMemory h = refl
-refused_for_memory p good faults.Operand h = absurd (h good.in_range)
-refused_for_memory p good faults.Backward h = absurd (h.1 good.forward)
-refused_for_memory p good faults.Stack h = absurd (h.2 good.shaped)
-refused_for_memory p good faults.RunsOff h = absurd (h.3 good.inside)
-refused_for_memory p good faults.Budget h = absurd (h.4 good.within)

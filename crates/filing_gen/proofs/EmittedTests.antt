@@ -1,7 +1,7 @@
 -- The code of tests, from the parts that were added.
 use Rattle.std.proofs.Common.{◌≡◌, ℕ, ◌+◌, ◌*◌, ◌<◌, List, [], ◌∷◌, length, map, Bool, true, false, refl, sym, ap, ◌∙◌, subst, arith, drop, get_or, codes, Box, Global}
 use Rattle.filing_image.specs.declared.instruction.Operation.TheVariants.{Join, Jump, Pop, PushTrue, PushFalse}
-use Rattle.sieve_syntax.specs.Arguments.{strings_of, first_of, others_of}
+use Rattle.sieve_syntax.specs.Arguments.{first_of, others_of}
 use Rattle.sieve_syntax.specs.Tree.{TestTree, InnerTests, one_test}
 use Rattle.sieve_syntax.specs.View.{tests_step, test_step, row_of, listed_of, test_of, inner_of}
 use Rattle.sieve_syntax.specs.declared.tree.Argument.{Argument}
@@ -13,7 +13,7 @@ use Rattle.sieve_syntax.specs.declared.tree.Tests.TheOpen.{Tests-F}
 use Rattle.sieve_syntax.specs.declared.tree.Tests.TheVariants.{One}
 use Rattle.sieve_meaning.specs.declared.matching.Comparator.{Comparator}
 use Rattle.sieve_meaning.specs.declared.matching.MatchType.{MatchType}
-use Rattle.sieve_meaning.specs.Reading.{test_in, tests_in, row_in, string_lists, exists_of, header_of, match_type, comparator_from, has_tag, number_in, size_of}
+use Rattle.sieve_meaning.specs.Reading.{test_in, tests_in, row_in, string_lists, exists_of, header_of, has_tag, number_in, size_of}
 use Rattle.filing_flow.specs.Structure.{Flow, nothing, action, sequence, block, leave, leave_if, size, HasField, MatchKey, ValuesOf, JoinTwo, Push, PushNumber, PushSize, IsLess, Drop}
 use Rattle.filing_flow.specs.Code.{only, action_piece, jump_when, end_at}
 use Rattle.filing_gen.specs.Structured.{comparison, names_flow, keys_flow, values_flow, either, header_flow, tests_flow, test_flow}
@@ -38,20 +38,10 @@ values_size (n ∷ ns) = omega (arith, values_size ns)
 pub header_size : (a : ℕ) (n : List ℕ) (ns : List (List ℕ)) (k : List ℕ) (ks : List (List ℕ)) → size (header_flow a n ns k ks) ≡ 2 * length ns + 2 * length ks + 8
 header_size a n ns k ks = omega (arith, values_size ns, keys_size a ks)
 
-pub either_size : (past out : Bool) (a : Flow) → size (either past out a) ≡ size a + 3
-either_size past out a = omega arith
-
 -- THE TREE
-
-pub flow-exists : (args : List Argument) (names : StringList) (more : List StringList) → string_lists false args ≡ names ∷ more → either true false (names_flow (strings_of names)) ≡ test_flow (exists_of (string_lists false args))
-flow-exists args names more lists = rw lists refl
 
 pub exists_count : (args : List Argument) (names : StringList) (more : List StringList) → string_lists false args ≡ names ∷ more → size (test_flow (exists_of (string_lists false args))) ≡ 2 * length (others_of names) + 5
 exists_count args names more lists = rw lists (omega (arith, names_size (others_of names)))
-
-pub flow-header : (args rest : List Argument) (m : MatchType) (c : Comparator) (how : ℕ) (names keys : StringList) (more : List StringList) → string_lists false args ≡ names ∷ string_lists false rest → string_lists false rest ≡ keys ∷ more → m ≡ match_type args → c ≡ comparator_from false args → how ≡ comparison m c
-    → header_flow how (first_of names) (others_of names) (first_of keys) (others_of keys) ≡ test_flow (header_of (match_type args) (comparator_from false args) (string_lists false args))
-flow-header args rest m c how names keys more lists lists_behind compared by number = ap (λ (n : ℕ). header_flow n (first_of names) (others_of names) (first_of keys) (others_of keys)) number ∙ (rw (← compared, ← by, lists, lists_behind) refl)
 
 pub header_count : (args rest : List Argument) (m : MatchType) (c : Comparator) (names keys : StringList) (more : List StringList) → string_lists false args ≡ names ∷ string_lists false rest → string_lists false rest ≡ keys ∷ more
     → size (test_flow (header_of m c (string_lists false args))) ≡ 2 * length (others_of names) + 2 * length (others_of keys) + 8

@@ -3,6 +3,7 @@ use Rattle.std.proofs.Common.{◌≡◌, ◌≢◌, ℕ, zero, suc, List, [], �
 use Rattle.std.specs.Prelude.{slice_index_or, slice_set}
 use Rattle.std.proofs.lemmas.List.{get_or-set_same, get_or-set_other, length-set}
 use Rattle.std.proofs.lemmas.Slice.Eq.{bytes_eq-Decides}
+use Rattle.std.proofs.lemmas.Bool.{and_parts, and_from, or_right, false_from_ne_true}
 use Rattle.std.specs.Str.{bytes_eq}
 use Rattle.sieve_meaning.specs.Case.{Facts}
 use Rattle.sieve_meaning.specs.Program.{Include, Commands}
@@ -22,18 +23,11 @@ same_bool_is true false e = absurd (cc e)
 same_bool_is false true e = absurd (cc e)
 same_bool_is false false e = refl
 
-and_first : (a b : Bool) → (a && b) ≡ true → a ≡ true
-and_first true b e = refl
-and_first false b e = absurd (cc e)
-
-and_second : (a b : Bool) → (a && b) ≡ true → b ≡ true
-and_second true b e = e
-and_second false b e = absurd (cc e)
-
 same_is : (s t : ScriptName) → same_script s t ≡ true → s ≡ t
 same_is s t e =
-    let g : s.global ≡ t.global = same_bool_is s.global t.global (and_first (same_bool s.global t.global) (bytes_eq s.name t.name) e) in
-    let n : s.name ≡ t.name = (bytes_eq-Decides s.name t.name).0 (and_second (same_bool s.global t.global) (bytes_eq s.name t.name) e) in
+    let parts = and_parts (same_bool s.global t.global) (bytes_eq s.name t.name) e in
+    let g : s.global ≡ t.global = same_bool_is s.global t.global parts.0 in
+    let n : s.name ≡ t.name = (bytes_eq-Decides s.name t.name).0 parts.1 in
     let both : (s.global, s.name) ≡ (t.global, t.name) = cc in
     ap (λ (p : Bool × List ℕ). record { global = p.0; name = p.1 }) both
 
@@ -41,24 +35,12 @@ same_bool_self : (b : Bool) → same_bool b b ≡ true
 same_bool_self true = refl
 same_bool_self false = refl
 
-and_both : (a b : Bool) → a ≡ true → b ≡ true → (a && b) ≡ true
-and_both true b x y = y
-and_both false b x y = absurd (cc x)
-
 same_self : (s : ScriptName) → same_script s s ≡ true
-same_self s = and_both (same_bool s.global s.global) (bytes_eq s.name s.name) (same_bool_self s.global) ((bytes_eq-Decides s.name s.name).1 refl)
-
-or_later : (a b : Bool) → b ≡ true → (a || b) ≡ true
-or_later true b e = refl
-or_later false b e = e
+same_self s = and_from (same_bool s.global s.global) (bytes_eq s.name s.name) (same_bool_self s.global) ((bytes_eq-Decides s.name s.name).1 refl)
 
 or_replaced : (a b d : Bool) → (a || b) ≡ true → (b ≡ true → d ≡ true) → (a || d) ≡ true
 or_replaced true b d e h = refl
 or_replaced false b d e h = h e
-
-not_true : (a : Bool) → (a ≡ true → ⊥) → a ≡ false
-not_true true h = absurd (h refl)
-not_true false h = refl
 
 -- an include does not leave a block around it
 caught_any : (marking : Marking) (n : ℕ) (e : Ending) (x : Exit) → Alike marking 0 e x → Alike marking 1 e x → Alike marking n e (caught x)
@@ -76,7 +58,7 @@ ended_alike marking n (Faults i f) x h = record { filing = h.filing; related = h
 
 module _ (c : Facts) (lib : Library) (slot : Slots) (count : ℕ) (has : HasSlots lib slot count) (main : List ScriptName) where
   shrunk : (chain : List ScriptName) (s : ScriptName) (f : Filing) (g : code.Filing) → Related (Marked lib slot main (s ∷ chain)) f g → Related (Marked lib slot main chain) f g
-  shrunk chain s f g r = record { filed = r.filed; kept = r.kept; cancelled = r.cancelled; marks = record { long = r.marks.long; active = λ t h. r.marks.active t (or_later (same_script t s) (is_among chain t) h); found = r.marks.found; missing = r.marks.missing } }
+  shrunk chain s f g r = record { filed = r.filed; kept = r.kept; cancelled = r.cancelled; marks = record { long = r.marks.long; active = λ t h. r.marks.active t (or_right (same_script t s) (is_among chain t) h); found = r.marks.found; missing = r.marks.missing } }
 
   found_after : (s : ScriptName) (x : Commands) → lib.find s ≡ Some x → (chain entered : List ScriptName) (marks : List Bool) → Marked lib slot main chain entered marks
       → (t : ScriptName) (y : Commands) → lib.find t ≡ Some y → is_among main t ≡ false → (b : Bool) → same_script t s ≡ b → slice_index_or (slice_set marks (slot s) true) (slot t) false ≡ (b || is_among entered t)
@@ -140,7 +122,7 @@ module _ (c : Facts) (lib : Library) (slot : Slots) (count : ℕ) (has : HasSlot
         subst (λ (q : Bool). Alike (Marked lib slot main chain) n (unless_entered (i.once && q) (unless_missing (Some x) i.optional (λ script. unless_active true (enter script))) f) (effect c (active_flow true i.once (once_flow i.once (slot (script_named i)) (a x))) g []))
         (sym (r.marks.active (script_named i) e)) (active_judged n x i.once f g r)
     judged (Some x) at false e n f g r =
-        let out = not_true (is_among main (script_named i)) (λ h. absurd (cc (within (script_named i) h, e))) in
+        let out = false_from_ne_true (is_among main (script_named i)) (λ h. absurd (cc (within (script_named i) h, e))) in
         once_alike chain (script_named i) x i.once (a x) (unless_missing (Some x) i.optional (λ script. unless_active false (enter script))) n f g r at out (λ m. k x at m f g r)
 
     including_alike : (n : ℕ) (f : Filing) (g : code.Filing) → Related (Marked lib slot main chain) f g → Alike (Marked lib slot main chain) n (including lib chain enter i f) (effect c (including_flow lib slot main chain a i) g [])
@@ -151,7 +133,7 @@ module _ (c : Facts) (lib : Library) (slot : Slots) (count : ℕ) (has : HasSlot
       including_alike chain within (λ script f. Faults 4 f) (λ script. action (Fail 4)) i (λ x at n f g r. record { filing = g; related = r; exit = refl }) n f g r
   included_agrees (suc left) chain within i n f g r =
       let s = script_named i in
-      let inner = included_agrees left (s ∷ chain) (λ t h. or_later (same_script t s) (is_among chain t) (within t h)) in
+      let inner = included_agrees left (s ∷ chain) (λ t h. or_right (same_script t s) (is_among chain t) (within t h)) in
       including_alike chain within (λ script f. ended (run c (included c lib left (script_named i ∷ chain)) script (entering (script_named i) f)))
       (λ script. block (sequence (action (SetMark (slot (script_named i)))) (flow (included_flow lib slot main left (script_named i ∷ chain)) 0 script))) i
       (λ x at n f g r.

@@ -1,5 +1,5 @@
 -- Includes by what they come to.
-use Rattle.std.proofs.Common.{◌≡◌, ℕ, zero, suc, ◌+◌, ◌≤◌, ◌<◌, ◌^◌, List, [], ◌∷◌, Bool, true, false, Option, Some, None, length, ◌⊎◌, inl, inr, refl, sym, ap, ◌∙◌, arith}
+use Rattle.std.proofs.Common.{◌≡◌, ℕ, zero, suc, ◌+◌, ◌<◌, ◌^◌, List, [], ◌∷◌, Bool, true, false, Option, Some, None, length, ◌⊎◌, inl, inr, refl, sym, ap, ◌∙◌, arith}
 use Rattle.filing_image.specs.declared.instruction.Operation.TheVariants.{Marked, Mark, JumpIf}
 use Rattle.filing_flow.specs.Structure.{IsMarked, SetMark, Fail, Flow, action, sequence, block, leave_if, size}
 use Rattle.filing_flow.specs.Code.{only, end_at}
@@ -61,10 +61,6 @@ weight_judged lib main (suc left) chain i = weight_cases (lib.find (script_named
 -- the chain with one more script
 pub chain_is : (s t : ScriptName) (a b : List ScriptName) → s ≡ t → a ≡ b → (s ∷ a) ≡ (t ∷ b)
 chain_is s t a b e f = ap (λ (x : ScriptName). x ∷ a) e ∙ ap (λ (l : List ScriptName). t ∷ l) f
-
-pub once_longer : (once : Bool) (slot : ℕ) (a : Flow) → size a ≤ size (once_flow once slot a)
-once_longer true slot a = omega arith
-once_longer false slot a = omega arith
 
 module _ (lib : Library) (slots : Slots) (main : List ScriptName) (left : ℕ) (chain : List ScriptName) (i : Include) where
   pub flow_told : (j : Judgement) → j ≡ judgement lib main chain i → included_flow lib slots main left chain i ≡ judged_flow j i.once (slots (script_named i)) (entered_flow lib slots main left (script_named i ∷ chain) (slots (script_named i)))

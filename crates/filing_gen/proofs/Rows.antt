@@ -3,7 +3,8 @@ use Rattle.std.proofs.Common.{◌≡◌, ℕ, List, [], ◌∷◌, true, false, 
 use Rattle.sieve_syntax.specs.declared.tree.Script.{Script}
 use Rattle.sieve_syntax.specs.View.{tree_of}
 use Rattle.sieve_meaning.specs.Reading.{program_of}
-use Rattle.filing_gen.specs.Libraries.{NamedScript, Scripts, named, put, scripts_of, slots_of}
+use Rattle.filing_gen.specs.Correct.{library_of}
+use Rattle.filing_gen.specs.Libraries.{NamedScript, Scripts, named, put, slots_of}
 
 abbrev entry : List ℕ → Script → NamedScript
 entry name s = record { name = name; script = s }
@@ -31,14 +32,14 @@ named_exactly : (a b c : Script) → named (codes "Lists") (three a b c).persona
 named_exactly a b c = refl
 
 -- one name in both locations
-found_personal : (a b c : Script) → (scripts_of (three a b c)).find (record { global = false; name = lists }) ≡ Some (program_of (tree_of b))
+found_personal : (a b c : Script) → (library_of (three a b c)).find (record { global = false; name = lists }) ≡ Some (program_of (tree_of b))
 found_personal a b c = refl
 
-found_global : (a b c : Script) → (scripts_of (three a b c)).find (record { global = true; name = lists }) ≡ Some (program_of (tree_of c))
+found_global : (a b c : Script) → (library_of (three a b c)).find (record { global = true; name = lists }) ≡ Some (program_of (tree_of c))
 found_global a b c = refl
 
 -- a personal script is not found among the global ones
-not_found : (a b c : Script) → (scripts_of (three a b c)).find (record { global = true; name = spam }) ≡ None
+not_found : (a b c : Script) → (library_of (three a b c)).find (record { global = true; name = spam }) ≡ None
 not_found a b c = refl
 
 slot_personal : (a b c : Script) → slots_of (three a b c) (record { global = false; name = lists }) ≡ 1

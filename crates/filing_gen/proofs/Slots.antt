@@ -8,7 +8,8 @@ use Rattle.sieve_syntax.specs.declared.tree.Script.{Script}
 use Rattle.sieve_syntax.specs.View.{tree_of}
 use Rattle.sieve_meaning.specs.Program.{Commands}
 use Rattle.sieve_meaning.specs.Reading.{program_of}
-use Rattle.filing_gen.specs.Libraries.{NamedScript, Scripts, IsLibrary, is_named, named, place_of, location_of, first_slot, scripts_of, slots_of, most_scripts}
+use Rattle.filing_gen.specs.Correct.{library_of}
+use Rattle.filing_gen.specs.Libraries.{NamedScript, Scripts, IsLibrary, is_named, named, place_of, location_of, first_slot, slots_of, most_scripts}
 use Rattle.filing_gen.specs.Linked.{HasSlots}
 use Rattle.filing_gen.proofs.Shelves.{found_passes, same_name}
 
@@ -45,7 +46,7 @@ slot_own false false a b l x y i u v e = (refl, place_own a b l.personal x y u v
 slot_own true false a b l x y i u v e = absurd (omega (arith, e, place_inside b l.personal y v, i.personal.few))
 slot_own false true a b l x y i u v e = absurd (omega (arith, e, place_inside a l.personal x u, i.personal.few))
 
-slots_among : (l : Scripts) → IsLibrary l → (count : ℕ) → count ≤ 64 → length l.personal ≤ count → (0 < length l.global → most_scripts + length l.global ≤ count) → HasSlots (scripts_of l) (slots_of l) count
+slots_among : (l : Scripts) → IsLibrary l → (count : ℕ) → count ≤ 64 → length l.personal ≤ count → (0 < length l.global → most_scripts + length l.global ≤ count) → HasSlots (library_of l) (slots_of l) count
 slots_among l i count few p g = record {
   few = few;
   inside = λ s x h. slot_below l count p g s.global s.name (place_inside s.name (location_of s.global l) x h);
@@ -55,13 +56,9 @@ slots_among l i count few p g = record {
       ap (λ (p : Bool × List ℕ). record { global = p.0; name = p.1 }) pair;
 }
 
--- sixty-four are always enough
-pub has_slots : (l : Scripts) → IsLibrary l → HasSlots (scripts_of l) (slots_of l) 64
-has_slots l i = slots_among l i 64 (omega arith) (omega (arith, i.personal.few)) (λ _. omega (arith, i.global.few))
-
 -- where no script is global, as many as there are personal ones
-pub slots_personal : (l : Scripts) → IsLibrary l → (count : ℕ) → count ≡ length l.personal → length l.global ≡ 0 → HasSlots (scripts_of l) (slots_of l) count
+pub slots_personal : (l : Scripts) → IsLibrary l → (count : ℕ) → count ≡ length l.personal → length l.global ≡ 0 → HasSlots (library_of l) (slots_of l) count
 slots_personal l i count e none = slots_among l i count (omega (arith, e, i.personal.few)) (omega (arith, e)) (λ h. absurd (omega (arith, h, none)))
 
-pub slots_global : (l : Scripts) → IsLibrary l → (count : ℕ) → count ≡ most_scripts + length l.global → HasSlots (scripts_of l) (slots_of l) count
+pub slots_global : (l : Scripts) → IsLibrary l → (count : ℕ) → count ≡ most_scripts + length l.global → HasSlots (library_of l) (slots_of l) count
 slots_global l i count e = slots_among l i count (omega (arith, e, i.global.few)) (omega (arith, e, i.personal.few)) (λ _. omega (arith, e))

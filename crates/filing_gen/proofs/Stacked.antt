@@ -91,6 +91,3 @@ module _ (name : List ℕ) (items : List Entry) where
 
   pub no_room : Missing → most_scripts ≤ length items → IsLocation (map entry_of items) → HasNoRoom (map entry_of items) name
   no_room h many l = record { full = omega (arith, length-map items entry_of, many, l.few); missing = sym (script_missing h) }
-
-  pub room_left : length items < most_scripts → HasNoRoom (map entry_of items) name → ⊥
-  room_left few full = omega (arith, length-map items entry_of, few, full.full)

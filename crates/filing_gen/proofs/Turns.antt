@@ -20,7 +20,7 @@ use Rattle.filing_flow.specs.Code.{Start, Piece, piece, joined, after, only, end
 use Rattle.filing_gen.specs.Structured.{test_flow, flow, flow_one, branches_flow, branch_flow}
 use Rattle.filing_flow.specs.Whole.{first, whole}
 use Rattle.filing_gen.specs.Adds.{Adds, Emits, IsCode, end_of}
-use Rattle.filing_gen.specs.Emission.{part_of, part_behind, is_branch, front_long, commands_long, one_long, branches_long, plain_long, part_long, long_from, plain_flow, part_flow, part_ends, rest_flow, chain_end, EmitsPart}
+use Rattle.filing_gen.specs.Emission.{part_of, is_branch, commands_long, one_long, branches_long, plain_long, part_long, long_from, plain_flow, part_flow, part_ends, rest_flow, chain_end, EmitsPart}
 use Rattle.filing_gen.specs.declared.output.Output.{Output}
 use Rattle.filing_gen.specs.declared.part.Part.{Part}
 use Rattle.filing_gen.specs.declared.part.Part.TheVariants.{Branch, Otherwise, Plain}
@@ -248,29 +248,6 @@ turn_long w word is_open xs i x is lt named =
 pub end_long : (w : Include → ℕ) (is_open : Bool) (xs : List TreeCommand) (i : ℕ) → length xs ≤ i → long_from w is_open (commands_of (map command_of (drop i xs))) ≡ 0
 end_long w true xs i le = rw (no_turn xs i le) refl
 end_long w false xs i le = rw (no_turn xs i le) refl
-
--- branches at the front of commands
-pub branches_then : (w : Include → ℕ) (word : CommandWord) (name : List ℕ) (args : List Argument) (inner : InnerTests) (finish : EndingTree) (more : CommandTrees) → command_word name ≡ word
-    → branches_long w (branches_of (trees.command_then (command name args inner finish) more)) ≡ front_long w (part_behind word) (command name args inner finish) more
-branches_then w words.If name args inner finish more is = rw is refl
-branches_then w words.ElsIf name args inner finish more is = rw is refl
-branches_then w words.Else name args inner finish more is = rw is refl
-branches_then w words.Require name args inner finish more is = rw is refl
-branches_then w words.Stop name args inner finish more is = rw is refl
-branches_then w words.Keep name args inner finish more is = rw is refl
-branches_then w words.Discard name args inner finish more is = rw is refl
-branches_then w words.Return name args inner finish more is = rw is refl
-branches_then w words.FileInto name args inner finish more is = rw is refl
-branches_then w words.Include name args inner finish more is = rw is refl
-branches_then w words.Other name args inner finish more is = rw is refl
-
-pub turn_branches : (w : Include → ℕ) (word : CommandWord) (xs : List TreeCommand) (i : ℕ) (x : TreeCommand) → x ≡ get_or xs i x → i < length xs → command_word (out-Command x).name ≡ word
-    → branches_long w (branches_of (commands_of (map command_of (drop i xs)))) ≡ front_long w (part_behind word) (command_of x) (commands_of (map command_of (drop (i + 1) xs)))
-turn_branches w word xs i x is lt named =
-    rw (turn xs i x is lt, command_of-fields x) (branches_then w word (out-Command x).name (out-Command x).arguments (inner_of (out-Command x).tests) (ending_of (out-Command x).ending) (commands_of (map command_of (drop (i + 1) xs))) named)
-
-pub end_branches : (w : Include → ℕ) (xs : List TreeCommand) (i : ℕ) → length xs ≤ i → branches_long w (branches_of (commands_of (map command_of (drop i xs)))) ≡ 0
-end_branches w xs i le = rw (no_turn xs i le) refl
 
 -- a script and the end of the run, written from nothing
 pub code_of_empty : (x y : Output) (a : Flow) → x.texts.items ≡ [] → x.numbers.items ≡ [] → x.code.items ≡ [] → Emits x y (whole a) [] → IsCode y a

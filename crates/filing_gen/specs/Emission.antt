@@ -79,12 +79,6 @@ abbrev pub long_from : (Include → ℕ) → (is_open : Bool) → CommandTrees �
 long_from w true cs = branches_long w (branches_of cs) + commands_long w (program_of cs)
 long_from w false cs = commands_long w (program_of cs)
 
--- of branches at the front of commands, by what their first command is to them
-abbrev pub front_long : (Include → ℕ) → Part → CommandTree → CommandTrees → ℕ
-front_long w Branch c more = part_long w Branch c + branches_long w (branches_of more)
-front_long w Otherwise c more = part_long w Otherwise c
-front_long w Plain c more = 0
-
 -- CODE
 
 -- of a command that has no block; `elsif` and `else` that are not open are passed over

@@ -6,9 +6,7 @@ use Rattle.std.specs.Str.{bytes_eq}
 use Rattle.std.specs.Coded.{Coded, code_by, coded×, coded_list, coded_ℕ}
 use Rattle.sieve_syntax.specs.declared.tree.Script.{Script}
 use Rattle.sieve_syntax.specs.contracts.tree.Script as kept
-use Rattle.sieve_syntax.specs.View.{tree_of}
-use Rattle.sieve_meaning.specs.Meaning.{ScriptName, Library}
-use Rattle.sieve_meaning.specs.Reading.{program_of}
+use Rattle.sieve_meaning.specs.Meaning.{ScriptName}
 use Rattle.filing_gen.specs.declared.library.Location.{Location}
 use Rattle.filing_gen.specs.declared.library.Location.TheVariants.{Personal, Global}
 use Rattle.filing_gen.specs.declared.fault.LibraryFault.{LibraryFault}
@@ -87,10 +85,6 @@ location_of false l = l.personal
 
 abbrev pub script_at : Location → List ℕ → ScriptName
 script_at location name = record { global = is_global location; name = name }
-
--- what an include finds: a global name among the global scripts, another among the personal ones
-abbrev pub scripts_of : Scripts → Library
-scripts_of l = record { find = λ s. option_map (λ x. program_of (tree_of x)) (named s.name (location_of s.global l)) }
 
 -- The slot of a script says where it stands: the personal ones come first, and leave room for as many as there can be.
 abbrev pub first_slot : (global : Bool) → ℕ

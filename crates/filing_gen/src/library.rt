@@ -2,7 +2,8 @@
 
 ghost use Rattle.std.specs.Prelude.{◌≡◌, ◌↔◌, ◌<◌, [], Err, IsOk, IsSome, IfSome, OnOk, OnErr, length, bytes_eq, option_map, position};
 ghost use Rattle.sieve_meaning.specs.Meaning.{no_library};
-ghost use Rattle.filing_gen.specs.Libraries.{named, place_of, put, is_named, is_global, location_of, no_scripts, script_at, scripts_of, slots_of, IsLibrary, IsLocation, HasNoRoom, IsFoundIn};
+ghost use Rattle.filing_gen.specs.Correct.{library_of};
+ghost use Rattle.filing_gen.specs.Libraries.{named, place_of, put, is_named, is_global, location_of, no_scripts, script_at, slots_of, IsLibrary, IsLocation, HasNoRoom, IsFoundIn};
 ghost use Rattle.filing_gen.specs.Linked.{HasSlots};
 ghost use Rattle.filing_gen.specs.Shelves.{entry_of, entries_of};
 ghost use Rattle.filing_gen.specs.declared.fault.LibraryFault.TheVariants.{Full};
@@ -110,7 +111,7 @@ impl Library {
     /// No script; takes no memory.
     pub fn new(alloc: Global) -> Library
         ensures empty { result ≡ no_scripts }
-        ensures finds_none { scripts_of result ≡ no_library }
+        ensures finds_none { library_of result ≡ no_library }
     {
         Library {
             alloc,
@@ -175,7 +176,7 @@ impl Library {
 
     /// How many slots are enough for the scripts: none where there is no script, and sixty-four at most.
     pub(crate) fn slot_count(&self) -> u16
-        ensures { HasSlots (scripts_of self.now) (slots_of self.now) result }
+        ensures { HasSlots (library_of self.now) (slots_of self.now) result }
     {
         let personal = self.personal.entries.len();
         let global = self.global.entries.len();

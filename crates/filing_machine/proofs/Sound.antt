@@ -1,8 +1,8 @@
 -- The run of a verified program never traps, and ends within its budget.
-use Rattle.std.proofs.Common.{◌≡◌, ◌≢◌, ℕ, zero, suc, ◌+◌, ◌<◌, ◌≤◌, List, [], ◌∷◌, ◌++◌, length, Bool, true, false, not, ◌&&◌, ◌||◌, cond, Some, refl, sym, ap, ◌∙◌, subst, arith, inl, inr, get_or}
+use Rattle.std.proofs.Common.{◌≡◌, ◌≢◌, ℕ, zero, suc, ◌+◌, ◌<◌, ◌≤◌, List, [], ◌∷◌, ◌++◌, length, Bool, true, false, not, ◌||◌, cond, Some, refl, sym, ap, ◌∙◌, subst, arith, inl, inr, get_or}
 use Rattle.std.specs.Prelude.{slice_get, nat_lt, nat_eq}
-use Rattle.std.proofs.lemmas.Bool.{cases_lt, le-ltb, lt-ltb, le-leb}
-use Rattle.std.proofs.lemmas.Option.{slice_get-get_or}
+use Rattle.std.proofs.lemmas.Bool.{cases_lt, le-ltb, lt-ltb, le-leb, and_from}
+use Rattle.std.proofs.lemmas.Option.{slice_get-get_or, same_Some}
 use Rattle.std.proofs.lemmas.List.Elements.{All-get_or}
 use Rattle.filing_image.specs.declared.instruction.Operation.{Operation}
 use Rattle.filing_image.specs.declared.instruction.Operation.TheVariants.{PushTrue, PushFalse, Not, Values, Join, Match, Pop, Exists, Size, Number, Less, Jump, JumpIf, JumpUnless, Marked, Mark, File, Keep, Discard, Stop, Fault}
@@ -66,13 +66,6 @@ filed o s r c a path g e = elim (c.is_open path) as (λ b. Does o s r (cond b (A
   | false ↦ tt
 ]
 
-both : (x y : Bool) → x ≡ true → y ≡ true → (x && y) ≡ true
-both true y e f = f
-both false y e f = absurd cc
-
-some_is : {A : Type 0} {x y : A} → Some x ≡ Some y → x ≡ y
-some_is e = cc
-
 acts : (p : Program) (c : Facts) (o : Operation) (s : State) (es : List Entry) (r : List Kind) → s.stack ≡ es → after o (kinds es) ≡ Some r → length r ≤ 32 → InRange p o → Does o s r (on_stack p c o s es)
 unfolding Does kinds kind
 acts p c PushTrue s es r same e fits range = stacked PushTrue s (T true ∷ es) r refl e fits
@@ -115,12 +108,12 @@ acts p c (JumpUnless b) s [] r same e fits range = absurd cc
 acts p c (JumpUnless b) s (L d ∷ es) r same e fits range = absurd cc
 acts p c (JumpUnless b) s (N d ∷ es) r same e fits range = absurd cc
 acts p c (Marked b) s es r same e fits range = only (Marked b) s r _ _ (lt-ltb _ _ range) (stacked (Marked b) s (T _ ∷ es) r refl e fits)
-acts p c (Mark b) s es r same e fits range = only (Mark b) s r _ _ (lt-ltb _ _ range) (inl (refl, refl), ap kinds same ∙ some_is e)
+acts p c (Mark b) s es r same e fits range = only (Mark b) s r _ _ (lt-ltb _ _ range) (inl (refl, refl), ap kinds same ∙ same_Some _ _ e)
 acts p c (File a b) s es r same e fits range = only (File a b) s r _ _ (le-leb _ _ range.0) (named (File a b) s r p.texts b _ range.1 (λ path. filed (File a b) s r c a path refl (ap Some (ap kinds same) ∙ e)))
-acts p c Keep s es r same e fits range = (inl (refl, refl), ap kinds same ∙ some_is e)
-acts p c Discard s es r same e fits range = (inl (refl, refl), ap kinds same ∙ some_is e)
+acts p c Keep s es r same e fits range = (inl (refl, refl), ap kinds same ∙ same_Some _ _ e)
+acts p c Discard s es r same e fits range = (inl (refl, refl), ap kinds same ∙ same_Some _ _ e)
 acts p c Stop s es r same e fits range = tt
-acts p c (Fault a) s es r same e fits range = only (Fault a) s r _ _ (both _ _ (le-leb _ _ range.0) (le-leb _ _ range.1)) tt
+acts p c (Fault a) s es r same e fits range = only (Fault a) s r _ _ (and_from _ _ (le-leb _ _ range.0) (le-leb _ _ range.1)) tt
 
 in_target : (p : Program) (o : Operation) (q : ℕ) → InRange p o → target o ≡ Some q → q < length p.code
 in_target p (Jump b) q h e = let same : b ≡ q = cc in rw (← same) h

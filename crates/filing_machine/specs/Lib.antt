@@ -3,5 +3,6 @@ pub mod Items
 pub mod Seen
 pub mod Runs
 pub mod Message
+pub mod Borrowed
 pub mod Pieces
 pub mod Views

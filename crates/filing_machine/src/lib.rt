@@ -6,6 +6,7 @@
 #![tactic(auto)]
 
 mod act;
+mod borrowed;
 mod case;
 mod fields;
 mod laws;
@@ -18,9 +19,10 @@ mod state;
 mod values;
 mod whole;
 
+pub use borrowed::{BorrowedCase, BorrowedField, OpenPaths};
 pub use case::Case;
 pub use laws::every_run_ends;
 pub use machine::{Machine, run};
-pub use outcome::Outcome;
+pub use outcome::{Outcome, default_class_alone};
 pub use pieces::PieceCase;
 pub use whole::WholeCase;

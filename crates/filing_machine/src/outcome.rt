@@ -1,7 +1,7 @@
 //! What a run captures.
 
-ghost use Rattle.std.specs.Prelude.{◌≡◌, IfOk};
-ghost use Rattle.sieve_meaning.specs.Outcome.{outcome_at};
+ghost use Rattle.std.specs.Prelude.{◌≡◌, [], ◌∷◌, IfOk};
+ghost use Rattle.sieve_meaning.specs.Outcome.{outcome_at, unfiled};
 
 use crate::state::Standing;
 use sieve_meaning::Paths;
@@ -21,6 +21,15 @@ pub struct Outcome {
     pub steps: u64,
 }
 
+/// The default class, and no other: what a run captures that ended with a fault. The only error is want of memory.
+pub fn default_class_alone(alloc: Global) -> Result<Paths, AllocError>
+    ensures { IfOk result (λ p. p ≡ unfiled ∷ []) }
+{
+    let mut classes = Paths::new(alloc);
+    classes.insert(alloc, UNFILED)?;
+    Ok(classes)
+}
+
 /// What a run captures that ended here. With a fault it is the default class alone; with none it is the classes that
 /// the run filed into, and the default class too where the message is kept, explicitly or implicitly (RFC 5228, section
 /// 2.10.2).
@@ -32,9 +41,7 @@ pub fn captured_classes(
     ensures { IfOk result (λ p. p ≡ (outcome_at fault at.now.filed at.now.kept at.now.cancelled).classes) }
 {
     if fault.is_some() {
-        let mut classes = Paths::new(alloc);
-        classes.insert(alloc, UNFILED)?;
-        return Ok(classes);
+        return default_class_alone(alloc);
     }
     let mut classes = at.filed.copy(alloc)?;
     if at.kept || !at.cancelled {

@@ -16,7 +16,7 @@ use crate::payload::{Payload, read_payload};
 use crate::reply::{Reply, write_reply};
 use crate::stream::{ReadFault, Sink, Source, write_all};
 use crate::words::{Request, read_request};
-use filing_desk::{Desk, Refusal};
+use filing_desk::{Desk, GREATEST_IMAGE, GREATEST_MESSAGE, GREATEST_PLAN, Refusal};
 use std::alloc::Global;
 use thiserror::Error;
 
@@ -25,15 +25,6 @@ pub const COMMANDS: u32 = 1_000_000;
 
 /// How many octets a script has at most; a longer one is refused (15).
 const SCRIPT_OCTETS: usize = 262_144;
-
-/// How many octets a message has at most; a longer one is refused (95).
-const MESSAGE_OCTETS: usize = 8_388_608;
-
-/// How many octets an image has at most; a longer one is refused (61).
-const IMAGE_OCTETS: usize = 16_777_216;
-
-/// How many octets the text of a plan has at most; a longer one is refused (58).
-const PLAN_OCTETS: usize = 1_048_576;
 
 /// Why a session was given up.
 #[derive(Clone, Copy, Debug, Drop, PartialEq, Eq, Error)]
@@ -128,7 +119,7 @@ fn read_and_file<S: Source>(
     let Some(script) = read_payload(alloc, source, script, SCRIPT_OCTETS)? else {
         return Ok(Said::End(Ending::CutShort));
     };
-    let Some(message) = read_payload(alloc, source, message, MESSAGE_OCTETS)? else {
+    let Some(message) = read_payload(alloc, source, message, GREATEST_MESSAGE)? else {
         return Ok(Said::End(Ending::CutShort));
     };
     Ok(Said::Reply(file(desk, &script, &message)))
@@ -169,10 +160,10 @@ fn read_and_try<S: Source>(
     ensures fault { OnErr result (GivesUp (S.troubles source.old) (S.failures source.old) (S.troubles source.new) (S.failures source.new)) }
     ensures outlasts { OnOk result (S.failures source.new ≡ S.failures source.old) }
 {
-    let Some(image) = read_payload(alloc, source, image, IMAGE_OCTETS)? else {
+    let Some(image) = read_payload(alloc, source, image, GREATEST_IMAGE)? else {
         return Ok(Said::End(Ending::CutShort));
     };
-    let Some(message) = read_payload(alloc, source, message, MESSAGE_OCTETS)? else {
+    let Some(message) = read_payload(alloc, source, message, GREATEST_MESSAGE)? else {
         return Ok(Said::End(Ending::CutShort));
     };
     Ok(Said::Reply(try_image(desk, &image, &message)))
@@ -208,7 +199,7 @@ fn read_and_set_plan<S: Source>(
     ensures fault { OnErr result (GivesUp (S.troubles source.old) (S.failures source.old) (S.troubles source.new) (S.failures source.new)) }
     ensures outlasts { OnOk result (S.failures source.new ≡ S.failures source.old) }
 {
-    let Some(text) = read_payload(alloc, source, text, PLAN_OCTETS)? else {
+    let Some(text) = read_payload(alloc, source, text, GREATEST_PLAN)? else {
         return Ok(Said::End(Ending::CutShort));
     };
     let reply = set_plan(desk, &text);

@@ -1,5 +1,5 @@
 -- Marks are passed on to the successors.
-use Rattle.std.proofs.Common.{◌≡◌, ℕ, zero, suc, ◌+◌, ◌<◌, ◌≤◌, List, [], ◌∷◌, length, Bool, true, false, Option, Some, None, refl, sym, ap, ◌∙◌, subst, arith, inl, inr, ◌⊎◌}
+use Rattle.std.proofs.Common.{◌≡◌, ℕ, zero, suc, ◌+◌, ◌<◌, List, [], ◌∷◌, length, Bool, true, false, Option, Some, None, refl, sym, ap, ◌∙◌, subst, arith, inl, inr, ◌⊎◌}
 use Rattle.std.specs.Prelude.{slice_get, slice_set}
 use Rattle.std.proofs.Math.ListN.{length-set}
 use Rattle.std.proofs.lemmas.Option.{slice_get_within}
@@ -91,9 +91,6 @@ module _ (program : Program) (i : ℕ) (ms : List Bool) (so_far : Marks program 
   }
 
   module _ (o : Operation) (at : slice_get program.code i ≡ Some o) (marked : IsMarked ms i) where
-    pub not_forward : (q : ℕ) → target o ≡ Some q → q ≤ i → GoesForward program → ⊥
-    not_forward q to le all = let lt : i < q = all i q o (so_far.sound i marked) at to in absurd (omega arith)
-
     module _ (ahead : (q : ℕ) → target o ≡ Some q → i < q) where
       -- a mark at or before i was there
       old_mark : (p : ℕ) → p < i + 1 → IsMarked (with_next (goes_on o) i (with_target (target o) ms)) p → IsMarked ms p

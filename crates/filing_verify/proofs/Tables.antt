@@ -35,15 +35,6 @@ module _ (o : Operation) (p b : ℕ) (r : List Kind) (to : target o ≡ Some b) 
     ];
   }
 
-  pub clashes_later : Clashes mid (λ q. (goes_on o ≡ true) × (q ≡ p + 1)) r → Clashes old (FollowsBy o p) r
-  clashes_later d = record {
-    place = d.place;
-    named = inl d.named;
-    other = d.other;
-    there = elim (first.only d.place d.other d.there) [ inl a ↦ a | inr (e, same) ↦ absurd (d.differs same) ];
-    differs = d.differs;
-  }
-
 -- ---- the pass
 
 module _ (program : Program) (i : ℕ) (table : Table) (forward : GoesForward program) (so_far : Shaping program i table) where

@@ -2,14 +2,15 @@
 use Rattle.std.proofs.Common.{◌≡◌, ℕ, suc, ◌+◌, ◌-◌, ◌<◌, Bool, true, false, cond, eqb, List, [], ◌∷◌, ◌++◌, length, take, drop, refl, sym, ap, get_or, append_assoc, ◌∙◌, arith, eqb-true}
 use Rattle.std.proofs.lemmas.List.{append-nil, length-append, take_more, take_at, drop_at, take_all, take-append-le, reverse-append, nil_from_length, append_cancel_right, get_or-append_right}
 use Rattle.std.proofs.lemmas.List.Folds.{list_all-append}
+use Rattle.std.proofs.Math.Bool.{and-false, or-true}
+use Rattle.std.proofs.lemmas.Bool.{and_parts}
 use Rattle.std.specs.Prelude.{nat_lt, ◌&&◌, ◌||◌}
 use Rattle.std.specs.List.{list_all, prefix_len, suffix_len, take_while}
 use Rattle.mail_words.specs.Unfolding.{is_blank, without_cr, begins_with, begins_line_end, ends_in, unfolded, IsFirstOctet, without_first_blanks, without_last_blanks}
 use Rattle.mail_words.specs.Words.{is_charset_octet, is_text_octet, is_part_octet, IsPartOctet}
 use Rattle.mail_words.specs.declared.words.Part.{Part}
 use Rattle.mail_words.specs.declared.words.Part.TheVariants.{Charset, Text}
-use Rattle.mail_words.proofs.SpellingLemmas.{and_parts}
-use Rattle.mail_words.proofs.UnfoldingLemmas.{without_cr-cons}
+use Rattle.mail_words.proofs.UnfoldingLemmas.{before_lf, without_cr-cons}
 
 -- the last octet is this one
 abbrev pub last_is : ℕ → List ℕ → Bool
@@ -17,28 +18,16 @@ last_is c [] = false
 last_is c (b ∷ []) = eqb b c
 last_is c (b ∷ d ∷ ds) = last_is c (d ∷ ds)
 
-and_false : (t : Bool) → (t && false) ≡ false
-and_false true = refl
-and_false false = refl
-
-or_true : (t : Bool) → (t || true) ≡ true
-or_true true = refl
-or_true false = refl
-
 push_append : (t : Bool) (b : ℕ) (xs ys : List ℕ) → cond t (xs ++ ys) (b ∷ (xs ++ ys)) ≡ cond t xs (b ∷ xs) ++ ys
 push_append true b xs ys = refl
 push_append false b xs ys = refl
-
-one_append : (t : Bool) (b : ℕ) (ys : List ℕ) → cond t ys (b ∷ ys) ≡ cond t [] (b ∷ []) ++ ys
-one_append true b ys = refl
-one_append false b ys = refl
 
 -- texts that no line end joins
 pub unfolded-append : (xs ys : List ℕ) → (last_is 13 xs && begins_with 10 ys) ≡ false → unfolded (xs ++ ys) ≡ unfolded xs ++ unfolded ys
 unfolding unfolded
 unfolded-append [] ys h = refl
 unfolded-append (b ∷ []) [] h = sym (append-nil (unfolded (b ∷ [])))
-unfolded-append (b ∷ []) (y ∷ ys) h = rw (h, and_false (eqb b 13)) (one_append (eqb b 10 || false) b (unfolded (y ∷ ys)))
+unfolded-append (b ∷ []) (y ∷ ys) h = rw (h, and-false (eqb b 13)) (before_lf (eqb b 10 || false) b (unfolded (y ∷ ys)))
 unfolded-append (b ∷ c ∷ cs) ys h = ap (λ x. cond (eqb b 10 || (eqb b 13 && eqb c 10)) x (b ∷ x)) (unfolded-append (c ∷ cs) ys h) ∙ push_append (eqb b 10 || (eqb b 13 && eqb c 10)) b (unfolded (c ∷ cs)) (unfolded ys)
 
 pub last-snoc : (c : ℕ) (xs : List ℕ) (b : ℕ) → last_is c (xs ++ b ∷ []) ≡ eqb b c
@@ -47,11 +36,11 @@ last-snoc c (x ∷ []) b = refl
 last-snoc c (x ∷ y ∷ ys) b = last-snoc c (y ∷ ys) b
 
 pub unfolded-before : (xs ys : List ℕ) → begins_with 10 ys ≡ false → unfolded (xs ++ ys) ≡ unfolded xs ++ unfolded ys
-unfolded-before xs ys h = unfolded-append xs ys (ap (λ t. last_is 13 xs && t) h ∙ and_false (last_is 13 xs))
+unfolded-before xs ys h = unfolded-append xs ys (ap (λ t. last_is 13 xs && t) h ∙ and-false (last_is 13 xs))
 
 pub unfolded-snoc : (xs : List ℕ) (b : ℕ) → eqb b 10 ≡ false → unfolded (xs ++ b ∷ []) ≡ unfolded xs ++ b ∷ []
 unfolding unfolded
-unfolded-snoc xs b h = unfolded-before xs (b ∷ []) h ∙ rw (h, and_false (eqb b 13)) refl
+unfolded-snoc xs b h = unfolded-before xs (b ∷ []) h ∙ rw (h, and-false (eqb b 13)) refl
 
 -- an LF at the end, with one CR before it
 begins-without : (c : ℕ) (cs : List ℕ) → begins_with 10 (without_cr (c ∷ cs)) ≡ eqb c 10
@@ -68,8 +57,8 @@ unfolded-end [] = refl
 unfolded-end (b ∷ []) = at (eqb b 13)
   where
     at : (t : Bool) → cond (eqb b 10 || (t && true)) [] (b ∷ []) ≡ unfolded (cond t [] (b ∷ []))
-    at true = rw (or_true (eqb b 10)) refl
-    at false = rw (and_false (eqb b 13)) refl
+    at true = rw (or-true (eqb b 10)) refl
+    at false = rw (and-false (eqb b 13)) refl
 unfolded-end (b ∷ c ∷ cs) = ap (λ x. cond (eqb b 10 || (eqb b 13 && eqb c 10)) x (b ∷ x)) (unfolded-end (c ∷ cs)) ∙ ap (λ t. cond (eqb b 10 || (eqb b 13 && t)) (unfolded (without_cr (c ∷ cs))) (b ∷ unfolded (without_cr (c ∷ cs)))) (sym (begins-without c cs)) ∙ ap unfolded (sym (without_cr-cons b c cs))
 
 -- the first octet

@@ -1,13 +1,10 @@
 -- A word at the front of a text, read part by part.
-use Rattle.std.proofs.Common.{◌≡◌, ℕ, Bool, true, false, cond, List, [], ◌∷◌, length, drop, refl, sym, ap, ◌∙◌, arith, Some, None}
+use Rattle.std.proofs.Common.{◌≡◌, ℕ, true, false, cond, List, [], ◌∷◌, length, drop, refl, sym, ap, ◌∙◌, arith, Some, None}
+use Rattle.std.proofs.Math.Bool.{and-false}
 use Rattle.std.specs.Prelude.{nat_lt, ◌&&◌}
 use Rattle.std.specs.List.{take_while}
 use Rattle.mail_words.specs.Unfolding.{is_nil}
 use Rattle.mail_words.specs.Words.{is_charset_octet, is_text_octet, is_encoding, opens, closes, names_encoding, begins_with_pair, word_at}
-
-and_no : (t : Bool) → (t && false) ≡ false
-and_no true = refl
-and_no false = refl
 
 opens_pair : (bs : List ℕ) → opens bs ≡ begins_with_pair 61 63 bs
 opens_pair [] = refl
@@ -32,7 +29,7 @@ pub record Opened (bs opened charset encoded : List ℕ) : Type 0 where
 
 pub front-not_encoding : (bs opened charset encoded : List ℕ) → Opened bs opened charset encoded → names_encoding encoded ≡ false → None ≡ word_at bs
 unfolding word_at
-front-not_encoding bs opened charset encoded o h = sym (ap word_at o.begins ∙ (rw (← o.behind, h, and_no (nat_lt 0 (length (take_while is_charset_octet opened)))) refl))
+front-not_encoding bs opened charset encoded o h = sym (ap word_at o.begins ∙ (rw (← o.behind, h, and-false (nat_lt 0 (length (take_while is_charset_octet opened)))) refl))
 
 pub record Lettered (bs opened charset encoded rest text closed : List ℕ) (letter : ℕ) : Type 0 where
   pub front : Opened bs opened charset encoded
@@ -47,7 +44,7 @@ unfolding word_at
 word_at-parts bs opened charset encoded rest text closed letter l = ap word_at l.front.begins ∙ (rw (← l.front.behind, ← l.front.charset_is, l.named, l.encoding, ← l.behind, ← l.text_is) refl)
 
 pub front-not_closed : (bs opened charset encoded rest text closed : List ℕ) (letter : ℕ) → Lettered bs opened charset encoded rest text closed letter → begins_with_pair 63 61 closed ≡ false → None ≡ word_at bs
-front-not_closed bs opened charset encoded rest text closed letter l h = sym (word_at-parts bs opened charset encoded rest text closed letter l ∙ (rw (closes_pair closed, h, and_no (nat_lt 0 (length charset) && true && nat_lt 0 (length text))) refl))
+front-not_closed bs opened charset encoded rest text closed letter l h = sym (word_at-parts bs opened charset encoded rest text closed letter l ∙ (rw (closes_pair closed, h, and-false (nat_lt 0 (length charset) && true && nat_lt 0 (length text))) refl))
 
 pub nil_from : (xs : List ℕ) → is_nil xs ≡ true → xs ≡ []
 nil_from [] h = refl
@@ -57,7 +54,7 @@ pub front-no_charset : (bs opened charset encoded rest text closed : List ℕ) (
 front-no_charset bs opened charset encoded rest text closed letter l e = sym (word_at-parts bs opened charset encoded rest text closed letter l ∙ (rw (nil_from charset e) refl))
 
 pub front-no_text : (bs opened charset encoded rest text closed : List ℕ) (letter : ℕ) → Lettered bs opened charset encoded rest text closed letter → is_nil text ≡ true → None ≡ word_at bs
-front-no_text bs opened charset encoded rest text closed letter l e = sym (word_at-parts bs opened charset encoded rest text closed letter l ∙ (rw (nil_from text e, and_no (nat_lt 0 (length charset) && true)) refl))
+front-no_text bs opened charset encoded rest text closed letter l e = sym (word_at-parts bs opened charset encoded rest text closed letter l ∙ (rw (nil_from text e, and-false (nat_lt 0 (length charset) && true)) refl))
 
 some_octets : (xs : List ℕ) → is_nil xs ≡ false → nat_lt 0 (length xs) ≡ true
 some_octets [] h = absurd cc

@@ -1,6 +1,6 @@
 -- What a word means is what is computed.
 use Rattle.std.proofs.Common.{◌≡◌, ℕ, zero, suc, ◌+◌, ◌*◌, ◌<◌, ◌≤◌, Bool, true, false, cond, eqb, List, [], ◌∷◌, refl, sym, ap, ◌∙◌, subst, arith, inl, inr, Option, Some, None, ◌↔◌, eqb-true, eq-eqb, ne_eqb, leb-true}
-use Rattle.std.proofs.lemmas.Bool.{cases_Bool}
+use Rattle.std.proofs.lemmas.Bool.{cases_Bool, and_parts}
 use Rattle.std.specs.Prelude.{option_map, option_and_then, nat_le, not, ◌==◌}
 use Rattle.std.specs.List.{list_all}
 use Rattle.base64.specs.GeneralPurpose.{IsBytes}
@@ -9,7 +9,6 @@ use Rattle.mail_words.specs.Words.{Word, IsWord, is_visible, is_text_octet, is_e
 use Rattle.mail_words.specs.Charsets.{charset_named, text_in}
 use Rattle.mail_words.specs.Decoding.{hex_value, q_octets, octets_of, text_of}
 use Rattle.mail_words.specs.Meaning.{QText, q_end, q_itself, q_space, q_escape, IsEncoding, Means, IsGood, MeaningLaw}
-use Rattle.mail_words.proofs.SpellingLemmas.{and_parts}
 use Rattle.mail_words.proofs.EncodedLemmas.{b_law}
 
 some_map : {A B : Type 0} (f : A → B) (o : Option A) (y : B) → option_map f o ≡ Some y → (x : A) × (o ≡ Some x) × (f x ≡ y)

@@ -1,12 +1,13 @@
 -- The cut of a text has all words that stand in it, and no other.
 use Rattle.std.proofs.Common.{◌≡◌, ℕ, zero, suc, ◌<◌, ◌≤◌, Bool, true, false, cond, eqb, List, [], ◌∷◌, ◌++◌, length, take, drop, refl, sym, ap, ◌∙◌, subst, arith, Option, Some, None, append_assoc, eqb-true, get_or}
 use Rattle.std.proofs.lemmas.List.{append-nil, length-append, append_cancel_left}
+use Rattle.std.proofs.lemmas.Bool.{and_parts}
 use Rattle.std.specs.Prelude.{option_map, nat_lt, not, ◌==◌}
 use Rattle.std.specs.List.{list_all, prefix_len}
 use Rattle.mail_words.specs.Words.{Word, spelling, IsWord, is_charset_octet, is_text_octet, is_encoding, precedes, can_follow, word_at, if_followed, followed_word_at, or_later, first_word}
 use Rattle.mail_words.specs.Value.{Cut, cut_at, cut_words}
 use Rattle.mail_words.specs.Spans.{may_stand_behind, StandsIn, written, IsCutOf, StandApart}
-use Rattle.mail_words.proofs.SpellingLemmas.{and_parts, Found, first_word-stands}
+use Rattle.mail_words.proofs.SpellingLemmas.{Found, first_word-stands}
 
 -- a run that a text begins with is the whole of it that passes
 run_stops : (p : ℕ → Bool) (xs : List ℕ) (y : ℕ) (ys : List ℕ) → list_all p xs ≡ true → p y ≡ false → prefix_len p (xs ++ y ∷ ys) ≡ length xs

@@ -1,20 +1,13 @@
 -- Unfolding, one line after another.
 use Rattle.std.proofs.Common.{◌≡◌, ◌≢◌, ℕ, zero, suc, ◌-◌, ◌<◌, Bool, true, false, cond, eqb, List, [], ◌∷◌, ◌++◌, length, take, drop, refl, sym, ap, get_or, append_assoc, Some, None, ◌∙◌, arith, ne_eqb, eqb-true, eq-eqb}
-use Rattle.std.specs.Prelude.{nat_lt, ◌&&◌}
+use Rattle.std.proofs.Math.Bool.{and-true, and-false}
+use Rattle.std.specs.Prelude.{nat_lt}
 use Rattle.memchr.specs.Find.{IsFirstByte, is_byte}
 use Rattle.mail_words.specs.Unfolding.{without_cr, unfolded}
 
 push_cond : (t : Bool) (b : ℕ) (xs ys : List ℕ) → cond t (b ∷ xs) (b ∷ ys) ≡ b ∷ cond t xs ys
 push_cond true b xs ys = refl
 push_cond false b xs ys = refl
-
-and_true : (t : Bool) → (t && true) ≡ t
-and_true true = refl
-and_true false = refl
-
-and_false : (t : Bool) → (t && false) ≡ false
-and_false true = refl
-and_false false = refl
 
 -- a CR goes only from the end
 pub without_cr-cons : (b c : ℕ) (cs : List ℕ) → without_cr (b ∷ c ∷ cs) ≡ b ∷ without_cr (c ∷ cs)
@@ -28,9 +21,9 @@ without_cr-cons b c cs =
 -- a CR that is kept, or another octet
 unfolded-kept : (b c : ℕ) (cs : List ℕ) → eqb b 10 ≡ false → eqb c 10 ≡ false → unfolded (b ∷ c ∷ cs) ≡ b ∷ unfolded (c ∷ cs)
 unfolding unfolded
-unfolded-kept b c cs e f = rw (e, f, and_false (eqb b 13)) refl
+unfolded-kept b c cs e f = rw (e, f, and-false (eqb b 13)) refl
 
-before_lf : (t : Bool) (b : ℕ) (rest : List ℕ) → cond t rest (b ∷ rest) ≡ cond t [] (b ∷ []) ++ rest
+pub before_lf : (t : Bool) (b : ℕ) (rest : List ℕ) → cond t rest (b ∷ rest) ≡ cond t [] (b ∷ []) ++ rest
 before_lf true b rest = refl
 before_lf false b rest = refl
 
@@ -42,7 +35,7 @@ unfolded_at (b ∷ bs) zero h at before = rw at refl
 unfolded_at (b ∷ []) (suc k) h at before = absurd (omega arith)
 unfolded_at (b ∷ c ∷ cs) (suc zero) h at before =
     let other : eqb b 10 ≡ false = ne_eqb b 10 (before 0 (omega arith)) in
-    rw (other, at, and_true (eqb b 13)) (before_lf (eqb b 13) b (unfolded cs))
+    rw (other, at, and-true (eqb b 13)) (before_lf (eqb b 13) b (unfolded cs))
 unfolded_at (b ∷ c ∷ cs) (suc (suc k)) h at before =
     let other : eqb b 10 ≡ false = ne_eqb b 10 (before 0 (omega arith)) in
     let second : eqb c 10 ≡ false = ne_eqb c 10 (before 1 (omega arith)) in
@@ -53,7 +46,7 @@ unfolded_at (b ∷ c ∷ cs) (suc (suc k)) h at before =
 unfolded_none : (bs : List ℕ) → ((j : ℕ) → j < length bs → get_or bs j 0 ≢ 10) → unfolded bs ≡ bs
 unfolding unfolded
 unfolded_none [] before = refl
-unfolded_none (b ∷ []) before = rw (ne_eqb b 10 (before 0 (omega arith)), and_false (eqb b 13)) refl
+unfolded_none (b ∷ []) before = rw (ne_eqb b 10 (before 0 (omega arith)), and-false (eqb b 13)) refl
 unfolded_none (b ∷ c ∷ cs) before =
     let rest : unfolded (c ∷ cs) ≡ c ∷ cs = unfolded_none (c ∷ cs) (λ j below. before (suc j) (omega arith)) in
     unfolded-kept b c cs (ne_eqb b 10 (before 0 (omega arith))) (ne_eqb c 10 (before 1 (omega arith))) ∙ ap (λ xs. b ∷ xs) rest

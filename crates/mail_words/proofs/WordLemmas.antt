@@ -2,13 +2,13 @@
 use Rattle.std.proofs.Common.{◌≡◌, ◌≢◌, ℕ, zero, suc, ◌+◌, ◌-◌, ◌<◌, ◌≤◌, Bool, true, false, cond, eqb, List, [], ◌∷◌, ◌++◌, length, take, drop, refl, sym, ap, ◌∙◌, arith, get_or, Option, Some, None, append_assoc, ne_eqb, eqb-true, eq-eqb}
 use Rattle.std.proofs.lemmas.List.{append-nil, drop_more, length-drop, drop-drop, get_or-drop, take_rest, take_more, take_all, take-append-drop}
 use Rattle.std.proofs.Math.Seq.{take-add}
+use Rattle.std.proofs.lemmas.Bool.{and_parts, not-true}
 use Rattle.std.specs.Prelude.{option_map, not, ◌&&◌, ◌||◌}
 use Rattle.std.specs.List.{list_all}
 use Rattle.memchr.specs.Find.{IsFirstByte, is_byte}
 use Rattle.mail_words.specs.Unfolding.{begins_with, unfolded}
 use Rattle.mail_words.specs.Spans.{may_stand_behind}
 use Rattle.mail_words.specs.Words.{Word, precedes, opens, word_at, followed_word_at, or_later, first_word}
-use Rattle.mail_words.proofs.SpellingLemmas.{and_parts}
 use Rattle.mail_words.proofs.FoldedLemmas.{last_is, last-snoc, unfolded-append, unfolded-before, unfolded-snoc}
 
 abbrev pub Standing : Type 0
@@ -47,16 +47,12 @@ no_word_at b bs e = rw (opens_no b bs e) refl
 abbrev is_other : ℕ → Bool
 is_other b = not (eqb b 61)
 
-not_true : (t : Bool) → not t ≡ true → t ≡ false
-not_true true h = absurd cc
-not_true false h = refl
-
 skip : (xs ys : List ℕ) (start : Bool) → list_all is_other xs ≡ true → first_word start (xs ++ ys) ≡ option_map (behind xs) (first_word (may_stand_behind start xs) ys)
 unfolding first_word
 skip [] ys start h = behind-nil (first_word start ys)
 skip (b ∷ bs) ys start h =
     let parts = and_parts (is_other b) (list_all is_other bs) h in
-    let here : cond start (followed_word_at (b ∷ (bs ++ ys))) None ≡ None = cond_none start (followed_word_at (b ∷ (bs ++ ys))) (no_word_at b (bs ++ ys) (not_true (eqb b 61) parts.0)) in
+    let here : cond start (followed_word_at (b ∷ (bs ++ ys))) None ≡ None = cond_none start (followed_word_at (b ∷ (bs ++ ys))) (no_word_at b (bs ++ ys) (not-true (eqb b 61) parts.0)) in
     ap (λ o. or_later o b (first_word (precedes b) (bs ++ ys))) here ∙ ap (option_map (λ f. (b ∷ f.0, f.1, f.2))) (skip bs ys (precedes b) parts.1) ∙ behind-cons b bs (first_word (may_stand_behind (precedes b) bs) ys)
 
 first_word-none : (xs : List ℕ) (start : Bool) → list_all is_other xs ≡ true → first_word start xs ≡ None

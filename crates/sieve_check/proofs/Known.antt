@@ -3,6 +3,7 @@ use Rattle.std.proofs.Common.{◌≡◌, ℕ, eqb, Bool, true, false, List, [], 
 use Rattle.std.specs.Prelude.{◌||◌, ◌&&◌, not}
 use Rattle.std.specs.List.{list_any}
 use Rattle.std.proofs.Math.Bool.{or_assoc}
+use Rattle.std.proofs.lemmas.List.Folds.{list_any-append}
 use Rattle.sieve_syntax.specs.Tree.{CommandTrees}
 use Rattle.sieve_check.specs.declared.context.Context.{Context}
 use Rattle.sieve_check.specs.declared.named.Named.{Named}
@@ -13,7 +14,6 @@ use Rattle.sieve_check.specs.Lookup.{capability_named, is_capability, names, cap
 use Rattle.sieve_check.specs.Rules.{Placed, role_of, is_require, strings_in, requires, named_by, has_begun, broken_in_place, broken_by, least, earlier, refusal_from, refusal_of, in_order}
 use Rattle.sieve_check.specs.Tables.{CapabilityWord}
 use Rattle.sieve_check.specs.Walk.{start, after_command, context_after, judged, unless, walk}
-use Rattle.sieve_check.proofs.Strings.{any_append}
 
 or_true : (b : Bool) → true ≡ (b || true)
 or_true true = refl
@@ -76,8 +76,8 @@ begun_more before c p false h = or_true (has_begun before)
 
 knows_more : (before : List Placed) (c : Context) (p : Placed) → Knows before c → Knows (before ++ p ∷ []) (context_after c p)
 knows_more before c p h = record {
-  named = λ k. named_more before c p (is_require (role_of p.word)) k (h.named k) ∙ sym (any_append (λ q. requires q k) before (p ∷ []));
-  begun = begun_more before c p (is_require (role_of p.word)) h.begun ∙ sym (any_append (λ q. not (is_require (role_of q.word))) before (p ∷ []));
+  named = λ k. named_more before c p (is_require (role_of p.word)) k (h.named k) ∙ sym (list_any-append (λ q. requires q k) before (p ∷ []));
+  begun = begun_more before c p (is_require (role_of p.word)) h.begun ∙ sym (list_any-append (λ q. not (is_require (role_of q.word))) before (p ∷ []));
 }
 
 same_function : {A B : Type 0} {f g : A → B} → ((x : A) → f x ≡ g x) → f ≡ g

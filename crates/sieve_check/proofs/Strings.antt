@@ -1,17 +1,11 @@
 -- The strings of arguments, one argument after another.
-use Rattle.std.proofs.Common.{◌≡◌, ℕ, suc, ◌+◌, ◌<◌, length, drop, get_or, drop-cons, add-one, Bool, List, [], ◌∷◌, ◌++◌, refl, ap, ◌∙◌, sym}
-use Rattle.std.specs.Prelude.{◌||◌}
-use Rattle.std.specs.List.{list_any, flat_map}
-use Rattle.std.proofs.Math.Bool.{or_assoc}
+use Rattle.std.proofs.Common.{◌≡◌, ℕ, suc, ◌+◌, ◌<◌, length, drop, get_or, drop-cons, add-one, List, [], ◌∷◌, ◌++◌, refl, ap, ◌∙◌, sym}
+use Rattle.std.specs.List.{flat_map}
 use Rattle.sieve_syntax.specs.declared.tree.Argument.{Argument}
 use Rattle.sieve_check.specs.Rules.{argument_strings}
 use Rattle.sieve_check.specs.Context.{named_and, named_after}
 use Rattle.sieve_check.specs.Lookup.{capability_named}
 use Rattle.sieve_check.specs.declared.named.Named.{Named}
-
-pub any_append : {X : Type 0} (f : X → Bool) (xs ys : List X) → list_any f (xs ++ ys) ≡ (list_any f xs || list_any f ys)
-any_append f [] ys = refl
-any_append f (x ∷ xs) ys = ap (λ (b : Bool). f x || b) (any_append f xs ys) ∙ sym (or_assoc (f x) (list_any f xs) (list_any f ys))
 
 pub named_after_append : (n : Named) (xs ys : List (List ℕ)) → named_after n (xs ++ ys) ≡ named_after (named_after n xs) ys
 named_after_append n [] ys = refl

@@ -4,17 +4,16 @@ use Rattle.sieve_meaning.specs.Reading.{program_of}
 use Rattle.filing_gen.specs.Correct.{library_of}
 use Rattle.sieve_meaning.specs.Outcome.{greatest_weight}
 use Rattle.sieve_meaning.specs.Weight.{linked_weight}
-use Rattle.filing_desk.specs.Case.{facts_of}
 use Rattle.filing_desk.proofs.OutcomeLemmas.{ok_is_no_fault, not_over, outcome_of_heavy, outcome_of_run}
 use Rattle.filing_desk.proofs.desk.outcome_of.Goals as goal
 
 pub returns-in_ok-outcome-in-Ok-clause-outcome : goal.returns-in_ok-outcome-in-Ok-clause-outcome
-returns-in_ok-outcome-in-Ok-clause-outcome c =
+returns-in_ok-outcome-in-Ok-clause-outcome g c =
     let main = program_of (tree_of c.args.script.now.script) in
     let light : linked_weight (library_of c.args.library.now) None main ≤ greatest_weight = not_over (linked_weight (library_of c.args.library.now) None main) (λ over. ok_is_no_fault _ _ (c.in-Ok.ensures.too_large.1 over)) in
     let (n, ran) = c.in_ok-outcome-in-Ok.ensures in
-    outcome_of_run (facts_of c.args.case.now) (library_of c.args.library.now) main _ n _ c.in-Ok.ensures.compiled light ran
+    outcome_of_run (g.C.Case.facts c.args.case.now) (library_of c.args.library.now) main _ n _ c.in-Ok.ensures.compiled light ran
 
 pub returns-in_ok-outcome-in-Err-TooLarge-clause-outcome : goal.returns-in_ok-outcome-in-Err-TooLarge-clause-outcome
-returns-in_ok-outcome-in-Err-TooLarge-clause-outcome c =
-    c.in_ok-outcome-in-Err-TooLarge.ensures ∙ outcome_of_heavy (facts_of c.args.case.now) (library_of c.args.library.now) (program_of (tree_of c.args.script.now.script)) (c.in-Err-TooLarge.ensures.too_large.0 (ap (λ f. Err f) c.in-Err-TooLarge.field-0-is))
+returns-in_ok-outcome-in-Err-TooLarge-clause-outcome g c =
+    c.in_ok-outcome-in-Err-TooLarge.ensures ∙ outcome_of_heavy (g.C.Case.facts c.args.case.now) (library_of c.args.library.now) (program_of (tree_of c.args.script.now.script)) (c.in-Err-TooLarge.ensures.too_large.0 (ap (λ f. Err f) c.in-Err-TooLarge.field-0-is))

@@ -1,7 +1,8 @@
 use Rattle.std.proofs.Common.{◌≡◌, ◌+◌, length, subst, arith}
 use Rattle.std.proofs.lemmas.Grind.{common_steps}
 use Rattle.std.proofs.lemmas.List.{length-map}
-use Rattle.filing_gen.specs.Libraries.{Scripts, scripts_of, slots_of}
+use Rattle.filing_gen.specs.Correct.{library_of}
+use Rattle.filing_gen.specs.Libraries.{Scripts, slots_of}
 use Rattle.filing_gen.specs.Linked.{HasSlots}
 use Rattle.filing_gen.specs.Shelves.{entry_of, entries_of}
 use Rattle.filing_gen.proofs.Slots.{slots_personal, slots_global}
@@ -12,12 +13,12 @@ returns-then-global-eq0 c =
     let all : Scripts = record { personal = entries_of c.self.inside.personal; global = entries_of c.self.inside.global } in
     let personal : c.len-personal.result ≡ length c.self.inside.personal.entries.items = grind (arith, common_steps) in
     let global : length c.self.inside.global.entries.items ≡ 0 = grind (arith, common_steps) in
-    subst (λ (l : Scripts). HasSlots (scripts_of l) (slots_of l) c.len-personal.result) c.self.view_is
+    subst (λ (l : Scripts). HasSlots (library_of l) (slots_of l) c.len-personal.result) c.self.view_is
     (slots_personal all c.self.invariant c.len-personal.result (omega (arith, personal, length-map c.self.inside.personal.entries.items entry_of)) (omega (arith, global, length-map c.self.inside.global.entries.items entry_of)))
 
 pub returns-else-global-eq0 : goal.returns-else-global-eq0
 returns-else-global-eq0 c =
     let all : Scripts = record { personal = entries_of c.self.inside.personal; global = entries_of c.self.inside.global } in
     let global : c.len-global.result ≡ length c.self.inside.global.entries.items = grind (arith, common_steps) in
-    subst (λ (l : Scripts). HasSlots (scripts_of l) (slots_of l) (32 + c.len-global.result)) c.self.view_is
+    subst (λ (l : Scripts). HasSlots (library_of l) (slots_of l) (32 + c.len-global.result)) c.self.view_is
     (slots_global all c.self.invariant (32 + c.len-global.result) (omega (arith, global, length-map c.self.inside.global.entries.items entry_of)))
