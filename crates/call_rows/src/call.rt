@@ -30,10 +30,11 @@ pub enum Call {
     Verify,
     Changes,
     Run,
+    Compile,
 }
 
 /// Each call's word.
-const WORDS: [(&str, Call); 27] = [
+const WORDS: [(&str, Call); 28] = [
     ("tokens", Call::Tokens),
     ("lengths", Call::Lengths),
     ("tree", Call::Tree),
@@ -61,6 +62,7 @@ const WORDS: [(&str, Call); 27] = [
     ("verify", Call::Verify),
     ("changes", Call::Changes),
     ("run", Call::Run),
+    ("compile", Call::Compile),
 ];
 
 impl Call {

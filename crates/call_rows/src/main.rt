@@ -3,6 +3,8 @@
 #![tactic(auto)]
 
 mod call;
+mod compiled;
+mod given;
 mod images;
 mod matching;
 mod messages;
@@ -14,13 +16,15 @@ mod trees;
 
 use anyhow::Result;
 use call::Call;
-use row::{Row, add_more, read_row};
+use filing_gen::Library;
+use given::Given;
+use row::{Row, read_row};
 use std::alloc::Global;
 use std::io::Read;
 use std::str;
 
-/// The answer of a row's call about scripts, or of another's.
-fn answer(alloc: Global, row: &Row) -> Result<Vec<u8>> {
+/// The answer of a row's call, where these scripts can be included.
+fn answer(alloc: Global, library: &Library, row: &Row) -> Result<Vec<u8>> {
     let (first, second, third) = (row.first(), row.second(), row.third());
     match row.call() {
         Call::Tokens => tokens::tokens(alloc, first),
@@ -50,13 +54,14 @@ fn answer(alloc: Global, row: &Row) -> Result<Vec<u8>> {
         Call::Verify => images::verify(alloc, first),
         Call::Changes => images::changes(alloc, first),
         Call::Run => images::run(alloc, first, second),
+        Call::Compile => compiled::compile(alloc, library, first, second, third),
     }
 }
 
 /// Whether a row's call is answered as the row says; if not, this is told.
-fn judge(rt: &(impl Print + AllocGlobal), front: &[u8], line: &str) -> Result<bool> {
-    let row = read_row(rt.alloc(), front, line)?;
-    let mut found = answer(rt.alloc(), &row)?;
+fn judge(rt: &(impl Print + AllocGlobal), given: &Given, line: &str) -> Result<bool> {
+    let row = read_row(rt.alloc(), given.front.as_slice(), line)?;
+    let mut found = answer(rt.alloc(), &given.library, &row)?;
     if found.is_empty() {
         found.extend_from_slice(b"nothing")?;
     }
@@ -71,20 +76,16 @@ fn judge(rt: &(impl Print + AllocGlobal), front: &[u8], line: &str) -> Result<bo
 fn main(rt: HostRuntime) -> Result<()> {
     let mut text = String::new(rt.alloc());
     rt.reader().read_to_string(&mut text)?;
-    let mut front = Vec::new(rt.alloc());
+    let mut given = Given::new(rt.alloc());
     let mut right = 0u64;
     for line in text.lines() {
-        if line.is_empty() || line.starts_with('#') {
+        if given.takes(rt.alloc(), line)? {
             continue;
         }
-        if let Some(more) = line.strip_prefix("more ") {
-            add_more(rt.alloc(), &mut front, more)?;
-            continue;
-        }
-        if judge(&rt, front.as_slice(), line)? {
+        if judge(&rt, &given, line)? {
             right = right.saturating_add(1);
         }
-        front.clear();
+        given.front.clear();
     }
     println!(rt; "{right} calls are answered as the table says")?;
     Ok(())

@@ -114,7 +114,7 @@ pub fn value(alloc: Global, raw: &[u8]) -> Result<Vec<u8>> {
 /// The paths that are open in each case.
 pub fn open_paths(alloc: Global) -> Result<BTreeSet<Vec<u8>>> {
     let mut paths = BTreeSet::new(alloc);
-    for path in ["archive", "letters", "letters/kept", "work"] {
+    for path in ["archive", "finance", "letters", "letters/kept", "work"] {
         paths.insert(Vec::from_slice(alloc, path.as_bytes())?)?;
     }
     Ok(paths)

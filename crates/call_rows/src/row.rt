@@ -2,9 +2,15 @@
 //!
 //!     CALL FIRST|SECOND|THIRD => ANSWER
 //!
-//! A call that takes fewer texts leaves the others out, and an empty answer is `nothing`. A line `more N TEXT` puts N times TEXT before the first text of the
-//! row that follows. In texts and answers `\n`, `\r`, `\s` (a space) and `\xHH` are octets, and a backslash before another
-//! octet is left out. Empty lines and those that begin with `#` are passed over.
+//! A call that takes fewer texts leaves the others out, and an empty answer is `nothing`. Other lines prepare the rows that
+//! follow:
+//!
+//! - `more N TEXT` puts N times TEXT before the first text of the next row or script;
+//! - `personal NAME TEXT` and `global NAME TEXT` keep a script in a location, in the place of one of that name;
+//! - `forget` takes all scripts out.
+//!
+//! In texts and answers `\n`, `\r`, `\s` (a space) and `\xHH` are octets, and a backslash before another octet is left out.
+//! Empty lines and those that begin with `#` are passed over.
 
 use crate::call::Call;
 use anyhow::{Context, Result};
@@ -122,6 +128,19 @@ pub fn add_more(alloc: Global, front: &mut Vec<u8>, more: &str) -> Result<()> {
     Ok(repeat(front, times, octets_of(alloc, text)?.as_slice())?)
 }
 
+/// The octets of a text behind others.
+fn behind(alloc: Global, front: &[u8], text: &str) -> Result<Vec<u8>, AllocError> {
+    let mut whole = Vec::from_slice(alloc, front)?;
+    whole.extend_from_slice(octets_of(alloc, text)?.as_slice())?;
+    Ok(whole)
+}
+
+/// The name of a script and its text, with what stands before that.
+pub fn read_script(alloc: Global, front: &[u8], line: &str) -> Result<(Vec<u8>, Vec<u8>)> {
+    let (name, text) = line.split_once(' ').unwrap_or((line, ""));
+    Ok((octets_of(alloc, name)?, behind(alloc, front, text)?))
+}
+
 /// Reads a row, with what stands before its first text.
 pub fn read_row(alloc: Global, front: &[u8], line: &str) -> Result<Row> {
     let (word, rest) = line.split_once(' ').context("a row has no text")?;
@@ -129,11 +148,9 @@ pub fn read_row(alloc: Global, front: &[u8], line: &str) -> Result<Row> {
     let (texts, wanted) = rest.split_once(" => ").context("an answer is missing")?;
     let (first, others) = texts.split_once('|').unwrap_or((texts, ""));
     let (second, third) = others.split_once('|').unwrap_or((others, ""));
-    let mut whole = Vec::from_slice(alloc, front)?;
-    whole.extend_from_slice(octets_of(alloc, first)?.as_slice())?;
     Ok(Row {
         call,
-        first: whole,
+        first: behind(alloc, front, first)?,
         second: octets_of(alloc, second)?,
         third: octets_of(alloc, third)?,
         wanted: octets_of(alloc, wanted)?,

@@ -1,9 +1,10 @@
-//! Makes scripts and messages by chance, the same in each run, and tells how many of them have the same outcome by the
-//! script's image (`filing_gen`, `filing_machine`) and by its tree (`plain_evaluator`); each other one is shown. What
-//! follows counts the outcomes of each kind, so that it shows that each kind was met.
+//! Makes scripts with others that they can include, and messages, by chance, the same in each run, and tells how many of them
+//! have the same outcome by the script's image (`filing_gen`, `filing_machine`) and by its tree (`plain_evaluator`); each other
+//! one is shown. What follows counts the outcomes of each kind, so that it shows that each kind was met.
 #![tactic(auto)]
 
 mod chance;
+mod libraries;
 mod messages;
 mod rows;
 mod scripts;
@@ -11,13 +12,16 @@ mod sides;
 
 use anyhow::{Result, bail};
 use chance::Chance;
+use filing_gen::{Library, Location};
+use libraries::{Included, included_scripts};
 use messages::{message, open_classes};
 use rows::{Kind, Row};
 use scripts::script;
-use sides::{by_image, by_tree};
+use sides::{Linked, by_image, by_tree};
 use sieve_check::{Checked, check};
 use sieve_text::parse;
 use std::alloc::Global;
+use std::rc::Rc;
 
 /// How many scripts and messages are made.
 const PAIRS: usize = 600;
@@ -29,9 +33,11 @@ const SEED: u64 = 5228;
 const NO_FIELD: &[u8] = b"\r\n";
 
 /// The kinds of outcomes, and how each is told.
-const KINDS: [(Kind, &str); 6] = [
+const KINDS: [(Kind, &str); 8] = [
     (Kind::Fault(1), "fault 1, a class that is not open"),
     (Kind::Fault(2), "fault 2, a script that is missing"),
+    (Kind::Fault(3), "fault 3, a script that is active"),
+    (Kind::Fault(4), "fault 4, a ninth script"),
     (Kind::Discarded, "no class"),
     (Kind::Unfiled, "the default class alone"),
     (Kind::Filed, "one other class"),
@@ -49,26 +55,85 @@ fn checked(alloc: Global, text: &str) -> Result<Checked> {
     Ok(checked)
 }
 
-/// Makes a script and a message, and compares their outcomes.
-fn play(rt: &(impl Print + AllocGlobal), chance: &mut Chance) -> Result<Row> {
+/// The library of some scripts.
+fn library_of(alloc: Global, scripts: &[Included]) -> Result<Library> {
+    let mut library = Library::new(alloc);
+    for script in scripts {
+        let Ok(checked) = Rc::new(alloc, checked(alloc, script.text.as_str())?) else {
+            bail!("no memory for a script");
+        };
+        match script.location {
+            Location::Personal => library.set_personal(script.name.as_bytes(), checked)?,
+            Location::Global => library.set_global(script.name.as_bytes(), checked)?,
+        }
+    }
+    Ok(library)
+}
+
+/// What is made by chance for a row.
+#[derive(Drop)]
+struct Made {
+    text: String,
+    scripts: Vec<Included>,
+    /// Whether the script is known as `main`.
+    is_named: bool,
+    message: String,
+    classes: Vec<&'static str>,
+}
+
+/// Makes a script, others that it can include, a message and open classes.
+fn make(alloc: Global, chance: &mut Chance) -> Result<Made> {
+    Ok(Made {
+        text: script(alloc, chance)?,
+        scripts: included_scripts(alloc, chance)?,
+        is_named: chance.one_in(2),
+        message: message(alloc, chance)?,
+        classes: open_classes(alloc, chance)?,
+    })
+}
+
+/// Shows what was made, and the two outcomes of its script.
+fn show(rt: &impl Print, made: &Made, by_image: &str, by_tree: &str) -> Result<()> {
+    let (text, is_named) = (made.text.as_str(), made.is_named);
+    println!(rt; "{text}\nknown as main: {is_named}")?;
+    for script in &made.scripts {
+        let (location, name, text) = (script.location, script.name, script.text.as_str());
+        println!(rt; "{location:?} {name}: {text}")?;
+    }
+    println!(rt; "by image: {by_image}\nby tree: {by_tree}")?;
+    Ok(())
+}
+
+/// Compares the two outcomes of a script, and tells whether the message and the library mattered.
+fn compare(rt: &(impl Print + AllocGlobal), made: &Made) -> Result<Row> {
     let alloc = rt.alloc();
-    let text = script(alloc, chance)?;
-    let message = message(alloc, chance)?;
-    let classes = open_classes(alloc, chance)?;
-    let script = checked(alloc, text.as_str())?;
-    let message = message.as_str().as_bytes();
-    let captured = by_image(alloc, &script, message, classes.as_slice())?;
+    let main = checked(alloc, made.text.as_str())?;
+    let (library, nothing) = (
+        library_of(alloc, made.scripts.as_slice())?,
+        Library::new(alloc),
+    );
+    let linked = Linked {
+        main: &main,
+        known_as: made.is_named.then_some(b"main".as_slice()),
+        library: &library,
+    };
+    let alone = Linked {
+        library: &nothing,
+        ..linked
+    };
+    let (message, classes) = (made.message.as_str().as_bytes(), made.classes.as_slice());
+    let captured = by_image(alloc, linked, message, classes)?;
     let compiled = captured.shown(alloc)?;
-    let wanted = by_tree(alloc, &script, message, classes.as_slice())?.shown(alloc)?;
-    let other = by_tree(alloc, &script, NO_FIELD, classes.as_slice())?.shown(alloc)?;
+    let wanted = by_tree(alloc, linked, message, classes)?.shown(alloc)?;
     let agrees = compiled == wanted;
     if !agrees {
-        println!(rt; "{text}\nby image: {compiled}\nby tree: {wanted}")?;
+        show(rt, made, compiled.as_str(), wanted.as_str())?;
     }
     Ok(Row {
         kind: Kind::of(&captured),
         agrees,
-        by_message: other != wanted,
+        by_message: by_tree(alloc, linked, NO_FIELD, classes)?.shown(alloc)? != wanted,
+        by_library: by_tree(alloc, alone, message, classes)?.shown(alloc)? != wanted,
     })
 }
 
@@ -76,7 +141,8 @@ fn main(rt: HostRuntime) -> Result<()> {
     let mut chance = Chance::new(SEED);
     let mut rows = Vec::new(rt.alloc());
     for _ in 0..PAIRS {
-        rows.push(play(&rt, &mut chance)?)?;
+        let made = make(rt.alloc(), &mut chance)?;
+        rows.push(compare(&rt, &made)?)?;
     }
     let agree = rows.iter().filter(|row| row.agrees).count();
     println!(rt; "{PAIRS} scripts and messages: {agree} agree")?;
@@ -86,5 +152,7 @@ fn main(rt: HostRuntime) -> Result<()> {
     }
     let by_message = rows.iter().filter(|row| row.by_message).count();
     println!(rt; "another outcome than for a message without a field: {by_message}")?;
+    let by_library = rows.iter().filter(|row| row.by_library).count();
+    println!(rt; "another outcome than where nothing can be included: {by_library}")?;
     Ok(())
 }

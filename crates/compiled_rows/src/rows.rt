@@ -46,4 +46,6 @@ pub struct Row {
     pub agrees: bool,
     /// Whether a message without a field has another outcome.
     pub by_message: bool,
+    /// Whether the outcome is another where nothing can be included.
+    pub by_library: bool,
 }

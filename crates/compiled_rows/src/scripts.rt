@@ -31,6 +31,13 @@ const COMPARATORS: [&str; 3] = [
 
 const LIMITS: [&str; 2] = [":over ", ":under "];
 
+/// The names that scripts include; there is no script of the last.
+pub const SCRIPT_NAMES: [&str; 6] = ["a", "b", "c", "d", "main", "missing"];
+
+const LOCATIONS: [&str; 3] = ["", ":personal ", ":global "];
+
+const CONDITIONS: [&str; 5] = ["", "", ":once ", ":optional ", ":once :optional "];
+
 /// Numbers of octets; messages have 2 to about 200.
 const SIZES: [&str; 7] = ["0", "2", "20", "40", "60", "80", "1K"];
 
@@ -128,18 +135,37 @@ fn push_fileinto(chance: &mut Chance, script: &mut String, tag: &str) -> Result<
     script.push_str("; ")
 }
 
-/// A command that has no block.
+/// A command that has no block and includes nothing.
 fn push_plain_command(chance: &mut Chance, script: &mut String) -> Result<(), AllocError> {
-    match chance.below(18) {
+    match chance.below(15) {
         0 | 1 => script.push_str("keep; "),
         2..=5 => script.push_str("discard; "),
         6 => script.push_str("stop; "),
         7 => script.push_str("return; "),
         8..=12 => push_fileinto(chance, script, ""),
-        13 | 14 => push_fileinto(chance, script, ":copy "),
-        15 => script.push_str("include \"missing\"; "),
-        _ => script.push_str("include :optional \"missing\"; "),
+        _ => push_fileinto(chance, script, ":copy "),
     }
+}
+
+/// An include with a location.
+fn push_include_of(
+    chance: &mut Chance,
+    script: &mut String,
+    location: &str,
+    name: &str,
+) -> Result<(), AllocError> {
+    script.push_str("include ")?;
+    script.push_str(location)?;
+    script.push_str(chance.pick(&CONDITIONS))?;
+    push_string(script, name)?;
+    script.push_str("; ")
+}
+
+/// An include of any script.
+fn push_include(chance: &mut Chance, script: &mut String) -> Result<(), AllocError> {
+    let location = chance.pick(&LOCATIONS);
+    let name = chance.pick(&SCRIPT_NAMES);
+    push_include_of(chance, script, location, name)
 }
 
 /// A block of up to three commands, with blocks inside it to this depth.
@@ -188,7 +214,31 @@ fn push_command(chance: &mut Chance, script: &mut String, depth: u8) -> Result<(
             return push_branches(chance, script, inner);
         }
     }
+    if chance.one_in(4) {
+        return push_include(chance, script);
+    }
     push_plain_command(chance, script)
+}
+
+/// A script for others to include: perhaps a command, mostly an include of the next script, whose location and name
+/// these are, and perhaps another command, which may have one block.
+pub fn included_script(
+    alloc: Global,
+    chance: &mut Chance,
+    location: &str,
+    name: &str,
+) -> Result<String, AllocError> {
+    let mut script = String::from_str(alloc, REQUIRE)?;
+    if chance.one_in(4) {
+        push_plain_command(chance, &mut script)?;
+    }
+    if !chance.one_in(8) {
+        push_include_of(chance, &mut script, location, name)?;
+    }
+    if chance.one_in(2) {
+        push_command(chance, &mut script, 1)?;
+    }
+    Ok(script)
 }
 
 /// A script of branches and up to three further commands.

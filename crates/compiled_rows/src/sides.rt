@@ -1,4 +1,4 @@
-//! The two ways from a checked script and a message to an outcome.
+//! The two ways from a checked script, with those that it can include, and a message to an outcome.
 
 use anyhow::{Result, bail};
 use filing_gen::{Library, compile};
@@ -35,6 +35,15 @@ impl Captured {
     }
 }
 
+/// A script with those that it can include.
+#[derive(Clone, Copy, Drop)]
+pub struct Linked<'a> {
+    pub main: &'a Checked,
+    /// The script's personal name, if it has one.
+    pub known_as: Option<&'a [u8]>,
+    pub library: &'a Library,
+}
+
 /// Some paths as a run takes them.
 fn path_set(alloc: Global, classes: &[&'static str]) -> Result<BTreeSet<Vec<u8>>, AllocError> {
     let mut set = BTreeSet::new(alloc);
@@ -56,14 +65,14 @@ fn paths(alloc: Global, classes: &[&'static str]) -> Result<Paths, AllocError> {
 /// By the run of the script's image.
 pub fn by_image(
     alloc: Global,
-    script: &Checked,
+    script: Linked<'_>,
     message: &[u8],
     classes: &[&'static str],
 ) -> Result<Captured> {
     if message.len() > GREATEST_MESSAGE {
         bail!("a message is too long");
     }
-    let program = compile(alloc, script, None, &Library::new(alloc))?;
+    let program = compile(alloc, script.main, script.known_as, script.library)?;
     let case = WholeCase::read(alloc, message, path_set(alloc, classes)?)?;
     let outcome = run(alloc, &program, &case)?;
     Ok(Captured {
@@ -75,13 +84,14 @@ pub fn by_image(
 /// By the script's tree.
 pub fn by_tree(
     alloc: Global,
-    script: &Checked,
+    script: Linked<'_>,
     message: &[u8],
     classes: &[&'static str],
 ) -> Result<Captured> {
     let paths = paths(alloc, classes)?;
     let case = read_case(alloc, message, &paths)?;
-    let outcome = evaluate(alloc, script.script(), &case)?;
+    let main = script.main.script();
+    let outcome = evaluate(alloc, main, script.known_as, script.library, &case)?;
     Ok(Captured {
         classes: outcome.classes,
         fault: outcome.fault,

@@ -158,48 +158,37 @@ impl DeskFault {
     pub fn refusal(&self) -> Refusal
         ensures { result ≡ refusal_of self.now }
     {
+        Refusal {
+            number: self.number(),
+            offset: self.offset(),
+        }
+    }
+
+    /// The number of the refusal.
+    fn number(&self) -> u8
+        ensures { result ≡ (refusal_of self.now).number }
+    {
         match self {
-            DeskFault::NoMemory => Refusal {
-                number: 99,
-                offset: None,
-            },
-            DeskFault::Text(refusal, at) => {
-                let number = refusal.number();
-                let offset = if has_place(number) { Some(*at) } else { None };
-                Refusal { number, offset }
-            }
-            DeskFault::Check(fault) => Refusal {
-                number: fault.number(),
-                offset: None,
-            },
-            DeskFault::Plan(fault) => Refusal {
-                number: fault.number(),
-                offset: None,
-            },
-            DeskFault::PlanTooLong => Refusal {
-                number: 58,
-                offset: None,
-            },
-            DeskFault::ImageTooLong => Refusal {
-                number: 61,
-                offset: None,
-            },
-            DeskFault::ImageForm => Refusal {
-                number: 60,
-                offset: None,
-            },
-            DeskFault::Image(fault) => Refusal {
-                number: fault.number(),
-                offset: None,
-            },
-            DeskFault::MessageTooLong => Refusal {
-                number: 95,
-                offset: None,
-            },
-            DeskFault::LibraryFull => Refusal {
-                number: 96,
-                offset: None,
-            },
+            DeskFault::NoMemory => 99,
+            DeskFault::Text(refusal, _) => refusal.number(),
+            DeskFault::Check(fault) => fault.number(),
+            DeskFault::Plan(fault) => fault.number(),
+            DeskFault::PlanTooLong => 58,
+            DeskFault::ImageTooLong => 61,
+            DeskFault::ImageForm => 60,
+            DeskFault::Image(fault) => fault.number(),
+            DeskFault::MessageTooLong => 95,
+            DeskFault::LibraryFull => 96,
+        }
+    }
+
+    /// The offset of the refusal, where it is shown with one.
+    fn offset(&self) -> Option<usize>
+        ensures { result ≡ (refusal_of self.now).offset }
+    {
+        match self {
+            DeskFault::Text(refusal, at) if has_place(refusal.number()) => Some(*at),
+            _ => None,
         }
     }
 }

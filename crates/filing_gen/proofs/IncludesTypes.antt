@@ -7,12 +7,13 @@ use Rattle.sieve_meaning.specs.Program.{Include, Commands}
 use Rattle.sieve_meaning.specs.Meaning.{ScriptName, script_named, is_among, Library}
 use Rattle.sieve_meaning.specs.Weight.{weight, included_weight, unless_missing, unless_active}
 use Rattle.filing_gen.specs.Structured.{flow}
+use Rattle.filing_gen.specs.Levels.{entered_flow}
 use Rattle.filing_gen.specs.Linked.{Slots, once_flow, active_flow, found_flow, including_flow, included_flow, HasSlots, is_passed}
 use Rattle.filing_gen.proofs.Types.{flow_typed, flow_small, flow_sound, IncludesTyped, IncludesSmall, IncludesSound}
 
 -- TYPES
 
-once_typed : (once : Bool) (slot : ℕ) (a : Flow) (es : List Shape) → ((es : List Shape) → HasType a es [] []) → HasType (once_flow once slot a) es [] []
+pub once_typed : (once : Bool) (slot : ℕ) (a : Flow) (es : List Shape) → ((es : List Shape) → HasType a es [] []) → HasType (once_flow once slot a) es [] []
 once_typed true slot a es h = (Truth ∷ [], (refl, omega arith, omega arith), ([], (refl, omega arith, refl), h ([] ∷ es)))
 once_typed false slot a es h = h es
 
@@ -36,6 +37,10 @@ included_typed lib slot main zero chain i es = including_typed lib slot main cha
 included_typed lib slot main (suc left) chain i es =
     including_typed lib slot main chain (λ script. block (sequence (action (SetMark (slot (script_named i)))) (flow (included_flow lib slot main left (script_named i ∷ chain)) 0 script))) i
     (λ x es. ([], (refl, omega arith, omega arith), flow_typed (included_flow lib slot main left (script_named i ∷ chain)) (included_typed lib slot main left (script_named i ∷ chain)) zero x ([] ∷ es) refl)) es
+
+pub entered_typed : (lib : Library) (slots : Slots) (main : List ScriptName) (left : ℕ) (chain : List ScriptName) (slot : ℕ) (script : Commands) (es : List Shape) → HasType (entered_flow lib slots main left chain slot script) es [] []
+entered_typed lib slots main zero chain slot script es = (refl, omega arith, omega arith)
+entered_typed lib slots main (suc left) chain slot script es = ([], (refl, omega arith, omega arith), flow_typed (included_flow lib slots main left chain) (included_typed lib slots main left chain) zero script ([] ∷ es) refl)
 
 -- SIZES
 

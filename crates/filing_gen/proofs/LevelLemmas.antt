@@ -1,8 +1,9 @@
 -- Includes by what they come to.
-use Rattle.std.proofs.Common.{◌≡◌, ℕ, zero, suc, ◌+◌, ◌≤◌, List, [], ◌∷◌, Bool, true, false, Option, Some, None, length, ◌⊎◌, inl, inr, refl, sym, ap, ◌∙◌, arith}
+use Rattle.std.proofs.Common.{◌≡◌, ℕ, zero, suc, ◌+◌, ◌≤◌, ◌<◌, ◌^◌, List, [], ◌∷◌, Bool, true, false, Option, Some, None, length, ◌⊎◌, inl, inr, refl, sym, ap, ◌∙◌, arith}
 use Rattle.filing_image.specs.declared.instruction.Operation.TheVariants.{Marked, Mark, JumpIf}
 use Rattle.filing_flow.specs.Structure.{IsMarked, SetMark, Fail, Flow, action, sequence, block, leave_if, size}
 use Rattle.filing_flow.specs.Code.{only, end_at}
+use Rattle.filing_flow.specs.Types.{Shape, HasType}
 use Rattle.sieve_meaning.specs.Program.{Include, Commands}
 use Rattle.sieve_meaning.specs.Meaning.{ScriptName, script_named, is_among, Library}
 use Rattle.sieve_meaning.specs.Weight.{weight, included_weight, unless_missing, unless_active}
@@ -14,7 +15,11 @@ use Rattle.filing_gen.specs.declared.finding.Finding.TheVariants.{Pass, Fault}
 use Rattle.filing_gen.specs.Scopes.{told}
 use Rattle.filing_gen.specs.Linked.{Slots, is_passed, once_flow, active_flow, found_flow, included_flow}
 use Rattle.filing_gen.specs.Levels.{Judgement, Passes, Fails, Enters, judged, judgement, judged_flow, judged_weight, entered_flow, entered_weight}
-use Rattle.filing_gen.proofs.Emitted.{emits_sequence, emits_block}
+use Rattle.filing_gen.specs.Ends.{no_place}
+use Rattle.filing_gen.proofs.Emitted.{emits_sequence}
+use Rattle.filing_gen.proofs.EndedBlocks.{IsEnded, block_ended}
+use Rattle.filing_gen.proofs.Types.{IncludesTyped, flow_typed}
+use Rattle.filing_gen.proofs.IncludesTypes.{once_typed}
 
 -- CODE
 
@@ -100,14 +105,15 @@ module _ (lib : Library) (slots : Slots) (main : List ScriptName) (left : ℕ) (
 -- EMISSION
 
 -- the entry of a script under `:once`, behind a jump past it where it is marked
-pub once_emitted : (x y z w : Output) (slot end : ℕ) (a : Flow) (ends : List ℕ) → end ≡ length x.code.items + size (once_flow true slot a) → Adds x y (only (Marked slot ∷ [])) → Adds y z (only (JumpIf end ∷ [])) → Emits z w a (end ∷ ends) → Emits x w (once_flow true slot a) ends
-once_emitted x y z w slot end a ends is test jump h =
-    emits_block x w (sequence (action (IsMarked slot)) (sequence (leave_if true 0) a)) ends end is
-    (emits_sequence x y w (action (IsMarked slot)) (sequence (leave_if true 0) a) (end ∷ ends) test (emits_sequence y z w (leave_if true 0) a (end ∷ ends) jump h))
+pub once_emitted : (x y z w u : Output) (slot : ℕ) (a : Flow) → ((es : List Shape) → HasType a es [] []) → Adds x y (only (Marked slot ∷ [])) → Adds y z (only (JumpIf no_place ∷ [])) → Emits z w a (no_place ∷ []) → length w.code.items < 2 ^ 16 → IsEnded (length x.code.items) w u
+    → (ends : List ℕ) → Emits x u (once_flow true slot a) ends
+once_emitted x y z w u slot a typed test jump h few is ends =
+    block_ended x w u (sequence (action (IsMarked slot)) (sequence (leave_if true 0) a)) ends [] (once_typed true slot a [] typed)
+    (emits_sequence x y w (action (IsMarked slot)) (sequence (leave_if true 0) a) (no_place ∷ []) test (emits_sequence y z w (leave_if true 0) a (no_place ∷ []) jump h)) few is
 
 -- a script that is marked and run, where its `return` goes to its end
-pub entry_emitted : (x y z : Output) (slot end : ℕ) (g : Include → Flow) (script : Commands) (ends : List ℕ) → end ≡ length x.code.items + size (block (sequence (action (SetMark slot)) (flow g 0 script))) → Adds x y (only (Mark slot ∷ []))
-    → ((n : ℕ) (ends : List ℕ) → end_at ends n ≡ end → Emits y z (flow g n script) ends) → Emits x z (block (sequence (action (SetMark slot)) (flow g 0 script))) ends
-entry_emitted x y z slot end g script ends is mark h =
-    emits_block x z (sequence (action (SetMark slot)) (flow g 0 script)) ends end is
-    (emits_sequence x y z (action (SetMark slot)) (flow g 0 script) (end ∷ ends) mark (h 0 (end ∷ ends) refl))
+pub entry_emitted : (x y z u : Output) (slot : ℕ) (g : Include → Flow) → IncludesTyped g → (script : Commands) → Adds x y (only (Mark slot ∷ [])) → ((n : ℕ) (ends : List ℕ) → end_at ends n ≡ no_place → Emits y z (flow g n script) ends) → length z.code.items < 2 ^ 16 → IsEnded (length x.code.items) z u
+    → (ends : List ℕ) → Emits x u (block (sequence (action (SetMark slot)) (flow g 0 script))) ends
+entry_emitted x y z u slot g typed script mark h few is ends =
+    block_ended x z u (sequence (action (SetMark slot)) (flow g 0 script)) ends [] ([], (refl, omega arith, omega arith), flow_typed g typed zero script ([] ∷ []) refl)
+    (emits_sequence x y z (action (SetMark slot)) (flow g 0 script) (no_place ∷ []) mark (h 0 (no_place ∷ []) refl)) few is

@@ -3,6 +3,7 @@ mod Means
 mod Types
 mod Compiled
 mod Emitted
+mod EndedBlocks
 mod EmittedTests
 mod Turns
 mod Written

@@ -9,3 +9,4 @@ pub mod Libraries
 pub mod Shelves
 pub mod Levels
 pub mod Scopes
+pub mod Ends

@@ -18,6 +18,7 @@ ghost use Rattle.filing_gen.specs.Weights.{IsLeft};
 use crate::arguments::first_text;
 use crate::chain::{Chain, Link};
 use crate::emit_commands::emit_commands;
+use crate::ends::{NO_PLACE, end_block};
 use crate::finding::{Finding, Scope, find, location_named};
 use crate::linker::Linker;
 use crate::output::{Output, put};
@@ -43,7 +44,7 @@ pub trait Level {
         requires { size (entered_flow (library_of scope.now.library.now) (slots_of scope.now.library.now) (names_of scope.now.main) depth (C.names chain.now) slot (program_of (tree_of script.now))) < 2 ^ 16 }
         ensures { result ≡ size (entered_flow (library_of scope.now.library.now) (slots_of scope.now.library.now) (names_of scope.now.main) depth (C.names chain.now) slot (program_of (tree_of script.now))) };
 
-    /// Writes the entry of the script, which ends at this place.
+    /// Writes the entry of the script.
     fn emit<C: Chain>(
         alloc: Global,
         scope: &Scope<'_>,
@@ -51,11 +52,9 @@ pub trait Level {
         out: &mut Output,
         slot: usize,
         script: &Script,
-        end: u16,
     ) -> Result<(), AllocError>
         requires slot { slot < 64 }
         requires room { HasRoom out.old (size (entered_flow (library_of scope.now.library.now) (slots_of scope.now.library.now) (names_of scope.now.main) depth (C.names chain.now) slot (program_of (tree_of script.now)))) }
-        requires end { end ≡ length out.old.code.items + size (entered_flow (library_of scope.now.library.now) (slots_of scope.now.library.now) (names_of scope.now.main) depth (C.names chain.now) slot (program_of (tree_of script.now))) }
         ensures adds { OnOk result ((ends : List ℕ) → Emits out.old out.new (entered_flow (library_of scope.now.library.now) (slots_of scope.now.library.now) (names_of scope.now.main) depth (C.names chain.now) slot (program_of (tree_of script.now))) ends) };
 }
 
@@ -80,7 +79,6 @@ impl Level for Deepest {
         out: &mut Output,
         _slot: usize,
         _script: &Script,
-        _end: u16,
     ) -> Result<(), AllocError> {
         put(out, Operation::Fault(4))
     }
@@ -119,15 +117,17 @@ impl<L: Level> Level for Above<L> {
         out: &mut Output,
         slot: usize,
         script: &Script,
-        end: u16,
     ) -> Result<(), AllocError> {
         let includes: Includes<'_, C, L> = Includes {
             scope: *scope,
             chain,
             below: PhantomData,
         };
+        let start = out.code.len();
         put(out, Operation::Mark(slot as u16))?;
-        emit_commands(alloc, &includes, out, &script.commands, end)
+        emit_commands(alloc, &includes, out, &script.commands, NO_PLACE)?;
+        end_block(out, start);
+        Ok(())
     }
 }
 
@@ -193,13 +193,14 @@ impl<C: Chain, L: Level> Linker for Includes<'_, C, L> {
             Finding::Entry(slot, script) => (slot, script),
         };
         let chain = self.with(arguments);
-        let end = out.code.len() + L::size(&self.scope, &chain, slot, script);
         if !has_tag(arguments, b"once") {
-            return L::emit(alloc, &self.scope, &chain, out, slot, script, end as u16);
+            return L::emit(alloc, &self.scope, &chain, out, slot, script);
         }
-        let end = (end + 2) as u16;
+        let start = out.code.len();
         put(out, Operation::Marked(slot as u16))?;
-        put(out, Operation::JumpIf(end))?;
-        L::emit(alloc, &self.scope, &chain, out, slot, script, end)
+        put(out, Operation::JumpIf(NO_PLACE))?;
+        L::emit(alloc, &self.scope, &chain, out, slot, script)?;
+        end_block(out, start);
+        Ok(())
     }
 }

@@ -3,18 +3,21 @@
 //! In `specs/`, `Structured` says which code in blocks (`filing_flow`) stands for a script, `Linked` which stands for an
 //! include, and `Correct` what an image owes its script. `Libraries` says what a `library` of scripts is (`Shelves`: as it
 //! lies in memory), and which of them an include finds. `Alike` says how a script and its code run side by side;
-//! `Emission`, `Adds`, `Weights`, `Levels` and `Scopes` what the passes over the tree keep. A script is weighed (`weight`),
+//! `Emission`, `Adds`, `Ends`, `Weights`, `Levels` and `Scopes` what the passes over the tree keep. A script is weighed (`weight`),
 //! and left alone as soon as it is too heavy; then its code is written: `size_tests` and `size_commands` count the
-//! operations ahead, so that each jump knows its place, and `emit_tests` and `emit_commands` write them. What stands for an
-//! include is a `linker`'s affair, and the passes know no more of it. The one of `levels` looks the script up in the
-//! library, judges the include by the `chain` of active scripts (`finding`), and puts the script's own code in its place,
-//! one level further down; the deepest level has none. `program` makes the image and has it verified.
+//! operations of branches ahead, so that each jump between them knows its place, and `emit_tests` and `emit_commands` write
+//! them. Jumps to the end of a whole script, for `return`, are written without their place, which `ends` puts in once the
+//! script's code stands. What stands for an include is a `linker`'s affair, and the passes know no more of it. The one of
+//! `levels` looks the script up in the library, judges the include by the `chain` of active scripts (`finding`), and puts
+//! the script's own code in its place, one level further down; the deepest level has none. `program` makes the image and has
+//! it verified.
 #![tactic(auto)]
 
 mod arguments;
 mod chain;
 mod emit_commands;
 mod emit_tests;
+mod ends;
 mod fault;
 mod finding;
 mod levels;

@@ -1,6 +1,6 @@
 //! From a checked script to an image that may run.
 
-ghost use Rattle.std.specs.Prelude.{◌≡◌, ◌↔◌, ◌+◌, ◌<◌, ◌≤◌, ◌^◌, map, Err, IfOk, IfErr, MatchOption};
+ghost use Rattle.std.specs.Prelude.{◌≡◌, ◌↔◌, ◌+◌, ◌<◌, ◌≤◌, ◌^◌, [], ◌∷◌, map, Err, IfOk, IfErr, MatchOption};
 ghost use Rattle.std.specs.Option.{option_map};
 ghost use Rattle.sieve_syntax.specs.View.{command_of, commands_of, tree_of};
 ghost use Rattle.sieve_meaning.specs.Outcome.{greatest_weight};
@@ -9,6 +9,7 @@ ghost use Rattle.sieve_meaning.specs.Weight.{linked_weight};
 ghost use Rattle.filing_image.specs.Program.{instruction_of};
 ghost use Rattle.filing_verify.specs.Well.{IsWell};
 ghost use Rattle.filing_flow.specs.Structure.{size};
+ghost use Rattle.filing_flow.specs.Types.{HasType};
 ghost use Rattle.filing_gen.specs.Structured.{script_flow};
 ghost use Rattle.filing_gen.specs.Adds.{IsCode, IsImageOf};
 ghost use Rattle.filing_gen.specs.Emission.{commands_long};
@@ -17,13 +18,13 @@ ghost use Rattle.filing_gen.specs.declared.fault.GenFault.TheVariants.{NoMemory,
 
 use crate::chain::MainScript;
 use crate::emit_commands::emit_commands;
+use crate::ends::{NO_PLACE, end_block};
 use crate::fault::GenFault;
 use crate::finding::Scope;
 use crate::levels::{Above, Deepest, Includes};
 use crate::library::Library;
 use crate::linker::Linker;
 use crate::output::{Output, put};
-use crate::size_commands::commands_size;
 use crate::weight::script_weight;
 use filing_image::{Image, Instruction, Operation};
 use filing_verify::{Verified, VerifyFault, verify};
@@ -41,7 +42,8 @@ fn emit_program<L: Linker>(
     linker: &L,
     main: &Vec<Command>,
 ) -> Result<Output, AllocError>
-    requires { commands_long (λ i. size (L.flow_of linker.now i)) (program_of (commands_of (map command_of main.now.items))) + 1 < 2 ^ 16 }
+    requires room { commands_long (λ i. size (L.flow_of linker.now i)) (program_of (commands_of (map command_of main.now.items))) + 1 < 2 ^ 16 }
+    requires typed { HasType (script_flow (L.flow_of linker.now) (program_of (commands_of (map command_of main.now.items)))) ([] ∷ []) [] [] }
     ensures { IfOk result (λ o. IsCode o (script_flow (L.flow_of linker.now) (program_of (commands_of (map command_of main.now.items))))) }
 {
     let mut out = Output {
@@ -49,8 +51,8 @@ fn emit_program<L: Linker>(
         numbers: Vec::new(alloc),
         code: Vec::new(alloc),
     };
-    let end = commands_size(linker, main) as u16;
-    emit_commands(alloc, linker, &mut out, main, end)?;
+    emit_commands(alloc, linker, &mut out, main, NO_PLACE)?;
+    end_block(&mut out, 0);
     put(&mut out, Operation::Stop)?;
     Ok(out)
 }
@@ -140,7 +142,7 @@ fn weigh(script: &Script, scope: Scope<'_>) -> Option<u32>
 /// declares the script's weight as its budget in steps, it is one that may run, and in every case its run ends with
 /// the outcome of what the script means. `TooLarge`, 5, exactly where the weight is above 60,000; `NoMemory`, 99, where
 /// an allocation was refused, or a string is too long for an image. Memory is linear in the weight, and so is time, times
-/// how deep blocks and includes stand inside one another. A script that is too heavy takes time linear in 60,000.
+/// how deep tests and blocks stand inside one another. A script that is too heavy takes time linear in 60,000.
 pub fn compile(
     alloc: Global,
     main: &Checked,

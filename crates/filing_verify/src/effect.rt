@@ -1,11 +1,33 @@
 //! What an operation does to the kinds of the stack.
 
-ghost use Rattle.std.specs.Prelude.{◌≡◌, ◌≤◌, length, true, false, Some, None};
+ghost use Rattle.std.specs.Prelude.{◌≡◌, ◌≢◌, ◌≤◌, List, ◌∷◌, length, true, false, Some, None};
+ghost use Rattle.filing_verify.specs.declared.kind.Kind.{Kind as KindType};
 ghost use Rattle.filing_verify.specs.Shapes.{after};
 
 use crate::kind::Kind;
 use crate::shape::Shape;
 use filing_image::Operation;
+
+/// Takes the topmost entry off, and answers whether it is one of this kind.
+fn takes(kind: Kind, shape: &mut Shape) -> bool
+    ensures taken { result ≡ true → shape.old ≡ kind ∷ shape.new }
+    ensures other { result ≡ false → (top : KindType) (rest : List KindType) → shape.old ≡ top ∷ rest → top ≢ kind }
+{
+    match shape.pop() {
+        Some(top) => top == kind,
+        None => false,
+    }
+}
+
+/// Puts an entry on top, which is done in any case.
+fn puts(kind: Kind, shape: &mut Shape) -> bool
+    requires { length shape.old ≤ 32 }
+    ensures done { result ≡ true }
+    ensures put { shape.new ≡ kind ∷ shape.old }
+{
+    shape.push(kind);
+    true
+}
 
 /// Makes of a shape what the operation makes of it, or answers that it lacks an operand.
 pub fn apply(operation: Operation, shape: &mut Shape) -> bool
@@ -15,60 +37,21 @@ pub fn apply(operation: Operation, shape: &mut Shape) -> bool
 {
     match operation {
         Operation::PushTrue | Operation::PushFalse | Operation::Exists(_) | Operation::Marked(_) =>
-            {
-                shape.push(Kind::Truth);
-                true
-            }
-        Operation::Not => {
-            let Some(Kind::Truth) = shape.pop() else {
-                return false;
-            };
-            shape.push(Kind::Truth);
-            true
-        }
-        Operation::Values(_) => {
-            shape.push(Kind::Texts);
-            true
-        }
-        Operation::Join => {
-            let Some(Kind::Texts) = shape.pop() else {
-                return false;
-            };
-            let Some(Kind::Texts) = shape.pop() else {
-                return false;
-            };
-            shape.push(Kind::Texts);
-            true
-        }
-        Operation::Match(_, _) => {
-            let Some(Kind::Texts) = shape.pop() else {
-                return false;
-            };
-            shape.push(Kind::Texts);
-            shape.push(Kind::Truth);
-            true
-        }
+            puts(Kind::Truth, shape),
+        Operation::Not => takes(Kind::Truth, shape) && puts(Kind::Truth, shape),
+        Operation::Values(_) => puts(Kind::Texts, shape),
+        Operation::Join => takes(Kind::Texts, shape)
+            && takes(Kind::Texts, shape)
+            && puts(Kind::Texts, shape),
+        Operation::Match(_, _) => takes(Kind::Texts, shape)
+            && puts(Kind::Texts, shape)
+            && puts(Kind::Truth, shape),
         Operation::Pop => shape.pop().is_some(),
-        Operation::Size | Operation::Number(_) => {
-            shape.push(Kind::Count);
-            true
-        }
-        Operation::Less => {
-            let Some(Kind::Count) = shape.pop() else {
-                return false;
-            };
-            let Some(Kind::Count) = shape.pop() else {
-                return false;
-            };
-            shape.push(Kind::Truth);
-            true
-        }
-        Operation::JumpIf(_) | Operation::JumpUnless(_) => {
-            let Some(Kind::Truth) = shape.pop() else {
-                return false;
-            };
-            true
-        }
+        Operation::Size | Operation::Number(_) => puts(Kind::Count, shape),
+        Operation::Less => takes(Kind::Count, shape)
+            && takes(Kind::Count, shape)
+            && puts(Kind::Truth, shape),
+        Operation::JumpIf(_) | Operation::JumpUnless(_) => takes(Kind::Truth, shape),
         Operation::Jump(_)
         | Operation::Mark(_)
         | Operation::File(_, _)

@@ -1,3 +1,4 @@
 pub mod TruthLemmas
 pub mod RunLemmas
+pub mod IncludeLemmas
 pub mod OutcomeLemmas

@@ -1,3 +1,4 @@
 pub mod Case
+pub mod Scripts
 pub mod Runs
 pub mod Outcomes

@@ -1,28 +1,28 @@
--- Runs of a script that can include none, as the evaluator goes over its commands.
-use Rattle.std.specs.Prelude.{◌≡◌, ℕ, List, [], Bool, true, false, codes, if◌then◌else◌, Option, Some, None}
+-- Runs of a script as the evaluator goes over its commands, where includes do what they are given.
+use Rattle.std.specs.Prelude.{◌≡◌, ℕ, zero, suc, List, ◌∷◌, map, Bool, true, false, codes, if◌then◌else◌, Option, Some, None}
 use Rattle.sieve_syntax.specs.Tree.{CommandTree, command, CommandTrees, no_commands, command_then, EndingTree, semicolon, block}
 use Rattle.sieve_syntax.specs.declared.tree.Argument.{Argument}
 use Rattle.sieve_meaning.specs.Case.{Facts}
 use Rattle.sieve_meaning.specs.declared.words.CommandWord.{CommandWord}
 use Rattle.sieve_meaning.specs.declared.words.CommandWord.TheVariants as words
-use Rattle.sieve_meaning.specs.Program.{Test, Commands, Branches}
+use Rattle.sieve_meaning.specs.Program.{Include, Test, Commands, Branches}
 use Rattle.sieve_meaning.specs.Truth.{truth}
-use Rattle.sieve_meaning.specs.Reading.{only_in, block_in, command_named, program_of, branches_of, string_lists, first_string, has_tag, include_of}
-use Rattle.sieve_meaning.specs.Meaning.{Included, included, no_library, run, run_branches, and_then, filing}
+use Rattle.sieve_meaning.specs.Reading.{only_in, block_in, command_named, program_of, branches_of, string_lists, first_string, has_tag}
+use Rattle.sieve_meaning.specs.Meaning.{ScriptName, script_named, Library, Included, included, run, run_branches, and_then, filing, ended, entering}
 use Rattle.sieve_meaning.specs.Meaning as meaning
-use Rattle.plain_evaluator.specs.declared.commands.Filing.{Filing}
-use Rattle.plain_evaluator.specs.declared.commands.Ending.{Ending}
-use Rattle.plain_evaluator.specs.declared.commands.Ending.TheVariants as endings
+use Rattle.filing_gen.specs.Correct.{library_of}
+use Rattle.plain_evaluator.specs.Case.{facts_of}
+use Rattle.plain_evaluator.specs.Scripts.{script_of}
+use Rattle.plain_evaluator.specs.declared.filing.Filing.{Filing}
+use Rattle.plain_evaluator.specs.declared.filing.Ending.{Ending}
+use Rattle.plain_evaluator.specs.declared.filing.Ending.TheVariants as endings
+use Rattle.plain_evaluator.specs.declared.scope.Scope.{Scope}
 use Rattle.plain_evaluator.specs.declared.commands.Part.{Part}
 use Rattle.plain_evaluator.specs.declared.commands.Part.TheVariants.{Branch, Otherwise, Plain}
 
--- what an `include` does where no script is there
-abbrev pub without_includes : Facts → Included
-without_includes facts = included facts no_library 7 []
-
 -- what the code's state of a run stands for
 abbrev pub filing_of : Filing → meaning.Filing
-filing_of f = record { filed = f.filed; kept = f.kept; cancelled = f.cancelled; entered = [] }
+filing_of f = record { filed = f.filed; kept = f.kept; cancelled = f.cancelled; entered = map script_of f.entered.items }
 
 abbrev pub ending_at : Ending → Filing → meaning.Ending
 ending_at endings.GoesOn f = meaning.GoesOn (filing_of f)
@@ -37,19 +37,28 @@ fault_of endings.Returns = None
 fault_of endings.Stops = None
 fault_of (endings.Faults n) = Some n
 
+-- what an `include` does in a scope, where so many further scripts may be active
+abbrev pub includes_at : ℕ → Scope → Included
+includes_at left s = included (facts_of s.case.now) (library_of s.library.now) left (map script_of s.chain.now)
+
+-- A script is entered by an include behind the active ones, where so many further ones may be active.
+abbrev pub entered : Facts → Library → ℕ → (chain : List ScriptName) → Include → Commands → meaning.Filing → meaning.Ending
+entered facts lib zero chain i script f = meaning.Faults 4 f
+entered facts lib (suc left) chain i script f = ended (run facts (included facts lib left (script_named i ∷ chain)) script (entering (script_named i) f))
+
+-- an include whose script is missing
+abbrev pub missing : (optional : Bool) → meaning.Filing → meaning.Ending
+missing optional f = if optional then meaning.GoesOn f else meaning.Faults 2 f
+
 -- Commands are run. An `elsif` or `else` at their front is open where no test of the branches before it was
 -- true, and is passed over otherwise.
-unfoldable pub runs_from : Facts → (is_open : Bool) → CommandTrees → meaning.Filing → meaning.Ending
-runs_from facts true cs f = and_then (run_branches facts (without_includes facts) (branches_of cs) f) (run facts (without_includes facts) (program_of cs))
-runs_from facts false cs f = run facts (without_includes facts) (program_of cs) f
+unfoldable pub runs_from : Facts → Included → (is_open : Bool) → CommandTrees → meaning.Filing → meaning.Ending
+runs_from facts inc true cs f = and_then (run_branches facts inc (branches_of cs) f) (run facts inc (program_of cs))
+runs_from facts inc false cs f = run facts inc (program_of cs) f
 
 -- `fileinto` with these arguments
 abbrev pub filing_into : Facts → List Argument → meaning.Filing → meaning.Ending
 filing_into facts args f = filing facts (has_tag (codes "copy") args) (first_string (string_lists false args)) f
-
--- `include` with these arguments
-abbrev pub including : Facts → List Argument → meaning.Filing → meaning.Ending
-including facts args f = without_includes facts (include_of args) f
 
 -- what a command is to the branches before it
 abbrev pub part_of : CommandWord → Bool → Part
@@ -67,17 +76,17 @@ IsNoIf word = Unit {0}
 
 -- A command with this word and these arguments ends so, whatever test, block, branches and further commands
 -- stand with it; an `elsif` or `else` is passed over.
-abbrev pub PlainlyEnds : Facts → CommandWord → List Argument → meaning.Filing → meaning.Ending → Type 0
-PlainlyEnds facts word args f e = (t : Test) (inner : Commands) (rest : Branches) (more : Commands) → run facts (without_includes facts) (command_named word args t inner rest more) f ≡ and_then e (run facts (without_includes facts) more)
+abbrev pub PlainlyEnds : Facts → Included → CommandWord → List Argument → meaning.Filing → meaning.Ending → Type 0
+PlainlyEnds facts inc word args f e = (t : Test) (inner : Commands) (rest : Branches) (more : Commands) → run facts inc (command_named word args t inner rest more) f ≡ and_then e (run facts inc more)
 
 -- a command before further ones leads to this ending, and leaves the branches behind it open or not
-abbrev pub Leads : Facts → Bool → CommandTree → meaning.Filing → meaning.Ending → Bool → Type 0
-Leads facts is_open c f e opens = (more : CommandTrees) → runs_from facts is_open (command_then c more) f ≡ and_then e (runs_from facts opens more)
+abbrev pub Leads : Facts → Included → Bool → CommandTree → meaning.Filing → meaning.Ending → Bool → Type 0
+Leads facts inc is_open c f e opens = (more : CommandTrees) → runs_from facts inc is_open (command_then c more) f ≡ and_then e (runs_from facts inc opens more)
 
 abbrev pub commands_in : EndingTree → CommandTrees
 commands_in semicolon = no_commands
 commands_in (block cs) = cs
 
 -- a test and a block that are taken where the test is true lead to this ending
-abbrev pub BranchLeads : Facts → CommandTree → meaning.Filing → meaning.Ending → Bool → Type 0
-BranchLeads facts (command name args inner finish) f e opens = (more : CommandTrees) → (if truth facts (only_in inner) then and_then (run facts (without_includes facts) (block_in finish) f) (runs_from facts false more) else runs_from facts true more f) ≡ and_then e (runs_from facts opens more)
+abbrev pub BranchLeads : Facts → Included → CommandTree → meaning.Filing → meaning.Ending → Bool → Type 0
+BranchLeads facts inc (command name args inner finish) f e opens = (more : CommandTrees) → (if truth facts (only_in inner) then and_then (run facts inc (block_in finish) f) (runs_from facts inc false more) else runs_from facts inc true more f) ≡ and_then e (runs_from facts inc opens more)

@@ -1,64 +1,32 @@
-//! Runs the commands of a checked script (RFC 5228, sections 3 and 4), where no script can be included.
+//! Runs the commands of a checked script (RFC 5228, sections 3 and 4).
 
-ghost use Rattle.std.specs.Prelude.{◌≡◌, ℕ, IfOk, map, false};
+ghost use Rattle.std.specs.Prelude.{◌≡◌, IfOk, map, false};
 ghost use Rattle.sieve_syntax.specs.View.{command_of, commands_of, ending_of};
 ghost use Rattle.plain_evaluator.specs.Case.{facts_of};
-ghost use Rattle.sieve_meaning.specs.Case.{Facts};
-ghost use Rattle.plain_evaluator.specs.declared.commands.Filing.{Filing};
-ghost use Rattle.plain_evaluator.specs.Runs.{fault_of, ending_at, filing_of, runs_from, commands_in, filing_into, including, part_of, IsNoIf, PlainlyEnds, BranchLeads, Leads};
+ghost use Rattle.plain_evaluator.specs.Runs.{ending_at, filing_of, runs_from, commands_in, filing_into, includes_at, part_of, IsNoIf, PlainlyEnds, BranchLeads, Leads};
 
 use crate::case::Case;
+use crate::filing::{Ending, Filing};
+use crate::includes::run_include;
+use crate::level::Level;
+use crate::scope::Scope;
+use crate::scripts::{first_text, include_asked};
 use crate::truth::is_only_true;
-use sieve_meaning::reading::{has_tag, next_string_list};
-use sieve_meaning::{CommandWord, Paths, command_word};
+use sieve_meaning::reading::has_tag;
+use sieve_meaning::{CommandWord, command_word};
 use sieve_syntax::{Argument, Command, Ending as CommandEnding};
 use std::alloc::{AllocError, Global};
-
-/// What a run has done so far.
-#[derive(Drop)]
-pub struct Filing {
-    pub filed: Paths,
-    pub kept: bool,
-    pub cancelled: bool,
-}
-
-/// How commands end.
-#[derive(Clone, Copy, Debug, PartialEq, Eq)]
-pub enum Ending {
-    GoesOn,
-    /// `return`.
-    Returns,
-    /// `stop`.
-    Stops,
-    /// A fault with its number.
-    Faults(u8),
-}
-
-impl Ending {
-    /// The number of the fault, if there is one.
-    pub fn fault(self) -> Option<u8>
-        ensures { result ≡ fault_of self }
-    {
-        match self {
-            Ending::Faults(fault) => Some(fault),
-            Ending::GoesOn | Ending::Returns | Ending::Stops => None,
-        }
-    }
-}
 
 /// `fileinto`: adds the path, and cancels the implicit keep unless a copy is filed.
 fn file_into(
     alloc: Global,
     case: &Case<'_>,
     arguments: &[Argument],
-    filing: &mut Filing,
+    filing: &mut Filing<'_>,
 ) -> Result<Ending, AllocError>
     ensures { IfOk result (λ e. ending_at e filing.new ≡ filing_into (facts_of case.now) arguments.now (filing_of filing.old)) }
 {
-    let path = match next_string_list(arguments) {
-        Some((list, _)) => list.first().as_slice(),
-        None => &[],
-    };
+    let path = first_text(arguments);
     if !case.is_open(path) {
         return Ok(Ending::Faults(1));
     }
@@ -69,26 +37,15 @@ fn file_into(
     Ok(Ending::GoesOn)
 }
 
-/// `include`: the script is missing, which is fault 2 unless that is optional.
-fn include(arguments: &[Argument]) -> Ending
-    ensures { (facts : Facts) (f : Filing) → ending_at result f ≡ including facts arguments.now (filing_of f) }
-{
-    if has_tag(arguments, b"optional") {
-        Ending::GoesOn
-    } else {
-        Ending::Faults(2)
-    }
-}
-
 /// A command that is no branch, and has no block.
-fn run_plain(
+fn run_plain<'a, L: Level>(
     alloc: Global,
-    case: &Case<'_>,
+    scope: &Scope<'_, '_, 'a>,
     word: CommandWord,
-    arguments: &[Argument],
-    filing: &mut Filing,
+    arguments: &'a [Argument],
+    filing: &mut Filing<'a>,
 ) -> Result<Ending, AllocError>
-    ensures { IsNoIf word → IfOk result (λ e. PlainlyEnds (facts_of case.now) word arguments.now (filing_of filing.old) (ending_at e filing.new)) }
+    ensures { IsNoIf word → IfOk result (λ e. PlainlyEnds (facts_of scope.now.case.now) (includes_at L.depth scope.now) word arguments.now (filing_of filing.old) (ending_at e filing.new)) }
 {
     match word {
         CommandWord::Stop => Ok(Ending::Stops),
@@ -101,8 +58,8 @@ fn run_plain(
             filing.cancelled = true;
             Ok(Ending::GoesOn)
         }
-        CommandWord::FileInto => file_into(alloc, case, arguments, filing),
-        CommandWord::Include => Ok(include(arguments)),
+        CommandWord::FileInto => file_into(alloc, scope.case, arguments, filing),
+        CommandWord::Include => run_include::<L>(alloc, scope, &include_asked(arguments), filing),
         CommandWord::Require
         | CommandWord::If
         | CommandWord::ElsIf
@@ -113,34 +70,34 @@ fn run_plain(
 
 /// Runs the block that a command ends with.
 #[cycle(running)]
-fn run_block(
+fn run_block<'a, L: Level>(
     alloc: Global,
-    case: &Case<'_>,
-    ending: &CommandEnding,
-    filing: &mut Filing,
+    scope: &Scope<'_, '_, 'a>,
+    ending: &'a CommandEnding,
+    filing: &mut Filing<'a>,
 ) -> Result<Ending, AllocError>
-    ensures { IfOk result (λ e. ending_at e filing.new ≡ runs_from (facts_of case.now) false (commands_in (ending_of ending.now)) (filing_of filing.old)) }
+    ensures { IfOk result (λ e. ending_at e filing.new ≡ runs_from (facts_of scope.now.case.now) (includes_at L.depth scope.now) false (commands_in (ending_of ending.now)) (filing_of filing.old)) }
 {
     match ending {
         CommandEnding::Semicolon => Ok(Ending::GoesOn),
-        CommandEnding::Block(commands) => run(alloc, case, commands, filing),
+        CommandEnding::Block(commands) => run::<L>(alloc, scope, commands, filing),
     }
 }
 
 /// Runs an `if`, or an `elsif` that is open; says whether the branches behind it are open.
 #[cycle(running)]
-fn run_branch(
+fn run_branch<'a, L: Level>(
     alloc: Global,
-    case: &Case<'_>,
-    command: &Command,
-    filing: &mut Filing,
+    scope: &Scope<'_, '_, 'a>,
+    command: &'a Command,
+    filing: &mut Filing<'a>,
 ) -> Result<(Ending, bool), AllocError>
-    ensures { IfOk result (λ r. BranchLeads (facts_of case.now) (command_of command.now) (filing_of filing.old) (ending_at r.0 filing.new) r.1) }
+    ensures { IfOk result (λ r. BranchLeads (facts_of scope.now.case.now) (includes_at L.depth scope.now) (command_of command.now) (filing_of filing.old) (ending_at r.0 filing.new) r.1) }
 {
-    if !is_only_true(case, &command.tests) {
+    if !is_only_true(scope.case, &command.tests) {
         return Ok((Ending::GoesOn, true));
     }
-    let ending = run_block(alloc, case, &command.ending, filing)?;
+    let ending = run_block::<L>(alloc, scope, &command.ending, filing)?;
     Ok((ending, false))
 }
 
@@ -175,27 +132,27 @@ fn part_in(word: CommandWord, is_open: bool) -> Part
 
 /// Runs one command; says whether the branches behind it are open.
 #[cycle(running)]
-fn run_command(
+fn run_command<'a, L: Level>(
     alloc: Global,
-    case: &Case<'_>,
-    command: &Command,
+    scope: &Scope<'_, '_, 'a>,
+    command: &'a Command,
     is_open: bool,
-    filing: &mut Filing,
+    filing: &mut Filing<'a>,
 ) -> Result<(Ending, bool), AllocError>
-    ensures { IfOk result (λ r. Leads (facts_of case.now) is_open (command_of command.now) (filing_of filing.old) (ending_at r.0 filing.new) r.1) }
+    ensures { IfOk result (λ r. Leads (facts_of scope.now.case.now) (includes_at L.depth scope.now) is_open (command_of command.now) (filing_of filing.old) (ending_at r.0 filing.new) r.1) }
 {
     let word = command_word(command.name.as_slice());
     match part_in(word, is_open) {
         Part::Branch => {
-            let (ending, opens) = run_branch(alloc, case, command, filing)?;
+            let (ending, opens) = run_branch::<L>(alloc, scope, command, filing)?;
             Ok((ending, opens))
         }
         Part::Otherwise => {
-            let ending = run_block(alloc, case, &command.ending, filing)?;
+            let ending = run_block::<L>(alloc, scope, &command.ending, filing)?;
             Ok((ending, false))
         }
         Part::Plain => {
-            let ending = run_plain(alloc, case, word, command.arguments.as_slice(), filing)?;
+            let ending = run_plain::<L>(alloc, scope, word, command.arguments.as_slice(), filing)?;
             Ok((ending, false))
         }
     }
@@ -203,17 +160,17 @@ fn run_command(
 
 /// Runs commands in order while each goes on.
 #[cycle(running)]
-pub fn run(
+pub fn run<'a, L: Level>(
     alloc: Global,
-    case: &Case<'_>,
-    commands: &Vec<Command>,
-    filing: &mut Filing,
+    scope: &Scope<'_, '_, 'a>,
+    commands: &'a Vec<Command>,
+    filing: &mut Filing<'a>,
 ) -> Result<Ending, AllocError>
-    ensures { IfOk result (λ e. ending_at e filing.new ≡ runs_from (facts_of case.now) false (commands_of (map command_of commands.now.items)) (filing_of filing.old)) }
+    ensures { IfOk result (λ e. ending_at e filing.new ≡ runs_from (facts_of scope.now.case.now) (includes_at L.depth scope.now) false (commands_of (map command_of commands.now.items)) (filing_of filing.old)) }
 {
     let mut is_open = false;
     for command in commands {
-        let (ending, opens) = run_command(alloc, case, command, is_open, filing)?;
+        let (ending, opens) = run_command::<L>(alloc, scope, command, is_open, filing)?;
         if ending != Ending::GoesOn {
             return Ok(ending);
         }

@@ -1,16 +1,23 @@
 //! The evaluator's call.
 
-ghost use Rattle.std.specs.Prelude.{◌≡◌, IfOk, None};
+ghost use Rattle.std.specs.Prelude.{◌≡◌, IfOk, map, option_map};
+ghost use Rattle.filing_gen.specs.Correct.{library_of};
 ghost use Rattle.sieve_syntax.specs.View.{tree_of};
 ghost use Rattle.sieve_meaning.specs.Reading.{program_of};
-ghost use Rattle.sieve_meaning.specs.Meaning.{no_library, meaning};
+ghost use Rattle.sieve_meaning.specs.Meaning.{main_names, meaning};
 ghost use Rattle.sieve_meaning.specs.Outcome.{outcome_at, outcome_of};
 ghost use Rattle.plain_evaluator.specs.Case.{facts_of};
 ghost use Rattle.plain_evaluator.specs.Runs.{fault_of};
 ghost use Rattle.plain_evaluator.specs.Outcomes.{outcome_view};
+ghost use Rattle.plain_evaluator.specs.Scripts.{script_of};
 
 use crate::case::Case;
-use crate::commands::{Ending, Filing, run};
+use crate::commands::run;
+use crate::filing::{Ending, Filing};
+use crate::levels::Levels;
+use crate::scope::Scope;
+use crate::scripts::ScriptName;
+use filing_gen::{Library, Location};
 use sieve_meaning::Paths;
 use sieve_syntax::Script;
 use std::alloc::{AllocError, Global};
@@ -23,15 +30,16 @@ const UNFILED: &[u8] = b"unfiled";
 pub struct Outcome {
     /// The classes, in byte order.
     pub classes: Paths,
-    /// The number of the fault, if the run ended in one: 1, a class that is not open; 2, an include of a missing script.
+    /// The number of the fault, if the run ended in one: 1, a class that is not open; 2, an include of a missing script; 3, of
+    /// an active one; 4, of one more where eight are active.
     pub fault: Option<u8>,
 }
 
 /// What a run captures that ended so. With a fault it is the default class alone; with none it is the classes that the
 /// run filed into, and the default class too where the message is kept, explicitly or implicitly (RFC 5228, section
 /// 2.10.2).
-fn captured(alloc: Global, ending: Ending, filing: Filing) -> Result<Outcome, AllocError>
-    ensures { IfOk result (λ o. outcome_view o ≡ outcome_at (fault_of ending) filing.filed filing.kept filing.cancelled) }
+fn captured(alloc: Global, ending: Ending, filing: Filing<'_>) -> Result<Outcome, AllocError>
+    ensures { IfOk result (λ o. outcome_view o ≡ outcome_at (fault_of ending) filing.entry.filed filing.entry.kept filing.entry.cancelled) }
 {
     let fault = ending.fault();
     if fault.is_some() {
@@ -43,6 +51,7 @@ fn captured(alloc: Global, ending: Ending, filing: Filing) -> Result<Outcome, Al
         filed: mut classes,
         kept,
         cancelled,
+        ..
     } = filing;
     if kept || !cancelled {
         classes.insert(alloc, UNFILED)?;
@@ -53,18 +62,49 @@ fn captured(alloc: Global, ending: Ending, filing: Filing) -> Result<Outcome, Al
     })
 }
 
-/// What a script captures a message in, where no script can be included: the outcome of what the script means in the
-/// message's case. Its weight is left aside: a script that is too heavy for an image is run like any other. The only
-/// error is want of memory.
-pub fn evaluate(alloc: Global, script: &Script, case: &Case<'_>) -> Result<Outcome, AllocError>
-    ensures { IfOk result (λ o. outcome_view o ≡ outcome_of (meaning (facts_of case.now) no_library None (program_of (tree_of script.now)))) }
+/// The main script's personal name, if it has one.
+fn main_names<'a>(
+    alloc: Global,
+    known_as: Option<&'a [u8]>,
+) -> Result<Vec<ScriptName<'a>>, AllocError>
+    ensures { IfOk result (λ v. map script_of v.items ≡ main_names (option_map (λ s. s.now) known_as.entry)) }
 {
+    let mut names = Vec::new(alloc);
+    if let Some(name) = known_as {
+        names.push(ScriptName {
+            location: Location::Personal,
+            name,
+        })?;
+    }
+    Ok(names)
+}
+
+/// What a main script captures a message in, which may be known by a personal name, and may include the scripts of a
+/// library: the outcome of what the script means in the message's case. Its weight is left aside: a script that is too
+/// heavy for an image is run like any other. The only error is want of memory.
+pub fn evaluate<'a>(
+    alloc: Global,
+    main: &'a Script,
+    known_as: Option<&'a [u8]>,
+    library: &'a Library,
+    case: &Case<'_>,
+) -> Result<Outcome, AllocError>
+    ensures { IfOk result (λ o. outcome_view o ≡ outcome_of (meaning (facts_of case.now) (library_of library.now) (option_map (λ s. s.now) known_as.entry) (program_of (tree_of main.now)))) }
+{
+    let chain = main_names(alloc, known_as)?;
+    let scope = Scope {
+        case,
+        library,
+        chain: chain.as_slice(),
+    };
+    let entered = main_names(alloc, known_as)?;
     let mut filing = Filing {
         filed: Paths::new(alloc),
         kept: false,
         cancelled: false,
+        entered,
     };
-    let ending = run(alloc, case, &script.commands, &mut filing)?;
+    let ending = run::<Levels>(alloc, &scope, &main.commands, &mut filing)?;
     let outcome = captured(alloc, ending, filing)?;
     Ok(outcome)
 }

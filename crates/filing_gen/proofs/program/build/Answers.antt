@@ -1,18 +1,28 @@
-use Rattle.std.proofs.Common.{ℕ, List, Bor, sym, subst, arith}
+use Rattle.std.proofs.Common.{ℕ, List, [], ◌∷◌, Option, Bor, refl, sym, subst, arith}
 use Rattle.std.specs.Option.{option_map}
 use Rattle.filing_image.specs.Program.{Program}
 use Rattle.filing_verify.specs.Well.{IsWell}
 use Rattle.sieve_syntax.specs.View.{tree_of}
+use Rattle.sieve_meaning.specs.Meaning.{main_names}
 use Rattle.sieve_meaning.specs.Reading.{program_of}
 use Rattle.filing_gen.specs.Correct.{IsCompiled, library_of}
 use Rattle.filing_gen.specs.Libraries.{slots_of}
+use Rattle.filing_gen.specs.Linked.{linked_flow}
+use Rattle.filing_gen.proofs.Types.{flow_typed}
+use Rattle.filing_gen.proofs.IncludesTypes.{included_typed}
 use Rattle.filing_gen.proofs.Compiled.{room, built_well, built}
 use Rattle.filing_gen.proofs.program.build.Goals as goal
 
-pub emit_program-requires : goal.emit_program-requires
-emit_program-requires c =
+pub emit_program-requires-clause-room : goal.emit_program-requires-clause-room
+emit_program-requires-clause-room c =
     let l = c.args.scope.library.now in
     room (library_of l) (slots_of l) c.slot_count-slots.result c.slot_count-slots.ensures (option_map (λ (s : Bor (List ℕ)). s.now) c.args.scope.main.known_as) (program_of (tree_of c.args.script.now)) (omega (arith, c.requires.weight, c.requires.small))
+
+pub emit_program-requires-clause-typed : goal.emit_program-requires-clause-typed
+emit_program-requires-clause-typed c =
+    let l = c.args.scope.library.now in
+    let known : Option (List ℕ) = option_map (λ (s : Bor (List ℕ)). s.now) c.args.scope.main.known_as in
+    flow_typed (linked_flow (library_of l) (slots_of l) known) (included_typed (library_of l) (slots_of l) (main_names known) 7 (main_names known)) 0 (program_of (tree_of c.args.script.now)) ([] ∷ []) refl
 
 pub verified-requires : goal.verified-requires
 verified-requires c =

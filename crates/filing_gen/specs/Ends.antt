@@ -1,0 +1,19 @@
+-- Jumps to the end of a block, as long as it is not known.
+use Rattle.std.specs.Prelude.{ℕ, nat_eq, if◌then◌else◌}
+use Rattle.filing_image.specs.declared.instruction.Operation.{Operation}
+use Rattle.filing_image.specs.declared.instruction.Operation.TheVariants.{Jump, JumpIf, JumpUnless}
+
+-- where such a jump goes until then
+abbrev pub no_place : ℕ
+no_place = 65535
+
+-- a place, or the end where it is not known
+abbrev pub place_or : (end place : ℕ) → ℕ
+place_or end place = if nat_eq place no_place then end else place
+
+-- an operation; a jump to a place that is not known goes to the end
+abbrev pub with_end : (end : ℕ) → Operation → Operation
+with_end end (Jump place) = Jump (place_or end place)
+with_end end (JumpIf place) = JumpIf (place_or end place)
+with_end end (JumpUnless place) = JumpUnless (place_or end place)
+with_end end operation = operation

@@ -1,0 +1,51 @@
+//! The ends of blocks that are known only when all that stands in them is written.
+
+ghost use Rattle.std.specs.Prelude.{◌≡◌, ◌≤◌, ◌<◌, ◌^◌, ◌++◌, length, map, take, drop};
+ghost use Rattle.filing_gen.specs.Ends.{place_or as place_or_of, with_end as with_end_of};
+
+use crate::output::Output;
+use filing_image::Operation;
+
+/// The place that a jump goes to until the end of its block is known.
+pub const NO_PLACE: u16 = u16::MAX;
+
+/// A place, or the end where it is not known.
+fn place_or(place: u16, end: u16) -> u16
+    ensures { result ≡ place_or_of end place }
+{
+    if place == NO_PLACE { end } else { place }
+}
+
+/// An operation; a jump to a place that is not known goes to the end.
+fn with_end(operation: Operation, end: u16) -> Operation
+    ensures { result ≡ with_end_of end operation }
+{
+    match operation {
+        Operation::Jump(place) => Operation::Jump(place_or(place, end)),
+        Operation::JumpIf(place) => Operation::JumpIf(place_or(place, end)),
+        Operation::JumpUnless(place) => Operation::JumpUnless(place_or(place, end)),
+        other => other,
+    }
+}
+
+/// Has the jumps to places that are not known go to the end.
+fn end_jumps(code: &mut [Operation], end: u16)
+    ensures { code.new ≡ map (with_end_of end) code.old }
+{
+    for operation in code.iter_mut() {
+        *operation = with_end(*operation, end);
+    }
+}
+
+/// Ends the block whose code begins at a place: its jumps to places that are not known go behind all that is written.
+pub fn end_block(out: &mut Output, start: usize)
+    requires start { start ≤ length out.old.code.items }
+    requires room { length out.old.code.items < 2 ^ 16 }
+    ensures code { out.new.code.items ≡ take start out.old.code.items ++ map (with_end_of (length out.old.code.items)) (drop start out.old.code.items) }
+    ensures texts { out.new.texts ≡ out.old.texts }
+    ensures numbers { out.new.numbers ≡ out.old.numbers }
+{
+    let end = out.code.len() as u16;
+    let (_, block) = out.code.as_mut_slice().split_at_mut(start);
+    end_jumps(block, end);
+}

@@ -1,0 +1,41 @@
+//! What a run has done so far, and how commands end.
+
+ghost use Rattle.std.specs.Prelude.{◌≡◌};
+ghost use Rattle.plain_evaluator.specs.Runs.{fault_of};
+
+use crate::scripts::ScriptName;
+use sieve_meaning::Paths;
+
+/// What a run has done so far.
+#[derive(Drop)]
+pub struct Filing<'a> {
+    pub filed: Paths,
+    pub kept: bool,
+    pub cancelled: bool,
+    /// The scripts that were entered, the last one first; the main one too where it has a name.
+    pub entered: Vec<ScriptName<'a>>,
+}
+
+/// How commands end.
+#[derive(Clone, Copy, Debug, PartialEq, Eq)]
+pub enum Ending {
+    GoesOn,
+    /// `return`.
+    Returns,
+    /// `stop`.
+    Stops,
+    /// A fault with its number.
+    Faults(u8),
+}
+
+impl Ending {
+    /// The number of the fault, if there is one.
+    pub fn fault(self) -> Option<u8>
+        ensures { result ≡ fault_of self }
+    {
+        match self {
+            Ending::Faults(fault) => Some(fault),
+            Ending::GoesOn | Ending::Returns | Ending::Stops => None,
+        }
+    }
+}

@@ -1,0 +1,56 @@
+//! Runs includes (RFC 6609, section 3.2).
+
+ghost use Rattle.std.specs.Prelude.{◌≡◌, ◌&&◌, IfOk, map};
+ghost use Rattle.sieve_meaning.specs.Meaning.{is_among as is_among_of};
+ghost use Rattle.plain_evaluator.specs.Runs.{ending_at, filing_of, includes_at, missing as missing_of};
+ghost use Rattle.plain_evaluator.specs.Scripts.{asked, script_of};
+ghost use Rattle.plain_evaluator.specs.declared.filing.Filing.{Filing};
+
+use crate::filing::{Ending, Filing};
+use crate::level::Level;
+use crate::scope::Scope;
+use crate::scripts::{Include, ScriptName, is_among};
+use std::alloc::{AllocError, Global};
+
+/// Whether an include does nothing since it asks for once and its script was entered.
+fn is_passed(include: &Include<'_>, entered: &[ScriptName<'_>]) -> bool
+    ensures { result ≡ (include.now.is_once && is_among_of (map script_of entered.now) (script_of include.now.script)) }
+{
+    include.is_once && is_among(entered, &include.script)
+}
+
+/// An include whose script is missing: nothing where it is optional, and else fault 2.
+fn missing(is_optional: bool) -> Ending
+    ensures { (f : Filing) → ending_at result f ≡ missing_of is_optional (filing_of f) }
+{
+    if is_optional {
+        Ending::GoesOn
+    } else {
+        Ending::Faults(2)
+    }
+}
+
+/// An include is judged in this order: under `:once` it does nothing where the script was entered; a script may be
+/// missing; an active one is fault 3; any other is entered.
+pub fn run_include<'a, L: Level>(
+    alloc: Global,
+    scope: &Scope<'_, '_, 'a>,
+    include: &Include<'a>,
+    filing: &mut Filing<'a>,
+) -> Result<Ending, AllocError>
+    ensures { IfOk result (λ e. ending_at e filing.new ≡ includes_at L.depth scope.now (asked include.now) (filing_of filing.old)) }
+{
+    if is_passed(include, filing.entered.as_slice()) {
+        return Ok(Ending::GoesOn);
+    }
+    let Some(script) = scope
+        .library
+        .get(include.script.location, include.script.name)
+    else {
+        return Ok(missing(include.is_optional));
+    };
+    if is_among(scope.chain, &include.script) {
+        return Ok(Ending::Faults(3));
+    }
+    L::enter(alloc, scope, include, script.script(), filing)
+}

@@ -1,0 +1,32 @@
+//! The entry of included scripts, level by level: a level is how many further scripts may be active, so that a run ends
+//! however the includes lead on.
+
+ghost use Rattle.std.specs.Prelude.{◌≡◌, ℕ, IfOk, map};
+ghost use Rattle.filing_gen.specs.Correct.{library_of};
+ghost use Rattle.sieve_syntax.specs.View.{tree_of};
+ghost use Rattle.sieve_meaning.specs.Reading.{program_of};
+ghost use Rattle.plain_evaluator.specs.Case.{facts_of};
+ghost use Rattle.plain_evaluator.specs.Runs.{ending_at, entered, filing_of};
+ghost use Rattle.plain_evaluator.specs.Scripts.{asked, script_of};
+
+use crate::filing::{Ending, Filing};
+use crate::scope::Scope;
+use crate::scripts::Include;
+use sieve_syntax::Script;
+use std::alloc::{AllocError, Global};
+
+/// How scripts are entered where so many further ones may be active.
+pub trait Level {
+    /// How many.
+    ghost depth: { ℕ };
+
+    /// Enters the script that an include names, which is there and not active, and runs it.
+    fn enter<'a>(
+        alloc: Global,
+        scope: &Scope<'_, '_, 'a>,
+        include: &Include<'a>,
+        script: &'a Script,
+        filing: &mut Filing<'a>,
+    ) -> Result<Ending, AllocError>
+        ensures { IfOk result (λ e. ending_at e filing.new ≡ entered (facts_of scope.now.case.now) (library_of scope.now.library.now) depth (map script_of scope.now.chain.now) (asked include.now) (program_of (tree_of script.now)) (filing_of filing.old)) };
+}

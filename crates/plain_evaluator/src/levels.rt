@@ -1,0 +1,86 @@
+//! The levels at which scripts are included.
+
+ghost use Rattle.std.specs.Prelude.{◌≡◌, ◌∷◌, IfOk, suc, zero};
+ghost use Rattle.sieve_meaning.specs.Meaning.{ended as ended_of};
+ghost use Rattle.plain_evaluator.specs.Runs.{ending_at};
+ghost use Rattle.plain_evaluator.specs.declared.filing.Filing.{Filing};
+
+use crate::commands::run;
+use crate::filing::{Ending, Filing};
+use crate::level::Level;
+use crate::scope::Scope;
+use crate::scripts::{Include, ScriptName};
+use sieve_syntax::Script;
+use std::alloc::{AllocError, Global};
+use std::marker::PhantomData;
+
+/// No further script may be active.
+pub struct Deepest {}
+
+impl Level for Deepest {
+    ghost depth = { zero };
+
+    fn enter<'a>(
+        _alloc: Global,
+        _scope: &Scope<'_, '_, 'a>,
+        _include: &Include<'a>,
+        _script: &'a Script,
+        _filing: &mut Filing<'a>,
+    ) -> Result<Ending, AllocError> {
+        Ok(Ending::Faults(4))
+    }
+}
+
+/// One more script may be active than below.
+pub struct Above<L> {
+    below: PhantomData<L>,
+}
+
+/// The active scripts with one more, which is the innermost.
+fn chain_with<'a>(
+    alloc: Global,
+    script: ScriptName<'a>,
+    chain: &[ScriptName<'a>],
+) -> Result<Vec<ScriptName<'a>>, AllocError>
+    ensures { IfOk result (λ v. v.items ≡ script.entry ∷ chain.now) }
+{
+    let mut longer = Vec::from_slice(alloc, chain)?;
+    longer.insert(0, script)?;
+    Ok(longer)
+}
+
+/// How an include ends whose script ended so: a script that returns has ended, and the run goes on behind it.
+fn ended(ending: Ending) -> Ending
+    ensures { (f : Filing) → ending_at result f ≡ ended_of (ending_at ending f) }
+{
+    match ending {
+        Ending::GoesOn | Ending::Returns => Ending::GoesOn,
+        Ending::Stops => Ending::Stops,
+        Ending::Faults(fault) => Ending::Faults(fault),
+    }
+}
+
+impl<L: Level> Level for Above<L> {
+    ghost depth = { suc L.depth };
+
+    fn enter<'a>(
+        alloc: Global,
+        scope: &Scope<'_, '_, 'a>,
+        include: &Include<'a>,
+        script: &'a Script,
+        filing: &mut Filing<'a>,
+    ) -> Result<Ending, AllocError> {
+        let chain = chain_with(alloc, include.script, scope.chain)?;
+        filing.entered.insert(0, include.script)?;
+        let inner = Scope {
+            case: scope.case,
+            library: scope.library,
+            chain: chain.as_slice(),
+        };
+        let ending = run::<L>(alloc, &inner, &script.commands, filing)?;
+        Ok(ended(ending))
+    }
+}
+
+/// Seven scripts may be active behind the main one.
+pub type Levels = Above<Above<Above<Above<Above<Above<Above<Deepest>>>>>>>;
