@@ -36,7 +36,7 @@ pub struct Row {
 }
 
 /// Each row, in the order of a message's way.
-pub const ROWS: [Row; 30] = [
+pub const ROWS: [Row; 32] = [
     Row {
         measure: Measure::Header,
         title: "`read_head`, a header in fields of 80 octets",
@@ -209,6 +209,18 @@ pub const ROWS: [Row; 30] = [
         measure: Measure::LongScript,
         title: "the same, once, 2,000 header tests of weight 34,005",
         asked: Asked::Time(5),
+        baseline: Baseline::Words,
+    },
+    Row {
+        measure: Measure::TenIncludes,
+        title: "`compile`, ten includes a script over four levels, weight 48,885",
+        asked: Asked::Time(5),
+        baseline: Baseline::Words,
+    },
+    Row {
+        measure: Measure::AllIncludes,
+        title: "`compile`, 64 scripts that include each other, too heavy",
+        asked: Asked::Time(20),
         baseline: Baseline::Words,
     },
     Row {
