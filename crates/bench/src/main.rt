@@ -6,6 +6,7 @@
 
 mod baselines;
 mod filings;
+mod includes;
 mod inputs;
 mod measures;
 mod plans;

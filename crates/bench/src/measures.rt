@@ -4,6 +4,7 @@ use crate::filings::{
     INVOICE_SCRIPT, fields_of_cases, judged, message, octets_answered, script_of_tests,
     session_of_filings, weight_of, weights_of,
 };
+use crate::includes::Texts;
 use crate::inputs::{image_of_code, image_of_steps, image_of_texts, repeated};
 use crate::plans::{class_path, plan_text, schedules, taken_over};
 use crate::settings::Setting;
@@ -69,6 +70,10 @@ pub enum Measure {
     HalfScript,
     /// The same of a script of up to 2,000 header tests.
     LongScript,
+    /// `compile` of a script of weight 48,885, of ten includes a script over four levels.
+    TenIncludes,
+    /// `compile` of a script that is too heavy, of sixty-four scripts that include each other.
+    AllIncludes,
     /// `serve` of a session that files that message by that script up to 10,000 times.
     Filings,
 }
@@ -190,6 +195,8 @@ impl Measure {
             Measure::ShortScript => Vec::from_slice(alloc, INVOICE_SCRIPT),
             Measure::HalfScript => script_of_tests(alloc, octets / 2, 1_000),
             Measure::LongScript => script_of_tests(alloc, octets, 2_000),
+            Measure::TenIncludes => Texts::of_ten(alloc)?.joined(alloc),
+            Measure::AllIncludes => Texts::of_all(alloc)?.joined(alloc),
             Measure::Filings => session_of_filings(alloc, octets),
             _ => message(alloc),
         }
@@ -241,6 +248,7 @@ impl Measure {
             Measure::Cases => fields_of_cases(alloc, input, TIMES),
             Measure::ShortScript => Ok(weights_of(alloc, input, TIMES)),
             Measure::HalfScript | Measure::LongScript => Ok(weight_of(alloc, input)),
+            Measure::TenIncludes | Measure::AllIncludes => Ok(setting.weight(alloc)),
             Measure::Filings => octets_answered(alloc, input),
             _ => Ok(parts_that_may_run(alloc, input)),
         }

@@ -41,7 +41,7 @@ pub struct Row {
 }
 
 /// Each row, in the order of a message's way.
-pub const ROWS: [Row; 42] = [
+pub const ROWS: [Row; 44] = [
     Row {
         measure: Measure::Header,
         title: "`read_head`, a header in fields of 80 octets",
@@ -286,6 +286,18 @@ pub const ROWS: [Row; 42] = [
         measure: Measure::LongScript,
         title: "the same, once, 2,000 header tests of weight 34,005",
         asked: Asked::Time(5),
+        baseline: Baseline::Words,
+    },
+    Row {
+        measure: Measure::TenIncludes,
+        title: "`compile`, ten includes a script over four levels, weight 48,885",
+        asked: Asked::Time(5),
+        baseline: Baseline::Words,
+    },
+    Row {
+        measure: Measure::AllIncludes,
+        title: "`compile`, 64 scripts that include each other, too heavy",
+        asked: Asked::Time(20),
         baseline: Baseline::Words,
     },
     Row {

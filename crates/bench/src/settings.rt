@@ -1,6 +1,7 @@
 //! What measures work on beside their inputs.
 
 use crate::filings::{INVOICE_SCRIPT, case_of, compiled, judged, message};
+use crate::includes::{Linked, Texts};
 use crate::measures::Measure;
 use crate::plans::{MOST_CLASSES, plan_of};
 use class_plan::Plan;
@@ -16,6 +17,8 @@ pub struct Setting {
     /// The program that is run, and its case.
     program: Option<Verified>,
     case: Option<WholeCase>,
+    /// The scripts that include each other and are compiled.
+    linked: Option<Linked>,
 }
 
 impl Setting {
@@ -31,11 +34,17 @@ impl Setting {
             Measure::Runs => compiled(alloc, INVOICE_SCRIPT),
             _ => None,
         };
+        let linked = match measure {
+            Measure::TenIncludes => Texts::of_ten(alloc)?.linked(alloc),
+            Measure::AllIncludes => Texts::of_all(alloc)?.linked(alloc),
+            _ => None,
+        };
         let case = case_of(alloc, &message(alloc)?)?;
         Ok(Setting {
             plan,
             program,
             case,
+            linked,
         })
     }
 
@@ -50,5 +59,13 @@ impl Setting {
             steps = steps.wrapping_add(outcome.steps as usize);
         }
         Ok(steps)
+    }
+
+    /// The weight of the scripts that are compiled, or the number of their fault; 0 where there are none.
+    pub fn weight(&self, alloc: Global) -> usize {
+        match &self.linked {
+            Some(linked) => linked.weight(alloc),
+            None => 0,
+        }
     }
 }

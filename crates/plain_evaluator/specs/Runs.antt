@@ -1,4 +1,4 @@
--- Runs of a script as the evaluator goes over its commands, where includes do what they are given.
+-- Runs of a script as the evaluator goes over its commands; what an include does is handed in.
 use Rattle.std.specs.Prelude.{◌≡◌, ℕ, zero, suc, List, ◌∷◌, map, Bool, true, false, codes, if◌then◌else◌, Option, Some, None}
 use Rattle.sieve_syntax.specs.Tree.{CommandTree, command, CommandTrees, no_commands, command_then, EndingTree, semicolon, block}
 use Rattle.sieve_syntax.specs.declared.tree.Argument.{Argument}
