@@ -93,7 +93,7 @@ pub const ROWS: [Row; 44] = [
     Row {
         measure: Measure::Accepted(AcceptedText::Commands),
         title: "`parse`, `a;` alone",
-        asked: LINEAR,
+        asked: Asked::Nothing,
         baseline: Baseline::Words,
     },
     Row {
