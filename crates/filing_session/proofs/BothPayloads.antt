@@ -5,7 +5,7 @@ use Rattle.std.proofs.lemmas.List.{length-drop, drop-drop}
 use Rattle.std.proofs.lemmas.Bool.Decides.{nat_tests}
 use Rattle.filing_desk.specs.Steps.{Command}
 use Rattle.filing_session.specs.Session.{Got, Stop, Call, with_payload, with_payloads}
-use Rattle.filing_session.specs.declared.session.Ending.TheVariants as ending
+use Rattle.filing_session.specs.declared.items.Ending.TheVariants as ending
 
 fits_both : (script message size : ℕ) → script ≤ size → message ≤ size - script → nat_le (script + message) size ≡ true
 fits_both script message size a b = grind (arith, nat_tests)

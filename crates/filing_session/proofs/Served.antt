@@ -9,8 +9,8 @@ use Rattle.filing_desk.specs.Answers.{Answer}
 use Rattle.filing_desk.specs.Steps.{State}
 use Rattle.filing_session.specs.Session.{Item, Got, Stop, heard, Session, go_on, session_of, ending_octets, answers_octets, ItemStep, Run, IsServed, IsAnswered, IsCutInAnswer, IsCutInEnding}
 use Rattle.filing_session.specs.Replies.{reply_octets}
-use Rattle.filing_session.specs.declared.session.Ending.{Ending}
-use Rattle.filing_session.specs.declared.session.Ending.TheVariants.{Limit}
+use Rattle.filing_session.specs.declared.items.Ending.{Ending}
+use Rattle.filing_session.specs.declared.items.Ending.TheVariants.{Limit}
 
 -- a session with some items before its own
 abbrev pub before : List Item → Session → Session

@@ -3,7 +3,7 @@ use Rattle.std.proofs.Common.{◌≡◌, ℕ, zero, suc, ◌+◌, ◌-◌, ◌<�
 use Rattle.std.proofs.lemmas.Bool.Decides.{nat_tests}
 use Rattle.filing_session.specs.Lines.{Whole, line_of, behind_line}
 use Rattle.filing_session.specs.Session.{Item, Got, Stop, heard, left_behind, left_by}
-use Rattle.filing_session.specs.declared.session.Ending.{Ending}
+use Rattle.filing_session.specs.declared.items.Ending.{Ending}
 use Rattle.filing_session.proofs.Served.{one_less, none_left}
 
 -- a whole line ends with the first LF

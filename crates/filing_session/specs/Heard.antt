@@ -4,8 +4,8 @@ use Rattle.filing_desk.specs.Steps.{State}
 use Rattle.filing_session.specs.Replies.{answer_of}
 use Rattle.filing_session.specs.Session.{Item, Heard, Got, Stop, ItemStep, EndsByInput, EndsBefore}
 use Rattle.filing_session.specs.Streams.{Rises}
-use Rattle.filing_session.specs.declared.session.Said.{Said}
-use Rattle.filing_session.specs.declared.session.Said.TheVariants as said
+use Rattle.filing_session.specs.declared.items.Said.{Said}
+use Rattle.filing_session.specs.declared.items.Said.TheVariants as said
 
 -- an item is done and answered so; an ending does nothing
 abbrev pub Answers : State → Heard → Said → State → (rest : List ℕ) → Type 0

@@ -6,8 +6,8 @@ use Rattle.filing_session.specs.Lines.{Line, Whole, TooLong, Cut, End, line_of, 
 use Rattle.filing_session.specs.Words.{Asked, AddClass, File, SetGlobal, SetPlan, Try, Quit, Unknown, BadWord, asked}
 use Rattle.filing_session.specs.Replies.{reply_octets}
 use Rattle.filing_session.specs.Streams.{IsBehind}
-use Rattle.filing_session.specs.declared.session.Ending.{Ending}
-use Rattle.filing_session.specs.declared.session.Ending.TheVariants as ending
+use Rattle.filing_session.specs.declared.items.Ending.{Ending}
+use Rattle.filing_session.specs.declared.items.Ending.TheVariants as ending
 
 -- what one line asks, with its payloads
 pub data Item : Type 0 where

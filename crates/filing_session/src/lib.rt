@@ -3,12 +3,16 @@
 //! - `stream`: sources and sinks, which may fail, be interrupted, and move fewer octets than they are asked to;
 //! - `lines`, `words`, `payload`: what is read, a line with its payloads at a time;
 //! - `reply`: what is written;
+//! - `commands`: what each command does at the desk;
+//! - `items`: a line with its payloads, which is read and done;
 //! - `memory`: a source and a sink for tests;
 //! - `session`: `serve`, whose contract says which octets it writes to which it read, and what the desk has done.
 //!
 //! In `specs/`, `Session` has the whole of it: the commands of an input, the runs of a desk, and the octets of answers.
 #![tactic(auto)]
 
+mod commands;
+mod items;
 mod lines;
 pub mod memory;
 mod payload;

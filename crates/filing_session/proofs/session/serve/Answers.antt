@@ -5,9 +5,9 @@ use Rattle.filing_session.specs.Lines.{behind_line}
 use Rattle.filing_session.specs.Session.{heard, session_of, EndsByInput, EndsBefore, IsAnswered}
 use Rattle.filing_session.specs.Heard.{Answers, EndsOnlyAtEnd, LeavesRest}
 use Rattle.filing_session.specs.Replies.{answer_of, reply_octets}
-use Rattle.filing_session.specs.declared.session.Ending.{Ending}
-use Rattle.filing_session.specs.declared.session.Ending.TheVariants.{Limit}
-use Rattle.filing_session.specs.declared.session.Said.{Said}
+use Rattle.filing_session.specs.declared.items.Ending.{Ending}
+use Rattle.filing_session.specs.declared.items.Ending.TheVariants.{Limit}
+use Rattle.filing_session.specs.declared.items.Said.{Said}
 use Rattle.filing_session.proofs.Pieces.{written_ok, written_fault, outlasted}
 use Rattle.filing_session.proofs.Served.{Served, more, answered_now, cut_in_answer, all_ends, one_less, ended_ok, ended_cut, limit_ends, stop_ends}
 use Rattle.filing_session.proofs.Unread.{left_more, left_stop, left_limit}

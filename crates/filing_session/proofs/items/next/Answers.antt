@@ -3,7 +3,7 @@ use Rattle.filing_session.specs.Heard.{LeavesRest}
 use Rattle.filing_session.specs.Lines.{line_of, line_as}
 use Rattle.filing_session.specs.declared.lines.LineEnd.{LineEnd}
 use Rattle.filing_session.proofs.Unread.{behind_whole}
-use Rattle.filing_session.proofs.session.next.Goals as goal
+use Rattle.filing_session.proofs.items.next.Goals as goal
 
 pub returns-in-Whole-clause-unread : goal.returns-in-Whole-clause-unread
 returns-in-Whole-clause-unread g c = λ t.

@@ -2,7 +2,7 @@ use Rattle.std.proofs.Common.{ap}
 use Rattle.filing_desk.specs.Steps.{add_class}
 use Rattle.filing_session.specs.Session.{Call, heard_line}
 use Rattle.filing_session.specs.Words.{asked_as}
-use Rattle.filing_session.proofs.session.answer.Goals as goal
+use Rattle.filing_session.proofs.items.answer.Goals as goal
 
 pub returns-in-AddClass-clause-said : goal.returns-in-AddClass-clause-said
 returns-in-AddClass-clause-said g c = λ _.

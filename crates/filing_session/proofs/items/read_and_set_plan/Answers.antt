@@ -4,7 +4,7 @@ use Rattle.filing_session.specs.Payloads.{IsRead}
 use Rattle.filing_session.specs.declared.payload.Payload.{Payload}
 use Rattle.filing_session.specs.Session.{Call}
 use Rattle.filing_session.proofs.BothPayloads.{one_read}
-use Rattle.filing_session.proofs.session.read_and_set_plan.Goals as goal
+use Rattle.filing_session.proofs.items.read_and_set_plan.Goals as goal
 
 pub returns-clause-said : goal.returns-clause-said
 returns-clause-said g c = λ t.
