@@ -36,6 +36,7 @@ pub struct BorrowedCase<'a, P> {
     pub size: u64,
     /// The fields of the header (RFC 5322, section 2.2), in order.
     pub fields: Vec<BorrowedField<'a>>,
+    /// Who tells which paths are open.
     pub paths: P,
 }
 

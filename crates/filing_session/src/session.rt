@@ -60,7 +60,7 @@ fn write_ending<K: Sink>(sink: &mut K, ending: Ending) -> Result<(), ServeFault>
 ///
 /// # Errors
 ///
-/// `Read` where a read met trouble, `Write` where a write did.
+/// `Read` where a read failed or 64 were interrupted, `Write` where a write failed, took no octet, or 64 were interrupted.
 pub fn serve<S: Source, K: Sink>(
     alloc: Global,
     source: &mut S,
