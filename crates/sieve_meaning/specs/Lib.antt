@@ -4,7 +4,9 @@ pub mod Case
 pub mod Paths
 pub mod Program
 pub mod Reading
+pub mod Branching
 pub mod Truth
 pub mod Meaning
+pub mod Scripts
 pub mod Outcome
 pub mod Weight

@@ -1,25 +1,33 @@
 //! What Sieve scripts mean (RFC 5228, with RFC 3894 and RFC 6609): definitions that several crates speak of.
 //!
-//! There is next to no code here. `specs/` has, in the order of reading:
+//! There is little code here: what more than one crate reads off a tree, and what a run captures. `specs/` has, in the
+//! order of reading:
 //!
 //! - `Matching`: comparators and match types, as relations and as tests that compute the same;
 //! - `Case`: what a run can learn of a message and of the plan of classes;
 //! - `Paths`: sets of classes;
 //! - `Program`: scripts as they are run, with each `if` and its branches in one piece;
 //! - `Reading`: from the tree of the grammar (`sieve_syntax`) to a program;
+//! - `Branching`: what a command of the tree is to the branches before it;
 //! - `Truth`, `Meaning`, `Outcome`: tests, runs, and the classes that a run captures;
+//! - `Scripts`: what the code's names of scripts and includes stand for;
 //! - `Weight`: how large the code of a script may be.
 //!
 //! `laws` has what is proved of these definitions.
 #![tactic(auto)]
 
+pub mod branches;
 mod laws;
 mod matching;
+mod outcome;
 mod paths;
 pub mod reading;
+mod scripts;
 mod words;
 
 pub use laws::{contains_is_decided, equality_is_decided, pattern_is_decided};
 pub use matching::{Comparator, Item, MatchType};
+pub use outcome::{captured_classes, default_class_alone};
 pub use paths::Paths;
+pub use scripts::{Include, Location, ScriptName};
 pub use words::{CommandWord, TestWord, command_word, is_word, test_word};

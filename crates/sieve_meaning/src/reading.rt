@@ -1,9 +1,11 @@
 //! Reads the arguments of commands and tests in a checked script.
 
-ghost use Rattle.std.specs.Prelude.{◌≡◌, [], ◌∷◌, ◌<◌, length, false, MatchOption};
-ghost use Rattle.sieve_meaning.specs.Reading.{is_tag, has_tag as has_tag_of, string_lists, comparator_named, comparator_from, match_type as match_type_of, number_in};
+ghost use Rattle.std.specs.Prelude.{◌≡◌, [], ◌∷◌, ◌<◌, codes, length, false, MatchOption};
+ghost use Rattle.sieve_meaning.specs.Reading.{is_tag, has_tag as has_tag_of, string_lists, first_string as first_string_of, comparator_named, comparator_from, match_type as match_type_of, number_in, include_of};
+ghost use Rattle.sieve_meaning.specs.Scripts.{asked, is_global};
 
 use crate::matching::{Comparator, MatchType};
+use crate::scripts::{Include, Location, ScriptName};
 use crate::words::is_word;
 use sieve_syntax::{Argument, StringList};
 
@@ -47,6 +49,16 @@ pub fn next_string_list(arguments: &[Argument]) -> Option<(&StringList, &[Argume
         rest = after;
     }
     None
+}
+
+/// The first string of the first string list but for the one that follows `:comparator` directly, or no octet.
+pub fn first_string(arguments: &[Argument]) -> &[u8]
+    ensures { result.now ≡ first_string_of (string_lists false arguments.now) }
+{
+    match next_string_list(arguments) {
+        Some((list, _)) => list.first().as_slice(),
+        None => &[],
+    }
 }
 
 /// The comparator with a name.
@@ -105,4 +117,29 @@ pub fn number(arguments: &[Argument]) -> u64
         }
     }
     0
+}
+
+/// Where the script is that an include names: `:global`, or else personal.
+fn location(arguments: &[Argument]) -> Location
+    ensures { is_global result ≡ has_tag_of (codes "global") arguments.now }
+{
+    if has_tag(arguments, b"global") {
+        Location::Global
+    } else {
+        Location::Personal
+    }
+}
+
+/// What an `include` with these arguments asks for (RFC 6609, section 3.2).
+pub fn include(arguments: &[Argument]) -> Include<'_>
+    ensures { asked result ≡ include_of arguments.now }
+{
+    Include {
+        script: ScriptName {
+            location: location(arguments),
+            name: first_string(arguments),
+        },
+        is_once: has_tag(arguments, b"once"),
+        is_optional: has_tag(arguments, b"optional"),
+    }
 }

@@ -16,4 +16,4 @@ mod scanner;
 pub use fault::{ScanFault, ScanRefusal, TextFault, TextRefusal};
 pub use laws::{cut, one_scan, one_verdict, some_verdict};
 pub use parser::{one_tree, parse};
-pub use scanner::scan;
+pub use scanner::{MOST_OCTETS, scan};

@@ -27,8 +27,8 @@ use std::alloc::{AllocError, Global};
 use std::str;
 pub use strings::string_text;
 
-/// The octets of the longest script.
-const MOST_OCTETS: usize = 262_144;
+/// How many octets a script has at most; a longer one is refused (15).
+pub const MOST_OCTETS: usize = 262_144;
 
 #[inline(always)]
 fn mark(b: u8) -> Option<Mark>
@@ -113,7 +113,7 @@ fn lexeme(rest: &[u8], at: usize) -> Result<(Lexeme<'_>, usize), FaultyPlace>
 #[tactic(auto, unfolding(crate::specs::Tokens::token_at))]
 #[inline(always)]
 fn placed_lexeme(script: &[u8], at: usize) -> Result<Option<PlacedLexeme<'_>>, FaultyPlace>
-    requires length { length script.now ≤ 262144 }
+    requires length { length script.now ≤ MOST_OCTETS }
     requires within { at ≤ length script.now }
     ensures value { Gives (option_map token_of) result (token_at script.now at) }
     ensures within { IfOk result (λ x. IfSome x (λ t. (at < t.end) × (t.end ≤ length script.now))) }

@@ -1,0 +1,28 @@
+-- What commands are to the branches before them: an `elsif` or `else` belongs to them where they are open (RFC 5228,
+-- section 3.1).
+use Rattle.std.specs.Prelude.{Bool, true, false}
+use Rattle.sieve_meaning.specs.declared.words.CommandWord.{CommandWord}
+use Rattle.sieve_meaning.specs.declared.words.CommandWord.TheVariants as words
+use Rattle.sieve_meaning.specs.declared.branches.Part.{Part}
+use Rattle.sieve_meaning.specs.declared.branches.Part.TheVariants.{Branch, Otherwise, Plain}
+
+-- what a command is to the branches before it
+abbrev pub part_of : CommandWord → (is_open : Bool) → Part
+part_of words.If is_open = Branch
+part_of words.ElsIf true = Branch
+part_of words.ElsIf false = Plain
+part_of words.Else true = Otherwise
+part_of words.Else false = Plain
+part_of word is_open = Plain
+
+-- what a command is to open branches that it does not begin itself
+abbrev pub part_behind : CommandWord → Part
+part_behind words.ElsIf = Branch
+part_behind words.Else = Otherwise
+part_behind word = Plain
+
+-- whether branches are open behind it
+abbrev pub is_branch : Part → Bool
+is_branch Branch = true
+is_branch Otherwise = false
+is_branch Plain = false
