@@ -1,20 +1,11 @@
 -- Laws of steps that a session needs.
-use Rattle.std.proofs.Common.{◌≡◌, ℕ, List, None, refl, inl, ap, subst}
+use Rattle.std.proofs.Common.{◌≡◌, ℕ, List, refl, ap, subst}
 use Rattle.sieve_syntax.specs.View.{tree_of}
 use Rattle.sieve_syntax.specs.declared.tree.Script.{Script}
 use Rattle.class_plan.specs.Plans.{Listing}
 use Rattle.filing_gen.specs.Libraries.{Scripts, put, HasNoRoom}
-use Rattle.filing_desk.specs.Answers.{done, refused}
-use Rattle.filing_desk.specs.Steps.{State, IsGood, IsKept, Command, add_class, file, set_global, set_plan, try_image, Step}
-
--- want of memory may stand in place of any answer, and changes nothing
-pub out_of_memory : (s : State) (c : Command) → Step s c (refused 99 None) s
-unfolding Step
-out_of_memory s (add_class path) = (refl, refl, inl refl)
-out_of_memory s (file script message) = (refl, refl, inl refl)
-out_of_memory s (set_global name text) = (refl, refl, inl refl)
-out_of_memory s (set_plan text) = (refl, refl, inl refl)
-out_of_memory s (try_image image message) = (refl, refl, inl refl)
+use Rattle.filing_desk.specs.Answers.{done}
+use Rattle.filing_desk.specs.Steps.{State, IsGood, IsKept, set_global, Step}
 
 -- a library with one more global script, or another in place of one
 pub script_kept : (s : State) (plan : Listing) (old new : Scripts) (name text : List ℕ) (script : Script) → record { plan = plan; globals = old.global } ≡ s → IsGood text (tree_of script) → (HasNoRoom old.global name → ⊥) → new ≡ record old { global = put (record { name = name; script = script }) old.global } → Step s (set_global name text) done (record { plan = plan; globals = new.global })

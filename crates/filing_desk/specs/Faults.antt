@@ -1,5 +1,5 @@
 -- The numbers of refusals.
-use Rattle.std.specs.Prelude.{ℕ, Bool, nat_le, ◌&&◌, ◌||◌, ◌==◌, if◌then◌else◌, Option, Some, None}
+use Rattle.std.specs.Prelude.{ℕ, Bool, nat_le, ◌&&◌, ◌||◌, ◌==◌, if◌then◌else◌, Some, None}
 use Rattle.sieve_text.specs.declared.fault.TextFault.{TextFault}
 use Rattle.sieve_text.specs.declared.fault.TextFault.TheVariants as texts
 use Rattle.sieve_text.specs.Grammar.{text_number}

@@ -1,7 +1,7 @@
 -- What the parts of filing answer.
-use Rattle.std.specs.Prelude.{◌≡◌, ℕ, ◌⊎◌, List, is_some}
+use Rattle.std.specs.Prelude.{◌≡◌, ℕ, ◌<◌, ◌⊎◌, List, length, is_some}
 use Rattle.filing_desk.specs.Faults.{refusal_of, has_place}
-use Rattle.filing_desk.specs.Steps.{IsNoScript, IsIllMade, RefusesFiling, IsLongImage, IsNoImage, IsUnfit}
+use Rattle.filing_desk.specs.Steps.{IsNoScript, IsIllMade, IsLongImage, IsNoImage, IsUnfit, greatest_message}
 use Rattle.filing_desk.specs.declared.desk.Outcome.{Outcome}
 use Rattle.filing_desk.specs.declared.fault.DeskFault.{DeskFault}
 use Rattle.sieve_meaning.specs.Outcome as meaning
@@ -17,6 +17,10 @@ RefusesScript script number = (number ≡ 99) ⊎ (IsNoScript script number ⊎ 
 -- that fails
 abbrev pub RefusesImage : (image : List ℕ) (number : ℕ) → Type 0
 RefusesImage image number = (number ≡ 99) ⊎ (IsLongImage image number ⊎ (IsNoImage image number ⊎ IsUnfit image number))
+
+-- a message is refused with this number: want of memory, or it is too long
+abbrev pub RefusesMessage : (message : List ℕ) (number : ℕ) → Type 0
+RefusesMessage message number = (number ≡ 99) ⊎ ((greatest_message < length message) × (number ≡ 95))
 
 -- a fault whose number is one of these, with an offset exactly where its number is shown with one
 abbrev pub IsFaultOf : (ℕ → Type 0) → DeskFault → Type 0

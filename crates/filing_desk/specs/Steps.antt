@@ -1,5 +1,5 @@
 -- What each command may be answered, and what it leaves.
-use Rattle.std.specs.Prelude.{◌≡◌, ℕ, true, false, ◌≤◌, ◌<◌, ◌⊎◌, List, [], length, Option, Some, None, is_some, Result, Ok, Err, refl}
+use Rattle.std.specs.Prelude.{◌≡◌, ℕ, true, false, ◌≤◌, ◌<◌, ◌⊎◌, List, [], length, Some, None, is_some, Result, Ok, Err, refl}
 use Rattle.std.specs.Coded.{Coded, code_by, coded×}
 use Rattle.sieve_syntax.specs.Tree.{CommandTrees}
 use Rattle.sieve_syntax.specs.View.{tree_of}
@@ -49,6 +49,10 @@ pub data Command : Type 0 where
   set_plan : (text : List ℕ) → Command
   -- runs an image on a message
   try_image : (image message : List ℕ) → Command
+
+-- the greatest length of a script, in octets
+abbrev pub greatest_script : ℕ
+greatest_script = 262144
 
 -- the greatest length of a message, in octets
 abbrev pub greatest_message : ℕ

@@ -1,34 +1,38 @@
 //! The desk and its calls.
 
-ghost use Rattle.std.specs.Prelude.{◌≡◌, ℕ, List, [], ◌<◌, ◌≤◌, length, false, Some, None, IfOk, IfErr};
+ghost use Rattle.std.specs.Prelude.{◌≡◌, ℕ, List, [], ◌<◌, ◌≤◌, length, false, Some, None, IfOk, IfErr, OnOk};
 ghost use Rattle.class_plan.specs.Plans.{first_plan, is_open_in};
 ghost use Rattle.sieve_syntax.specs.View.{tree_of};
 ghost use Rattle.sieve_meaning.specs.Reading.{program_of};
 ghost use Rattle.filing_gen.specs.Correct.{library_of};
 ghost use Rattle.sieve_meaning.specs.Outcome.{outcome_at, outcome};
-ghost use Rattle.filing_desk.specs.Judging.{RefusesScript, RefusesImage, IsFaultOf, outcome_view};
-ghost use Rattle.filing_desk.specs.Steps.{add_class, file, set_global, set_plan, try_image, Step, settled, filed, IsGood, IsGoodImage, RefusesPlan};
+ghost use Rattle.filing_desk.specs.Judging.{RefusesScript, RefusesImage, RefusesMessage, IsFaultOf, outcome_view};
+ghost use Rattle.filing_desk.specs.Steps.{add_class, file, set_global, set_plan, try_image, Step, settled, filed, IsGood, IsGoodImage, greatest_image, greatest_message, greatest_plan, greatest_script};
 ghost use Rattle.filing_desk.specs.Faults.{refused_by};
 ghost use Rattle.filing_desk.specs.declared.fault.DeskFault.TheVariants.{NoMemory};
 ghost use Rattle.filing_table.specs.Ends.{HasOutcome};
+ghost use Rattle.filing_machine.specs.Borrowed.{facts_by};
+ghost use Rattle.filing_machine.specs.Message.{case_of};
 
 use crate::classes::PlanClasses;
 use crate::fault::DeskFault;
 use class_plan::{Plan, PlanFault};
 use filing_gen::{GenFault, Library, compile};
 use filing_image::decode;
-use filing_machine::{BorrowedCase, Case, default_class_alone, run};
+use filing_machine::{BorrowedCase, Case, run};
 use filing_verify::{Verified, verify};
-use mail_head::MOST_OCTETS;
 use sieve_check::{Checked, check};
-use sieve_meaning::Paths;
+use sieve_meaning::{Paths, default_class_alone};
 use sieve_text::{ScanRefusal, TextRefusal, parse};
 use std::alloc::{AllocError, Global};
 use std::marker::Model;
 use std::rc::Rc;
 
+/// The greatest length of a script, in octets.
+pub const GREATEST_SCRIPT: usize = sieve_text::MOST_OCTETS;
+
 /// The greatest length of a message, in octets.
-pub const GREATEST_MESSAGE: usize = MOST_OCTETS as usize;
+pub const GREATEST_MESSAGE: usize = mail_head::MOST_OCTETS as usize;
 
 /// The greatest length of a plan's text, in octets.
 pub const GREATEST_PLAN: usize = 1_048_576;
@@ -134,6 +138,23 @@ fn judge_image(alloc: Global, image: &[u8]) -> Result<Verified, DeskFault>
     }
 }
 
+/// The case of a message and of the open classes of a plan.
+fn judge_message<'a>(
+    alloc: Global,
+    plan: &'a Plan,
+    message: &'a [u8],
+) -> Result<BorrowedCase<'a, PlanClasses<'a>>, DeskFault>
+    ensures short { OnOk result (length message.now ≤ greatest_message) }
+    ensures case { IfOk result (λ c. facts_by (λ p. is_open_in (p.0).now) c ≡ case_of message.now (is_open_in plan.now)) }
+    ensures refused { IfErr result (IsFaultOf (RefusesMessage message.now)) }
+{
+    if message.len() > GREATEST_MESSAGE {
+        return Err(DeskFault::MessageTooLong);
+    }
+    let case = BorrowedCase::read(alloc, message, PlanClasses(plan))?;
+    Ok(case)
+}
+
 impl Desk {
     /// A desk with the class `unfiled` alone, and no global script. The only error is want of memory.
     pub fn new(alloc: Global) -> Result<Desk, AllocError>
@@ -177,7 +198,7 @@ impl Desk {
     /// What `set_plan` answers to a text over its limit of 1,048,576 octets, which need not be at hand.
     #[tactic(auto, unfolding(crate::specs::Steps::Step))]
     pub fn set_plan_too_long(&self) -> DeskFault
-        ensures { (text : List ℕ) → 1048576 < length text → Step self.now (set_plan text) (refused_by result) self.now }
+        ensures { (text : List ℕ) → greatest_plan < length text → Step self.now (set_plan text) (refused_by result) self.now }
     {
         DeskFault::PlanTooLong
     }
@@ -198,7 +219,7 @@ impl Desk {
     /// What `set_global` answers to a text over its limit of 262,144 octets, which need not be at hand.
     #[tactic(auto, unfolding(crate::specs::Steps::Step))]
     pub fn set_global_too_long(&self) -> DeskFault
-        ensures { (name text : List ℕ) → 262144 < length text → Step self.now (set_global name text) (refused_by result) self.now }
+        ensures { (name text : List ℕ) → greatest_script < length text → Step self.now (set_global name text) (refused_by result) self.now }
     {
         let refusal = TextRefusal::Scan(ScanRefusal::ScriptTooLong);
         DeskFault::Text(refusal, 0)
@@ -212,10 +233,7 @@ impl Desk {
         ensures { Step self.now (try_image image.now message.now) (filed result) self.now }
     {
         let program = judge_image(self.alloc, image)?;
-        if message.len() > GREATEST_MESSAGE {
-            return Err(DeskFault::MessageTooLong);
-        }
-        let case = BorrowedCase::read(self.alloc, message, PlanClasses(&self.plan))?;
+        let case = judge_message(self.alloc, &self.plan, message)?;
         let outcome = run_image(self.alloc, &program, &case)?;
         Ok(outcome)
     }
@@ -223,7 +241,7 @@ impl Desk {
     /// What `try_image` answers to a message over its limit, which need not be at hand.
     #[tactic(auto, unfolding(crate::specs::Steps::Step))]
     pub fn try_image_too_long(&self, image: &[u8]) -> DeskFault
-        ensures { (message : List ℕ) → 8388608 < length message → Step self.now (try_image image.now message) (refused_by result) self.now }
+        ensures { (message : List ℕ) → greatest_message < length message → Step self.now (try_image image.now message) (refused_by result) self.now }
     {
         match judge_image(self.alloc, image) {
             Ok(_) => DeskFault::MessageTooLong,
@@ -234,7 +252,7 @@ impl Desk {
     /// What `try_image` answers to an image over its limit of 16,777,216 octets, which need not be at hand.
     #[tactic(auto, unfolding(crate::specs::Steps::Step))]
     pub fn try_long_image(&self) -> DeskFault
-        ensures { (image message : List ℕ) → 16777216 < length image → Step self.now (try_image image message) (refused_by result) self.now }
+        ensures { (image message : List ℕ) → greatest_image < length image → Step self.now (try_image image message) (refused_by result) self.now }
     {
         DeskFault::ImageTooLong
     }
@@ -247,10 +265,7 @@ impl Desk {
         ensures { Step self.now (file script.now message.now) (filed result) self.now }
     {
         let checked = judge(self.alloc, script)?;
-        if message.len() > GREATEST_MESSAGE {
-            return Err(DeskFault::MessageTooLong);
-        }
-        let case = BorrowedCase::read(self.alloc, message, PlanClasses(&self.plan))?;
+        let case = judge_message(self.alloc, &self.plan, message)?;
         let outcome = outcome_of(self.alloc, &case, &checked, &self.library)?;
         Ok(outcome)
     }
@@ -258,7 +273,7 @@ impl Desk {
     /// What `file` answers to a message over its limit, which need not be at hand.
     #[tactic(auto, unfolding(crate::specs::Steps::Step))]
     pub fn file_too_long(&self, script: &[u8]) -> DeskFault
-        ensures { (message : List ℕ) → 8388608 < length message → Step self.now (file script.now message) (refused_by result) self.now }
+        ensures { (message : List ℕ) → greatest_message < length message → Step self.now (file script.now message) (refused_by result) self.now }
     {
         match judge(self.alloc, script) {
             Ok(_) => DeskFault::MessageTooLong,
@@ -269,7 +284,7 @@ impl Desk {
     /// What `file` answers to a script over its limit of 262,144 octets, which need not be at hand.
     #[tactic(auto, unfolding(crate::specs::Steps::Step))]
     pub fn file_script_too_long(&self) -> DeskFault
-        ensures { (script message : List ℕ) → 262144 < length script → Step self.now (file script message) (refused_by result) self.now }
+        ensures { (script message : List ℕ) → greatest_script < length script → Step self.now (file script message) (refused_by result) self.now }
     {
         DeskFault::Text(TextRefusal::Scan(ScanRefusal::ScriptTooLong), 0)
     }

@@ -7,5 +7,5 @@ mod classes;
 mod desk;
 mod fault;
 
-pub use desk::{Desk, GREATEST_IMAGE, GREATEST_MESSAGE, GREATEST_PLAN, Outcome};
+pub use desk::{Desk, GREATEST_IMAGE, GREATEST_MESSAGE, GREATEST_PLAN, GREATEST_SCRIPT, Outcome};
 pub use fault::{DeskFault, Refusal};

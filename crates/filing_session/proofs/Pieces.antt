@@ -3,7 +3,7 @@ use Rattle.std.proofs.Common.{◌≡◌, ℕ, ◌+◌, ◌<◌, List, ◌∷◌,
 use Rattle.std.specs.Prelude.{flat_map, Result, Ok, Err, OnOk}
 use Rattle.std.specs.Result.{IsErr, is_err}
 use Rattle.std.specs.Prelude.{true, false}
-use Rattle.std.proofs.lemmas.List.{take_min, take-append-le, take_more, flat_map_more}
+use Rattle.std.proofs.lemmas.List.{take_min, take-append-le}
 use Rattle.std.proofs.Math.Nat.{min-le_right}
 use Rattle.std.proofs.Math.Seq.{take-append-add, drop-cons}
 use Rattle.std.proofs.lemmas.Bool.{false≢true}
@@ -29,9 +29,6 @@ pub writes_after : (r : Result (Unit {0}) WriteFault) (old xs mid ys new : List 
 writes_after (Ok u) old xs mid ys new e w = w ∙ ap (λ s. s ++ ys) e ∙ append_assoc old xs ys
 writes_after (Err f) old xs mid ys new e w = joins old xs mid ys new e w
 
-pub writes_same : (r : Result (Unit {0}) WriteFault) (old xs ys new : List ℕ) → xs ≡ ys → Writes r old xs new → Writes r old ys new
-writes_same r old xs ys new e w = let P : List ℕ → Type 0 = λ s. Writes r old s new in subst P e w
-
 drop_next : {X : Type 0} (xs : List X) (i : ℕ) (d : X) → i < length xs → drop i xs ≡ get_or xs i d ∷ drop (i + 1) xs
 drop_next xs i d h = rw add-one (drop-cons xs i d h)
 
@@ -45,11 +42,6 @@ behind_next f xs i d old mid new h e b =
     let P : List ℕ → Type 0 = λ s. IsBehind old s new in
     subst P (sym (flat_map_at f xs i d h))
     (joins old (flat_map f (take i xs)) mid (f (get_or xs i d) ++ flat_map f (drop (i + 1) xs)) new e (extends mid (f (get_or xs i d)) (flat_map f (drop (i + 1) xs)) new b))
-
--- the octets of one more element
-pub written_more : {X : Type 0} (f : X → List ℕ) (xs : List X) (i : ℕ) (d : X) (old mid new : List ℕ) → i < length xs → mid ≡ old ++ flat_map f (take i xs) → new ≡ mid ++ f (get_or xs i d) → new ≡ old ++ flat_map f (take (i + 1) xs)
-written_more f xs i d old mid new h e w =
-    w ∙ ap (λ s. s ++ f (get_or xs i d)) e ∙ flat_map_more f old (take i xs) (get_or xs i d) ∙ ap (λ s. old ++ flat_map f s) (sym (take_more xs i d h))
 
 pub as_fault : (r : Result (Unit {0}) WriteFault) (old xs new : List ℕ) → IsErr r → IsBehind old xs new → Writes r old xs new
 as_fault (Err f) old xs new is b = b

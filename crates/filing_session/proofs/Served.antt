@@ -1,10 +1,11 @@
 -- How far a session has come.
 use Rattle.std.proofs.Common.{◌≡◌, ◌<◌, ◌≤◌, ◌+◌, ◌-◌, ◌++◌, ◌∷◌, [], ℕ, zero, suc, List, length, take, refl, arith, ap, ◌∙◌, sym, subst, append_assoc, Result, Ok, Err}
-use Rattle.std.specs.Prelude.{OnOk, OnErr, IsErrOf}
+use Rattle.std.specs.Prelude.{OnOk, IsErrOf}
 use Rattle.std.proofs.lemmas.List.{append-nil}
 use Rattle.std.proofs.Math.Seq.{take-append_seam}
 use Rattle.std.proofs.lemmas.Grind.{flat_map-append}
 use Rattle.filing_session.specs.Streams.{IsBehind}
+use Rattle.filing_session.specs.Written.{Writes}
 use Rattle.filing_desk.specs.Answers.{Answer}
 use Rattle.filing_desk.specs.Steps.{State}
 use Rattle.filing_session.specs.Session.{Item, Got, Stop, heard, Session, go_on, session_of, ending_octets, answers_octets, ItemStep, Run, IsServed, IsAnswered, IsCutInAnswer, IsCutInEnding}
@@ -101,13 +102,13 @@ limit_ends i left h = ap (λ n. session_of n left) (none_left i h) ∙ session_o
 pub stop_ends : (i : ℕ) (left : List ℕ) (e : Ending) → i < 1000000 → heard left ≡ Stop e → session_of (1000000 - i) left ≡ record { items = []; ending = e }
 stop_ends i left e h is = ap (λ n. session_of n left) (one_less i h) ∙ stops (1000000 - (i + 1)) left e is
 
-pub ended_ok : {E : Type 0} (r : Result (Unit {0}) E) (n : ℕ) (all : Session) (s₀ : State) (w₀ left : List ℕ) (s : State) (w : List ℕ) (e : Ending) (w' : List ℕ) → Served n all s₀ w₀ left s w → session_of n left ≡ record { items = []; ending = e } → OnOk r (w' ≡ w ++ ending_octets e) → OnOk r (IsServed all s₀ w₀ w' s)
-ended_ok (Ok x) n all s₀ w₀ left s w e w' h stop ew = ends_now n all s₀ w₀ left s w e w' h stop ew
-ended_ok (Err x) n all s₀ w₀ left s w e w' h stop ew = tt
+pub ended_ok : {E : Type 0} (r : Result (Unit {0}) E) (n : ℕ) (all : Session) (s₀ : State) (w₀ left : List ℕ) (s : State) (w : List ℕ) (e : Ending) (w' : List ℕ) → Served n all s₀ w₀ left s w → session_of n left ≡ record { items = []; ending = e } → Writes r w (ending_octets e) w' → OnOk r (IsServed all s₀ w₀ w' s)
+ended_ok (Ok x) n all s₀ w₀ left s w e w' h stop wrote = ends_now n all s₀ w₀ left s w e w' h stop wrote
+ended_ok (Err x) n all s₀ w₀ left s w e w' h stop wrote = tt
 
 ok_no_err : {E : Type 0} (x : Unit {0}) (f : E) → Ok x ≡ Err f → ⊥
 ok_no_err x f h = cc
 
-pub ended_cut : {E : Type 0} (r : Result (Unit {0}) E) (f : E) (n : ℕ) (all : Session) (s₀ : State) (w₀ left : List ℕ) (s : State) (w : List ℕ) (e : Ending) (w' : List ℕ) → Served n all s₀ w₀ left s w → session_of n left ≡ record { items = []; ending = e } → OnErr r (IsBehind w (ending_octets e) w') → IsErrOf r f → IsCutInEnding all s₀ w₀ w' s
-ended_cut (Err x) f n all s₀ w₀ left s w e w' h stop b is = cut_in_ending n all s₀ w₀ left s w e w' h stop b
-ended_cut (Ok x) f n all s₀ w₀ left s w e w' h stop b is = absurd (ok_no_err x f is)
+pub ended_cut : {E : Type 0} (r : Result (Unit {0}) E) (f : E) (n : ℕ) (all : Session) (s₀ : State) (w₀ left : List ℕ) (s : State) (w : List ℕ) (e : Ending) (w' : List ℕ) → Served n all s₀ w₀ left s w → session_of n left ≡ record { items = []; ending = e } → Writes r w (ending_octets e) w' → IsErrOf r f → IsCutInEnding all s₀ w₀ w' s
+ended_cut (Err x) f n all s₀ w₀ left s w e w' h stop wrote is = cut_in_ending n all s₀ w₀ left s w e w' h stop wrote
+ended_cut (Ok x) f n all s₀ w₀ left s w e w' h stop wrote is = absurd (ok_no_err x f is)

@@ -1,5 +1,5 @@
 -- What sources and sinks tell of their octets and their troubles.
-use Rattle.std.specs.Prelude.{◌≡◌, ℕ, ◌+◌, ◌-◌, ◌*◌, ◌^◌, ◌≤◌, List, ◌++◌, take, Bool, true, false, ◌&&◌, ◌==◌, nat_lt, min, Result, Ok, Err}
+use Rattle.std.specs.Prelude.{◌≡◌, ℕ, ◌+◌, ◌-◌, ◌*◌, ◌^◌, ◌≤◌, List, ◌++◌, take, Bool, true, false, ◌&&◌, ◌==◌, nat_lt, min, Result, Ok, Err, OnOk, OnErr}
 use Rattle.filing_session.specs.declared.stream.Trouble.{Trouble}
 use Rattle.filing_session.specs.declared.stream.Trouble.TheVariants.{Interrupted, Failed}
 
@@ -45,6 +45,22 @@ Rises before now = min (before + 1) (2 ^ 64 - 1) ≤ now
 -- much as 64 interruptions. A count at its greatest value says no more.
 abbrev pub GivesUp : (troubles failures troubles' failures' : ℕ) → Type 0
 GivesUp troubles failures troubles' failures' = min (64 * failures + troubles + 64) (2 ^ 64 - 1) ≤ 64 * failures' + troubles'
+
+-- what a result tells of the troubles that were met before it, by their counts: after a fault some call failed or 64 were
+-- interrupted, and else none failed
+abbrev pub TellsTroubles : {V T F : Type 0} → (troubles failures : V → ℕ) → Result T F → (old new : V) → Type 0
+TellsTroubles troubles failures result old new = record {
+  rises : troubles old ≤ troubles new;
+  fault : OnErr result (GivesUp (troubles old) (failures old) (troubles new) (failures new));
+  outlasts : OnOk result (failures new ≡ failures old);
+}
+
+-- where the input is said to have ended, a read told so, by the counts of such reads before and now
+abbrev pub TellsEnd : (ended : Type 0) → (before now : ℕ) → Type 0
+TellsEnd ended before now = record {
+  rises : before ≤ now;
+  told : ended → Rises before now;
+}
 
 -- what was met is counted once, and nothing else
 abbrev pub Counts : Bool → (before now : ℕ) → Type 0

@@ -1,24 +1,21 @@
 //! A line with its payloads: it is read, and done.
 
-ghost use Rattle.std.specs.Prelude.{◌≡◌, ◌≤◌, IfOk, OnOk, OnErr};
+ghost use Rattle.std.specs.Prelude.{◌≡◌, IfOk, OnErr};
 ghost use Rattle.filing_desk.specs.Steps.{file as file_command, set_global as global_command, set_plan as plan_command, try_image as try_command};
-ghost use Rattle.filing_session.specs.Heard.{Answers, EndsOnlyAtEnd, LeavesRest};
+ghost use Rattle.filing_session.specs.Heard.{Answers, SaysEnd};
 ghost use Rattle.filing_session.specs.Lines.{behind_line};
 ghost use Rattle.filing_session.specs.Session.{heard, heard_line, with_payload, with_payloads};
-ghost use Rattle.filing_session.specs.Streams.{GivesUp};
+ghost use Rattle.filing_session.specs.Streams.{TellsEnd, TellsTroubles};
 ghost use Rattle.filing_session.specs.Words.{asked_as};
 
 use crate::commands::{add_class, file, refused, set_global, set_plan, try_image};
 use crate::lines::{LineBuffer, LineEnd, read_line};
-use crate::payload::read_payload;
+use crate::payload::{read_payload, read_two};
 use crate::reply::Reply;
 use crate::stream::{ReadFault, Source};
 use crate::words::{Request, read_request};
-use filing_desk::{Desk, GREATEST_IMAGE, GREATEST_MESSAGE, GREATEST_PLAN};
+use filing_desk::{Desk, GREATEST_IMAGE, GREATEST_MESSAGE, GREATEST_PLAN, GREATEST_SCRIPT};
 use std::alloc::Global;
-
-/// How many octets a script has at most; a longer one is refused (15).
-const SCRIPT_OCTETS: usize = 262_144;
 
 /// How a session ends.
 #[derive(Clone, Copy, Debug, PartialEq, Eq)]
@@ -49,21 +46,14 @@ fn read_and_file<S: Source>(
     alloc: Global,
     source: &mut S,
     desk: &Desk,
-    script: usize,
-    message: usize,
+    sizes: (usize, usize),
 ) -> Result<Said, ReadFault>
-    ensures said { S.tells → IfOk result (λ a. Answers desk.now (with_payloads script message file_command (S.left source.old)) a desk.now (S.left source.new)) }
-    ensures unread { S.tells → IfOk result (λ a. LeavesRest a (S.left source.old) (S.left source.new)) }
-    ensures ended { IfOk result (λ a. EndsOnlyAtEnd a (S.ends source.old) (S.ends source.new)) }
-    ensures ends { S.ends source.old ≤ S.ends source.new }
-    ensures troubles { S.troubles source.old ≤ S.troubles source.new }
-    ensures fault { OnErr result (GivesUp (S.troubles source.old) (S.failures source.old) (S.troubles source.new) (S.failures source.new)) }
-    ensures outlasts { OnOk result (S.failures source.new ≡ S.failures source.old) }
+    ensures said { S.tells → IfOk result (λ a. Answers desk.now (with_payloads sizes.0 sizes.1 file_command (S.left source.old)) (S.left source.old) a desk.now (S.left source.new)) }
+    ensures ends { TellsEnd (SaysEnd result) (S.ends source.old) (S.ends source.new) }
+    ensures troubles { TellsTroubles S.troubles S.failures result source.old source.new }
 {
-    let Some(script) = read_payload(alloc, source, script, SCRIPT_OCTETS)? else {
-        return Ok(Said::End(Ending::CutShort));
-    };
-    let Some(message) = read_payload(alloc, source, message, GREATEST_MESSAGE)? else {
+    let limits = (GREATEST_SCRIPT, GREATEST_MESSAGE);
+    let Some((script, message)) = read_two(alloc, source, sizes, limits)? else {
         return Ok(Said::End(Ending::CutShort));
     };
     Ok(Said::Reply(file(desk, &script, &message)))
@@ -74,21 +64,14 @@ fn read_and_try<S: Source>(
     alloc: Global,
     source: &mut S,
     desk: &Desk,
-    image: usize,
-    message: usize,
+    sizes: (usize, usize),
 ) -> Result<Said, ReadFault>
-    ensures said { S.tells → IfOk result (λ a. Answers desk.now (with_payloads image message try_command (S.left source.old)) a desk.now (S.left source.new)) }
-    ensures unread { S.tells → IfOk result (λ a. LeavesRest a (S.left source.old) (S.left source.new)) }
-    ensures ended { IfOk result (λ a. EndsOnlyAtEnd a (S.ends source.old) (S.ends source.new)) }
-    ensures ends { S.ends source.old ≤ S.ends source.new }
-    ensures troubles { S.troubles source.old ≤ S.troubles source.new }
-    ensures fault { OnErr result (GivesUp (S.troubles source.old) (S.failures source.old) (S.troubles source.new) (S.failures source.new)) }
-    ensures outlasts { OnOk result (S.failures source.new ≡ S.failures source.old) }
+    ensures said { S.tells → IfOk result (λ a. Answers desk.now (with_payloads sizes.0 sizes.1 try_command (S.left source.old)) (S.left source.old) a desk.now (S.left source.new)) }
+    ensures ends { TellsEnd (SaysEnd result) (S.ends source.old) (S.ends source.new) }
+    ensures troubles { TellsTroubles S.troubles S.failures result source.old source.new }
 {
-    let Some(image) = read_payload(alloc, source, image, GREATEST_IMAGE)? else {
-        return Ok(Said::End(Ending::CutShort));
-    };
-    let Some(message) = read_payload(alloc, source, message, GREATEST_MESSAGE)? else {
+    let limits = (GREATEST_IMAGE, GREATEST_MESSAGE);
+    let Some((image, message)) = read_two(alloc, source, sizes, limits)? else {
         return Ok(Said::End(Ending::CutShort));
     };
     Ok(Said::Reply(try_image(desk, &image, &message)))
@@ -99,22 +82,17 @@ fn read_and_set_plan<S: Source>(
     alloc: Global,
     source: &mut S,
     desk: &mut Desk,
-    text: usize,
+    size: usize,
 ) -> Result<Said, ReadFault>
-    ensures said { S.tells → IfOk result (λ a. Answers desk.old (with_payload text plan_command (S.left source.old)) a desk.new (S.left source.new)) }
+    ensures said { S.tells → IfOk result (λ a. Answers desk.old (with_payload size plan_command (S.left source.old)) (S.left source.old) a desk.new (S.left source.new)) }
     ensures same { OnErr result (desk.new ≡ desk.old) }
-    ensures unread { S.tells → IfOk result (λ a. LeavesRest a (S.left source.old) (S.left source.new)) }
-    ensures ended { IfOk result (λ a. EndsOnlyAtEnd a (S.ends source.old) (S.ends source.new)) }
-    ensures ends { S.ends source.old ≤ S.ends source.new }
-    ensures troubles { S.troubles source.old ≤ S.troubles source.new }
-    ensures fault { OnErr result (GivesUp (S.troubles source.old) (S.failures source.old) (S.troubles source.new) (S.failures source.new)) }
-    ensures outlasts { OnOk result (S.failures source.new ≡ S.failures source.old) }
+    ensures ends { TellsEnd (SaysEnd result) (S.ends source.old) (S.ends source.new) }
+    ensures troubles { TellsTroubles S.troubles S.failures result source.old source.new }
 {
-    let Some(text) = read_payload(alloc, source, text, GREATEST_PLAN)? else {
+    let Some(text) = read_payload(alloc, source, size, GREATEST_PLAN)? else {
         return Ok(Said::End(Ending::CutShort));
     };
-    let reply = set_plan(desk, &text);
-    Ok(Said::Reply(reply))
+    Ok(Said::Reply(set_plan(desk, &text)))
 }
 
 /// Reads the payload of `GLOBAL`, and keeps it.
@@ -123,22 +101,17 @@ fn read_and_set_global<S: Source>(
     source: &mut S,
     desk: &mut Desk,
     name: &[u8],
-    text: usize,
+    size: usize,
 ) -> Result<Said, ReadFault>
-    ensures said { S.tells → IfOk result (λ a. Answers desk.old (with_payload text (global_command name.now) (S.left source.old)) a desk.new (S.left source.new)) }
+    ensures said { S.tells → IfOk result (λ a. Answers desk.old (with_payload size (global_command name.now) (S.left source.old)) (S.left source.old) a desk.new (S.left source.new)) }
     ensures same { OnErr result (desk.new ≡ desk.old) }
-    ensures unread { S.tells → IfOk result (λ a. LeavesRest a (S.left source.old) (S.left source.new)) }
-    ensures ended { IfOk result (λ a. EndsOnlyAtEnd a (S.ends source.old) (S.ends source.new)) }
-    ensures ends { S.ends source.old ≤ S.ends source.new }
-    ensures troubles { S.troubles source.old ≤ S.troubles source.new }
-    ensures fault { OnErr result (GivesUp (S.troubles source.old) (S.failures source.old) (S.troubles source.new) (S.failures source.new)) }
-    ensures outlasts { OnOk result (S.failures source.new ≡ S.failures source.old) }
+    ensures ends { TellsEnd (SaysEnd result) (S.ends source.old) (S.ends source.new) }
+    ensures troubles { TellsTroubles S.troubles S.failures result source.old source.new }
 {
-    let Some(text) = read_payload(alloc, source, text, SCRIPT_OCTETS)? else {
+    let Some(text) = read_payload(alloc, source, size, GREATEST_SCRIPT)? else {
         return Ok(Said::End(Ending::CutShort));
     };
-    let reply = set_global(desk, name, &text);
-    Ok(Said::Reply(reply))
+    Ok(Said::Reply(set_global(desk, name, &text)))
 }
 
 /// Does what a line asks; its payloads are read here.
@@ -148,31 +121,19 @@ fn answer<S: Source>(
     desk: &mut Desk,
     request: Request<'_>,
 ) -> Result<Said, ReadFault>
-    ensures said { S.tells → IfOk result (λ a. Answers desk.old (heard_line (asked_as request.entry) (S.left source.old)) a desk.new (S.left source.new)) }
+    ensures said { S.tells → IfOk result (λ a. Answers desk.old (heard_line (asked_as request.entry) (S.left source.old)) (S.left source.old) a desk.new (S.left source.new)) }
     ensures same { OnErr result (desk.new ≡ desk.old) }
-    ensures unread { S.tells → IfOk result (λ a. LeavesRest a (S.left source.old) (S.left source.new)) }
-    ensures ended { IfOk result (λ a. EndsOnlyAtEnd a (S.ends source.old) (S.ends source.new)) }
-    ensures ends { S.ends source.old ≤ S.ends source.new }
-    ensures troubles { S.troubles source.old ≤ S.troubles source.new }
-    ensures fault { OnErr result (GivesUp (S.troubles source.old) (S.failures source.old) (S.troubles source.new) (S.failures source.new)) }
-    ensures outlasts { OnOk result (S.failures source.new ≡ S.failures source.old) }
+    ensures ends { TellsEnd (SaysEnd result) (S.ends source.old) (S.ends source.new) }
+    ensures troubles { TellsTroubles S.troubles S.failures result source.old source.new }
 {
     match request {
         Request::AddClass(path) => Ok(Said::Reply(add_class(desk, path))),
-        Request::File { script, message } => read_and_file(
-            alloc,
-            source,
-            desk,
-            script as usize,
-            message as usize,
-        ),
-        Request::Try { image, message } => read_and_try(
-            alloc,
-            source,
-            desk,
-            image as usize,
-            message as usize,
-        ),
+        Request::File { script, message } => {
+            read_and_file(alloc, source, desk, (script as usize, message as usize))
+        }
+        Request::Try { image, message } => {
+            read_and_try(alloc, source, desk, (image as usize, message as usize))
+        }
         Request::SetGlobal { name, text } => {
             read_and_set_global(alloc, source, desk, name, text as usize)
         }
@@ -190,14 +151,10 @@ pub fn next<S: Source>(
     desk: &mut Desk,
     line: &mut LineBuffer,
 ) -> Result<Said, ReadFault>
-    ensures said { S.tells → IfOk result (λ a. Answers desk.old (heard (S.left source.old)) a desk.new (S.left source.new)) }
+    ensures said { S.tells → IfOk result (λ a. Answers desk.old (heard (S.left source.old)) (behind_line (S.left source.old)) a desk.new (S.left source.new)) }
     ensures same { OnErr result (desk.new ≡ desk.old) }
-    ensures unread { S.tells → IfOk result (λ a. LeavesRest a (behind_line (S.left source.old)) (S.left source.new)) }
-    ensures ended { IfOk result (λ a. EndsOnlyAtEnd a (S.ends source.old) (S.ends source.new)) }
-    ensures ends { S.ends source.old ≤ S.ends source.new }
-    ensures troubles { S.troubles source.old ≤ S.troubles source.new }
-    ensures fault { OnErr result (GivesUp (S.troubles source.old) (S.failures source.old) (S.troubles source.new) (S.failures source.new)) }
-    ensures outlasts { OnOk result (S.failures source.new ≡ S.failures source.old) }
+    ensures ends { TellsEnd (SaysEnd result) (S.ends source.old) (S.ends source.new) }
+    ensures troubles { TellsTroubles S.troubles S.failures result source.old source.new }
 {
     match read_line(source, line)? {
         LineEnd::Whole => answer(alloc, source, desk, read_request(line.as_slice())),

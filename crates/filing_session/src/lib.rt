@@ -1,6 +1,7 @@
 //! A session: commands with their payloads are read from a source, and replies are written to a sink.
 //!
 //! - `stream`: sources and sinks, which may fail, be interrupted, and move fewer octets than they are asked to;
+//! - `tally`: how their troubles are counted;
 //! - `lines`, `words`, `payload`: what is read, a line with its payloads at a time;
 //! - `reply`: what is written;
 //! - `commands`: what each command does at the desk;
@@ -19,7 +20,9 @@ mod payload;
 mod reply;
 mod session;
 mod stream;
+mod tally;
 mod words;
 
 pub use session::{COMMANDS, ServeFault, serve};
 pub use stream::{Sink, Source, Trouble};
+pub use tally::Tally;

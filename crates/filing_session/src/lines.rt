@@ -1,8 +1,8 @@
 //! Lines of the input, in a fixed array.
 
-ghost use Rattle.std.specs.Prelude.{◌≡◌, ℕ, List, ◌<◌, ◌≤◌, ◌++◌, ◌∷◌, [], length, IfOk, OnOk, OnErr, Ok, ◌==◌};
+ghost use Rattle.std.specs.Prelude.{◌≡◌, ◌<◌, ◌⊎◌, ◌++◌, ◌∷◌, [], length, IfOk, Ok, ◌==◌};
 ghost use Rattle.filing_session.specs.Lines.{line_of, line_as, cut_at};
-ghost use Rattle.filing_session.specs.Streams.{Rises, GivesUp};
+ghost use Rattle.filing_session.specs.Streams.{TellsEnd, TellsTroubles};
 
 use crate::stream::{ReadFault, Source, read_one};
 use std::marker::Model;
@@ -91,12 +91,8 @@ pub enum LineEnd {
 #[tactic(auto, using(crate::proofs::FirstLine::line_of_is))]
 pub fn read_line<S: Source>(source: &mut S, line: &mut LineBuffer) -> Result<LineEnd, ReadFault>
     ensures line { S.tells → IfOk result (λ end. line_of (S.left source.old) ≡ line_as end line.new (S.left source.new)) }
-    ensures ended { result ≡ Ok LineEnd.Cut → Rises (S.ends source.old) (S.ends source.new) }
-    ensures ended_between { result ≡ Ok LineEnd.Nothing → Rises (S.ends source.old) (S.ends source.new) }
-    ensures ends { S.ends source.old ≤ S.ends source.new }
-    ensures troubles { S.troubles source.old ≤ S.troubles source.new }
-    ensures fault { OnErr result (GivesUp (S.troubles source.old) (S.failures source.old) (S.troubles source.new) (S.failures source.new)) }
-    ensures outlasts { OnOk result (S.failures source.new ≡ S.failures source.old) }
+    ensures ends { TellsEnd ((result ≡ Ok LineEnd.Cut) ⊎ (result ≡ Ok LineEnd.Nothing)) (S.ends source.old) (S.ends source.new) }
+    ensures troubles { TellsTroubles S.troubles S.failures result source.old source.new }
 {
     line.clear();
     for _ in 0..LINE_OCTETS {

@@ -1,10 +1,12 @@
 //! A source and a sink over memory, which know their octets, for tests. They can be told to move few octets at once,
 //! and to meet trouble at a place.
 
-ghost use Rattle.std.specs.Prelude.{◌≡◌, []};
+ghost use Rattle.std.specs.Prelude.{◌≡◌, ◌<◌, ℕ, [], true, IfOk};
 ghost use Rattle.filing_session.specs.Memory.{left_of, written_of};
+ghost use Rattle.filing_session.specs.Streams.{Counts, fails_to_write};
 
 use crate::stream::{Sink, Source, Trouble};
+use crate::tally::Tally;
 use std::alloc::Global;
 
 /// A source over octets in memory.
@@ -18,8 +20,7 @@ pub struct MemorySource<'a> {
     trouble: Trouble,
     before: usize,
     times: u64,
-    troubles: u64,
-    failures: u64,
+    tally: Tally,
     ends: u64,
 }
 
@@ -34,8 +35,7 @@ impl<'a> MemorySource<'a> {
             trouble: Trouble::Failed,
             before: 0,
             times: 0,
-            troubles: 0,
-            failures: 0,
+            tally: Tally::new(),
             ends: 0,
         }
     }
@@ -75,9 +75,9 @@ impl Source for MemorySource<'_> {
 
     ghost left = { left_of };
 
-    ghost troubles = { λ s. s.troubles };
+    ghost troubles = { λ s. s.tally.troubles };
 
-    ghost failures = { λ s. s.failures };
+    ghost failures = { λ s. s.tally.failures };
 
     ghost ends = { λ s. s.ends };
 
@@ -86,12 +86,7 @@ impl Source for MemorySource<'_> {
         if self.times > 0 {
             if self.before == 0 {
                 self.times -= 1;
-                self.troubles = self.troubles.saturating_add(1);
-                if let Trouble::Interrupted = self.trouble {
-                    return Err(Trouble::Interrupted);
-                }
-                self.failures = self.failures.saturating_add(1);
-                return Err(Trouble::Failed);
+                return Err(self.tally.count(self.trouble));
             }
             count = count.min(self.before);
             self.before -= count;
@@ -127,8 +122,7 @@ pub struct MemorySink {
     hitch: Hitch,
     before: usize,
     times: u64,
-    troubles: u64,
-    failures: u64,
+    tally: Tally,
 }
 
 impl MemorySink {
@@ -142,8 +136,7 @@ impl MemorySink {
             hitch: Hitch::Failed,
             before: 0,
             times: 0,
-            troubles: 0,
-            failures: 0,
+            tally: Tally::new(),
         }
     }
 
@@ -166,6 +159,23 @@ impl MemorySink {
         }
     }
 
+    /// Meets a hitch.
+    fn meet(&mut self, hitch: Hitch) -> Result<usize, Trouble>
+        ensures written { written_of self.new ≡ written_of self.old }
+        ensures count { IfOk result (λ n. n ≡ 0) }
+        ensures troubles { Counts true self.old.tally.troubles self.new.tally.troubles }
+        ensures failures { (size : ℕ) → 0 < size → Counts (fails_to_write size result) self.old.tally.failures self.new.tally.failures }
+    {
+        match hitch {
+            Hitch::Interrupted => Err(self.tally.count(Trouble::Interrupted)),
+            Hitch::Failed => Err(self.tally.count(Trouble::Failed)),
+            Hitch::Idle => {
+                let _ = self.tally.count(Trouble::Failed);
+                Ok(0)
+            }
+        }
+    }
+
     /// What was taken.
     pub fn as_slice(&self) -> &[u8]
         ensures { result.now ≡ written_of self.now }
@@ -182,32 +192,22 @@ impl Sink for MemorySink {
 
     ghost written = { written_of };
 
-    ghost troubles = { λ s. s.troubles };
+    ghost troubles = { λ s. s.tally.troubles };
 
-    ghost failures = { λ s. s.failures };
+    ghost failures = { λ s. s.tally.failures };
 
     fn write(&mut self, octets: &[u8]) -> Result<usize, Trouble> {
         let mut count = octets.len().min(self.piece.max(1));
         if self.times > 0 && !octets.is_empty() {
             if self.before == 0 {
                 self.times -= 1;
-                self.troubles = self.troubles.saturating_add(1);
-                if let Hitch::Interrupted = self.hitch {
-                    return Err(Trouble::Interrupted);
-                }
-                self.failures = self.failures.saturating_add(1);
-                return match self.hitch {
-                    Hitch::Idle => Ok(0),
-                    _ => Err(Trouble::Failed),
-                };
+                return self.meet(self.hitch);
             }
             count = count.min(self.before);
             self.before -= count;
         }
         if self.written.extend_from_slice(&octets[..count]).is_err() {
-            self.troubles = self.troubles.saturating_add(1);
-            self.failures = self.failures.saturating_add(1);
-            return Err(Trouble::Failed);
+            return Err(self.tally.count(Trouble::Failed));
         }
         Ok(count)
     }

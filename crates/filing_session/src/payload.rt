@@ -1,9 +1,9 @@
 //! Payloads: so many octets as the line before them said. One that is not kept is read through all the same, so that
 //! the next line is where it should be.
 
-ghost use Rattle.std.specs.Prelude.{◌≡◌, ℕ, List, ◌+◌, ◌<◌, ◌≤◌, ◌++◌, length, drop, IfOk, OnOk, OnErr, Ok, None, true, false, vec_len, vec_capacity};
-ghost use Rattle.filing_session.specs.Payloads.{IsRead};
-ghost use Rattle.filing_session.specs.Streams.{Rises, GivesUp};
+ghost use Rattle.std.specs.Prelude.{◌≡◌, ◌+◌, ◌<◌, ◌≤◌, ◌++◌, length, drop, IfOk, Ok, None, true, false, vec_len, vec_capacity};
+ghost use Rattle.filing_session.specs.Payloads.{IsRead, AreRead};
+ghost use Rattle.filing_session.specs.Streams.{TellsEnd, TellsTroubles};
 
 use crate::stream::{ReadFault, Source, read_some};
 use std::alloc::Global;
@@ -26,11 +26,8 @@ pub enum Payload {
 fn skip<S: Source>(source: &mut S, size: usize) -> Result<bool, ReadFault>
     ensures whole { S.tells → result ≡ Ok true → (size ≤ length (S.left source.old)) × (S.left source.new ≡ drop size (S.left source.old)) }
     ensures cut { S.tells → result ≡ Ok false → length (S.left source.old) < size }
-    ensures ended { result ≡ Ok false → Rises (S.ends source.old) (S.ends source.new) }
-    ensures ends { S.ends source.old ≤ S.ends source.new }
-    ensures troubles { S.troubles source.old ≤ S.troubles source.new }
-    ensures fault { OnErr result (GivesUp (S.troubles source.old) (S.failures source.old) (S.troubles source.new) (S.failures source.new)) }
-    ensures outlasts { OnOk result (S.failures source.new ≡ S.failures source.old) }
+    ensures ends { TellsEnd (result ≡ Ok false) (S.ends source.old) (S.ends source.new) }
+    ensures troubles { TellsTroubles S.troubles S.failures result source.old source.new }
 {
     let mut room = [0u8; PIECE];
     let mut got = 0;
@@ -61,11 +58,8 @@ fn fill<S: Source>(source: &mut S, octets: &mut Vec<u8>, size: usize) -> Result<
     requires room { size ≤ vec_capacity octets.old }
     ensures whole { S.tells → result ≡ Ok true → (S.left source.old ≡ octets.new.items ++ S.left source.new) × (length octets.new.items ≡ size) }
     ensures cut { S.tells → result ≡ Ok false → length (S.left source.old) < size }
-    ensures ended { result ≡ Ok false → Rises (S.ends source.old) (S.ends source.new) }
-    ensures ends { S.ends source.old ≤ S.ends source.new }
-    ensures troubles { S.troubles source.old ≤ S.troubles source.new }
-    ensures fault { OnErr result (GivesUp (S.troubles source.old) (S.failures source.old) (S.troubles source.new) (S.failures source.new)) }
-    ensures outlasts { OnOk result (S.failures source.new ≡ S.failures source.old) }
+    ensures ends { TellsEnd (result ≡ Ok false) (S.ends source.old) (S.ends source.new) }
+    ensures troubles { TellsTroubles S.troubles S.failures result source.old source.new }
 {
     let mut room = [0u8; PIECE];
     while octets.len() < size {
@@ -88,11 +82,8 @@ pub fn read_payload<S: Source>(
     limit: usize,
 ) -> Result<Option<Payload>, ReadFault>
     ensures octets { S.tells → IfOk result (λ p. IsRead size limit p (S.left source.old) (S.left source.new)) }
-    ensures ended { result ≡ Ok None → Rises (S.ends source.old) (S.ends source.new) }
-    ensures ends { S.ends source.old ≤ S.ends source.new }
-    ensures troubles { S.troubles source.old ≤ S.troubles source.new }
-    ensures fault { OnErr result (GivesUp (S.troubles source.old) (S.failures source.old) (S.troubles source.new) (S.failures source.new)) }
-    ensures outlasts { OnOk result (S.failures source.new ≡ S.failures source.old) }
+    ensures ends { TellsEnd (result ≡ Ok None) (S.ends source.old) (S.ends source.new) }
+    ensures troubles { TellsTroubles S.troubles S.failures result source.old source.new }
 {
     if size > limit {
         return Ok(skip(source, size)?.then_some(Payload::TooLong));
@@ -101,4 +92,25 @@ pub fn read_payload<S: Source>(
         return Ok(skip(source, size)?.then_some(Payload::NoMemory));
     };
     Ok(fill(source, &mut octets, size)?.then_some(Payload::Whole(octets)))
+}
+
+/// Reads two payloads of so many octets, one behind the other, and keeps each that is no longer than its limit; none where
+/// the input ends before.
+pub fn read_two<S: Source>(
+    alloc: Global,
+    source: &mut S,
+    sizes: (usize, usize),
+    limits: (usize, usize),
+) -> Result<Option<(Payload, Payload)>, ReadFault>
+    ensures octets { S.tells → IfOk result (λ p. AreRead sizes limits p (S.left source.old) (S.left source.new)) }
+    ensures ends { TellsEnd (result ≡ Ok None) (S.ends source.old) (S.ends source.new) }
+    ensures troubles { TellsTroubles S.troubles S.failures result source.old source.new }
+{
+    let Some(first) = read_payload(alloc, source, sizes.0, limits.0)? else {
+        return Ok(None);
+    };
+    let Some(second) = read_payload(alloc, source, sizes.1, limits.1)? else {
+        return Ok(None);
+    };
+    Ok(Some((first, second)))
 }

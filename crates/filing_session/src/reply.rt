@@ -1,9 +1,8 @@
 //! Replies, and how they are written.
 
-ghost use Rattle.std.specs.Prelude.{◌≡◌, ◌≤◌, OnOk, OnErr};
 ghost use Rattle.filing_session.specs.Replies.{answer_of, outcome_of, reply_octets, classes_octets, class_octets, refused_octets, outcome_octets, fault_octets};
 ghost use Rattle.filing_session.specs.Written.{Writes};
-ghost use Rattle.filing_session.specs.Streams.{GivesUp};
+ghost use Rattle.filing_session.specs.Streams.{TellsTroubles};
 
 use crate::stream::{Sink, WriteFault, write_all, write_pieces};
 use filing_desk::{Outcome, Refusal};
@@ -24,9 +23,7 @@ pub enum Reply {
 /// Writes the line of a class.
 fn write_class<K: Sink>(sink: &mut K, path: &[u8]) -> Result<(), WriteFault>
     ensures written { K.tells → Writes result (K.written sink.old) (class_octets path.now) (K.written sink.new) }
-    ensures troubles { K.troubles sink.old ≤ K.troubles sink.new }
-    ensures fault { OnErr result (GivesUp (K.troubles sink.old) (K.failures sink.old) (K.troubles sink.new) (K.failures sink.new)) }
-    ensures outlasts { OnOk result (K.failures sink.new ≡ K.failures sink.old) }
+    ensures troubles { TellsTroubles K.troubles K.failures result sink.old sink.new }
 {
     write_pieces(sink, &[b"class ".as_slice(), path, b"\n".as_slice()])
 }
@@ -34,9 +31,7 @@ fn write_class<K: Sink>(sink: &mut K, path: &[u8]) -> Result<(), WriteFault>
 /// Writes the lines of classes, or that there is none.
 fn write_classes<K: Sink>(sink: &mut K, paths: &[Text]) -> Result<(), WriteFault>
     ensures written { K.tells → Writes result (K.written sink.old) (classes_octets paths.now) (K.written sink.new) }
-    ensures troubles { K.troubles sink.old ≤ K.troubles sink.new }
-    ensures fault { OnErr result (GivesUp (K.troubles sink.old) (K.failures sink.old) (K.troubles sink.new) (K.failures sink.new)) }
-    ensures outlasts { OnOk result (K.failures sink.new ≡ K.failures sink.old) }
+    ensures troubles { TellsTroubles K.troubles K.failures result sink.old sink.new }
 {
     if paths.is_empty() {
         return write_all(sink, b"discarded\n");
@@ -50,9 +45,7 @@ fn write_classes<K: Sink>(sink: &mut K, paths: &[Text]) -> Result<(), WriteFault
 /// Writes the line of a fault.
 fn write_fault<K: Sink>(sink: &mut K, fault: u8) -> Result<(), WriteFault>
     ensures written { K.tells → Writes result (K.written sink.old) (fault_octets fault) (K.written sink.new) }
-    ensures troubles { K.troubles sink.old ≤ K.troubles sink.new }
-    ensures fault { OnErr result (GivesUp (K.troubles sink.old) (K.failures sink.old) (K.troubles sink.new) (K.failures sink.new)) }
-    ensures outlasts { OnOk result (K.failures sink.new ≡ K.failures sink.old) }
+    ensures troubles { TellsTroubles K.troubles K.failures result sink.old sink.new }
 {
     let mut number = Buffer::new();
     let number = number.format(fault).as_bytes();
@@ -62,9 +55,7 @@ fn write_fault<K: Sink>(sink: &mut K, fault: u8) -> Result<(), WriteFault>
 /// Writes the lines of an outcome.
 fn write_outcome<K: Sink>(sink: &mut K, outcome: &Outcome) -> Result<(), WriteFault>
     ensures written { K.tells → Writes result (K.written sink.old) (outcome_octets (outcome_of outcome.now)) (K.written sink.new) }
-    ensures troubles { K.troubles sink.old ≤ K.troubles sink.new }
-    ensures fault { OnErr result (GivesUp (K.troubles sink.old) (K.failures sink.old) (K.troubles sink.new) (K.failures sink.new)) }
-    ensures outlasts { OnOk result (K.failures sink.new ≡ K.failures sink.old) }
+    ensures troubles { TellsTroubles K.troubles K.failures result sink.old sink.new }
 {
     if let Some(fault) = outcome.fault {
         write_fault(sink, fault)?;
@@ -75,9 +66,7 @@ fn write_outcome<K: Sink>(sink: &mut K, outcome: &Outcome) -> Result<(), WriteFa
 /// Writes the line of a refusal.
 fn write_refusal<K: Sink>(sink: &mut K, refusal: Refusal) -> Result<(), WriteFault>
     ensures written { K.tells → Writes result (K.written sink.old) (refused_octets refusal.number refusal.offset) (K.written sink.new) }
-    ensures troubles { K.troubles sink.old ≤ K.troubles sink.new }
-    ensures fault { OnErr result (GivesUp (K.troubles sink.old) (K.failures sink.old) (K.troubles sink.new) (K.failures sink.new)) }
-    ensures outlasts { OnOk result (K.failures sink.new ≡ K.failures sink.old) }
+    ensures troubles { TellsTroubles K.troubles K.failures result sink.old sink.new }
 {
     let mut number = Buffer::new();
     let number = number.format(refusal.number).as_bytes();
@@ -101,9 +90,7 @@ fn write_refusal<K: Sink>(sink: &mut K, refusal: Refusal) -> Result<(), WriteFau
 /// Writes a reply.
 pub fn write_reply<K: Sink>(sink: &mut K, reply: &Reply) -> Result<(), WriteFault>
     ensures written { K.tells → Writes result (K.written sink.old) (reply_octets (answer_of reply.now)) (K.written sink.new) }
-    ensures troubles { K.troubles sink.old ≤ K.troubles sink.new }
-    ensures fault { OnErr result (GivesUp (K.troubles sink.old) (K.failures sink.old) (K.troubles sink.new) (K.failures sink.new)) }
-    ensures outlasts { OnOk result (K.failures sink.new ≡ K.failures sink.old) }
+    ensures troubles { TellsTroubles K.troubles K.failures result sink.old sink.new }
 {
     match reply {
         Reply::Done => write_all(sink, b"ok\n"),

@@ -1,8 +1,9 @@
 //! The session: lines are read, done and answered, one after the other.
 
-ghost use Rattle.std.specs.Prelude.{◌≡◌, ◌≢◌, ◌⊎◌, ◌++◌, OnOk, OnErr, Ok, Err, IsErrOf};
+ghost use Rattle.std.specs.Prelude.{◌≡◌, ◌≢◌, ◌⊎◌, OnOk, Ok, Err, IsErrOf};
 ghost use Rattle.filing_session.specs.Session.{session_of, ending_octets, left_by, IsServed, IsAnswered, IsCutInAnswer, IsCutInEnding, EndsByInput, EndsBefore};
-ghost use Rattle.filing_session.specs.Streams.{IsBehind, Rises, GivesUp};
+ghost use Rattle.filing_session.specs.Streams.{Rises, GivesUp, TellsTroubles};
+ghost use Rattle.filing_session.specs.Written.{Writes};
 
 use crate::items::{Ending, Said, next};
 use crate::lines::LineBuffer;
@@ -39,11 +40,9 @@ fn ending_text(ending: Ending) -> &'static str
 
 /// Writes how a session ends.
 fn write_ending<K: Sink>(sink: &mut K, ending: Ending) -> Result<(), ServeFault>
-    ensures written { K.tells → OnOk result (K.written sink.new ≡ K.written sink.old ++ ending_octets ending) }
-    ensures prefix { K.tells → OnErr result (IsBehind (K.written sink.old) (ending_octets ending) (K.written sink.new)) }
+    ensures written { K.tells → Writes result (K.written sink.old) (ending_octets ending) (K.written sink.new) }
     ensures read { result ≢ Err ServeFault.Read }
-    ensures fault { OnErr result (GivesUp (K.troubles sink.old) (K.failures sink.old) (K.troubles sink.new) (K.failures sink.new)) }
-    ensures outlasts { OnOk result (K.failures sink.new ≡ K.failures sink.old) }
+    ensures troubles { TellsTroubles K.troubles K.failures result sink.old sink.new }
 {
     if write_all(sink, ending_text(ending).as_bytes()).is_err() {
         return Err(ServeFault::Write);

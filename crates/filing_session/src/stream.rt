@@ -4,8 +4,8 @@
 //! tells its octets, and count what each type can count: troubles, those among them that were no interruptions, and reads
 //! that told the input's end.
 
-ghost use Rattle.std.specs.Prelude.{◌≡◌, ℕ, List, ◌+◌, ◌<◌, ◌≤◌, ◌++◌, ◌∷◌, [], length, take, drop, IfOk, OnOk, OnErr, IfSome, IfNone, is_err, true, Ok, flat_map};
-ghost use Rattle.filing_session.specs.Streams.{Counts, tells_end, is_trouble, fails_to_read, fails_to_write, moved, Rises, GivesUp};
+ghost use Rattle.std.specs.Prelude.{◌≡◌, ℕ, List, ◌+◌, ◌<◌, ◌≤◌, ◌++◌, ◌∷◌, [], length, take, drop, IfOk, OnOk, OnErr, IfSome, IfNone, is_err, true, Ok, None, flat_map};
+ghost use Rattle.filing_session.specs.Streams.{Counts, tells_end, is_trouble, fails_to_read, fails_to_write, moved, TellsEnd, TellsTroubles};
 ghost use Rattle.filing_session.specs.Written.{Writes};
 
 /// Why a call moved no octet.
@@ -87,11 +87,8 @@ pub fn read_some<S: Source>(source: &mut S, room: &mut [u8]) -> Result<usize, Re
     ensures within { IfOk result (λ n. n ≤ length room.old) }
     ensures octets { S.tells → IfOk result (λ n. S.left source.old ≡ take n room.new ++ S.left source.new) }
     ensures end { S.tells → result ≡ Ok 0 → S.left source.old ≡ [] }
-    ensures ended { result ≡ Ok 0 → Rises (S.ends source.old) (S.ends source.new) }
-    ensures ends { S.ends source.old ≤ S.ends source.new }
-    ensures troubles { S.troubles source.old ≤ S.troubles source.new }
-    ensures fault { OnErr result (GivesUp (S.troubles source.old) (S.failures source.old) (S.troubles source.new) (S.failures source.new)) }
-    ensures outlasts { OnOk result (S.failures source.new ≡ S.failures source.old) }
+    ensures ends { TellsEnd (result ≡ Ok 0) (S.ends source.old) (S.ends source.new) }
+    ensures troubles { TellsTroubles S.troubles S.failures result source.old source.new }
     ensures patience { OnOk result (S.troubles source.new ≤ S.troubles source.old + 63) }
 {
     for _ in 0..PATIENCE {
@@ -108,23 +105,15 @@ pub fn read_some<S: Source>(source: &mut S, room: &mut [u8]) -> Result<usize, Re
 pub fn read_one<S: Source>(source: &mut S) -> Result<Option<u8>, ReadFault>
     ensures some { S.tells → IfOk result (λ o. IfSome o (λ x. S.left source.old ≡ x ∷ S.left source.new)) }
     ensures none { S.tells → IfOk result (λ o. IfNone o ((S.left source.old ≡ []) × (S.left source.new ≡ []))) }
-    ensures ended { IfOk result (λ o. IfNone o (Rises (S.ends source.old) (S.ends source.new))) }
-    ensures ends { S.ends source.old ≤ S.ends source.new }
-    ensures troubles { S.troubles source.old ≤ S.troubles source.new }
-    ensures fault { OnErr result (GivesUp (S.troubles source.old) (S.failures source.old) (S.troubles source.new) (S.failures source.new)) }
-    ensures outlasts { OnOk result (S.failures source.new ≡ S.failures source.old) }
+    ensures ends { TellsEnd (result ≡ Ok None) (S.ends source.old) (S.ends source.new) }
+    ensures troubles { TellsTroubles S.troubles S.failures result source.old source.new }
     ensures patience { OnOk result (S.troubles source.new ≤ S.troubles source.old + 63) }
 {
     let mut room = [0u8; 1];
-    for _ in 0..PATIENCE {
-        match source.read(&mut room) {
-            Ok(0) => return Ok(None),
-            Ok(_) => return Ok(Some(room[0])),
-            Err(Trouble::Interrupted) => {}
-            Err(Trouble::Failed) => return Err(ReadFault),
-        }
+    match read_some(source, &mut room)? {
+        0 => Ok(None),
+        _ => Ok(Some(room[0])),
     }
-    Err(ReadFault)
 }
 
 /// Writes one octet or more, again after an interruption.
@@ -133,9 +122,7 @@ fn write_some<K: Sink>(sink: &mut K, octets: &[u8]) -> Result<usize, WriteFault>
     ensures within { IfOk result (λ n. (0 < n) × (n ≤ length octets.now)) }
     ensures written { K.tells → IfOk result (λ n. K.written sink.new ≡ K.written sink.old ++ take n octets.now) }
     ensures same { K.tells → OnErr result (K.written sink.new ≡ K.written sink.old) }
-    ensures troubles { K.troubles sink.old ≤ K.troubles sink.new }
-    ensures fault { OnErr result (GivesUp (K.troubles sink.old) (K.failures sink.old) (K.troubles sink.new) (K.failures sink.new)) }
-    ensures outlasts { OnOk result (K.failures sink.new ≡ K.failures sink.old) }
+    ensures troubles { TellsTroubles K.troubles K.failures result sink.old sink.new }
     ensures patience { OnOk result (K.troubles sink.new ≤ K.troubles sink.old + 63) }
 {
     for _ in 0..PATIENCE {
@@ -152,9 +139,7 @@ fn write_some<K: Sink>(sink: &mut K, octets: &[u8]) -> Result<usize, WriteFault>
 /// Writes all octets. After a fault some prefix of them is written.
 pub fn write_all<K: Sink>(sink: &mut K, octets: &[u8]) -> Result<(), WriteFault>
     ensures written { K.tells → Writes result (K.written sink.old) octets.now (K.written sink.new) }
-    ensures troubles { K.troubles sink.old ≤ K.troubles sink.new }
-    ensures fault { OnErr result (GivesUp (K.troubles sink.old) (K.failures sink.old) (K.troubles sink.new) (K.failures sink.new)) }
-    ensures outlasts { OnOk result (K.failures sink.new ≡ K.failures sink.old) }
+    ensures troubles { TellsTroubles K.troubles K.failures result sink.old sink.new }
 {
     let mut at = 0;
     while at < octets.len() {
@@ -166,9 +151,7 @@ pub fn write_all<K: Sink>(sink: &mut K, octets: &[u8]) -> Result<(), WriteFault>
 /// Writes pieces, one after the other. After a fault some prefix of them all is written.
 pub fn write_pieces<K: Sink>(sink: &mut K, pieces: &[&[u8]]) -> Result<(), WriteFault>
     ensures written { K.tells → Writes result (K.written sink.old) (flat_map (λ p. p.now) pieces.now) (K.written sink.new) }
-    ensures troubles { K.troubles sink.old ≤ K.troubles sink.new }
-    ensures fault { OnErr result (GivesUp (K.troubles sink.old) (K.failures sink.old) (K.troubles sink.new) (K.failures sink.new)) }
-    ensures outlasts { OnOk result (K.failures sink.new ≡ K.failures sink.old) }
+    ensures troubles { TellsTroubles K.troubles K.failures result sink.old sink.new }
 {
     for piece in pieces {
         write_all(sink, *piece)?;

@@ -2,7 +2,7 @@
 
 ghost use Rattle.std.specs.Prelude.{◌≡◌, ◌≤◌, length, IfOk};
 
-use filing_session::{Sink, Source, Trouble};
+use filing_session::{Sink, Source, Tally, Trouble};
 use std::io::{self, Read, Write};
 
 /// How many octets are read at once.
@@ -26,8 +26,7 @@ pub struct Input<R> {
     ahead: [u8; READ],
     start: usize,
     end: usize,
-    troubles: u64,
-    failures: u64,
+    tally: Tally,
     ends: u64,
 }
 
@@ -39,8 +38,7 @@ impl<R> Input<R> {
             ahead: [0; READ],
             start: 0,
             end: 0,
-            troubles: 0,
-            failures: 0,
+            tally: Tally::new(),
             ends: 0,
         }
     }
@@ -53,9 +51,9 @@ impl<R: Read> Source for Input<R> {
 
     ghost left = { λ _. [] };
 
-    ghost troubles = { λ s. s.troubles };
+    ghost troubles = { λ s. s.tally.troubles };
 
-    ghost failures = { λ s. s.failures };
+    ghost failures = { λ s. s.tally.failures };
 
     ghost ends = { λ s. s.ends };
 
@@ -82,14 +80,7 @@ impl<R: Read> Source for Input<R> {
                 self.end = got;
                 Ok(count)
             }
-            Err(error) => {
-                self.troubles = self.troubles.saturating_add(1);
-                if let Trouble::Interrupted = trouble_of(&error) {
-                    return Err(Trouble::Interrupted);
-                }
-                self.failures = self.failures.saturating_add(1);
-                Err(Trouble::Failed)
-            }
+            Err(error) => Err(self.tally.count(trouble_of(&error))),
         }
     }
 }
@@ -102,8 +93,7 @@ pub struct Output<W> {
     held: [u8; HELD],
     start: usize,
     end: usize,
-    troubles: u64,
-    failures: u64,
+    tally: Tally,
 }
 
 impl<W> Output<W> {
@@ -114,8 +104,7 @@ impl<W> Output<W> {
             held: [0; HELD],
             start: 0,
             end: 0,
-            troubles: 0,
-            failures: 0,
+            tally: Tally::new(),
         }
     }
 }
@@ -124,8 +113,7 @@ impl<W: Write> Output<W> {
     /// Holds octets as far as there is room, and answers how many.
     fn hold(&mut self, octets: &[u8]) -> usize
         ensures within { result ≤ length octets.now }
-        ensures troubles { self.new.troubles ≡ self.old.troubles }
-        ensures failures { self.new.failures ≡ self.old.failures }
+        ensures tally { self.new.tally ≡ self.old.tally }
     {
         let Some(room) = self.held.get_mut(self.end..) else {
             return 0;
@@ -138,8 +126,7 @@ impl<W: Write> Output<W> {
 
     /// Writes what is held; false where a write took no octet.
     fn send_held(&mut self) -> io::Result<bool>
-        ensures troubles { self.new.troubles ≡ self.old.troubles }
-        ensures failures { self.new.failures ≡ self.old.failures }
+        ensures tally { self.new.tally ≡ self.old.tally }
     {
         while self.start < self.end {
             let Some(held) = self.held.get(self.start..self.end) else {
@@ -159,8 +146,7 @@ impl<W: Write> Output<W> {
     /// Writes octets behind those that are held.
     fn write_through(&mut self, octets: &[u8]) -> io::Result<usize>
         ensures within { IfOk result (λ n. n ≤ length octets.now) }
-        ensures troubles { self.new.troubles ≡ self.old.troubles }
-        ensures failures { self.new.failures ≡ self.old.failures }
+        ensures tally { self.new.tally ≡ self.old.tally }
     {
         if !self.send_held()? {
             return Ok(0);
@@ -176,9 +162,9 @@ impl<W: Write> Sink for Output<W> {
 
     ghost written = { λ _. [] };
 
-    ghost troubles = { λ s. s.troubles };
+    ghost troubles = { λ s. s.tally.troubles };
 
-    ghost failures = { λ s. s.failures };
+    ghost failures = { λ s. s.tally.failures };
 
     fn write(&mut self, octets: &[u8]) -> Result<usize, Trouble> {
         if octets.is_empty() {
@@ -192,19 +178,11 @@ impl<W: Write> Sink for Output<W> {
         }
         match self.write_through(octets) {
             Ok(0) => {
-                self.troubles = self.troubles.saturating_add(1);
-                self.failures = self.failures.saturating_add(1);
+                let _ = self.tally.count(Trouble::Failed);
                 Ok(0)
             }
             Ok(count) => Ok(count),
-            Err(error) => {
-                self.troubles = self.troubles.saturating_add(1);
-                if let Trouble::Interrupted = trouble_of(&error) {
-                    return Err(Trouble::Interrupted);
-                }
-                self.failures = self.failures.saturating_add(1);
-                Err(Trouble::Failed)
-            }
+            Err(error) => Err(self.tally.count(trouble_of(&error))),
         }
     }
 }

@@ -1,23 +1,19 @@
-use Rattle.std.proofs.Common.{ℕ, List, Option, take, drop, subst}
-use Rattle.filing_desk.specs.Steps.{file}
-use Rattle.filing_session.specs.Payloads.{IsRead, IsOf}
+use Rattle.std.proofs.Common.{Option, take, drop, subst}
+use Rattle.filing_desk.specs.Steps.{file, greatest_script, greatest_message}
+use Rattle.filing_session.specs.Payloads.{AreRead}
 use Rattle.filing_session.specs.declared.payload.Payload.{Payload}
 use Rattle.filing_session.specs.Session.{Call}
-use Rattle.filing_session.proofs.BothPayloads.{both_read}
+use Rattle.filing_session.proofs.PayloadLemmas.{both_heard}
 use Rattle.filing_session.proofs.items.read_and_file.Goals as goal
 
 pub returns-clause-said : goal.returns-clause-said
 returns-clause-said g c = λ t.
     let old = g.S.Source.left c.args.source.now in
-    let mid = g.S.Source.left c.read_payload.new.source in
-    let new = g.S.Source.left c.read_payload-2.new.source in
-    let P : Option Payload → Type 0 = λ p. IsRead c.args.script 262144 p old mid in
-    let Q : Option Payload → Type 0 = λ p. IsRead c.args.message 8388608 p mid new in
-    let s = subst P c.in-Some.is (c.in_ok-script.ensures.octets t) in
-    let m = subst Q c.in-Some-2.is (c.in_ok-message.ensures.octets t) in
-    let whole = both_read c.args.script c.args.message file old mid new s.0 s.1 m.0 m.1 in
-    let R : List ℕ → Type 0 = λ input. IsOf 8388608 c.in-Some-2.message (take c.args.message input) in (
-      Call (file (take c.args.script old) (take c.args.message (drop c.args.script old))),
-      whole,
-      c.file.ensures (take c.args.script old) (take c.args.message (drop c.args.script old)) s.2 (subst R s.1 m.2),
+    let new = g.S.Source.left c.read_two.new.source in
+    let sizes = c.args.sizes in
+    let P : Option (Payload × Payload) → Type 0 = λ p. AreRead sizes (greatest_script, greatest_message) p old new in
+    let read = subst P c.in-Some.is (c.in_ok-script.ensures.octets t) in (
+      Call (file (take sizes.0 old) (take sizes.1 (drop sizes.0 old))),
+      both_heard sizes file old new read.0 read.1,
+      c.file.ensures (take sizes.0 old) (take sizes.1 (drop sizes.0 old)) read.2 read.3,
     )

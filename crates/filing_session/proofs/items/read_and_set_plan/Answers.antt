@@ -1,18 +1,18 @@
 use Rattle.std.proofs.Common.{Option, take, subst}
-use Rattle.filing_desk.specs.Steps.{set_plan}
+use Rattle.filing_desk.specs.Steps.{set_plan, greatest_plan}
 use Rattle.filing_session.specs.Payloads.{IsRead}
 use Rattle.filing_session.specs.declared.payload.Payload.{Payload}
 use Rattle.filing_session.specs.Session.{Call}
-use Rattle.filing_session.proofs.BothPayloads.{one_read}
+use Rattle.filing_session.proofs.PayloadLemmas.{one_heard}
 use Rattle.filing_session.proofs.items.read_and_set_plan.Goals as goal
 
 pub returns-clause-said : goal.returns-clause-said
 returns-clause-said g c = λ t.
     let old = g.S.Source.left c.args.source.now in
     let new = g.S.Source.left c.read_payload.new.source in
-    let P : Option Payload → Type 0 = λ p. IsRead c.args.text 1048576 p old new in
+    let P : Option Payload → Type 0 = λ p. IsRead c.args.size greatest_plan p old new in
     let s = subst P c.in-Some.is (c.in_ok-text.ensures.octets t) in (
-      Call (set_plan (take c.args.text old)),
-      one_read c.args.text set_plan old new s.0 s.1,
-      c.set_plan-reply.ensures (take c.args.text old) s.2,
+      Call (set_plan (take c.args.size old)),
+      one_heard c.args.size set_plan old new s.0 s.1,
+      c.set_plan.ensures (take c.args.size old) s.2,
     )

@@ -1,10 +1,11 @@
-use Rattle.std.proofs.Common.{◌-◌, ℕ, arith, refl, [], inl, inr, ap, sym, ◌∙◌, subst}
+use Rattle.std.proofs.Common.{◌-◌, ℕ, arith, refl, [], inl, inr, ap, sym, ◌∙◌, subst, Ok}
 use Rattle.std.proofs.lemmas.List.{append-nil}
 use Rattle.filing_desk.specs.Steps.{State}
 use Rattle.filing_session.specs.Lines.{behind_line}
 use Rattle.filing_session.specs.Session.{heard, session_of, EndsByInput, EndsBefore, IsAnswered}
-use Rattle.filing_session.specs.Heard.{Answers, EndsOnlyAtEnd, LeavesRest}
+use Rattle.filing_session.specs.Heard.{Answers, SaysEnd}
 use Rattle.filing_session.specs.Replies.{answer_of, reply_octets}
+use Rattle.filing_session.specs.Streams.{TellsEnd}
 use Rattle.filing_session.specs.declared.items.Ending.{Ending}
 use Rattle.filing_session.specs.declared.items.Ending.TheVariants.{Limit}
 use Rattle.filing_session.specs.declared.items.Said.{Said}
@@ -35,68 +36,67 @@ loop-preserved g c =
     record {
       served = λ s k.
           let P : ℕ → Type 0 = λ n. Served n (session_of 1000000 (g.S.Source.left c.args.source.now)) c.args.desk.now (g.K.Sink.written c.args.sink.now) (g.S.Source.left c.loop.source) c.loop.desk (g.K.Sink.written c.loop.sink) in
-          let Q : Said → Type 0 = λ x. Answers c.loop.desk (heard (g.S.Source.left c.loop.source)) x c.next.new.desk (g.S.Source.left c.next.new.source) in
+          let Q : Said → Type 0 = λ x. Answers c.loop.desk (heard (g.S.Source.left c.loop.source)) (behind_line (g.S.Source.left c.loop.source)) x c.next.new.desk (g.S.Source.left c.next.new.source) in
           let a = subst Q c.in-Reply.is (c.in-Ok.ensures.said s) in
           more _ _ _ _ _ _ _ a.0 (answer_of c.in-Reply.reply) _ _ _ (subst P (one_less c.loop.counter c.loop-test.true) (c.loop.invariant.served s k)) a.1 a.2
           (written_ok c.write_reply.result (g.K.Sink.written c.loop.sink) (reply_octets (answer_of c.in-Reply.reply)) (g.K.Sink.written c.write_reply.new.sink) (c.write_reply.ensures.written k) (sym c.is_err.ensures.value ∙ c.if-is_err.false));
       unread = λ s.
-          let Q : Said → Type 0 = λ x. Answers c.loop.desk (heard (g.S.Source.left c.loop.source)) x c.next.new.desk (g.S.Source.left c.next.new.source) in
+          let Q : Said → Type 0 = λ x. Answers c.loop.desk (heard (g.S.Source.left c.loop.source)) (behind_line (g.S.Source.left c.loop.source)) x c.next.new.desk (g.S.Source.left c.next.new.source) in
           let a = subst Q c.in-Reply.is (c.in-Ok.ensures.said s) in
           c.loop.invariant.unread s ∙ left_more c.loop.counter _ a.0 _ c.loop-test.true a.1;
-      ends = omega (arith, c.next.ensures.ends);
-      reads = omega (arith, c.next.ensures.troubles);
-      writes = omega (arith, c.write_reply.ensures.troubles);
-      read_failures = c.in-Ok.ensures.outlasts ∙ c.loop.invariant.read_failures;
-      write_failures = outlasted c.write_reply.result c.write_reply.ensures.outlasts (sym c.is_err.ensures.value ∙ c.if-is_err.false) ∙ c.loop.invariant.write_failures;
+      ends = omega (arith, c.next.ensures.ends.rises);
+      reads = omega (arith, c.next.ensures.troubles.rises);
+      writes = omega (arith, c.write_reply.ensures.troubles.rises);
+      read_failures = c.in-Ok.ensures.troubles.outlasts ∙ c.loop.invariant.read_failures;
+      write_failures = outlasted c.write_reply.result c.write_reply.ensures.troubles.outlasts (sym c.is_err.ensures.value ∙ c.if-is_err.false) ∙ c.loop.invariant.write_failures;
     }
 
 pub returns-then-is_err-clause-unsaid : goal.returns-then-is_err-clause-unsaid
 returns-then-is_err-clause-unsaid g c = λ s k is.
     let P : ℕ → Type 0 = λ n. Served n (session_of 1000000 (g.S.Source.left c.args.source.now)) c.args.desk.now (g.K.Sink.written c.args.sink.now) (g.S.Source.left c.loop.source) c.loop.desk (g.K.Sink.written c.loop.sink) in
-    let Q : Said → Type 0 = λ x. Answers c.loop.desk (heard (g.S.Source.left c.loop.source)) x c.next.new.desk (g.S.Source.left c.next.new.source) in
+    let Q : Said → Type 0 = λ x. Answers c.loop.desk (heard (g.S.Source.left c.loop.source)) (behind_line (g.S.Source.left c.loop.source)) x c.next.new.desk (g.S.Source.left c.next.new.source) in
     let a = subst Q c.in-Reply.is (c.in-Ok.ensures.said s) in
     let behind = written_fault c.write_reply.result (g.K.Sink.written c.loop.sink) (reply_octets (answer_of c.in-Reply.reply)) (g.K.Sink.written c.write_reply.new.sink) (c.write_reply.ensures.written k) (sym c.is_err.ensures.value ∙ c.if-is_err.true) in
     inl (cut_in_answer _ _ _ _ _ _ _ a.0 (answer_of c.in-Reply.reply) _ _ _ (subst P (one_less c.loop.counter c.loop-test.true) (c.loop.invariant.served s k)) a.1 a.2 behind)
 
 pub returns-in-End-clause-ok : goal.returns-in-End-clause-ok
 returns-in-End-clause-ok g c = λ s k.
-    let Q : Said → Type 0 = λ x. Answers c.loop.desk (heard (g.S.Source.left c.loop.source)) x c.next.new.desk (g.S.Source.left c.next.new.source) in
+    let Q : Said → Type 0 = λ x. Answers c.loop.desk (heard (g.S.Source.left c.loop.source)) (behind_line (g.S.Source.left c.loop.source)) x c.next.new.desk (g.S.Source.left c.next.new.source) in
     let a = subst Q c.in-End.is (c.in-Ok.ensures.said s) in
     let P : State → Type 0 = λ x. Served (1000000 - c.loop.counter) (session_of 1000000 (g.S.Source.left c.args.source.now)) c.args.desk.now (g.K.Sink.written c.args.sink.now) (g.S.Source.left c.loop.source) x (g.K.Sink.written c.loop.sink) in
     ended_ok c.write_ending.result _ _ _ _ _ c.next.new.desk (g.K.Sink.written c.loop.sink) c.in-End.ending (g.K.Sink.written c.write_ending.new.sink) (subst P (sym a.1) (c.loop.invariant.served s k)) (stop_ends c.loop.counter _ _ c.loop-test.true a.0) (c.write_ending.ensures.written k)
 
 pub returns-in-End-clause-unsaid : goal.returns-in-End-clause-unsaid
 returns-in-End-clause-unsaid g c = λ s k is.
-    let Q : Said → Type 0 = λ x. Answers c.loop.desk (heard (g.S.Source.left c.loop.source)) x c.next.new.desk (g.S.Source.left c.next.new.source) in
+    let Q : Said → Type 0 = λ x. Answers c.loop.desk (heard (g.S.Source.left c.loop.source)) (behind_line (g.S.Source.left c.loop.source)) x c.next.new.desk (g.S.Source.left c.next.new.source) in
     let a = subst Q c.in-End.is (c.in-Ok.ensures.said s) in
     let P : State → Type 0 = λ x. Served (1000000 - c.loop.counter) (session_of 1000000 (g.S.Source.left c.args.source.now)) c.args.desk.now (g.K.Sink.written c.args.sink.now) (g.S.Source.left c.loop.source) x (g.K.Sink.written c.loop.sink) in
-    inr (ended_cut c.write_ending.result _ _ _ _ _ _ c.next.new.desk (g.K.Sink.written c.loop.sink) c.in-End.ending (g.K.Sink.written c.write_ending.new.sink) (subst P (sym a.1) (c.loop.invariant.served s k)) (stop_ends c.loop.counter _ _ c.loop-test.true a.0) (c.write_ending.ensures.prefix k) is)
+    inr (ended_cut c.write_ending.result _ _ _ _ _ _ c.next.new.desk (g.K.Sink.written c.loop.sink) c.in-End.ending (g.K.Sink.written c.write_ending.new.sink) (subst P (sym a.1) (c.loop.invariant.served s k)) (stop_ends c.loop.counter _ _ c.loop-test.true a.0) (c.write_ending.ensures.written k) is)
 
 pub returns-in-End-clause-ending : goal.returns-in-End-clause-ending
 returns-in-End-clause-ending g c = λ s k ok by.
-    let Q : Said → Type 0 = λ x. Answers c.loop.desk (heard (g.S.Source.left c.loop.source)) x c.next.new.desk (g.S.Source.left c.next.new.source) in
+    let Q : Said → Type 0 = λ x. Answers c.loop.desk (heard (g.S.Source.left c.loop.source)) (behind_line (g.S.Source.left c.loop.source)) x c.next.new.desk (g.S.Source.left c.next.new.source) in
     let a = subst Q c.in-End.is (c.in-Ok.ensures.said s) in
     let all = all_ends _ _ _ _ _ _ _ c.in-End.ending (c.loop.invariant.served s k) (stop_ends c.loop.counter _ _ c.loop-test.true a.0) in
     let P : Ending → Type 0 = EndsByInput in
-    let R : Said → Type 0 = λ x. EndsOnlyAtEnd x (g.S.Source.ends c.loop.source) (g.S.Source.ends c.next.new.source) in
-    let told = subst R c.in-End.is c.in-Ok.ensures.ended (subst P (ap (λ x. x.ending) all) by) in
+    let R : Said → Type 0 = λ x. TellsEnd (SaysEnd (Ok x)) (g.S.Source.ends c.loop.source) (g.S.Source.ends c.next.new.source) in
+    let ends = subst R c.in-End.is c.in-Ok.ensures.ends in
+    let told = ends.told (subst P (ap (λ x. x.ending) all) by) in
     omega (arith, told, c.loop.invariant.ends)
 
 pub returns-in-End-clause-unread : goal.returns-in-End-clause-unread
 returns-in-End-clause-unread g c = λ s k ok before.
-    let Q : Said → Type 0 = λ x. Answers c.loop.desk (heard (g.S.Source.left c.loop.source)) x c.next.new.desk (g.S.Source.left c.next.new.source) in
+    let Q : Said → Type 0 = λ x. Answers c.loop.desk (heard (g.S.Source.left c.loop.source)) (behind_line (g.S.Source.left c.loop.source)) x c.next.new.desk (g.S.Source.left c.next.new.source) in
     let a = subst Q c.in-End.is (c.in-Ok.ensures.said s) in
     let all = all_ends _ _ _ _ _ _ _ c.in-End.ending (c.loop.invariant.served s k) (stop_ends c.loop.counter _ _ c.loop-test.true a.0) in
     let P : Ending → Type 0 = EndsBefore in
-    let R : Said → Type 0 = λ x. LeavesRest x (behind_line (g.S.Source.left c.loop.source)) (g.S.Source.left c.next.new.source) in
-    let rest = subst R c.in-End.is (c.in-Ok.ensures.unread s) (subst P (ap (λ x. x.ending) all) before) in
-    rest ∙ sym (c.loop.invariant.unread s ∙ left_stop c.loop.counter _ c.in-End.ending c.loop-test.true a.0)
+    a.2 (subst P (ap (λ x. x.ending) all) before) ∙ sym (c.loop.invariant.unread s ∙ left_stop c.loop.counter _ c.in-End.ending c.loop-test.true a.0)
 
 pub returns-clause-ok : goal.returns-clause-ok
 returns-clause-ok g c = λ s k. ended_ok c.write_ending-2.result _ _ _ _ _ c.loop.desk (g.K.Sink.written c.loop.sink) Limit (g.K.Sink.written c.write_ending-2.new.sink) (c.loop.invariant.served s k) (limit_ends c.loop.counter _ c.loop-test.false) (c.write_ending-2.ensures.written k)
 
 pub returns-clause-unsaid : goal.returns-clause-unsaid
-returns-clause-unsaid g c = λ s k is. inr (ended_cut c.write_ending-2.result _ _ _ _ _ _ c.loop.desk (g.K.Sink.written c.loop.sink) Limit (g.K.Sink.written c.write_ending-2.new.sink) (c.loop.invariant.served s k) (limit_ends c.loop.counter _ c.loop-test.false) (c.write_ending-2.ensures.prefix k) is)
+returns-clause-unsaid g c = λ s k is. inr (ended_cut c.write_ending-2.result _ _ _ _ _ _ c.loop.desk (g.K.Sink.written c.loop.sink) Limit (g.K.Sink.written c.write_ending-2.new.sink) (c.loop.invariant.served s k) (limit_ends c.loop.counter _ c.loop-test.false) (c.write_ending-2.ensures.written k) is)
 
 pub returns-clause-ending : goal.returns-clause-ending
 returns-clause-ending g c = λ s k ok by.

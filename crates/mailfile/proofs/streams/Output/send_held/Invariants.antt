@@ -2,10 +2,7 @@ use Rattle.std.proofs.Common.{◌-◌, ◌≡◌}
 use Rattle.mailfile.proofs.streams.Output.send_held.Given as goal
 
 abbrev pub invariant-loop-self : goal.invariant-loop-self
-invariant-loop-self g l = record {
-  troubles : l.self.troubles ≡ l.fn.self.troubles;
-  failures : l.self.failures ≡ l.fn.self.failures;
-}
+invariant-loop-self g l = l.self.tally ≡ l.fn.self.tally
 
 abbrev pub decreases-loop-self : goal.decreases-loop-self
 decreases-loop-self g l = l.self.end - l.self.start
