@@ -1,7 +1,7 @@
 //! Scripts, messages and sessions, and what is measured on them.
 
 use crate::inputs::repeated;
-use filing_desk::Desk;
+use filing_desk::{Desk, GREATEST_MESSAGE};
 use filing_gen::{Library, compile};
 use filing_image::decode;
 use filing_machine::{Case, WholeCase};
@@ -43,9 +43,6 @@ const MESSAGE_LINE: &[u8] = b"Please find below what we have delivered in the la
 
 /// The octets of a message, to a line.
 const MESSAGE_OCTETS: usize = 2_100;
-
-/// The octets of the greatest message.
-const GREATEST_MESSAGE: usize = 8_388_608;
 
 /// A message of 2 KB that the script of one test files.
 pub fn message(alloc: Global) -> Result<Vec<u8>, AllocError> {

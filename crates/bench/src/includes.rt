@@ -1,7 +1,8 @@
 //! Scripts that include each other, and what their compilation answers.
 
-use filing_gen::{Library, Location, compile};
+use filing_gen::{Library, compile};
 use sieve_check::{Checked, check};
+use sieve_meaning::Location;
 use sieve_text::parse;
 use std::alloc::{AllocError, Global};
 use std::rc::Rc;

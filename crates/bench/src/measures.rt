@@ -12,7 +12,7 @@ use crate::trees::octets_of_tree;
 use mail_head::{HeadReader, read_head};
 use mail_words::value_of;
 use sieve_match::{Comparator, contains, matches};
-use sieve_text::parse;
+use sieve_text::{MOST_OCTETS, parse};
 use std::alloc::{AllocError, Global};
 
 /// A part of Mailfile on one kind of input.
@@ -164,13 +164,13 @@ impl Measure {
                 alloc,
                 b"",
                 text.repeated(),
-                (octets / 4).min(262_144),
+                (octets / 4).min(MOST_OCTETS),
             ),
             Measure::Hostile(text) => repeated(
                 alloc,
                 b"",
                 text.repeated(),
-                (octets / 4).min(262_144),
+                (octets / 4).min(MOST_OCTETS),
             ),
             Measure::HardOctet | Measure::HardCasemap | Measure::Stars => repeated(
                 alloc, b"", b"a", octets,

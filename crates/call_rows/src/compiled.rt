@@ -3,9 +3,10 @@
 use crate::messages::whole_case;
 use crate::told::refused;
 use anyhow::{Result, bail};
-use filing_gen::{Library, Location, compile as compile_script};
+use filing_gen::{Library, compile as compile_script};
 use filing_machine::{Outcome, run};
 use sieve_check::{Checked, check};
+use sieve_meaning::Location;
 use sieve_text::parse;
 use std::alloc::Global;
 use std::rc::Rc;

@@ -3,7 +3,8 @@
 use crate::compiled::keep;
 use crate::row::{add_more, read_script};
 use anyhow::Result;
-use filing_gen::{Library, Location};
+use filing_gen::Library;
+use sieve_meaning::Location;
 use std::alloc::Global;
 
 /// What a row is given.

@@ -3,13 +3,10 @@
 use crate::told::{size, word};
 use anyhow::{Result, bail};
 use filing_machine::{Case, PieceCase, WholeCase};
-use mail_head::{HeadFault, HeadReader, PieceHead, read_head};
+use mail_head::{HeadFault, HeadReader, MOST_OCTETS, PieceHead, read_head};
 use mail_words::value_of;
 use std::alloc::Global;
 use std::collections::BTreeSet;
-
-/// The greatest message, in octets.
-const GREATEST: usize = 8_388_608;
 
 /// Writes a field, as `[name:body]`.
 fn write_field(out: &mut Vec<u8>, name: &[u8], raw: &[u8]) -> Result<()> {
@@ -122,7 +119,7 @@ pub fn open_paths(alloc: Global) -> Result<BTreeSet<Vec<u8>>> {
 
 /// The case of a whole message.
 pub fn whole_case(alloc: Global, message: &[u8]) -> Result<WholeCase> {
-    if message.len() > GREATEST {
+    if message.len() as u64 > MOST_OCTETS {
         bail!("a message is too long");
     }
     Ok(WholeCase::read(alloc, message, open_paths(alloc)?)?)

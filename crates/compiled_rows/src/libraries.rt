@@ -2,7 +2,7 @@
 
 use crate::chance::Chance;
 use crate::scripts::included_script;
-use filing_gen::Location;
+use sieve_meaning::Location;
 use std::alloc::{AllocError, Global};
 
 /// A script that can be included.

@@ -12,13 +12,14 @@ mod sides;
 
 use anyhow::{Result, bail};
 use chance::Chance;
-use filing_gen::{Library, Location};
+use filing_gen::Library;
 use libraries::{Included, included_scripts};
 use messages::{message, open_classes};
 use rows::{Kind, Row};
 use scripts::script;
-use sides::{Linked, by_image, by_tree};
+use sides::{Linked, by_image, by_tree, case};
 use sieve_check::{Checked, check};
+use sieve_meaning::Location;
 use sieve_text::parse;
 use std::alloc::Global;
 use std::rc::Rc;
@@ -121,10 +122,12 @@ fn compare(rt: &(impl Print + AllocGlobal), made: &Made) -> Result<Row> {
         library: &nothing,
         ..linked
     };
-    let (message, classes) = (made.message.as_str().as_bytes(), made.classes.as_slice());
-    let captured = by_image(alloc, linked, message, classes)?;
+    let classes = made.classes.as_slice();
+    let filed = case(alloc, made.message.as_str().as_bytes(), classes)?;
+    let empty = case(alloc, NO_FIELD, classes)?;
+    let captured = by_image(alloc, linked, &filed)?;
     let compiled = captured.shown(alloc)?;
-    let wanted = by_tree(alloc, linked, message, classes)?.shown(alloc)?;
+    let wanted = by_tree(alloc, linked, &filed)?.shown(alloc)?;
     let agrees = compiled == wanted;
     if !agrees {
         show(rt, made, compiled.as_str(), wanted.as_str())?;
@@ -132,8 +135,8 @@ fn compare(rt: &(impl Print + AllocGlobal), made: &Made) -> Result<Row> {
     Ok(Row {
         kind: Kind::of(&captured),
         agrees,
-        by_message: by_tree(alloc, linked, NO_FIELD, classes)?.shown(alloc)? != wanted,
-        by_library: by_tree(alloc, alone, message, classes)?.shown(alloc)? != wanted,
+        by_message: by_tree(alloc, linked, &empty)?.shown(alloc)? != wanted,
+        by_library: by_tree(alloc, alone, &filed)?.shown(alloc)? != wanted,
     })
 }
 

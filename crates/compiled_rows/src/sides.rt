@@ -1,16 +1,12 @@
 //! The two ways from a checked script, with those that it can include, and a message to an outcome.
 
-use anyhow::{Result, bail};
+use anyhow::Result;
 use filing_gen::{Library, compile};
-use filing_machine::{WholeCase, run};
-use plain_evaluator::{evaluate, read_case};
+use filing_machine::{BorrowedCase, run};
+use plain_evaluator::evaluate;
 use sieve_check::Checked;
 use sieve_meaning::Paths;
 use std::alloc::{AllocError, Global};
-use std::collections::BTreeSet;
-
-/// The greatest length of a message, in octets.
-const GREATEST_MESSAGE: usize = 8_388_608;
 
 /// What a message was captured in.
 #[derive(Drop)]
@@ -44,16 +40,7 @@ pub struct Linked<'a> {
     pub library: &'a Library,
 }
 
-/// Some paths as a run takes them.
-fn path_set(alloc: Global, classes: &[&'static str]) -> Result<BTreeSet<Vec<u8>>, AllocError> {
-    let mut set = BTreeSet::new(alloc);
-    for class in classes {
-        set.insert(Vec::from_slice(alloc, class.as_bytes())?)?;
-    }
-    Ok(set)
-}
-
-/// Some paths as the plain evaluator takes them.
+/// The set of some paths.
 fn paths(alloc: Global, classes: &[&'static str]) -> Result<Paths, AllocError> {
     let mut paths = Paths::new(alloc);
     for class in classes {
@@ -62,19 +49,23 @@ fn paths(alloc: Global, classes: &[&'static str]) -> Result<Paths, AllocError> {
     Ok(paths)
 }
 
+/// The case of a message where some classes are open.
+pub fn case<'a>(
+    alloc: Global,
+    message: &'a [u8],
+    classes: &[&'static str],
+) -> Result<BorrowedCase<'a, Paths>, AllocError> {
+    BorrowedCase::read(alloc, message, paths(alloc, classes)?)
+}
+
 /// By the run of the script's image.
 pub fn by_image(
     alloc: Global,
     script: Linked<'_>,
-    message: &[u8],
-    classes: &[&'static str],
+    case: &BorrowedCase<'_, Paths>,
 ) -> Result<Captured> {
-    if message.len() > GREATEST_MESSAGE {
-        bail!("a message is too long");
-    }
     let program = compile(alloc, script.main, script.known_as, script.library)?;
-    let case = WholeCase::read(alloc, message, path_set(alloc, classes)?)?;
-    let outcome = run(alloc, &program, &case)?;
+    let outcome = run(alloc, &program, case)?;
     Ok(Captured {
         classes: outcome.classes,
         fault: outcome.fault,
@@ -85,13 +76,10 @@ pub fn by_image(
 pub fn by_tree(
     alloc: Global,
     script: Linked<'_>,
-    message: &[u8],
-    classes: &[&'static str],
-) -> Result<Captured> {
-    let paths = paths(alloc, classes)?;
-    let case = read_case(alloc, message, &paths)?;
+    case: &BorrowedCase<'_, Paths>,
+) -> Result<Captured, AllocError> {
     let main = script.main.script();
-    let outcome = evaluate(alloc, main, script.known_as, script.library, &case)?;
+    let outcome = evaluate(alloc, main, script.known_as, script.library, case)?;
     Ok(Captured {
         classes: outcome.classes,
         fault: outcome.fault,

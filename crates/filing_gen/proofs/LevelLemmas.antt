@@ -58,10 +58,6 @@ weight_judged lib main (suc left) chain i = weight_cases (lib.find (script_named
 
 -- BY WHAT THE CODE FINDS
 
--- the chain with one more script
-pub chain_is : (s t : ScriptName) (a b : List ScriptName) → s ≡ t → a ≡ b → (s ∷ a) ≡ (t ∷ b)
-chain_is s t a b e f = ap (λ (x : ScriptName). x ∷ a) e ∙ ap (λ (l : List ScriptName). t ∷ l) f
-
 module _ (lib : Library) (slots : Slots) (main : List ScriptName) (left : ℕ) (chain : List ScriptName) (i : Include) where
   pub flow_told : (j : Judgement) → j ≡ judgement lib main chain i → included_flow lib slots main left chain i ≡ judged_flow j i.once (slots (script_named i)) (entered_flow lib slots main left (script_named i ∷ chain) (slots (script_named i)))
   flow_told j is = flow_judged lib slots main left chain i ∙ ap (λ (k : Judgement). judged_flow k i.once (slots (script_named i)) (entered_flow lib slots main left (script_named i ∷ chain) (slots (script_named i)))) (sym is)
@@ -74,29 +70,26 @@ module _ (lib : Library) (slots : Slots) (main : List ScriptName) (left : ℕ) (
   nothing_weighed f is (inl at) = weight_told Passes (sym (ap told at) ∙ is)
   nothing_weighed f is (inr at) = weight_told (Fails at.0) (sym (ap told at.1) ∙ is)
 
-  -- where a script is entered behind these that are active
-  module _ (script : Commands) (k : List ScriptName) (is : Enters script ≡ judgement lib main chain i) (same : k ≡ script_named i ∷ chain) where
-    pub entry_weight : included_weight lib left chain i ≡ entered_weight lib left k script
-    entry_weight = weight_told (Enters script) is ∙ ap (λ (z : List ScriptName). entered_weight lib left z script) (sym same)
+  -- where a script is entered
+  module _ (script : Commands) (is : Enters script ≡ judgement lib main chain i) where
+    pub entry_weight : included_weight lib left chain i ≡ entered_weight lib left (script_named i ∷ chain) script
+    entry_weight = weight_told (Enters script) is
 
     module _ (slot : ℕ) (at : slot ≡ slots (script_named i)) where
-      pub entry_flow : included_flow lib slots main left chain i ≡ once_flow i.once slot (entered_flow lib slots main left k slot script)
-      entry_flow =
-          flow_told (Enters script) is
-          ∙ ap (λ (n : ℕ). once_flow i.once n (entered_flow lib slots main left (script_named i ∷ chain) n script)) (sym at)
-          ∙ ap (λ (z : List ScriptName). once_flow i.once slot (entered_flow lib slots main left z slot script)) (sym same)
+      entry_flow : included_flow lib slots main left chain i ≡ once_flow i.once slot (entered_flow lib slots main left (script_named i ∷ chain) slot script)
+      entry_flow = flow_told (Enters script) is ∙ ap (λ (n : ℕ). once_flow i.once n (entered_flow lib slots main left (script_named i ∷ chain) n script)) (sym at)
 
-      pub plain_entry : i.once ≡ false → included_flow lib slots main left chain i ≡ entered_flow lib slots main left k slot script
-      plain_entry once = entry_flow ∙ ap (λ (b : Bool). once_flow b slot (entered_flow lib slots main left k slot script)) once
+      pub plain_entry : i.once ≡ false → included_flow lib slots main left chain i ≡ entered_flow lib slots main left (script_named i ∷ chain) slot script
+      plain_entry once = entry_flow ∙ ap (λ (b : Bool). once_flow b slot (entered_flow lib slots main left (script_named i ∷ chain) slot script)) once
 
-      pub once_entry : i.once ≡ true → included_flow lib slots main left chain i ≡ once_flow true slot (entered_flow lib slots main left k slot script)
-      once_entry once = entry_flow ∙ ap (λ (b : Bool). once_flow b slot (entered_flow lib slots main left k slot script)) once
+      pub once_entry : i.once ≡ true → included_flow lib slots main left chain i ≡ once_flow true slot (entered_flow lib slots main left (script_named i ∷ chain) slot script)
+      once_entry once = entry_flow ∙ ap (λ (b : Bool). once_flow b slot (entered_flow lib slots main left (script_named i ∷ chain) slot script)) once
 
-      pub plain_size : i.once ≡ false → size (included_flow lib slots main left chain i) ≡ size (entered_flow lib slots main left k slot script)
+      pub plain_size : i.once ≡ false → size (included_flow lib slots main left chain i) ≡ size (entered_flow lib slots main left (script_named i ∷ chain) slot script)
       plain_size once = ap (λ (a : Flow). size a) (plain_entry once)
 
-      pub once_size : i.once ≡ true → size (included_flow lib slots main left chain i) ≡ size (entered_flow lib slots main left k slot script) + 2
-      once_size once = let e : size (included_flow lib slots main left chain i) ≡ size (once_flow true slot (entered_flow lib slots main left k slot script)) = ap (λ (a : Flow). size a) (once_entry once) in omega (arith, e)
+      pub once_size : i.once ≡ true → size (included_flow lib slots main left chain i) ≡ size (entered_flow lib slots main left (script_named i ∷ chain) slot script) + 2
+      once_size once = let e : size (included_flow lib slots main left chain i) ≡ size (once_flow true slot (entered_flow lib slots main left (script_named i ∷ chain) slot script)) = ap (λ (a : Flow). size a) (once_entry once) in omega (arith, e)
 
 -- EMISSION
 

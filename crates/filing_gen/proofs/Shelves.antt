@@ -27,7 +27,7 @@ not_placed p xs e = grind (arith, common_steps)
 pub same_name : (a b : List ℕ) → bytes_eq a b ≡ true → a ≡ b
 same_name a b h = (bytes_eq-Decides a b).0 h
 
-other_name : (a b : List ℕ) → (a ≡ b → ⊥) → bytes_eq a b ≡ false
+pub other_name : (a b : List ℕ) → (a ≡ b → ⊥) → bytes_eq a b ≡ false
 other_name a b h = by (bytes_eq a b) refl
   where
     by : (r : Bool) → bytes_eq a b ≡ r → r ≡ false

@@ -1,7 +1,8 @@
 -- Each script of a library has a slot of its own.
-use Rattle.std.proofs.Common.{◌≡◌, ℕ, ◌+◌, ◌<◌, ◌≤◌, List, Bool, true, false, Option, Some, None, option_map, length, refl, sym, ap, ◌∙◌, arith}
+use Rattle.std.proofs.Common.{◌≡◌, ℕ, ◌+◌, ◌<◌, ◌≤◌, List, [], ◌∷◌, Bool, true, false, not, cond, Option, Some, None, option_map, length, refl, sym, ap, ◌∙◌, arith}
 use Rattle.std.specs.Prelude.{find}
 use Rattle.std.specs.List.{slice_get}
+use Rattle.std.proofs.lemmas.Slice.Eq.{bytes_eq-Decides}
 use Rattle.std.proofs.lemmas.List.Folds.{find_at}
 use Rattle.std.proofs.lemmas.Option.{slice_get_within}
 use Rattle.sieve_syntax.specs.declared.tree.Script.{Script}
@@ -9,9 +10,9 @@ use Rattle.sieve_syntax.specs.View.{tree_of}
 use Rattle.sieve_meaning.specs.Program.{Commands}
 use Rattle.sieve_meaning.specs.Reading.{program_of}
 use Rattle.filing_gen.specs.Correct.{library_of}
-use Rattle.filing_gen.specs.Libraries.{NamedScript, Scripts, IsLibrary, is_named, named, place_of, location_of, first_slot, slots_of, most_scripts}
+use Rattle.filing_gen.specs.Libraries.{NamedScript, Scripts, EachOnce, IsLibrary, is_named, named, place_of, location_of, first_slot, slots_of, most_scripts}
 use Rattle.filing_gen.specs.Linked.{HasSlots}
-use Rattle.filing_gen.proofs.Shelves.{found_passes, same_name}
+use Rattle.filing_gen.proofs.Shelves.{found_passes, same_name, other_name}
 
 abbrev program : Script → Commands
 program x = program_of (tree_of x)
@@ -62,3 +63,39 @@ slots_personal l i count e none = slots_among l i count (omega (arith, e, i.pers
 
 pub slots_global : (l : Scripts) → IsLibrary l → (count : ℕ) → count ≡ most_scripts + length l.global → HasSlots (library_of l) (slots_of l) count
 slots_global l i count e = slots_among l i count (omega (arith, e, i.global.few)) (omega (arith, e, i.personal.few)) (λ _. omega (arith, e))
+
+-- FEWEST
+
+-- the last script of a location is found at its name, behind all others
+last_found : (e : NamedScript) (es : List NamedScript) → EachOnce (e ∷ es) → (x : NamedScript) × ((find (is_named x.name) (e ∷ es) ≡ Some x) × (place_of x.name (e ∷ es) ≡ length es))
+last_found e [] once =
+    let self : is_named e.name e ≡ true = (bytes_eq-Decides e.name e.name).1 refl in
+    (e, (ap (λ b. cond b (Some e) None) self, ap (λ b. cond (not b) 1 0) self))
+last_found e (d ∷ ds) once =
+    let last = last_found d ds once.1 in
+    let other : is_named last.0.name e ≡ false = other_name e.name last.0.name (λ same. cc (sym once.0 ∙ ap (λ a. named a (d ∷ ds)) same ∙ ap (option_map (λ (y : NamedScript). y.script)) last.1.0)) in
+    (last.0, (ap (λ b. cond b (Some e) (find (is_named last.0.name) (d ∷ ds))) other ∙ last.1.0, ap (λ b. cond (not b) (1 + place_of last.0.name (d ∷ ds)) 0) other ∙ omega (arith, last.1.1)))
+
+last_slot : (l : Scripts) (g : Bool) (e : NamedScript) (es : List NamedScript) → EachOnce (e ∷ es) → location_of g l ≡ e ∷ es → (n : ℕ) → HasSlots (library_of l) (slots_of l) n → first_slot g + length es < n
+last_slot l g e es once is n h =
+    let last = last_found e es once in
+    let there = ap (λ (xs : List NamedScript). option_map program (named last.0.name xs)) is ∙ ap (λ (o : Option NamedScript). option_map program (option_map (λ (y : NamedScript). y.script) o)) last.1.0 in
+    let inside : first_slot g + place_of last.0.name (location_of g l) < n = h.inside (record { global = g; name = last.0.name }) (program last.0.script) there in
+    let at : place_of last.0.name (location_of g l) ≡ length es = ap (place_of last.0.name) is ∙ last.1.1 in
+    omega (arith, inside, at)
+
+-- as many as there are personal scripts
+pub least_personal : (l : Scripts) → IsLibrary l → (n : ℕ) → HasSlots (library_of l) (slots_of l) n → length l.personal ≤ n
+least_personal l i n h = by l.personal refl i.personal.once
+  where
+    by : (es : List NamedScript) → l.personal ≡ es → EachOnce es → length es ≤ n
+    by [] is once = omega arith
+    by (e ∷ es) is once = let few = last_slot l false e es once is n h in omega (arith, few)
+
+-- and where a script is global, as many as there are global ones behind those of a full location
+pub least_global : (l : Scripts) → IsLibrary l → 0 < length l.global → (n : ℕ) → HasSlots (library_of l) (slots_of l) n → most_scripts + length l.global ≤ n
+least_global l i some n h = by l.global refl i.global.once some
+  where
+    by : (es : List NamedScript) → l.global ≡ es → EachOnce es → 0 < length es → most_scripts + length es ≤ n
+    by [] is once some = absurd (omega (arith, some))
+    by (e ∷ es) is once some = let few = last_slot l true e es once is n h in omega (arith, few)

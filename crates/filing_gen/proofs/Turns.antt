@@ -20,10 +20,11 @@ use Rattle.filing_flow.specs.Code.{Start, Piece, piece, joined, after, only, end
 use Rattle.filing_gen.specs.Structured.{test_flow, flow, flow_one, branches_flow, branch_flow}
 use Rattle.filing_flow.specs.Whole.{first, whole}
 use Rattle.filing_gen.specs.Adds.{Adds, Emits, IsCode, end_of}
-use Rattle.filing_gen.specs.Emission.{part_of, is_branch, commands_long, one_long, branches_long, plain_long, part_long, long_from, plain_flow, part_flow, part_ends, rest_flow, chain_end, EmitsPart}
+use Rattle.sieve_meaning.specs.Branching.{part_of, is_branch}
+use Rattle.filing_gen.specs.Emission.{commands_long, one_long, branches_long, plain_long, part_long, long_from, plain_flow, part_flow, part_ends, rest_flow, chain_end, EmitsPart}
 use Rattle.filing_gen.specs.declared.output.Output.{Output}
-use Rattle.filing_gen.specs.declared.part.Part.{Part}
-use Rattle.filing_gen.specs.declared.part.Part.TheVariants.{Branch, Otherwise, Plain}
+use Rattle.sieve_meaning.specs.declared.branches.Part.{Part}
+use Rattle.sieve_meaning.specs.declared.branches.Part.TheVariants.{Branch, Otherwise, Plain}
 use Rattle.filing_gen.proofs.Emitted.{adds_then, same_start, after_joined, joined_assoc, emits_sequence, emits_block, emits_nothing, end_is, Grows, grows, turn, no_turn}
 
 -- how many operations commands take, wherever `return` goes

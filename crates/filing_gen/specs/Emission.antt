@@ -12,29 +12,8 @@ use Rattle.filing_flow.specs.Code.{end_at}
 use Rattle.filing_gen.specs.Structured.{test_flow, copy_number, flow, branches_flow, branch_flow}
 use Rattle.filing_gen.specs.Adds.{Emits}
 use Rattle.filing_gen.specs.declared.output.Output.{Output}
-use Rattle.filing_gen.specs.declared.part.Part.{Part}
-use Rattle.filing_gen.specs.declared.part.Part.TheVariants.{Branch, Otherwise, Plain}
-
--- what a command is to the branches before it
-abbrev pub part_of : CommandWord → Bool → Part
-part_of words.If is_open = Branch
-part_of words.ElsIf true = Branch
-part_of words.ElsIf false = Plain
-part_of words.Else true = Otherwise
-part_of words.Else false = Plain
-part_of word is_open = Plain
-
--- what a command is to open branches that it does not begin itself
-abbrev pub part_behind : CommandWord → Part
-part_behind words.ElsIf = Branch
-part_behind words.Else = Otherwise
-part_behind word = Plain
-
--- whether branches are open behind it
-abbrev pub is_branch : Part → Bool
-is_branch Branch = true
-is_branch Otherwise = false
-is_branch Plain = false
+use Rattle.sieve_meaning.specs.declared.branches.Part.{Part}
+use Rattle.sieve_meaning.specs.declared.branches.Part.TheVariants.{Branch, Otherwise, Plain}
 
 -- SIZES: how many operations commands take, where includes take so many
 

@@ -7,8 +7,6 @@ use Rattle.std.specs.Coded.{Coded, code_by, coded×, coded_list, coded_ℕ}
 use Rattle.sieve_syntax.specs.declared.tree.Script.{Script}
 use Rattle.sieve_syntax.specs.contracts.tree.Script as kept
 use Rattle.sieve_meaning.specs.Meaning.{ScriptName}
-use Rattle.filing_gen.specs.declared.library.Location.{Location}
-use Rattle.filing_gen.specs.declared.library.Location.TheVariants.{Personal, Global}
 use Rattle.filing_gen.specs.declared.fault.LibraryFault.{LibraryFault}
 use Rattle.filing_gen.specs.declared.fault.LibraryFault.TheVariants.{Full, NoMemory}
 
@@ -75,16 +73,9 @@ pub record IsLibrary (l : Scripts) : Type 0 where
 abbrev pub no_scripts : Scripts
 no_scripts = record { personal = []; global = [] }
 
-abbrev pub is_global : Location → Bool
-is_global Personal = false
-is_global Global = true
-
 abbrev pub location_of : (global : Bool) → Scripts → List NamedScript
 location_of true l = l.global
 location_of false l = l.personal
-
-abbrev pub script_at : Location → List ℕ → ScriptName
-script_at location name = record { global = is_global location; name = name }
 
 -- The slot of a script says where it stands: the personal ones come first, and leave room for as many as there can be.
 abbrev pub first_slot : (global : Bool) → ℕ

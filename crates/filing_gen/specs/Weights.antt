@@ -8,8 +8,8 @@ use Rattle.sieve_meaning.specs.Words.{command_word}
 use Rattle.sieve_meaning.specs.Program.{Include}
 use Rattle.sieve_meaning.specs.Reading.{only_in, block_in, program_of, branches_of, include_of}
 use Rattle.sieve_meaning.specs.Weight.{test_weight, weight, branches_weight}
-use Rattle.filing_gen.specs.declared.part.Part.{Part}
-use Rattle.filing_gen.specs.declared.part.Part.TheVariants.{Branch, Otherwise, Plain}
+use Rattle.sieve_meaning.specs.declared.branches.Part.{Part}
+use Rattle.sieve_meaning.specs.declared.branches.Part.TheVariants.{Branch, Otherwise, Plain}
 
 -- what is left once something is taken, and nothing where less was left
 abbrev pub IsLeft : (left taken : ℕ) → Option ℕ → Type 0

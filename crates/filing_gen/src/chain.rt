@@ -1,29 +1,20 @@
 //! The scripts that are active where an include stands (RFC 6609, section 3.2).
 
 ghost use Rattle.std.specs.Prelude.{◌≡◌, List, ◌∷◌};
-ghost use Rattle.sieve_meaning.specs.Meaning.{ScriptName, same_bool, is_among};
-ghost use Rattle.filing_gen.specs.Libraries.{is_global, script_at};
+ghost use Rattle.sieve_meaning.specs.Meaning as meaning;
+ghost use Rattle.sieve_meaning.specs.Meaning.{is_among};
+ghost use Rattle.sieve_meaning.specs.Scripts.{script_of};
 
-use crate::library::Location;
+use sieve_meaning::{Location, ScriptName};
 
 /// The scripts that are active.
 pub trait Chain {
     /// Their names, the innermost first; a main script may have none.
-    ghost names: { Self → List ScriptName };
+    ghost names: { Self → List meaning.ScriptName };
 
-    /// Whether the script at a name of a location is active.
-    fn contains(&self, location: Location, name: &[u8]) -> bool
-        ensures { result ≡ is_among (names self.now) (script_at location name.now) };
-}
-
-/// Whether two locations are the same.
-fn is_same(one: Location, other: Location) -> bool
-    ensures { result ≡ same_bool (is_global one) (is_global other) }
-{
-    match (one, other) {
-        (Location::Personal, Location::Personal) | (Location::Global, Location::Global) => true,
-        (Location::Personal, Location::Global) | (Location::Global, Location::Personal) => false,
-    }
+    /// Whether a script is active.
+    fn contains(&self, script: &ScriptName<'_>) -> bool
+        ensures { result ≡ is_among (names self.now) (script_of script.now) };
 }
 
 /// The main script, which may be known by a personal name, and no other.
@@ -37,10 +28,13 @@ impl Chain for MainScript<'_> {
 
     ghost names = { names_of };
 
-    fn contains(&self, location: Location, name: &[u8]) -> bool {
+    fn contains(&self, script: &ScriptName<'_>) -> bool {
         match self.known_as {
             None => false,
-            Some(main) => is_same(location, Location::Personal) && name == main,
+            Some(name) => script.is_same(&ScriptName {
+                location: Location::Personal,
+                name,
+            }),
         }
     }
 }
@@ -48,16 +42,14 @@ impl Chain for MainScript<'_> {
 /// A script that was entered, behind those that were active before.
 #[derive(Drop)]
 pub struct Link<'a, C> {
-    pub location: Location,
-    pub name: &'a [u8],
+    pub script: ScriptName<'a>,
     pub before: &'a C,
 }
 
 impl<C: Chain> Chain for Link<'_, C> {
-    ghost names = { λ s. script_at s.location s.name.now ∷ C.names s.before.now };
+    ghost names = { λ s. script_of s.script ∷ C.names s.before.now };
 
-    fn contains(&self, location: Location, name: &[u8]) -> bool {
-        (is_same(location, self.location) && name == self.name)
-            || self.before.contains(location, name)
+    fn contains(&self, script: &ScriptName<'_>) -> bool {
+        script.is_same(&self.script) || self.before.contains(script)
     }
 }

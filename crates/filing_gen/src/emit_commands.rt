@@ -2,23 +2,22 @@
 
 ghost use Rattle.std.specs.Prelude.{◌≡◌, ◌+◌, ◌<◌, ◌≤◌, ◌^◌, ℕ, List, length, drop, map, codes, OnOk, false};
 ghost use Rattle.sieve_syntax.specs.View.{command_of, commands_of, ending_of};
-ghost use Rattle.sieve_meaning.specs.Reading.{block_in, program_of, branches_of, has_tag as has_tag_of, first_string, string_lists};
+ghost use Rattle.sieve_meaning.specs.Reading.{block_in, program_of, branches_of, has_tag as has_tag_of, first_string as first_string_of, string_lists};
 ghost use Rattle.sieve_meaning.specs.declared.words.CommandWord.TheVariants as words;
 ghost use Rattle.filing_flow.specs.Structure.{size, action, FileInto};
 ghost use Rattle.filing_flow.specs.Code.{end_at};
 ghost use Rattle.filing_gen.specs.Structured.{flow, branch_flow, copy_number};
 ghost use Rattle.filing_gen.specs.Adds.{Emits, HasRoom};
 ghost use Rattle.filing_gen.specs.Emission.{commands_long, branches_long, plain_long, part_long, plain_flow, chain_end, EmitsPart};
-ghost use Rattle.filing_gen.specs.declared.part.Part.TheVariants as parts;
+ghost use Rattle.sieve_meaning.specs.declared.branches.Part.TheVariants as parts;
 
-use crate::arguments::first_text;
 use crate::emit_tests::emit_only;
 use crate::linker::Linker;
 use crate::output::{Output, put, put_with};
-use crate::part::{Part, is_branch, part_in};
 use crate::size_commands::{branches_size, part_size};
 use filing_image::Operation;
-use sieve_meaning::reading::has_tag;
+use sieve_meaning::branches::{Part, is_branch, part_in};
+use sieve_meaning::reading::{first_string, has_tag, include};
 use sieve_meaning::{CommandWord, command_word};
 use sieve_syntax::{Argument, Command, Ending};
 use std::alloc::{AllocError, Global};
@@ -33,14 +32,14 @@ fn copy_code(is_copy: bool) -> u8
 /// `fileinto`: one operation, which names the path.
 fn emit_file(alloc: Global, out: &mut Output, arguments: &[Argument]) -> Result<(), AllocError>
     requires { HasRoom out.old 1 }
-    ensures adds { OnOk result ((ends : List ℕ) → Emits out.old out.new (action (FileInto (copy_number (has_tag_of (codes "copy") arguments.now)) (first_string (string_lists false arguments.now)))) ends) }
+    ensures adds { OnOk result ((ends : List ℕ) → Emits out.old out.new (action (FileInto (copy_number (has_tag_of (codes "copy") arguments.now)) (first_string_of (string_lists false arguments.now)))) ends) }
 {
     let text = out.texts.len() as u16;
     let how = copy_code(has_tag(arguments, b"copy"));
     put_with(
         alloc,
         out,
-        first_text(arguments),
+        first_string(arguments),
         Operation::File(how, text),
     )
 }
@@ -64,7 +63,7 @@ fn emit_plain<L: Linker>(
         CommandWord::Stop => put(out, Operation::Stop),
         CommandWord::Return => put(out, Operation::Jump(back)),
         CommandWord::FileInto => emit_file(alloc, out, arguments),
-        CommandWord::Include => linker.emit(alloc, out, arguments),
+        CommandWord::Include => linker.emit(alloc, out, &include(arguments)),
         CommandWord::Require
         | CommandWord::If
         | CommandWord::ElsIf

@@ -1,21 +1,20 @@
 //! What an include comes to, as far as it is known before the run (RFC 6609, section 3.2).
 
-ghost use Rattle.std.specs.Prelude.{◌≡◌, ◌<◌, ℕ, codes, option_map, IfSome};
+ghost use Rattle.std.specs.Prelude.{◌≡◌, ◌<◌, ℕ, option_map, IfSome};
 ghost use Rattle.sieve_syntax.specs.View.{tree_of};
-ghost use Rattle.sieve_meaning.specs.Meaning.{script_named};
-ghost use Rattle.sieve_meaning.specs.Reading.{program_of, has_tag as has_tag_of, include_of};
-ghost use Rattle.filing_gen.specs.Libraries.{is_global, slots_of};
+ghost use Rattle.sieve_meaning.specs.Reading.{program_of};
+ghost use Rattle.sieve_meaning.specs.Scripts.{asked, script_of};
+ghost use Rattle.filing_gen.specs.Libraries.{slots_of};
 ghost use Rattle.filing_gen.specs.Correct.{library_of};
 ghost use Rattle.filing_gen.specs.Linked.{is_passed as is_passed_of};
 ghost use Rattle.filing_gen.specs.Levels.{judged, judgement};
 ghost use Rattle.filing_gen.specs.Scopes.{names_of, told, EntersAt};
 
-use crate::arguments::first_text;
 use crate::chain::{Chain, MainScript};
-use crate::library::{Library, Location};
+use crate::library::Library;
 use sieve_check::Checked;
-use sieve_meaning::reading::has_tag;
-use sieve_syntax::{Argument, Script};
+use sieve_meaning::Include;
+use sieve_syntax::Script;
 
 /// What all includes of a main script share: the scripts that can be included, and the main one.
 #[derive(Clone, Copy, Drop)]
@@ -35,23 +34,12 @@ pub enum Finding<'a> {
     Entry(usize, &'a Script),
 }
 
-/// Where the script is that an include names: `:global`, or else personal.
-pub fn location_named(arguments: &[Argument]) -> Location
-    ensures { is_global result ≡ has_tag_of (codes "global") arguments.now }
-{
-    if has_tag(arguments, b"global") {
-        return Location::Global;
-    }
-    Location::Personal
-}
-
 /// Whether an include whose script is missing does nothing: it is optional, or it asks for once and names the main
 /// script, which was entered.
-fn is_passed(main: &MainScript<'_>, arguments: &[Argument]) -> bool
-    ensures { result ≡ is_passed_of (names_of main.now) (include_of arguments.now) }
+fn is_passed(main: &MainScript<'_>, include: &Include<'_>) -> bool
+    ensures { result ≡ is_passed_of (names_of main.now) (asked include.now) }
 {
-    (has_tag(arguments, b"once") && main.contains(location_named(arguments), first_text(arguments)))
-        || has_tag(arguments, b"optional")
+    (include.is_once && main.contains(&include.script)) || include.is_optional
 }
 
 /// What an include comes to by the script that it finds, whether it is passed where there is none, whether the script
@@ -86,17 +74,15 @@ fn judge<'a>(
 }
 
 /// What an include comes to behind the scripts that are active.
-pub fn find<'a, C: Chain>(scope: &Scope<'a>, chain: &C, arguments: &[Argument]) -> Finding<'a>
-    ensures told { told result ≡ judgement (library_of scope.now.library.now) (names_of scope.now.main) (C.names chain.now) (include_of arguments.now) }
-    ensures slot { EntersAt result (slots_of scope.now.library.now (script_named (include_of arguments.now))) }
+pub fn find<'a, C: Chain>(scope: &Scope<'a>, chain: &C, include: &Include<'_>) -> Finding<'a>
+    ensures told { told result ≡ judgement (library_of scope.now.library.now) (names_of scope.now.main) (C.names chain.now) (asked include.now) }
+    ensures slot { EntersAt result (slots_of scope.now.library.now (script_of include.now.script)) }
 {
     let library = scope.library;
-    let location = location_named(arguments);
-    let name = first_text(arguments);
     judge(
-        library.find(location, name),
-        is_passed(&scope.main, arguments),
-        chain.contains(location, name),
-        has_tag(arguments, b"once"),
+        library.find(&include.script),
+        is_passed(&scope.main, include),
+        chain.contains(&include.script),
+        include.is_once,
     )
 }

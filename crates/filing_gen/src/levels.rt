@@ -3,30 +3,28 @@
 
 ghost use Rattle.std.specs.Prelude.{◌≡◌, ◌+◌, ◌<◌, ◌^◌, ℕ, zero, suc, List, length, OnOk};
 ghost use Rattle.sieve_syntax.specs.View.{tree_of};
-ghost use Rattle.sieve_meaning.specs.Meaning.{script_named};
-ghost use Rattle.sieve_meaning.specs.Reading.{program_of, include_of};
+ghost use Rattle.sieve_meaning.specs.Reading.{program_of};
 ghost use Rattle.sieve_meaning.specs.Weight.{included_weight};
 ghost use Rattle.filing_flow.specs.Structure.{size};
 ghost use Rattle.filing_gen.specs.Adds.{Emits, HasRoom};
 ghost use Rattle.filing_gen.specs.Correct.{library_of};
 ghost use Rattle.filing_gen.specs.Levels.{entered_flow, entered_weight};
-ghost use Rattle.filing_gen.specs.Libraries.{script_at, slots_of};
+ghost use Rattle.filing_gen.specs.Libraries.{slots_of};
 ghost use Rattle.filing_gen.specs.Linked.{included_flow};
 ghost use Rattle.filing_gen.specs.Scopes.{names_of};
 ghost use Rattle.filing_gen.specs.Weights.{IsLeft};
 
-use crate::arguments::first_text;
 use crate::chain::{Chain, Link};
 use crate::emit_commands::emit_commands;
 use crate::ends::{NO_PLACE, end_block};
-use crate::finding::{Finding, Scope, find, location_named};
+use crate::finding::{Finding, Scope, find};
 use crate::linker::Linker;
 use crate::output::{Output, put};
 use crate::size_commands::commands_size;
 use crate::weight::weigh_commands;
 use filing_image::Operation;
-use sieve_meaning::reading::has_tag;
-use sieve_syntax::{Argument, Script};
+use sieve_meaning::Include;
+use sieve_syntax::Script;
 use std::alloc::{AllocError, Global};
 use std::marker::PhantomData;
 
@@ -139,43 +137,35 @@ pub struct Includes<'a, C, L> {
     pub below: PhantomData<L>,
 }
 
-impl<C: Chain, L: Level> Includes<'_, C, L> {
-    /// The chain with the script that an include names.
-    fn with<'b>(&'b self, arguments: &'b [Argument]) -> Link<'b, C>
-        ensures name { script_at result.location result.name.now ≡ script_named (include_of arguments.now) }
-        ensures before { result.before.now ≡ self.now.chain.now }
-    {
-        Link {
-            location: location_named(arguments),
-            name: first_text(arguments),
-            before: self.chain,
-        }
-    }
-}
-
 impl<C: Chain, L: Level> Linker for Includes<'_, C, L> {
     ghost flow_of = { λ s. included_flow (library_of s.scope.library.now) (slots_of s.scope.library.now) (names_of s.scope.main) L.depth (C.names s.chain.now) };
 
     ghost weight_of = { λ s. included_weight (library_of s.scope.library.now) L.depth (C.names s.chain.now) };
 
-    fn weigh(&self, arguments: &[Argument], left: u32) -> Option<u32> {
-        match find(&self.scope, self.chain, arguments) {
+    fn weigh(&self, include: &Include<'_>, left: u32) -> Option<u32> {
+        match find(&self.scope, self.chain, include) {
             Finding::Pass | Finding::Fault(_) => Some(left),
-            Finding::Entry(_, script) => L::weigh(&self.scope, &self.with(arguments), script, left),
+            Finding::Entry(_, script) => {
+                let chain = Link {
+                    script: include.script,
+                    before: self.chain,
+                };
+                L::weigh(&self.scope, &chain, script, left)
+            }
         }
     }
 
-    fn size(&self, arguments: &[Argument]) -> usize {
-        match find(&self.scope, self.chain, arguments) {
+    fn size(&self, include: &Include<'_>) -> usize {
+        match find(&self.scope, self.chain, include) {
             Finding::Pass => 0,
             Finding::Fault(_) => 1,
             Finding::Entry(slot, script) => {
-                let size = L::size(&self.scope, &self.with(arguments), slot, script);
-                if has_tag(arguments, b"once") {
-                    size + 2
-                } else {
-                    size
-                }
+                let chain = Link {
+                    script: include.script,
+                    before: self.chain,
+                };
+                let size = L::size(&self.scope, &chain, slot, script);
+                if include.is_once { size + 2 } else { size }
             }
         }
     }
@@ -185,15 +175,18 @@ impl<C: Chain, L: Level> Linker for Includes<'_, C, L> {
         &self,
         alloc: Global,
         out: &mut Output,
-        arguments: &[Argument],
+        include: &Include<'_>,
     ) -> Result<(), AllocError> {
-        let (slot, script) = match find(&self.scope, self.chain, arguments) {
+        let (slot, script) = match find(&self.scope, self.chain, include) {
             Finding::Pass => return Ok(()),
             Finding::Fault(number) => return put(out, Operation::Fault(number)),
             Finding::Entry(slot, script) => (slot, script),
         };
-        let chain = self.with(arguments);
-        if !has_tag(arguments, b"once") {
+        let chain = Link {
+            script: include.script,
+            before: self.chain,
+        };
+        if !include.is_once {
             return L::emit(alloc, &self.scope, &chain, out, slot, script);
         }
         let start = out.code.len();

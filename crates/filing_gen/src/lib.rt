@@ -7,13 +7,13 @@
 //! and left alone as soon as it is too heavy; then its code is written: `size_tests` and `size_commands` count the
 //! operations of branches ahead, so that each jump between them knows its place, and `emit_tests` and `emit_commands` write
 //! them. Jumps to the end of a whole script, for `return`, are written without their place, which `ends` puts in once the
-//! script's code stands. What stands for an include is a `linker`'s affair, and the passes know no more of it. The one of
+//! script's code stands. What a command is to the branches before it, and what an include asks for, the passes learn from
+//! `sieve_meaning`. What stands for an include is a `linker`'s affair, and the passes know no more of it. The one of
 //! `levels` looks the script up in the library, judges the include by the `chain` of active scripts (`finding`), and puts
 //! the script's own code in its place, one level further down; the deepest level has none. `program` makes the image and has
 //! it verified.
 #![tactic(auto)]
 
-mod arguments;
 mod chain;
 mod emit_commands;
 mod emit_tests;
@@ -24,12 +24,11 @@ mod levels;
 mod library;
 mod linker;
 mod output;
-mod part;
 mod program;
 mod size_commands;
 mod size_tests;
 mod weight;
 
 pub use fault::{GenFault, LibraryFault};
-pub use library::{Library, Location};
+pub use library::Library;
 pub use program::compile;

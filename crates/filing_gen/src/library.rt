@@ -1,30 +1,23 @@
 //! The scripts that can be included (RFC 6609, section 3.2).
 
-ghost use Rattle.std.specs.Prelude.{◌≡◌, ◌↔◌, ◌<◌, [], Err, IsOk, IsSome, IfSome, OnOk, OnErr, length, bytes_eq, option_map, position};
+ghost use Rattle.std.specs.Prelude.{◌≡◌, ◌↔◌, ◌<◌, ◌≤◌, ℕ, [], Err, IsOk, IsSome, IfSome, OnOk, OnErr, length, bytes_eq, option_map, position};
 ghost use Rattle.sieve_meaning.specs.Meaning.{no_library};
+ghost use Rattle.sieve_meaning.specs.Scripts.{is_global, script_of};
 ghost use Rattle.filing_gen.specs.Correct.{library_of};
-ghost use Rattle.filing_gen.specs.Libraries.{named, place_of, put, is_named, is_global, location_of, no_scripts, script_at, slots_of, IsLibrary, IsLocation, HasNoRoom, IsFoundIn};
+ghost use Rattle.filing_gen.specs.Libraries.{named, place_of, put, is_named, location_of, no_scripts, slots_of, IsLibrary, IsLocation, HasNoRoom, IsFoundIn};
 ghost use Rattle.filing_gen.specs.Linked.{HasSlots};
 ghost use Rattle.filing_gen.specs.Shelves.{entry_of, entries_of};
 ghost use Rattle.filing_gen.specs.declared.fault.LibraryFault.TheVariants.{Full};
 
 use crate::fault::LibraryFault;
 use sieve_check::Checked;
+use sieve_meaning::{Location, ScriptName};
 use std::alloc::Global;
 use std::marker::Model;
 use std::rc::Rc;
 
 /// The most scripts of a location.
 const MOST_SCRIPTS: usize = 32;
-
-/// Where a script is that an include names.
-#[derive(Clone, Copy, Debug, PartialEq, Eq)]
-pub enum Location {
-    /// `:personal`, and where no location is named: the user's own scripts.
-    Personal,
-    /// `:global`: the scripts that all users share.
-    Global,
-}
 
 /// A script with its name.
 #[derive(Drop)]
@@ -152,31 +145,33 @@ impl Library {
     pub fn get(&self, location: Location, name: &[u8]) -> Option<&Checked>
         ensures { option_map (λ c. c.now.script) result ≡ named name.now (location_of (is_global location) self.now) }
     {
-        match self.find(location, name) {
+        match self.find(&ScriptName { location, name }) {
             Some((_, script)) => Some(script),
             None => None,
         }
     }
 
-    /// The script at a name of a location, with its slot, of sixty-four: no two scripts have the same.
-    pub(crate) fn find(&self, location: Location, name: &[u8]) -> Option<(usize, &Checked)>
-        ensures script { option_map (λ f. f.1.now.script) result ≡ named name.now (location_of (is_global location) self.now) }
-        ensures slot { IfSome result (λ f. f.0 ≡ slots_of self.now (script_at location name.now)) }
+    /// The script of a name, with its slot, of sixty-four: no two scripts have the same.
+    pub(crate) fn find(&self, script: &ScriptName<'_>) -> Option<(usize, &Checked)>
+        ensures script { option_map (λ f. f.1.now.script) result ≡ named script.now.name.now (location_of (is_global script.now.location) self.now) }
+        ensures slot { IfSome result (λ f. f.0 ≡ slots_of self.now (script_of script.now)) }
         ensures inside { IfSome result (λ f. f.0 < 64) }
         ensures library { IsLibrary self.now }
     {
-        match location {
-            Location::Personal => self.personal.find(name),
-            Location::Global => match self.global.find(name) {
+        match script.location {
+            Location::Personal => self.personal.find(script.name),
+            Location::Global => match self.global.find(script.name) {
                 Some((place, script)) => Some((MOST_SCRIPTS + place, script)),
                 None => None,
             },
         }
     }
 
-    /// How many slots are enough for the scripts: none where there is no script, and sixty-four at most.
+    /// How many slots are enough for the scripts, and no more than that: none where there is no script, and sixty-four at
+    /// most.
     pub(crate) fn slot_count(&self) -> u16
-        ensures { HasSlots (library_of self.now) (slots_of self.now) result }
+        ensures enough { HasSlots (library_of self.now) (slots_of self.now) result }
+        ensures fewest { (n : ℕ) → HasSlots (library_of self.now) (slots_of self.now) n → result ≤ n }
     {
         let personal = self.personal.entries.len();
         let global = self.global.entries.len();

@@ -2,39 +2,34 @@
 
 ghost use Rattle.std.specs.Prelude.{◌≡◌, ◌<◌, ◌^◌, ℕ, List, OnOk};
 ghost use Rattle.filing_flow.specs.Structure.{Flow, size};
-ghost use Rattle.sieve_meaning.specs.Program.{Include};
-ghost use Rattle.sieve_meaning.specs.Reading.{include_of};
+ghost use Rattle.sieve_meaning.specs.Program as program;
+ghost use Rattle.sieve_meaning.specs.Scripts.{asked};
 ghost use Rattle.filing_gen.specs.Adds.{Emits, HasRoom};
 ghost use Rattle.filing_gen.specs.Weights.{IsLeft};
 
 use crate::output::Output;
-use sieve_syntax::Argument;
+use sieve_meaning::Include;
 use std::alloc::{AllocError, Global};
 
-/// What stands for the includes of a script, by their arguments.
+/// What stands for the includes of a script, by what they ask for.
 pub trait Linker {
     /// The code of each include.
-    ghost flow_of: { Self → Include → Flow };
+    ghost flow_of: { Self → program.Include → Flow };
 
     /// What each include adds to the weight.
-    ghost weight_of: { Self → Include → ℕ };
+    ghost weight_of: { Self → program.Include → ℕ };
 
     /// Takes what an include adds to the weight from what is left; none where it is more.
-    fn weigh(&self, arguments: &[Argument], left: u32) -> Option<u32>
-        ensures { IsLeft left (weight_of self.now (include_of arguments.now)) result };
+    fn weigh(&self, include: &Include<'_>, left: u32) -> Option<u32>
+        ensures { IsLeft left (weight_of self.now (asked include.now)) result };
 
     /// How many operations the code of an include takes.
-    fn size(&self, arguments: &[Argument]) -> usize
-        requires { size (flow_of self.now (include_of arguments.now)) < 2 ^ 16 }
-        ensures { result ≡ size (flow_of self.now (include_of arguments.now)) };
+    fn size(&self, include: &Include<'_>) -> usize
+        requires { size (flow_of self.now (asked include.now)) < 2 ^ 16 }
+        ensures { result ≡ size (flow_of self.now (asked include.now)) };
 
     /// Writes the code of an include.
-    fn emit(
-        &self,
-        alloc: Global,
-        out: &mut Output,
-        arguments: &[Argument],
-    ) -> Result<(), AllocError>
-        requires { HasRoom out.old (size (flow_of self.now (include_of arguments.now))) }
-        ensures adds { OnOk result ((ends : List ℕ) → Emits out.old out.new (flow_of self.now (include_of arguments.now)) ends) };
+    fn emit(&self, alloc: Global, out: &mut Output, include: &Include<'_>) -> Result<(), AllocError>
+        requires { HasRoom out.old (size (flow_of self.now (asked include.now))) }
+        ensures adds { OnOk result ((ends : List ℕ) → Emits out.old out.new (flow_of self.now (asked include.now)) ends) };
 }

@@ -5,11 +5,12 @@ ghost use Rattle.sieve_syntax.specs.View.{command_of, commands_of, ending_of};
 ghost use Rattle.sieve_meaning.specs.Reading.{block_in, program_of, branches_of};
 ghost use Rattle.filing_flow.specs.Structure.{size};
 ghost use Rattle.filing_gen.specs.Emission.{commands_long, branches_long, plain_long, part_long};
-ghost use Rattle.filing_gen.specs.declared.part.Part.TheVariants as parts;
+ghost use Rattle.sieve_meaning.specs.declared.branches.Part.TheVariants as parts;
 
 use crate::linker::Linker;
-use crate::part::{Part, is_branch, part_in, part_of_open};
 use crate::size_tests::only_size;
+use sieve_meaning::branches::{Part, is_branch, part_in, part_of_open};
+use sieve_meaning::reading::include;
 use sieve_meaning::{CommandWord, command_word};
 use sieve_syntax::{Argument, Command, Ending};
 
@@ -24,7 +25,7 @@ fn plain_size<L: Linker>(linker: &L, word: CommandWord, arguments: &[Argument]) 
         | CommandWord::Stop
         | CommandWord::Return
         | CommandWord::FileInto => 1,
-        CommandWord::Include => linker.size(arguments),
+        CommandWord::Include => linker.size(&include(arguments)),
         CommandWord::Require
         | CommandWord::If
         | CommandWord::ElsIf

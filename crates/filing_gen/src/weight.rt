@@ -9,8 +9,8 @@ ghost use Rattle.sieve_meaning.specs.Weight.{test_weight, tests_weight, weight};
 ghost use Rattle.filing_gen.specs.Weights.{IsLeft, plain_weight, part_weight};
 
 use crate::linker::Linker;
-use crate::part::{Part, is_branch, part_in};
-use sieve_meaning::reading::next_string_list;
+use sieve_meaning::branches::{Part, is_branch, part_in};
+use sieve_meaning::reading::{include, next_string_list};
 use sieve_meaning::{CommandWord, TestWord, command_word, test_word};
 use sieve_syntax::{Argument, Command, Ending, Script, StringList, Test, Tests};
 
@@ -112,7 +112,7 @@ fn weigh_plain<L: Linker>(
 {
     match word {
         CommandWord::If | CommandWord::ElsIf | CommandWord::Else | CommandWord::Other => Some(left),
-        CommandWord::Include => linker.weigh(arguments, left.checked_sub(4)?),
+        CommandWord::Include => linker.weigh(&include(arguments), left.checked_sub(4)?),
         CommandWord::Require
         | CommandWord::Keep
         | CommandWord::Discard

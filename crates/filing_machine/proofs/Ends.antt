@@ -8,13 +8,10 @@ use Rattle.sieve_meaning.specs.Paths.{Paths}
 use Rattle.sieve_meaning.specs.Outcome.{Outcome, outcome_at}
 use Rattle.filing_table.specs.Machine.{State, Run, At, Over, Trap, after_steps}
 use Rattle.filing_table.specs.Ends.{Ends, outcome_left, HasOutcome}
-use Rattle.filing_table.proofs.Once.{first_end}
+use Rattle.filing_table.proofs.Once.{over_is_not_at, first_end}
 use Rattle.filing_machine.specs.Seen.{state, run_at}
 use Rattle.filing_machine.specs.Runs.{Stored, Stands}
 use Rattle.filing_machine.proofs.Sound.{keeps, in_budget, never_traps}
-
-over_is_not_at : (f : Option ℕ) (s t : State) → Over f s ≡ At t → ⊥
-over_is_not_at f s t e = cc
 
 -- an end with at most as many steps as the budget says
 abbrev EndsWithin : Program → Facts → Type 0

@@ -7,7 +7,7 @@ ghost use Rattle.filing_machine.specs.Message.{case_of};
 use crate::case::Case;
 use mail_head::read_head;
 use mail_words::value_of;
-use sieve_meaning::is_word;
+use sieve_meaning::{Paths, is_word};
 use std::alloc::{AllocError, Global};
 
 /// Who tells which paths are open classes. It answers by one ghost function, which does not change while it is only
@@ -19,6 +19,17 @@ pub trait OpenPaths {
     /// Whether a path is an open class.
     fn is_open(&self, path: &[u8]) -> bool
         ensures { result ≡ opens self.now path.now };
+}
+
+/// A set of paths has those open that are in it.
+impl OpenPaths for Paths {
+    ghost use Rattle.filing_machine.specs.Message.{is_among};
+
+    ghost opens = { is_among };
+
+    fn is_open(&self, path: &[u8]) -> bool {
+        self.as_slice().iter().any(|open| path == open.as_slice())
+    }
 }
 
 /// A field of the header: its name, which stands in the message, and its value with folding and encoded words undone.

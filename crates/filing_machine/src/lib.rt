@@ -23,6 +23,6 @@ pub use borrowed::{BorrowedCase, BorrowedField, OpenPaths};
 pub use case::Case;
 pub use laws::every_run_ends;
 pub use machine::{Machine, run};
-pub use outcome::{Outcome, default_class_alone};
+pub use outcome::Outcome;
 pub use pieces::PieceCase;
 pub use whole::WholeCase;

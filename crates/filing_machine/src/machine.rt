@@ -9,11 +9,11 @@ ghost use Rattle.filing_machine.specs.Runs.{seen, Stands, IsModestAt, answer, Le
 
 use crate::act::act;
 use crate::case::Case;
-use crate::outcome::{Outcome, captured_classes};
+use crate::outcome::Outcome;
 use crate::stack::Stack;
 use crate::state::Standing;
 use filing_verify::Verified;
-use sieve_meaning::Paths;
+use sieve_meaning::{Paths, captured_classes};
 use std::alloc::{AllocError, Global};
 use std::marker::Model;
 
@@ -105,7 +105,9 @@ impl Machine {
         let Some(fault) = self.end else {
             unreachable!()
         };
-        let classes = captured_classes(self.alloc, fault, &self.at)?;
+        let filed = self.at.filed.copy(self.alloc)?;
+        let (kept, cancelled) = (self.at.kept, self.at.cancelled);
+        let classes = captured_classes(self.alloc, fault, filed, kept, cancelled)?;
         Ok(Outcome {
             classes,
             fault,

@@ -82,7 +82,7 @@ impl WholeCase {
         msg: &[u8],
         paths: BTreeSet<Vec<u8>>,
     ) -> Result<WholeCase, AllocError>
-        requires { length msg.now ≤ 8388608 }
+        requires { length msg.now ≤ MOST_OCTETS }
         ensures { IfOk result (λ c. facts_of c ≡ case_of msg.now (is_among (paths_in paths))) }
     {
         let reader = match fed_reader(alloc, msg) {

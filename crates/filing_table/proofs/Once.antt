@@ -13,7 +13,7 @@ fault_of f g s t e = cc
 state_of : (f g : Option ℕ) (s t : State) → Over f s ≡ Over g t → s ≡ t
 state_of f g s t e = cc
 
-over_is_not_at : (f : Option ℕ) (s t : State) → Over f s ≡ At t → ⊥
+pub over_is_not_at : (f : Option ℕ) (s t : State) → Over f s ≡ At t → ⊥
 over_is_not_at f s t e = cc
 
 trap_is_not_at : (t : State) → Trap ≡ At t → ⊥

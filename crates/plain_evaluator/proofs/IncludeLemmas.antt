@@ -1,6 +1,6 @@
 -- Includes, in the order in which they are judged.
 use Rattle.std.proofs.Common.{◌≡◌, ℕ, zero, suc, List, ◌∷◌, Bool, true, false, ◌&&◌, refl, sym, ap, ◌∙◌, map}
-use Rattle.std.specs.Prelude.{Option, Some, None}
+use Rattle.std.specs.Prelude.{Option, Some}
 use Rattle.std.specs.List.{list_any, insert}
 use Rattle.sieve_meaning.specs.Case.{Facts}
 use Rattle.sieve_meaning.specs.Program.{Include, Commands}
@@ -8,9 +8,9 @@ use Rattle.sieve_meaning.specs.Meaning.{ScriptName, script_named, same_script, i
 use Rattle.sieve_meaning.specs.Meaning as meaning
 use Rattle.sieve_syntax.specs.Tree.{CommandTrees}
 use Rattle.sieve_meaning.specs.Reading.{program_of}
-use Rattle.plain_evaluator.specs.Runs.{entered, missing, runs_from, filing_of}
-use Rattle.plain_evaluator.specs.Scripts.{script_of}
-use Rattle.plain_evaluator.specs.declared.scripts.ScriptName as code
+use Rattle.plain_evaluator.specs.Runs.{entered, runs_from, filing_of}
+use Rattle.sieve_meaning.specs.Scripts.{script_of}
+use Rattle.sieve_meaning.specs.declared.scripts.ScriptName as code
 use Rattle.plain_evaluator.specs.declared.filing.Filing as kept
 use Rattle.plain_evaluator.proofs.TruthLemmas.{list_any-map}
 
@@ -31,21 +31,10 @@ pub included_is : (facts : Facts) (lib : Library) (left : ℕ) (chain : List Scr
 included_is facts lib zero chain i f = refl
 included_is facts lib (suc left) chain i f = refl
 
--- under `:once` a script that was entered does nothing
-once_passes : (lib : Library) (chain : List ScriptName) (enter : Commands → meaning.Filing → meaning.Ending) (i : Include) (f : meaning.Filing) → (i.once && is_among f.entered (script_named i)) ≡ true → meaning.GoesOn f ≡ including lib chain enter i f
-once_passes lib chain enter i f once =
-    sym (ap (λ b. unless_entered b (unless_missing (lib.find (script_named i)) i.optional (λ script. unless_active (is_among chain (script_named i)) (enter script))) f) once)
-
--- any other is judged by what is found
+-- an include that is not passed is judged by what is found
 judged : (lib : Library) (chain : List ScriptName) (enter : Commands → meaning.Filing → meaning.Ending) (i : Include) (f : meaning.Filing) (found : Option Commands) → (i.once && is_among f.entered (script_named i)) ≡ false → lib.find (script_named i) ≡ found → unless_missing found i.optional (λ script. unless_active (is_among chain (script_named i)) (enter script)) f ≡ including lib chain enter i f
 judged lib chain enter i f found once is =
     sym (ap (λ b. unless_entered b (unless_missing (lib.find (script_named i)) i.optional (λ script. unless_active (is_among chain (script_named i)) (enter script))) f) once ∙ ap (λ x. unless_missing x i.optional (λ script. unless_active (is_among chain (script_named i)) (enter script)) f) is)
-
-pub included_once : (facts : Facts) (lib : Library) (left : ℕ) (chain : List ScriptName) (i : Include) (f : meaning.Filing) → (i.once && is_among f.entered (script_named i)) ≡ true → meaning.GoesOn f ≡ included facts lib left chain i f
-included_once facts lib left chain i f once = once_passes lib chain (entered facts lib left chain i) i f once ∙ sym (included_is facts lib left chain i f)
-
-pub included_missing : (facts : Facts) (lib : Library) (left : ℕ) (chain : List ScriptName) (i : Include) (f : meaning.Filing) → (i.once && is_among f.entered (script_named i)) ≡ false → lib.find (script_named i) ≡ None → missing i.optional f ≡ included facts lib left chain i f
-included_missing facts lib left chain i f once is = judged lib chain (entered facts lib left chain i) i f None once is ∙ sym (included_is facts lib left chain i f)
 
 pub included_active : (facts : Facts) (lib : Library) (left : ℕ) (chain : List ScriptName) (i : Include) (f : meaning.Filing) (script : Commands) → (i.once && is_among f.entered (script_named i)) ≡ false → lib.find (script_named i) ≡ Some script → is_among chain (script_named i) ≡ true → meaning.Faults 3 f ≡ included facts lib left chain i f
 included_active facts lib left chain i f script once is active =

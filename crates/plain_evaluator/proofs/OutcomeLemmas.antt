@@ -7,7 +7,7 @@ use Rattle.sieve_meaning.specs.Reading.{program_of}
 use Rattle.sieve_meaning.specs.Meaning.{ScriptName, Library, included, main_names, meaning}
 use Rattle.sieve_meaning.specs.Outcome.{outcome_at, outcome_of}
 use Rattle.plain_evaluator.specs.Runs.{ending_at, fault_of, filing_of, runs_from}
-use Rattle.plain_evaluator.specs.Scripts.{script_of}
+use Rattle.sieve_meaning.specs.Scripts.{script_of}
 use Rattle.plain_evaluator.specs.declared.filing.Filing.{Filing}
 use Rattle.plain_evaluator.specs.declared.filing.Ending.{Ending}
 use Rattle.plain_evaluator.specs.declared.filing.Ending.TheVariants as endings

@@ -4,7 +4,7 @@ use Rattle.std.proofs.lemmas.List.{at_drop_all}
 use Rattle.sieve_syntax.specs.View.{command_of, commands_of}
 use Rattle.sieve_syntax.specs.declared.tree.Command.{Command}
 use Rattle.std.specs.Prelude.{if◌then◌else◌}
-use Rattle.sieve_syntax.specs.Tree.{command, CommandTrees, no_commands, InnerTests, EndingTree, semicolon, block}
+use Rattle.sieve_syntax.specs.Tree.{command, no_commands, InnerTests, EndingTree, semicolon, block}
 use Rattle.sieve_syntax.specs.declared.tree.Argument.{Argument}
 use Rattle.sieve_meaning.specs.declared.words.CommandWord.{CommandWord}
 use Rattle.sieve_meaning.specs.declared.words.CommandWord.TheVariants as words
@@ -15,8 +15,9 @@ use Rattle.sieve_meaning.specs.Reading.{only_in, block_in, program_of, branches_
 use Rattle.sieve_meaning.specs.Meaning as meaning
 use Rattle.sieve_meaning.specs.Meaning.{Included, run, run_branches, and_then}
 use Rattle.sieve_meaning.specs.Program.{Include}
-use Rattle.plain_evaluator.specs.Runs.{runs_from, IsNoIf, PlainlyEnds, BranchLeads, Leads, commands_in, part_of}
-use Rattle.plain_evaluator.specs.declared.commands.Part.TheVariants.{Branch, Otherwise, Plain}
+use Rattle.plain_evaluator.specs.Runs.{runs_from, IsNoIf, PlainlyEnds, BranchLeads, Leads, commands_in}
+use Rattle.sieve_meaning.specs.Branching.{part_of}
+use Rattle.sieve_meaning.specs.declared.branches.Part.TheVariants.{Branch, Otherwise, Plain}
 
 pub include_ends : (facts : Facts) (inc : Included) (word : CommandWord) (args : List Argument) (i : Include) (f : meaning.Filing) (e : meaning.Ending) → word ≡ words.Include → i ≡ include_of args → e ≡ inc i f → PlainlyEnds facts inc word args f e
 include_ends facts inc word args i f e is asks told t inner rest more = rw (is, told, asks) refl
@@ -30,10 +31,6 @@ block_in-commands (block cs) = refl
 and_then-if : (b : Bool) (x y : meaning.Ending) (go : meaning.Filing → meaning.Ending) → and_then (if b then x else y) go ≡ (if b then and_then x go else and_then y go)
 and_then-if true x y go = refl
 and_then-if false x y go = refl
-
-from_false : (facts : Facts) (inc : Included) (cs : CommandTrees) (f : meaning.Filing) → runs_from facts inc false cs f ≡ run facts inc (program_of cs) f
-unfolding runs_from
-from_false facts inc cs f = refl
 
 -- an `if`, or an open `elsif`
 pub branch_leads : (facts : Facts) (inc : Included) (word : CommandWord) (is_open : Bool) (name : List ℕ) (args : List Argument) (inner : InnerTests) (finish : EndingTree) (f : meaning.Filing) (e : meaning.Ending) (opens : Bool) → command_word name ≡ word → part_of word is_open ≡ Branch → BranchLeads facts inc (command name args inner finish) f e opens → Leads facts inc is_open (command name args inner finish) f e opens

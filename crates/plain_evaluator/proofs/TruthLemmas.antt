@@ -13,9 +13,11 @@ use Rattle.sieve_meaning.specs.Matching.{key_matches}
 use Rattle.sieve_meaning.specs.Case.{Facts, is_named}
 use Rattle.sieve_meaning.specs.Reading.{string_lists, match_type, comparator_from, exists_of, header_of, test_in, tests_in, row_in}
 use Rattle.sieve_meaning.specs.Truth.{truth, has_field, all_true, some_true}
-use Rattle.plain_evaluator.specs.Case.{facts_of, shown}
-use Rattle.plain_evaluator.specs.declared.case.Case.{Case}
-use Rattle.plain_evaluator.specs.declared.case.NamedValue.{NamedValue}
+use Rattle.sieve_meaning.specs.Paths.{Paths}
+use Rattle.filing_machine.specs.Borrowed.{lent}
+use Rattle.filing_machine.specs.declared.borrowed.BorrowedCase.{BorrowedCase}
+use Rattle.filing_machine.specs.declared.borrowed.BorrowedField.{BorrowedField}
+use Rattle.plain_evaluator.specs.Case.{facts_of}
 
 pub list_any-map : {X Y : Type 0} (p : Y → Bool) (f : X → Y) (xs : List X) → list_any p (map f xs) ≡ list_any (λ x. p (f x)) xs
 list_any-map p f [] = refl
@@ -39,20 +41,20 @@ some_true-listed facts [] = refl
 some_true-listed facts (t ∷ ts) = ap (λ b. truth facts (test_in t) || b) (some_true-row facts ts)
 
 -- an `exists` over the fields of the code
-pub exists-shown : (case : Case) (names : StringList) (more : List StringList) → truth (facts_of case) (exists_of (names ∷ more)) ≡ list_all (λ name. list_any (λ f. is_named name (shown f)) case.fields.items) (strings_of names)
+pub exists-shown : (case : BorrowedCase Paths) (names : StringList) (more : List StringList) → truth (facts_of case) (exists_of (names ∷ more)) ≡ list_all (λ name. list_any (λ f. is_named name (lent f)) case.fields.items) (strings_of names)
 exists-shown case names more = all_shown (strings_of names)
   where
-    all_shown : (ns : List (List ℕ)) → list_all (has_field (facts_of case)) ns ≡ list_all (λ name. list_any (λ f. is_named name (shown f)) case.fields.items) ns
+    all_shown : (ns : List (List ℕ)) → list_all (has_field (facts_of case)) ns ≡ list_all (λ name. list_any (λ f. is_named name (lent f)) case.fields.items) ns
     all_shown [] = refl
-    all_shown (n ∷ ns) = ap (λ b. b && list_all (has_field (facts_of case)) ns) (list_any-map (is_named n) shown case.fields.items) ∙ ap (λ b. list_any (λ f. is_named n (shown f)) case.fields.items && b) (all_shown ns)
+    all_shown (n ∷ ns) = ap (λ b. b && list_all (has_field (facts_of case)) ns) (list_any-map (is_named n) lent case.fields.items) ∙ ap (λ b. list_any (λ f. is_named n (lent f)) case.fields.items && b) (all_shown ns)
 
 -- a `header` over the fields of the code
-pub header-shown : (case : Case) (m : MatchType) (c : Comparator) (names keys : StringList) (more : List StringList) → truth (facts_of case) (header_of m c (names ∷ keys ∷ more)) ≡ list_any (λ f. list_any (λ name. is_named name (shown f)) (strings_of names) && list_any (λ key. key_matches m c key (shown f).value) (strings_of keys)) case.fields.items
-header-shown case m c names keys more = list_any-map (λ f. list_any (λ name. is_named name f) (strings_of names) && list_any (λ key. key_matches m c key f.value) (strings_of keys)) shown case.fields.items
+pub header-shown : (case : BorrowedCase Paths) (m : MatchType) (c : Comparator) (names keys : StringList) (more : List StringList) → truth (facts_of case) (header_of m c (names ∷ keys ∷ more)) ≡ list_any (λ f. list_any (λ name. is_named name (lent f)) (strings_of names) && list_any (λ key. key_matches m c key (lent f).value) (strings_of keys)) case.fields.items
+header-shown case m c names keys more = list_any-map (λ f. list_any (λ name. is_named name f) (strings_of names) && list_any (λ key. key_matches m c key f.value) (strings_of keys)) lent case.fields.items
 
 -- what the code of `exists` and of `header` answers, from what it was told on its way
-pub exists_answer : (case : Case) (args : List Argument) (fields : List NamedValue) (names : StringList) (more : List StringList) (answer : Bool) → fields ≡ case.fields.items → string_lists false args ≡ names ∷ more → answer ≡ list_all (λ name. list_any (λ f. is_named name (shown f)) fields) (strings_of names) → answer ≡ truth (facts_of case) (exists_of (string_lists false args))
-exists_answer case args fields names more answer same lists told = rw lists (told ∙ ap (λ xs. list_all (λ name. list_any (λ f. is_named name (shown f)) xs) (strings_of names)) same ∙ sym (exists-shown case names more))
+pub exists_answer : (case : BorrowedCase Paths) (args : List Argument) (fields : List BorrowedField) (names : StringList) (more : List StringList) (answer : Bool) → fields ≡ case.fields.items → string_lists false args ≡ names ∷ more → answer ≡ list_all (λ name. list_any (λ f. is_named name (lent f)) fields) (strings_of names) → answer ≡ truth (facts_of case) (exists_of (string_lists false args))
+exists_answer case args fields names more answer same lists told = rw lists (told ∙ ap (λ xs. list_all (λ name. list_any (λ f. is_named name (lent f)) xs) (strings_of names)) same ∙ sym (exists-shown case names more))
 
-pub header_answer : (case : Case) (args rest : List Argument) (fields : List NamedValue) (m : MatchType) (c : Comparator) (names keys : StringList) (more : List StringList) (answer : Bool) → fields ≡ case.fields.items → string_lists false args ≡ names ∷ string_lists false rest → string_lists false rest ≡ keys ∷ more → m ≡ match_type args → c ≡ comparator_from false args → answer ≡ list_any (λ f. list_any (λ name. is_named name (shown f)) (strings_of names) && list_any (λ key. key_matches m c key (shown f).value) (strings_of keys)) fields → answer ≡ truth (facts_of case) (header_of (match_type args) (comparator_from false args) (string_lists false args))
-header_answer case args rest fields m c names keys more answer same lists lists_behind how by told = rw (← how, ← by, lists, lists_behind) (told ∙ ap (λ xs. list_any (λ f. list_any (λ name. is_named name (shown f)) (strings_of names) && list_any (λ key. key_matches m c key (shown f).value) (strings_of keys)) xs) same ∙ sym (header-shown case m c names keys more))
+pub header_answer : (case : BorrowedCase Paths) (args rest : List Argument) (fields : List BorrowedField) (m : MatchType) (c : Comparator) (names keys : StringList) (more : List StringList) (answer : Bool) → fields ≡ case.fields.items → string_lists false args ≡ names ∷ string_lists false rest → string_lists false rest ≡ keys ∷ more → m ≡ match_type args → c ≡ comparator_from false args → answer ≡ list_any (λ f. list_any (λ name. is_named name (lent f)) (strings_of names) && list_any (λ key. key_matches m c key (lent f).value) (strings_of keys)) fields → answer ≡ truth (facts_of case) (header_of (match_type args) (comparator_from false args) (string_lists false args))
+header_answer case args rest fields m c names keys more answer same lists lists_behind how by told = rw (← how, ← by, lists, lists_behind) (told ∙ ap (λ xs. list_any (λ f. list_any (λ name. is_named name (lent f)) (strings_of names) && list_any (λ key. key_matches m c key (lent f).value) (strings_of keys)) xs) same ∙ sym (header-shown case m c names keys more))

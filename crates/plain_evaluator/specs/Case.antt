@@ -1,13 +1,10 @@
--- The case of a message, as the evaluator keeps it.
-use Rattle.std.specs.Prelude.{map}
-use Rattle.sieve_meaning.specs.Case.{Facts, Field}
+-- The case of a message, as the evaluator is handed it.
+use Rattle.sieve_meaning.specs.Case.{Facts}
+use Rattle.sieve_meaning.specs.Paths.{Paths}
+use Rattle.filing_machine.specs.Borrowed.{facts_by}
 use Rattle.filing_machine.specs.Message.{is_among}
-use Rattle.plain_evaluator.specs.declared.case.Case.{Case}
-use Rattle.plain_evaluator.specs.declared.case.NamedValue.{NamedValue}
+use Rattle.filing_machine.specs.declared.borrowed.BorrowedCase.{BorrowedCase}
 
-abbrev pub shown : NamedValue → Field
-shown f = record { name = f.name.now; value = f.value.items }
-
--- what a case of the code stands for
-abbrev pub facts_of : Case → Facts
-facts_of c = record { size = c.size; fields = map shown c.fields.items; is_open = is_among c.paths.now }
+-- what a case stands for whose open classes are those of a set
+abbrev pub facts_of : BorrowedCase Paths → Facts
+facts_of c = facts_by is_among c

@@ -1,4 +1,3 @@
 pub mod Case
-pub mod Scripts
 pub mod Runs
 pub mod Outcomes

@@ -12,13 +12,11 @@ use Rattle.sieve_meaning.specs.Meaning.{ScriptName, script_named, Library, Inclu
 use Rattle.sieve_meaning.specs.Meaning as meaning
 use Rattle.filing_gen.specs.Correct.{library_of}
 use Rattle.plain_evaluator.specs.Case.{facts_of}
-use Rattle.plain_evaluator.specs.Scripts.{script_of}
+use Rattle.sieve_meaning.specs.Scripts.{script_of}
 use Rattle.plain_evaluator.specs.declared.filing.Filing.{Filing}
 use Rattle.plain_evaluator.specs.declared.filing.Ending.{Ending}
 use Rattle.plain_evaluator.specs.declared.filing.Ending.TheVariants as endings
 use Rattle.plain_evaluator.specs.declared.scope.Scope.{Scope}
-use Rattle.plain_evaluator.specs.declared.commands.Part.{Part}
-use Rattle.plain_evaluator.specs.declared.commands.Part.TheVariants.{Branch, Otherwise, Plain}
 
 -- what the code's state of a run stands for
 abbrev pub filing_of : Filing → meaning.Filing
@@ -59,15 +57,6 @@ runs_from facts inc false cs f = run facts inc (program_of cs) f
 -- `fileinto` with these arguments
 abbrev pub filing_into : Facts → List Argument → meaning.Filing → meaning.Ending
 filing_into facts args f = filing facts (has_tag (codes "copy") args) (first_string (string_lists false args)) f
-
--- what a command is to the branches before it
-abbrev pub part_of : CommandWord → Bool → Part
-part_of words.If is_open = Branch
-part_of words.ElsIf true = Branch
-part_of words.ElsIf false = Plain
-part_of words.Else true = Otherwise
-part_of words.Else false = Plain
-part_of word is_open = Plain
 
 -- not `if`, which needs its test and block
 abbrev pub IsNoIf : CommandWord → Type 0

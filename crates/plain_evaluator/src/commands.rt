@@ -3,30 +3,30 @@
 ghost use Rattle.std.specs.Prelude.{◌≡◌, IfOk, map, false};
 ghost use Rattle.sieve_syntax.specs.View.{command_of, commands_of, ending_of};
 ghost use Rattle.plain_evaluator.specs.Case.{facts_of};
-ghost use Rattle.plain_evaluator.specs.Runs.{ending_at, filing_of, runs_from, commands_in, filing_into, includes_at, part_of, IsNoIf, PlainlyEnds, BranchLeads, Leads};
+ghost use Rattle.plain_evaluator.specs.Runs.{ending_at, filing_of, runs_from, commands_in, filing_into, includes_at, IsNoIf, PlainlyEnds, BranchLeads, Leads};
 
-use crate::case::Case;
 use crate::filing::{Ending, Filing};
 use crate::includes::run_include;
 use crate::level::Level;
 use crate::scope::Scope;
-use crate::scripts::{first_text, include_asked};
 use crate::truth::is_only_true;
-use sieve_meaning::reading::has_tag;
-use sieve_meaning::{CommandWord, command_word};
+use filing_machine::{BorrowedCase, Case};
+use sieve_meaning::branches::{Part, part_in};
+use sieve_meaning::reading::{first_string, has_tag, include};
+use sieve_meaning::{CommandWord, Paths, command_word};
 use sieve_syntax::{Argument, Command, Ending as CommandEnding};
 use std::alloc::{AllocError, Global};
 
 /// `fileinto`: adds the path, and cancels the implicit keep unless a copy is filed.
 fn file_into(
     alloc: Global,
-    case: &Case<'_>,
+    case: &BorrowedCase<'_, Paths>,
     arguments: &[Argument],
     filing: &mut Filing<'_>,
 ) -> Result<Ending, AllocError>
     ensures { IfOk result (λ e. ending_at e filing.new ≡ filing_into (facts_of case.now) arguments.now (filing_of filing.old)) }
 {
-    let path = first_text(arguments);
+    let path = first_string(arguments);
     if !case.is_open(path) {
         return Ok(Ending::Faults(1));
     }
@@ -59,7 +59,7 @@ fn run_plain<'a, L: Level>(
             Ok(Ending::GoesOn)
         }
         CommandWord::FileInto => file_into(alloc, scope.case, arguments, filing),
-        CommandWord::Include => run_include::<L>(alloc, scope, &include_asked(arguments), filing),
+        CommandWord::Include => run_include::<L>(alloc, scope, &include(arguments), filing),
         CommandWord::Require
         | CommandWord::If
         | CommandWord::ElsIf
@@ -99,35 +99,6 @@ fn run_branch<'a, L: Level>(
     }
     let ending = run_block::<L>(alloc, scope, &command.ending, filing)?;
     Ok((ending, false))
-}
-
-/// What a command is to the branches before it.
-#[derive(Clone, Copy, Debug, PartialEq, Eq)]
-pub enum Part {
-    /// An `if`, or an `elsif` that is open.
-    Branch,
-    /// An `else` that is open.
-    Otherwise,
-    /// Any other command.
-    Plain,
-}
-
-/// What a command is to the branches before it, which are open or not.
-fn part_in(word: CommandWord, is_open: bool) -> Part
-    ensures { result ≡ part_of word is_open }
-{
-    match word {
-        CommandWord::If => Part::Branch,
-        CommandWord::ElsIf => { if is_open { Part::Branch } else { Part::Plain } }
-        CommandWord::Else => {
-            if is_open {
-                Part::Otherwise
-            } else {
-                Part::Plain
-            }
-        }
-        _ => Part::Plain,
-    }
 }
 
 /// Runs one command; says whether the branches behind it are open.

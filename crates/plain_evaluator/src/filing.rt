@@ -3,8 +3,7 @@
 ghost use Rattle.std.specs.Prelude.{◌≡◌};
 ghost use Rattle.plain_evaluator.specs.Runs.{fault_of};
 
-use crate::scripts::ScriptName;
-use sieve_meaning::Paths;
+use sieve_meaning::{Paths, ScriptName};
 
 /// What a run has done so far.
 #[derive(Drop)]

@@ -1,16 +1,24 @@
 //! Runs includes (RFC 6609, section 3.2).
 
 ghost use Rattle.std.specs.Prelude.{◌≡◌, ◌&&◌, IfOk, map};
-ghost use Rattle.sieve_meaning.specs.Meaning.{is_among as is_among_of};
+ghost use Rattle.std.specs.List.{list_any};
+ghost use Rattle.sieve_meaning.specs.Meaning.{is_among as is_among_of, same_script};
+ghost use Rattle.sieve_meaning.specs.Scripts.{asked, script_of};
 ghost use Rattle.plain_evaluator.specs.Runs.{ending_at, filing_of, includes_at, missing as missing_of};
-ghost use Rattle.plain_evaluator.specs.Scripts.{asked, script_of};
 ghost use Rattle.plain_evaluator.specs.declared.filing.Filing.{Filing};
 
 use crate::filing::{Ending, Filing};
 use crate::level::Level;
 use crate::scope::Scope;
-use crate::scripts::{Include, ScriptName, is_among};
+use sieve_meaning::{Include, ScriptName};
 use std::alloc::{AllocError, Global};
+
+/// Whether a script is among some.
+fn is_among(names: &[ScriptName<'_>], script: &ScriptName<'_>) -> bool
+    ensures { result ≡ list_any (λ other. same_script (script_of script.now) (script_of other)) names.now }
+{
+    names.iter().any(|other| script.is_same(other))
+}
 
 /// Whether an include does nothing since it asks for once and its script was entered.
 fn is_passed(include: &Include<'_>, entered: &[ScriptName<'_>]) -> bool

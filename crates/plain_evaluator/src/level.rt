@@ -7,11 +7,11 @@ ghost use Rattle.sieve_syntax.specs.View.{tree_of};
 ghost use Rattle.sieve_meaning.specs.Reading.{program_of};
 ghost use Rattle.plain_evaluator.specs.Case.{facts_of};
 ghost use Rattle.plain_evaluator.specs.Runs.{ending_at, entered, filing_of};
-ghost use Rattle.plain_evaluator.specs.Scripts.{asked, script_of};
+ghost use Rattle.sieve_meaning.specs.Scripts.{asked, script_of};
 
 use crate::filing::{Ending, Filing};
 use crate::scope::Scope;
-use crate::scripts::Include;
+use sieve_meaning::Include;
 use sieve_syntax::Script;
 use std::alloc::{AllocError, Global};
 

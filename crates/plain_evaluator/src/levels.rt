@@ -9,7 +9,7 @@ use crate::commands::run;
 use crate::filing::{Ending, Filing};
 use crate::level::Level;
 use crate::scope::Scope;
-use crate::scripts::{Include, ScriptName};
+use sieve_meaning::{Include, ScriptName};
 use sieve_syntax::Script;
 use std::alloc::{AllocError, Global};
 use std::marker::PhantomData;

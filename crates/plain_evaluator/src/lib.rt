@@ -2,12 +2,10 @@
 //! that it includes, with no image and no machine between. Mailfile itself runs scripts by `filing_gen` and `filing_machine`;
 //! this crate is beside them, so that a program can compare the two.
 //!
-//! In `specs/`, `Case` says what a case stands for, `Scripts` what the name of a script does, and `Runs` what each part of a run
-//! is owed; the modules from the bottom: `case`, `truth` (tests), `scripts` (names), `filing` and `scope` (what a run keeps),
-//! `level`, `includes`, `commands`, `levels`, `outcome`.
+//! In `specs/`, `Case` says what a case stands for, and `Runs` what each part of a run is owed; the modules from the bottom:
+//! `truth` (tests), `filing` and `scope` (what a run keeps), `level`, `includes`, `commands`, `levels`, `outcome`.
 #![tactic(auto)]
 
-mod case;
 mod commands;
 mod filing;
 mod includes;
@@ -15,8 +13,6 @@ mod level;
 mod levels;
 mod outcome;
 mod scope;
-mod scripts;
 mod truth;
 
-pub use case::{Case, NamedValue, read_case};
 pub use outcome::{Outcome, evaluate};

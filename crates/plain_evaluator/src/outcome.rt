@@ -9,21 +9,17 @@ ghost use Rattle.sieve_meaning.specs.Outcome.{outcome_at, outcome_of};
 ghost use Rattle.plain_evaluator.specs.Case.{facts_of};
 ghost use Rattle.plain_evaluator.specs.Runs.{fault_of};
 ghost use Rattle.plain_evaluator.specs.Outcomes.{outcome_view};
-ghost use Rattle.plain_evaluator.specs.Scripts.{script_of};
+ghost use Rattle.sieve_meaning.specs.Scripts.{script_of};
 
-use crate::case::Case;
 use crate::commands::run;
 use crate::filing::{Ending, Filing};
 use crate::levels::Levels;
 use crate::scope::Scope;
-use crate::scripts::ScriptName;
-use filing_gen::{Library, Location};
-use sieve_meaning::Paths;
+use filing_gen::Library;
+use filing_machine::BorrowedCase;
+use sieve_meaning::{Location, Paths, ScriptName, captured_classes};
 use sieve_syntax::Script;
 use std::alloc::{AllocError, Global};
-
-/// The class that a message is captured in by default.
-const UNFILED: &[u8] = b"unfiled";
 
 /// What a script captured a message in.
 #[derive(Drop)]
@@ -35,31 +31,19 @@ pub struct Outcome {
     pub fault: Option<u8>,
 }
 
-/// What a run captures that ended so. With a fault it is the default class alone; with none it is the classes that the
-/// run filed into, and the default class too where the message is kept, explicitly or implicitly (RFC 5228, section
-/// 2.10.2).
+/// What a run leaves that ended so.
 fn captured(alloc: Global, ending: Ending, filing: Filing<'_>) -> Result<Outcome, AllocError>
     ensures { IfOk result (λ o. outcome_view o ≡ outcome_at (fault_of ending) filing.entry.filed filing.entry.kept filing.entry.cancelled) }
 {
     let fault = ending.fault();
-    if fault.is_some() {
-        let mut classes = Paths::new(alloc);
-        classes.insert(alloc, UNFILED)?;
-        return Ok(Outcome { classes, fault });
-    }
     let Filing {
-        filed: mut classes,
+        filed,
         kept,
         cancelled,
         ..
     } = filing;
-    if kept || !cancelled {
-        classes.insert(alloc, UNFILED)?;
-    }
-    Ok(Outcome {
-        classes,
-        fault: None,
-    })
+    let classes = captured_classes(alloc, fault, filed, kept, cancelled)?;
+    Ok(Outcome { classes, fault })
 }
 
 /// The main script's personal name, if it has one.
@@ -87,7 +71,7 @@ pub fn evaluate<'a>(
     main: &'a Script,
     known_as: Option<&'a [u8]>,
     library: &'a Library,
-    case: &Case<'_>,
+    case: &BorrowedCase<'_, Paths>,
 ) -> Result<Outcome, AllocError>
     ensures { IfOk result (λ o. outcome_view o ≡ outcome_of (meaning (facts_of case.now) (library_of library.now) (option_map (λ s. s.now) known_as.entry) (program_of (tree_of main.now)))) }
 {

@@ -8,17 +8,18 @@ ghost use Rattle.sieve_meaning.specs.Case.{is_named};
 ghost use Rattle.sieve_meaning.specs.Matching.{key_matches as key_matches_by};
 ghost use Rattle.sieve_meaning.specs.Reading.{test_in, only_in, tests_in, string_lists, exists_of, header_of, size_of, has_tag as has_tag_of, number_in, match_type as match_type_of, comparator_from};
 ghost use Rattle.sieve_meaning.specs.Truth.{truth, all_true, some_true};
-ghost use Rattle.plain_evaluator.specs.Case.{facts_of, shown};
+ghost use Rattle.filing_machine.specs.Borrowed.{lent};
+ghost use Rattle.plain_evaluator.specs.Case.{facts_of};
 
-use crate::case::{Case, NamedValue};
+use filing_machine::{BorrowedCase, BorrowedField};
 use sieve_match::key_matches;
 use sieve_meaning::reading::{comparator, has_tag, match_type, next_string_list, number};
-use sieve_meaning::{Comparator, MatchType, TestWord, is_word, test_word};
+use sieve_meaning::{Comparator, MatchType, Paths, TestWord, is_word, test_word};
 use sieve_syntax::{Argument, StringList, Test, Tests, Text};
 
 /// Whether a field has one of some names.
-fn is_any_name(field: &NamedValue<'_>, names: &[Text]) -> bool
-    ensures { result ≡ list_any (λ name. is_named name (shown field.now)) names.now }
+fn is_any_name(field: &BorrowedField<'_>, names: &[Text]) -> bool
+    ensures { result ≡ list_any (λ name. is_named name (lent field.now)) names.now }
 {
     names
         .iter()
@@ -27,31 +28,31 @@ fn is_any_name(field: &NamedValue<'_>, names: &[Text]) -> bool
 
 /// Whether a field's value matches one of some keys.
 fn is_any_match(
-    field: &NamedValue<'_>,
+    field: &BorrowedField<'_>,
     keys: &[Text],
     how: MatchType,
     comparator: Comparator,
 ) -> bool
-    ensures { result ≡ list_any (λ key. key_matches_by how comparator key (shown field.now).value) keys.now }
+    ensures { result ≡ list_any (λ key. key_matches_by how comparator key (lent field.now).value) keys.now }
 {
     keys.iter().any(|key| key_matches(how, key.as_slice(), field.value.as_slice(), comparator))
 }
 
 /// Whether a field has one of the listed names.
-fn has_listed_name(field: &NamedValue<'_>, names: &StringList) -> bool
-    ensures { result ≡ list_any (λ name. is_named name (shown field.now)) (strings_of names.now) }
+fn has_listed_name(field: &BorrowedField<'_>, names: &StringList) -> bool
+    ensures { result ≡ list_any (λ name. is_named name (lent field.now)) (strings_of names.now) }
 {
     is_word(field.name, names.first().as_slice()) || is_any_name(field, names.others())
 }
 
 /// Whether a field's value matches one of the listed keys.
 fn has_listed_key(
-    field: &NamedValue<'_>,
+    field: &BorrowedField<'_>,
     keys: &StringList,
     how: MatchType,
     comparator: Comparator,
 ) -> bool
-    ensures { result ≡ list_any (λ key. key_matches_by how comparator key (shown field.now).value) (strings_of keys.now) }
+    ensures { result ≡ list_any (λ key. key_matches_by how comparator key (lent field.now).value) (strings_of keys.now) }
 {
     key_matches(
         how,
@@ -63,20 +64,20 @@ fn has_listed_key(
 
 /// Whether some field has one of the names, and its value matches one of the keys.
 fn is_any_field(
-    fields: &[NamedValue<'_>],
+    fields: &[BorrowedField<'_>],
     names: &StringList,
     keys: &StringList,
     how: MatchType,
     comparator: Comparator,
 ) -> bool
-    ensures { result ≡ list_any (λ f. list_any (λ name. is_named name (shown f)) (strings_of names.now) && list_any (λ key. key_matches_by how comparator key (shown f).value) (strings_of keys.now)) fields.now }
+    ensures { result ≡ list_any (λ f. list_any (λ name. is_named name (lent f)) (strings_of names.now) && list_any (λ key. key_matches_by how comparator key (lent f).value) (strings_of keys.now)) fields.now }
 {
     fields.iter().any(|field| has_listed_name(field, names)
         && has_listed_key(field, keys, how, comparator))
 }
 
 /// `header`: whether some field has one of the names, and its value matches one of the keys.
-fn is_header_true(case: &Case<'_>, arguments: &[Argument]) -> bool
+fn is_header_true(case: &BorrowedCase<'_, Paths>, arguments: &[Argument]) -> bool
     ensures { result ≡ truth (facts_of case.now) (header_of (match_type_of arguments.now) (comparator_from false arguments.now) (string_lists false arguments.now)) }
 {
     let Some((names, rest)) = next_string_list(arguments) else {
@@ -95,28 +96,28 @@ fn is_header_true(case: &Case<'_>, arguments: &[Argument]) -> bool
 }
 
 /// Whether a field with a name is there.
-fn has_field(fields: &[NamedValue<'_>], name: &[u8]) -> bool
-    ensures { result ≡ list_any (λ f. is_named name.now (shown f)) fields.now }
+fn has_field(fields: &[BorrowedField<'_>], name: &[u8]) -> bool
+    ensures { result ≡ list_any (λ f. is_named name.now (lent f)) fields.now }
 {
     fields.iter().any(|field| is_word(field.name, name))
 }
 
 /// Whether a field is there for each name.
-fn has_each_field(fields: &[NamedValue<'_>], names: &[Text]) -> bool
-    ensures { result ≡ list_all (λ name. list_any (λ f. is_named name (shown f)) fields.now) names.now }
+fn has_each_field(fields: &[BorrowedField<'_>], names: &[Text]) -> bool
+    ensures { result ≡ list_all (λ name. list_any (λ f. is_named name (lent f)) fields.now) names.now }
 {
     names.iter().all(|name| has_field(fields, name.as_slice()))
 }
 
 /// Whether a field is there for each listed name.
-fn has_listed_fields(fields: &[NamedValue<'_>], names: &StringList) -> bool
-    ensures { result ≡ list_all (λ name. list_any (λ f. is_named name (shown f)) fields.now) (strings_of names.now) }
+fn has_listed_fields(fields: &[BorrowedField<'_>], names: &StringList) -> bool
+    ensures { result ≡ list_all (λ name. list_any (λ f. is_named name (lent f)) fields.now) (strings_of names.now) }
 {
     has_field(fields, names.first().as_slice()) && has_each_field(fields, names.others())
 }
 
 /// `exists`: whether a field is there for each name.
-fn is_exists_true(case: &Case<'_>, arguments: &[Argument]) -> bool
+fn is_exists_true(case: &BorrowedCase<'_, Paths>, arguments: &[Argument]) -> bool
     ensures { result ≡ truth (facts_of case.now) (exists_of (string_lists false arguments.now)) }
 {
     match next_string_list(arguments) {
@@ -126,7 +127,7 @@ fn is_exists_true(case: &Case<'_>, arguments: &[Argument]) -> bool
 }
 
 /// `size`: whether the message has more, or fewer, octets than the number.
-fn is_size_true(case: &Case<'_>, arguments: &[Argument]) -> bool
+fn is_size_true(case: &BorrowedCase<'_, Paths>, arguments: &[Argument]) -> bool
     ensures { result ≡ truth (facts_of case.now) (size_of (has_tag_of (codes "over") arguments.now) (number_in arguments.now)) }
 {
     let number = number(arguments);
@@ -139,7 +140,7 @@ fn is_size_true(case: &Case<'_>, arguments: &[Argument]) -> bool
 
 /// Whether a test is true.
 #[cycle(truth)]
-pub fn is_true(case: &Case<'_>, test: &Test) -> bool
+pub fn is_true(case: &BorrowedCase<'_, Paths>, test: &Test) -> bool
     ensures { result ≡ truth (facts_of case.now) (test_in (test_of test.now)) }
 {
     let arguments = test.arguments.as_slice();
@@ -157,7 +158,7 @@ pub fn is_true(case: &Case<'_>, test: &Test) -> bool
 
 /// Whether the only test is true.
 #[cycle(truth)]
-pub fn is_only_true(case: &Case<'_>, tests: &Tests) -> bool
+pub fn is_only_true(case: &BorrowedCase<'_, Paths>, tests: &Tests) -> bool
     ensures { result ≡ truth (facts_of case.now) (only_in (inner_of tests.now)) }
 {
     match tests {
@@ -172,7 +173,7 @@ pub fn is_only_true(case: &Case<'_>, tests: &Tests) -> bool
 
 /// Whether all tests are true.
 #[cycle(truth)]
-fn are_all_true(case: &Case<'_>, tests: &Tests) -> bool
+fn are_all_true(case: &BorrowedCase<'_, Paths>, tests: &Tests) -> bool
     ensures { result ≡ all_true (facts_of case.now) (tests_in (inner_of tests.now)) }
 {
     match tests {
@@ -191,7 +192,7 @@ fn are_all_true(case: &Case<'_>, tests: &Tests) -> bool
 
 /// Whether some test is true.
 #[cycle(truth)]
-fn is_some_true(case: &Case<'_>, tests: &Tests) -> bool
+fn is_some_true(case: &BorrowedCase<'_, Paths>, tests: &Tests) -> bool
     ensures { result ≡ some_true (facts_of case.now) (tests_in (inner_of tests.now)) }
 {
     match tests {

@@ -1,8 +1,9 @@
 //! Thirty-two names in each location, and what a name finds.
 
 use super::keeps;
-use filing_gen::{Library, LibraryFault, Location};
+use filing_gen::{Library, LibraryFault};
 use sieve_check::{Checked, check};
+use sieve_meaning::Location;
 use sieve_syntax::Script;
 use std::alloc::Global;
 use std::rc::Rc;

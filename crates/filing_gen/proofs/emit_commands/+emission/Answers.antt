@@ -12,8 +12,8 @@ use Rattle.filing_flow.specs.Structure.{size}
 use Rattle.filing_gen.specs.Structured.{test_flow}
 use Rattle.filing_gen.specs.Adds.{HasRoom, Emits}
 use Rattle.filing_gen.specs.Emission.{commands_long, branches_long, part_long, part_flow, chain_end}
-use Rattle.filing_gen.specs.declared.part.Part.{Part}
-use Rattle.filing_gen.specs.declared.part.Part.TheVariants.{Branch}
+use Rattle.sieve_meaning.specs.declared.branches.Part.{Part}
+use Rattle.sieve_meaning.specs.declared.branches.Part.TheVariants.{Branch}
 use Rattle.filing_gen.proofs.Emitted.{grows}
 use Rattle.filing_gen.proofs.Turns.{branch_emitted, remains_first, commands_turn, commands_last, chain_room, turn_long}
 use Rattle.filing_gen.proofs.emit_commands.+emission.Goals as goal

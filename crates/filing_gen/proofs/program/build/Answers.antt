@@ -16,7 +16,7 @@ use Rattle.filing_gen.proofs.program.build.Goals as goal
 pub emit_program-requires-clause-room : goal.emit_program-requires-clause-room
 emit_program-requires-clause-room c =
     let l = c.args.scope.library.now in
-    room (library_of l) (slots_of l) c.slot_count-slots.result c.slot_count-slots.ensures (option_map (λ (s : Bor (List ℕ)). s.now) c.args.scope.main.known_as) (program_of (tree_of c.args.script.now)) (omega (arith, c.requires.weight, c.requires.small))
+    room (library_of l) (slots_of l) c.slot_count-slots.result c.slot_count-slots.ensures.enough (option_map (λ (s : Bor (List ℕ)). s.now) c.args.scope.main.known_as) (program_of (tree_of c.args.script.now)) (omega (arith, c.requires.weight, c.requires.small))
 
 pub emit_program-requires-clause-typed : goal.emit_program-requires-clause-typed
 emit_program-requires-clause-typed c =
@@ -27,12 +27,12 @@ emit_program-requires-clause-typed c =
 pub verified-requires : goal.verified-requires
 verified-requires c =
     let l = c.args.scope.library.now in
-    built_well (library_of l) (slots_of l) c.slot_count-slots.result c.slot_count-slots.ensures (option_map (λ (s : Bor (List ℕ)). s.now) c.args.scope.main.known_as) (program_of (tree_of c.args.script.now)) c.in_ok-out.out c.in_ok-image.image c.args.weight c.in_ok-out.ensures c.in_ok-image.ensures.made c.requires.weight c.requires.small
+    built_well (library_of l) (slots_of l) c.slot_count-slots.result c.slot_count-slots.ensures.enough (option_map (λ (s : Bor (List ℕ)). s.now) c.args.scope.main.known_as) (program_of (tree_of c.args.script.now)) c.in_ok-out.out c.in_ok-image.image c.args.weight c.in_ok-out.ensures c.in_ok-image.ensures.made c.requires.weight c.requires.small
 
 pub returns-clause-compiled : goal.returns-clause-compiled
 returns-clause-compiled c =
     let l = c.args.scope.library.now in
     let good : IsWell c.in_ok-image.image =
-    built_well (library_of l) (slots_of l) c.slot_count-slots.result c.slot_count-slots.ensures (option_map (λ (s : Bor (List ℕ)). s.now) c.args.scope.main.known_as) (program_of (tree_of c.args.script.now)) c.in_ok-out.out c.in_ok-image.image c.args.weight c.in_ok-out.ensures c.in_ok-image.ensures.made c.requires.weight c.requires.small in
+    built_well (library_of l) (slots_of l) c.slot_count-slots.result c.slot_count-slots.ensures.enough (option_map (λ (s : Bor (List ℕ)). s.now) c.args.scope.main.known_as) (program_of (tree_of c.args.script.now)) c.in_ok-out.out c.in_ok-image.image c.args.weight c.in_ok-out.ensures c.in_ok-image.ensures.made c.requires.weight c.requires.small in
     subst (λ (p : Program). IsCompiled (library_of l) (option_map (λ (s : Bor (List ℕ)). s.now) c.args.scope.main.known_as) (program_of (tree_of c.args.script.now)) p) (sym c.in_ok-verified.ensures.same)
-    (built (library_of l) (slots_of l) c.slot_count-slots.result c.slot_count-slots.ensures (option_map (λ (s : Bor (List ℕ)). s.now) c.args.scope.main.known_as) (program_of (tree_of c.args.script.now)) c.in_ok-out.out c.in_ok-image.image c.args.weight c.in_ok-out.ensures c.in_ok-image.ensures.made good c.requires.weight)
+    (built (library_of l) (slots_of l) c.slot_count-slots.result c.slot_count-slots.ensures.enough (option_map (λ (s : Bor (List ℕ)). s.now) c.args.scope.main.known_as) (program_of (tree_of c.args.script.now)) c.in_ok-out.out c.in_ok-image.image c.args.weight c.in_ok-out.ensures c.in_ok-image.ensures.made good c.requires.weight)

@@ -9,7 +9,7 @@ use Rattle.sieve_meaning.specs.Words.{command_word}
 use Rattle.sieve_meaning.specs.Reading.{block_in, program_of}
 use Rattle.filing_flow.specs.Structure.{size}
 use Rattle.filing_gen.specs.Emission.{commands_long, part_long}
-use Rattle.filing_gen.specs.declared.part.Part.{Part}
+use Rattle.sieve_meaning.specs.declared.branches.Part.{Part}
 use Rattle.filing_gen.proofs.Turns.{turn_long, end_long}
 use Rattle.filing_gen.proofs.size_commands.+sizes.Goals as goal
 

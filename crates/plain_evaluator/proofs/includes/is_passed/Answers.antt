@@ -1,5 +1,5 @@
 use Rattle.std.proofs.Common.{◌∙◌}
-use Rattle.plain_evaluator.specs.Scripts.{script_of}
+use Rattle.sieve_meaning.specs.Scripts.{script_of}
 use Rattle.plain_evaluator.proofs.IncludeLemmas.{among_names}
 use Rattle.plain_evaluator.proofs.includes.is_passed.Goals as goal
 

@@ -7,7 +7,7 @@ use Rattle.sieve_meaning.specs.Reading.{program_of}
 use Rattle.filing_gen.specs.Correct.{library_of}
 use Rattle.plain_evaluator.specs.Case.{facts_of}
 use Rattle.plain_evaluator.specs.Runs.{ending_at, entered, filing_of, includes_at}
-use Rattle.plain_evaluator.specs.Scripts.{asked, script_of}
+use Rattle.sieve_meaning.specs.Scripts.{asked, script_of}
 use Rattle.plain_evaluator.proofs.IncludeLemmas.{among_told, not_passed, included_active, included_entered}
 use Rattle.plain_evaluator.proofs.includes.run_include.Goals as goal
 

@@ -3,7 +3,7 @@ use Rattle.std.specs.Prelude.{option_map}
 use Rattle.sieve_syntax.specs.View.{tree_of}
 use Rattle.filing_gen.specs.Correct.{library_of}
 use Rattle.plain_evaluator.specs.Case.{facts_of}
-use Rattle.plain_evaluator.specs.Scripts.{script_of}
+use Rattle.sieve_meaning.specs.Scripts.{script_of}
 use Rattle.plain_evaluator.proofs.OutcomeLemmas.{outcome_of_run}
 use Rattle.plain_evaluator.proofs.outcome.evaluate.Goals as goal
 

@@ -2,35 +2,35 @@ use Rattle.std.proofs.Common.{◌≡◌, ◌++◌, [], ◌∷◌, length, take, 
 use Rattle.std.proofs.lemmas.Result.{on_ok_weaker}
 use Rattle.filing_flow.specs.Structure.{Flow}
 use Rattle.sieve_syntax.specs.View.{tree_of}
-use Rattle.sieve_meaning.specs.Meaning.{script_named}
-use Rattle.sieve_meaning.specs.Reading.{program_of, include_of}
+use Rattle.sieve_meaning.specs.Reading.{program_of}
+use Rattle.sieve_meaning.specs.Scripts.{asked, script_of}
 use Rattle.filing_gen.specs.Adds.{Emits}
 use Rattle.filing_gen.specs.Correct.{library_of}
 use Rattle.filing_gen.specs.Ends.{no_place, with_end}
 use Rattle.filing_gen.specs.Levels.{entered_flow}
-use Rattle.filing_gen.specs.Libraries.{script_at, slots_of}
+use Rattle.filing_gen.specs.Libraries.{slots_of}
 use Rattle.filing_gen.specs.Scopes.{names_of}
 use Rattle.filing_gen.proofs.Emitted.{grows}
 use Rattle.filing_gen.proofs.IncludesTypes.{entered_typed}
-use Rattle.filing_gen.proofs.LevelLemmas.{plain_entry, once_entry, plain_size, once_size, once_emitted, chain_is}
+use Rattle.filing_gen.proofs.LevelLemmas.{plain_entry, once_entry, plain_size, once_size, once_emitted}
 use Rattle.filing_gen.proofs.levels.IncludesLinker.emit.Goals as goal
 
 pub emit-requires-clause-room : goal.emit-requires-clause-room
 emit-requires-clause-room g c =
     let s = c.args.self.now in
-    let long = plain_size (library_of s.scope.library.now) (slots_of s.scope.library.now) (names_of s.scope.main) g.L.Level.depth (g.C.Chain.names s.chain.now) (include_of c.args.arguments.now) (program_of (tree_of c.in-Entry.script.now)) (script_at c.with-chain.result.location c.with-chain.result.name.now ∷ g.C.Chain.names c.with-chain.result.before.now) c.in-Entry.ensures.told (chain_is (script_at c.with-chain.result.location c.with-chain.result.name.now) (script_named (include_of c.args.arguments.now)) (g.C.Chain.names c.with-chain.result.before.now) (g.C.Chain.names s.chain.now) c.with-chain.ensures.name (ap g.C.Chain.names c.with-chain.ensures.before)) c.in-Entry.slot c.in-Entry.ensures.slot.0 (sym c.has_tag.ensures ∙ c.if-not-has_tag.true) in
+    let long = plain_size (library_of s.scope.library.now) (slots_of s.scope.library.now) (names_of s.scope.main) g.L.Level.depth (g.C.Chain.names s.chain.now) (asked c.args.include.now) (program_of (tree_of c.in-Entry.script.now)) c.in-Entry.ensures.told c.in-Entry.slot c.in-Entry.ensures.slot.0 c.if-not-include.true in
     (omega (arith, c.requires.0, long), omega (arith, c.requires.1, long), omega (arith, c.requires.2, long))
 
-pub returns-then-not-has_tag : goal.returns-then-not-has_tag
-returns-then-not-has_tag g c =
+pub returns-then-not-include : goal.returns-then-not-include
+returns-then-not-include g c =
     let s = c.args.self.now in
-    let is = plain_entry (library_of s.scope.library.now) (slots_of s.scope.library.now) (names_of s.scope.main) g.L.Level.depth (g.C.Chain.names s.chain.now) (include_of c.args.arguments.now) (program_of (tree_of c.in-Entry.script.now)) (script_at c.with-chain.result.location c.with-chain.result.name.now ∷ g.C.Chain.names c.with-chain.result.before.now) c.in-Entry.ensures.told (chain_is (script_at c.with-chain.result.location c.with-chain.result.name.now) (script_named (include_of c.args.arguments.now)) (g.C.Chain.names c.with-chain.result.before.now) (g.C.Chain.names s.chain.now) c.with-chain.ensures.name (ap g.C.Chain.names c.with-chain.ensures.before)) c.in-Entry.slot c.in-Entry.ensures.slot.0 (sym c.has_tag.ensures ∙ c.if-not-has_tag.true) in
+    let is = plain_entry (library_of s.scope.library.now) (slots_of s.scope.library.now) (names_of s.scope.main) g.L.Level.depth (g.C.Chain.names s.chain.now) (asked c.args.include.now) (program_of (tree_of c.in-Entry.script.now)) c.in-Entry.ensures.told c.in-Entry.slot c.in-Entry.ensures.slot.0 c.if-not-include.true in
     record { adds = on_ok_weaker c.emit.result (λ h ends. subst (λ (a : Flow). Emits c.args.out.now c.emit.new.out a ends) (sym is) (h ends)) c.emit.ensures.adds }
 
 pub emit-requires-2-clause-room : goal.emit-requires-2-clause-room
 emit-requires-2-clause-room g c =
     let s = c.args.self.now in
-    let long = once_size (library_of s.scope.library.now) (slots_of s.scope.library.now) (names_of s.scope.main) g.L.Level.depth (g.C.Chain.names s.chain.now) (include_of c.args.arguments.now) (program_of (tree_of c.in-Entry.script.now)) (script_at c.with-chain.result.location c.with-chain.result.name.now ∷ g.C.Chain.names c.with-chain.result.before.now) c.in-Entry.ensures.told (chain_is (script_at c.with-chain.result.location c.with-chain.result.name.now) (script_named (include_of c.args.arguments.now)) (g.C.Chain.names c.with-chain.result.before.now) (g.C.Chain.names s.chain.now) c.with-chain.ensures.name (ap g.C.Chain.names c.with-chain.ensures.before)) c.in-Entry.slot c.in-Entry.ensures.slot.0 (sym c.has_tag.ensures ∙ c.if-not-has_tag.false) in
+    let long = once_size (library_of s.scope.library.now) (slots_of s.scope.library.now) (names_of s.scope.main) g.L.Level.depth (g.C.Chain.names s.chain.now) (asked c.args.include.now) (program_of (tree_of c.in-Entry.script.now)) c.in-Entry.ensures.told c.in-Entry.slot c.in-Entry.ensures.slot.0 c.if-not-include.false in
     let p = c.in_ok-put.ensures in
     let q = c.in_ok-put-2.ensures in
     (omega (arith, c.requires.0, long, p.code, q.code), omega (arith, c.requires.1, long, p.texts, q.texts), omega (arith, c.requires.2, long, p.numbers, q.numbers))
@@ -38,19 +38,19 @@ emit-requires-2-clause-room g c =
 pub end_block-requires : goal.end_block-requires
 end_block-requires g c =
     let s = c.args.self.now in
-    let long = once_size (library_of s.scope.library.now) (slots_of s.scope.library.now) (names_of s.scope.main) g.L.Level.depth (g.C.Chain.names s.chain.now) (include_of c.args.arguments.now) (program_of (tree_of c.in-Entry.script.now)) (script_at c.with-chain.result.location c.with-chain.result.name.now ∷ g.C.Chain.names c.with-chain.result.before.now) c.in-Entry.ensures.told (chain_is (script_at c.with-chain.result.location c.with-chain.result.name.now) (script_named (include_of c.args.arguments.now)) (g.C.Chain.names c.with-chain.result.before.now) (g.C.Chain.names s.chain.now) c.with-chain.ensures.name (ap g.C.Chain.names c.with-chain.ensures.before)) c.in-Entry.slot c.in-Entry.ensures.slot.0 (sym c.has_tag.ensures ∙ c.if-not-has_tag.false) in
+    let long = once_size (library_of s.scope.library.now) (slots_of s.scope.library.now) (names_of s.scope.main) g.L.Level.depth (g.C.Chain.names s.chain.now) (asked c.args.include.now) (program_of (tree_of c.in-Entry.script.now)) c.in-Entry.ensures.told c.in-Entry.slot c.in-Entry.ensures.slot.0 c.if-not-include.false in
     let p = c.in_ok-put.ensures in
     let q = c.in_ok-put-2.ensures in
-    let r = grows c.put-3.new.out c.emit-2.new.out (entered_flow (library_of s.scope.library.now) (slots_of s.scope.library.now) (names_of s.scope.main) g.L.Level.depth (script_at c.with-chain.result.location c.with-chain.result.name.now ∷ g.C.Chain.names c.with-chain.result.before.now) c.in-Entry.slot (program_of (tree_of c.in-Entry.script.now))) [] (c.in_ok-emit.ensures.adds []) in
+    let r = grows c.put-3.new.out c.emit-2.new.out (entered_flow (library_of s.scope.library.now) (slots_of s.scope.library.now) (names_of s.scope.main) g.L.Level.depth (script_of c.args.include.now.script ∷ g.C.Chain.names s.chain.now) c.in-Entry.slot (program_of (tree_of c.in-Entry.script.now))) [] (c.in_ok-emit.ensures.adds []) in
     record { start = omega (arith, c.len-start.ensures, c.args.out.now.code.ok.0, p.code, q.code, r.code); room = omega (arith, c.requires.0, long, p.code, q.code, r.code) }
 
 pub returns : goal.returns
 returns g c =
     let s = c.args.self.now in
     let w = c.emit-2.new.out in
-    let a = entered_flow (library_of s.scope.library.now) (slots_of s.scope.library.now) (names_of s.scope.main) g.L.Level.depth (script_at c.with-chain.result.location c.with-chain.result.name.now ∷ g.C.Chain.names c.with-chain.result.before.now) c.in-Entry.slot (program_of (tree_of c.in-Entry.script.now)) in
-    let is = once_entry (library_of s.scope.library.now) (slots_of s.scope.library.now) (names_of s.scope.main) g.L.Level.depth (g.C.Chain.names s.chain.now) (include_of c.args.arguments.now) (program_of (tree_of c.in-Entry.script.now)) (script_at c.with-chain.result.location c.with-chain.result.name.now ∷ g.C.Chain.names c.with-chain.result.before.now) c.in-Entry.ensures.told (chain_is (script_at c.with-chain.result.location c.with-chain.result.name.now) (script_named (include_of c.args.arguments.now)) (g.C.Chain.names c.with-chain.result.before.now) (g.C.Chain.names s.chain.now) c.with-chain.ensures.name (ap g.C.Chain.names c.with-chain.ensures.before)) c.in-Entry.slot c.in-Entry.ensures.slot.0 (sym c.has_tag.ensures ∙ c.if-not-has_tag.false) in
-    let long = once_size (library_of s.scope.library.now) (slots_of s.scope.library.now) (names_of s.scope.main) g.L.Level.depth (g.C.Chain.names s.chain.now) (include_of c.args.arguments.now) (program_of (tree_of c.in-Entry.script.now)) (script_at c.with-chain.result.location c.with-chain.result.name.now ∷ g.C.Chain.names c.with-chain.result.before.now) c.in-Entry.ensures.told (chain_is (script_at c.with-chain.result.location c.with-chain.result.name.now) (script_named (include_of c.args.arguments.now)) (g.C.Chain.names c.with-chain.result.before.now) (g.C.Chain.names s.chain.now) c.with-chain.ensures.name (ap g.C.Chain.names c.with-chain.ensures.before)) c.in-Entry.slot c.in-Entry.ensures.slot.0 (sym c.has_tag.ensures ∙ c.if-not-has_tag.false) in
+    let a = entered_flow (library_of s.scope.library.now) (slots_of s.scope.library.now) (names_of s.scope.main) g.L.Level.depth (script_of c.args.include.now.script ∷ g.C.Chain.names s.chain.now) c.in-Entry.slot (program_of (tree_of c.in-Entry.script.now)) in
+    let is = once_entry (library_of s.scope.library.now) (slots_of s.scope.library.now) (names_of s.scope.main) g.L.Level.depth (g.C.Chain.names s.chain.now) (asked c.args.include.now) (program_of (tree_of c.in-Entry.script.now)) c.in-Entry.ensures.told c.in-Entry.slot c.in-Entry.ensures.slot.0 c.if-not-include.false in
+    let long = once_size (library_of s.scope.library.now) (slots_of s.scope.library.now) (names_of s.scope.main) g.L.Level.depth (g.C.Chain.names s.chain.now) (asked c.args.include.now) (program_of (tree_of c.in-Entry.script.now)) c.in-Entry.ensures.told c.in-Entry.slot c.in-Entry.ensures.slot.0 c.if-not-include.false in
     let p = c.in_ok-put.ensures in
     let q = c.in_ok-put-2.ensures in
     let r = grows c.put-3.new.out w a [] (c.in_ok-emit.ensures.adds []) in
@@ -59,7 +59,7 @@ returns g c =
       adds = λ ends.
           subst (λ (b : Flow). Emits c.args.out.now c.end_block.new.out b ends) (sym is)
           (once_emitted c.args.out.now c.put-2.new.out c.put-3.new.out w c.end_block.new.out c.in-Entry.slot a
-          (entered_typed (library_of s.scope.library.now) (slots_of s.scope.library.now) (names_of s.scope.main) g.L.Level.depth (script_at c.with-chain.result.location c.with-chain.result.name.now ∷ g.C.Chain.names c.with-chain.result.before.now) c.in-Entry.slot (program_of (tree_of c.in-Entry.script.now)))
+          (entered_typed (library_of s.scope.library.now) (slots_of s.scope.library.now) (names_of s.scope.main) g.L.Level.depth (script_of c.args.include.now.script ∷ g.C.Chain.names s.chain.now) c.in-Entry.slot (program_of (tree_of c.in-Entry.script.now)))
           c.in_ok-put.ensures.adds c.in_ok-put-2.ensures.adds (c.in_ok-emit.ensures.adds (no_place ∷ [])) (omega (arith, c.requires.0, long, p.code, q.code, r.code))
           (record {
             code = c.end_block.ensures.code ∙ ap (λ n. take n w.code.items ++ map (with_end (length w.code.items)) (drop n w.code.items)) begins;

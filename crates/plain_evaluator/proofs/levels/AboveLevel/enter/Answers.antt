@@ -3,7 +3,7 @@ use Rattle.sieve_syntax.specs.View.{tree_of}
 use Rattle.filing_gen.specs.Correct.{library_of}
 use Rattle.plain_evaluator.specs.Case.{facts_of}
 use Rattle.plain_evaluator.specs.Runs.{ending_at, filing_of}
-use Rattle.plain_evaluator.specs.Scripts.{asked, script_of}
+use Rattle.sieve_meaning.specs.Scripts.{asked, script_of}
 use Rattle.plain_evaluator.specs.declared.filing.Filing.{Filing}
 use Rattle.plain_evaluator.proofs.IncludeLemmas.{entered_runs, filing_entered}
 use Rattle.plain_evaluator.proofs.levels.AboveLevel.enter.Goals as goal
