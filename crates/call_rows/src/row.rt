@@ -9,11 +9,12 @@
 //! - `personal NAME TEXT` and `global NAME TEXT` keep a script in a location, in the place of one of that name;
 //! - `forget` takes all scripts out.
 //!
-//! In texts and answers `\n`, `\r`, `\s` (a space) and `\xHH` are octets, and a backslash before another octet is left out.
-//! Empty lines and those that begin with `#` are passed over.
+//! In texts and answers `\n`, `\r`, `\s` (a space) and `\xHH` are octets, and a backslash before another octet is left out
+//! (`row_text`). Empty lines and those that begin with `#` are passed over.
 
 use crate::call::Call;
 use anyhow::{Context, Result};
+use row_text::octets_of;
 use std::alloc::{AllocError, Global};
 
 /// A call, its texts, and what it is to answer.
@@ -53,79 +54,12 @@ impl Row {
     }
 }
 
-/// The value of a hexadecimal digit; 0 for another octet.
-fn hex_value(octet: u8) -> u8 {
-    match octet {
-        b'0'..=b'9' => octet - b'0',
-        b'A'..=b'F' => octet - b'A' + 10,
-        b'a'..=b'f' => octet - b'a' + 10,
-        _ => 0,
-    }
-}
-
-/// What an escaped octet stands for.
-fn escaped(octet: u8) -> u8 {
-    match octet {
-        b'n' => b'\n',
-        b'r' => b'\r',
-        b's' => b' ',
-        _ => octet,
-    }
-}
-
-/// Where in an escape a text stands.
-#[derive(Clone, Copy)]
-enum Escape {
-    None,
-    Begun,
-    Hex,
-    HexDigit(u8),
-}
-
-impl Escape {
-    /// Where the text stands behind an octet, and the octet that it has read by then.
-    fn read(self, octet: u8) -> (Escape, Option<u8>) {
-        match self {
-            Escape::None if octet == b'\\' => (Escape::Begun, None),
-            Escape::None => (Escape::None, Some(octet)),
-            Escape::Begun if octet == b'x' => (Escape::Hex, None),
-            Escape::Begun => (Escape::None, Some(escaped(octet))),
-            Escape::Hex => (Escape::HexDigit(hex_value(octet)), None),
-            Escape::HexDigit(high) => {
-                let octet = high.wrapping_mul(16).wrapping_add(hex_value(octet));
-                (Escape::None, Some(octet))
-            }
-        }
-    }
-}
-
-/// The octets of a text with escapes.
-fn octets_of(alloc: Global, text: &str) -> Result<Vec<u8>, AllocError> {
-    let mut octets = Vec::new(alloc);
-    let mut escape = Escape::None;
-    for octet in text.as_bytes() {
-        let (next, read) = escape.read(*octet);
-        escape = next;
-        if let Some(octet) = read {
-            octets.push(octet)?;
-        }
-    }
-    Ok(octets)
-}
-
-/// Adds octets so many times.
-fn repeat(octets: &mut Vec<u8>, times: usize, piece: &[u8]) -> Result<(), AllocError> {
-    for _ in 0..times {
-        octets.extend_from_slice(piece)?;
-    }
-    Ok(())
-}
-
 /// Adds the text of a line `more`.
 pub fn add_more(alloc: Global, front: &mut Vec<u8>, more: &str) -> Result<()> {
     let (times, text) = more.split_once(' ').context("a text is missing")?;
     let times: usize = times.parse().context("a number is wrong")?;
-    Ok(repeat(front, times, octets_of(alloc, text)?.as_slice())?)
+    let texts = octets_of(alloc, text)?.as_slice().repeat(alloc, times)?;
+    Ok(front.extend_from_slice(texts.as_slice())?)
 }
 
 /// The octets of a text behind others.

@@ -11,10 +11,11 @@
 //!   `messages N TEXT` one of TEXT N times;
 //! - `want TEXT` is a line that is to be answered, and `wants N TEXT` N such lines.
 //!
-//! In TEXT `\n`, `\r`, `\s` (a space) and `\xHH` are octets, and a backslash before another octet is left out. Empty lines and
-//! those that begin with `#` are passed over.
+//! In TEXT `\n`, `\r`, `\s` (a space) and `\xHH` are octets, and a backslash before another octet is left out (`row_text`).
+//! Empty lines and those that begin with `#` are passed over.
 
 use anyhow::{Context, Result, bail};
+use row_text::{hex_value, octets_of};
 use std::alloc::{AllocError, Global};
 
 /// A session and the lines that it is to be answered.
@@ -80,60 +81,6 @@ impl Case {
     }
 }
 
-/// Where in an escape a text stands.
-#[derive(Clone, Copy)]
-enum Escape {
-    None,
-    Begun,
-    Hex,
-    HexDigit(u8),
-}
-
-/// The value of a hexadecimal digit; 0 for another octet.
-fn hex_value(octet: u8) -> u8 {
-    match octet {
-        b'0'..=b'9' => octet - b'0',
-        b'A'..=b'F' => octet - b'A' + 10,
-        b'a'..=b'f' => octet - b'a' + 10,
-        _ => 0,
-    }
-}
-
-/// The octets of a text with escapes.
-fn octets_of(alloc: Global, text: &str) -> Result<Vec<u8>, AllocError> {
-    let mut octets = Vec::new(alloc);
-    let mut escape = Escape::None;
-    for octet in text.as_bytes() {
-        let octet = *octet;
-        escape = match (escape, octet) {
-            (Escape::None, b'\\') => Escape::Begun,
-            (Escape::Begun, b'x') => Escape::Hex,
-            (Escape::Hex, _) => Escape::HexDigit(hex_value(octet)),
-            (Escape::HexDigit(high), _) => {
-                octets.push(high.wrapping_mul(16).wrapping_add(hex_value(octet)))?;
-                Escape::None
-            }
-            (Escape::Begun, b'n') => {
-                octets.push(b'\n')?;
-                Escape::None
-            }
-            (Escape::Begun, b'r') => {
-                octets.push(b'\r')?;
-                Escape::None
-            }
-            (Escape::Begun, b's') => {
-                octets.push(b' ')?;
-                Escape::None
-            }
-            (Escape::None | Escape::Begun, _) => {
-                octets.push(octet)?;
-                Escape::None
-            }
-        };
-    }
-    Ok(octets)
-}
-
 /// The octets of hexadecimal digits; spaces between them are passed over.
 fn hex_octets(alloc: Global, text: &str) -> Result<Vec<u8>, AllocError> {
     let mut octets = Vec::new(alloc);
@@ -150,20 +97,18 @@ fn hex_octets(alloc: Global, text: &str) -> Result<Vec<u8>, AllocError> {
     Ok(octets)
 }
 
-/// Adds octets so many times.
-fn repeat(octets: &mut Vec<u8>, times: usize, piece: &[u8]) -> Result<(), AllocError> {
-    for _ in 0..times {
-        octets.extend_from_slice(piece)?;
-    }
-    Ok(())
-}
-
 /// A number, and the text after it.
 fn numbered(text: &str) -> Result<(usize, &str)> {
     let (number, rest) = text
         .split_once(' ')
         .context("a number and a text are missing")?;
     Ok((number.parse().context("a number is wrong")?, rest))
+}
+
+/// The octets of a text, as often as the number before it says.
+fn repeated(alloc: Global, text: &str) -> Result<Vec<u8>> {
+    let (times, text) = numbered(text)?;
+    Ok(octets_of(alloc, text)?.as_slice().repeat(alloc, times)?)
 }
 
 /// Adds a text for each number of a range.
@@ -180,22 +125,20 @@ fn count(alloc: Global, octets: &mut Vec<u8>, first: usize, last: usize, text: &
     Ok(())
 }
 
-/// Adds a line that is to be answered.
+/// Adds a line that is to be answered, so many times.
 fn want(alloc: Global, case: &mut Case, times: usize, text: &str) -> Result<(), AllocError> {
     let mut line = octets_of(alloc, text)?;
     line.push(b'\n')?;
-    repeat(&mut case.wanted, times, line.as_slice())
+    let lines = line.as_slice().repeat(alloc, times)?;
+    case.wanted.extend_from_slice(lines.as_slice())
 }
 
 /// Reads a line of a case.
 pub fn read_line(alloc: Global, case: &mut Case, line: &str) -> Result<()> {
     let (word, text) = line.split_once(' ').unwrap_or((line, ""));
     match word {
-        "send" => repeat(&mut case.input, 1, octets_of(alloc, text)?.as_slice())?,
-        "times" => {
-            let (times, text) = numbered(text)?;
-            repeat(&mut case.input, times, octets_of(alloc, text)?.as_slice())?;
-        }
+        "send" => case.input.extend_from_slice(octets_of(alloc, text)?.as_slice())?,
+        "times" => case.input.extend_from_slice(repeated(alloc, text)?.as_slice())?,
         "count" => {
             let (first, text) = numbered(text)?;
             let (last, text) = numbered(text)?;
@@ -207,20 +150,9 @@ pub fn read_line(alloc: Global, case: &mut Case, line: &str) -> Result<()> {
         }
         "script" => case.set_program("FILE", octets_of(alloc, text)?),
         "image" => case.set_program("TRY", hex_octets(alloc, text)?),
-        "more" => {
-            let (times, text) = numbered(text)?;
-            repeat(&mut case.program, times, octets_of(alloc, text)?.as_slice())?;
-        }
-        "message" => {
-            let message = octets_of(alloc, text)?;
-            case.file(alloc, message.as_slice())?;
-        }
-        "messages" => {
-            let (times, text) = numbered(text)?;
-            let mut message = Vec::new(alloc);
-            repeat(&mut message, times, octets_of(alloc, text)?.as_slice())?;
-            case.file(alloc, message.as_slice())?;
-        }
+        "more" => case.program.extend_from_slice(repeated(alloc, text)?.as_slice())?,
+        "message" => case.file(alloc, octets_of(alloc, text)?.as_slice())?,
+        "messages" => case.file(alloc, repeated(alloc, text)?.as_slice())?,
         "want" => want(alloc, case, 1, text)?,
         "wants" => {
             let (times, text) = numbered(text)?;

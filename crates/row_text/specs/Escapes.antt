@@ -1,0 +1,35 @@
+-- Texts with escapes.
+use Rattle.std.specs.Prelude.{ℕ, ◌+◌, ◌-◌, ◌*◌, List, [], ◌∷◌, Bool, ◌&&◌, ◌==◌, nat_le, if◌then◌else◌}
+
+-- whether an octet is in a range
+abbrev pub is_between : (least most octet : ℕ) → Bool
+is_between least most octet = nat_le least octet && nat_le octet most
+
+-- the value of a hexadecimal digit, and 0 for another octet
+abbrev pub hex_value : ℕ → ℕ
+hex_value b =
+    if is_between 48 57 b then b - 48
+    else if is_between 65 70 b then b - 55
+    else if is_between 97 102 b then b - 87
+    else 0
+
+-- what an octet behind a backslash stands for: `n`, `r` and `s` for LF, CR and a space, and another one for itself
+abbrev pub escaped : ℕ → ℕ
+escaped b = if b == 110 then 10 else if b == 114 then 13 else if b == 115 then 32 else b
+
+abbrev mutual
+  -- the octets that a text stands for
+  pub unescaped : List ℕ → List ℕ
+  unescaped [] = []
+  unescaped (b ∷ bs) = if b == 92 then behind_backslash bs else b ∷ unescaped bs
+
+  -- and a text behind a backslash
+  pub behind_backslash : List ℕ → List ℕ
+  behind_backslash [] = []
+  behind_backslash (b ∷ bs) = if b == 120 then behind_x bs else escaped b ∷ unescaped bs
+
+  -- and behind `\x`: two digits
+  pub behind_x : List ℕ → List ℕ
+  behind_x [] = []
+  behind_x (high ∷ []) = []
+  behind_x (high ∷ low ∷ bs) = (hex_value high * 16 + hex_value low) ∷ unescaped bs
