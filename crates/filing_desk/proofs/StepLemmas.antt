@@ -1,4 +1,4 @@
--- Laws of steps that a session needs.
+-- A step that keeps a global script.
 use Rattle.std.proofs.Common.{◌≡◌, ℕ, List, refl, ap, subst}
 use Rattle.sieve_syntax.specs.View.{tree_of}
 use Rattle.sieve_syntax.specs.declared.tree.Script.{Script}

@@ -46,8 +46,8 @@ Rises before now = min (before + 1) (2 ^ 64 - 1) ≤ now
 abbrev pub GivesUp : (troubles failures troubles' failures' : ℕ) → Type 0
 GivesUp troubles failures troubles' failures' = min (64 * failures + troubles + 64) (2 ^ 64 - 1) ≤ 64 * failures' + troubles'
 
--- what a result tells of the troubles that were met before it, by their counts: after a fault some call failed or 64 were
--- interrupted, and else none failed
+-- What a result tells of the troubles that were met before it, by their counts: after a fault some call failed or 64 were
+-- interrupted, and else none failed. No trouble is forgotten.
 abbrev pub TellsTroubles : {V T F : Type 0} → (troubles failures : V → ℕ) → Result T F → (old new : V) → Type 0
 TellsTroubles troubles failures result old new = record {
   rises : troubles old ≤ troubles new;
@@ -55,7 +55,7 @@ TellsTroubles troubles failures result old new = record {
   outlasts : OnOk result (failures new ≡ failures old);
 }
 
--- where the input is said to have ended, a read told so, by the counts of such reads before and now
+-- where the input is said to have ended, a read told so, by the counts of such reads before and now; none is forgotten
 abbrev pub TellsEnd : (ended : Type 0) → (before now : ℕ) → Type 0
 TellsEnd ended before now = record {
   rises : before ≤ now;
