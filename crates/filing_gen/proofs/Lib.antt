@@ -5,7 +5,9 @@ mod Compiled
 mod Emitted
 mod EndedBlocks
 mod EmittedTests
+mod Jumps
 mod Turns
+mod Chains
 mod Written
 mod WeightLemmas
 mod Includes

@@ -1,5 +1,6 @@
 -- Commands of the tree that were written one after the other.
 use Rattle.std.proofs.Common.{◌≡◌, ℕ, suc, ◌+◌, ◌≤◌, List, [], ◌∷◌, ◌++◌, Bool, true, false, length, map, refl, sym, ap, ◌∙◌, subst, arith, append-nil, drop, get_or, ◌<◌, Vec, Global}
+use Rattle.std.specs.Prelude.{if◌then◌else◌}
 use Rattle.filing_image.specs.declared.instruction.Operation.{Operation}
 use Rattle.filing_image.specs.declared.instruction.Operation.TheVariants.{Jump, JumpUnless}
 use Rattle.sieve_syntax.specs.Tree.{CommandTree, command, CommandTrees, no_commands, InnerTests, EndingTree}
@@ -21,11 +22,11 @@ use Rattle.filing_gen.specs.Structured.{test_flow, flow, flow_one, branches_flow
 use Rattle.filing_flow.specs.Whole.{first, whole}
 use Rattle.filing_gen.specs.Adds.{Adds, Emits, IsCode, end_of}
 use Rattle.sieve_meaning.specs.Branching.{part_of, is_branch}
-use Rattle.filing_gen.specs.Emission.{commands_long, one_long, branches_long, plain_long, part_long, long_from, plain_flow, part_flow, part_ends, rest_flow, chain_end, EmitsPart}
+use Rattle.filing_gen.specs.Emission.{commands_long, one_long, branches_long, plain_long, part_long, long_from, plain_flow, part_flow, part_ends, rest_flow, is_apart, EmitsPart}
 use Rattle.filing_gen.specs.declared.output.Output.{Output}
 use Rattle.sieve_meaning.specs.declared.branches.Part.{Part}
 use Rattle.sieve_meaning.specs.declared.branches.Part.TheVariants.{Branch, Otherwise, Plain}
-use Rattle.filing_gen.proofs.Emitted.{adds_then, same_start, after_joined, joined_assoc, emits_sequence, emits_block, emits_nothing, end_is, Grows, grows, turn, no_turn}
+use Rattle.filing_gen.proofs.Emitted.{adds_then, same_start, after_joined, joined_assoc, emits_sequence, emits_block, emits_nothing, end_is, Grows, grows, turn}
 
 -- how many operations commands take, wherever `return` goes
 module _ (g : Include → Flow) where
@@ -50,7 +51,7 @@ module _ (g : Include → Flow) where
     branches_are_long n (program.if_then t xs bs) = omega (arith, flow_long (suc n) xs, branches_are_long n bs)
 
 -- one command before others
-pub long_then : (w : Include → ℕ) (word : CommandWord) (is_open : Bool) (name : List ℕ) (args : List Argument) (inner : InnerTests) (finish : EndingTree) (more : CommandTrees) → command_word name ≡ word
+long_then : (w : Include → ℕ) (word : CommandWord) (is_open : Bool) (name : List ℕ) (args : List Argument) (inner : InnerTests) (finish : EndingTree) (more : CommandTrees) → command_word name ≡ word
     → long_from w is_open (trees.command_then (command name args inner finish) more) ≡ part_long w (part_of word is_open) (command name args inner finish) + long_from w (is_branch (part_of word is_open)) more
 long_then w words.If true name args inner finish more is = rw is (omega arith)
 long_then w words.If false name args inner finish more is = rw is (omega arith)
@@ -74,6 +75,36 @@ long_then w words.Include true name args inner finish more is = rw is (omega ari
 long_then w words.Include false name args inner finish more is = rw is (omega arith)
 long_then w words.Other true name args inner finish more is = rw is (omega arith)
 long_then w words.Other false name args inner finish more is = rw is (omega arith)
+
+-- how many operations open branches still take
+abbrev pub open_long : (Include → ℕ) → (is_open : Bool) → CommandTrees → ℕ
+open_long w true cs = branches_long w (branches_of cs)
+open_long w false cs = 0
+
+pub open_then : (w : Include → ℕ) (word : CommandWord) (is_open : Bool) (name : List ℕ) (args : List Argument) (inner : InnerTests) (finish : EndingTree) (more : CommandTrees) → command_word name ≡ word
+    → open_long w is_open (trees.command_then (command name args inner finish) more) ≡ (if is_apart word (part_of word is_open) then 0 else part_long w (part_of word is_open) (command name args inner finish) + open_long w (is_branch (part_of word is_open)) more)
+open_then w words.If true name args inner finish more is = rw is refl
+open_then w words.If false name args inner finish more is = refl
+open_then w words.ElsIf true name args inner finish more is = rw is (omega arith)
+open_then w words.ElsIf false name args inner finish more is = refl
+open_then w words.Else true name args inner finish more is = rw is (omega arith)
+open_then w words.Else false name args inner finish more is = refl
+open_then w words.Require true name args inner finish more is = rw is refl
+open_then w words.Require false name args inner finish more is = refl
+open_then w words.Stop true name args inner finish more is = rw is refl
+open_then w words.Stop false name args inner finish more is = refl
+open_then w words.Keep true name args inner finish more is = rw is refl
+open_then w words.Keep false name args inner finish more is = refl
+open_then w words.Discard true name args inner finish more is = rw is refl
+open_then w words.Discard false name args inner finish more is = refl
+open_then w words.Return true name args inner finish more is = rw is refl
+open_then w words.Return false name args inner finish more is = refl
+open_then w words.FileInto true name args inner finish more is = rw is refl
+open_then w words.FileInto false name args inner finish more is = refl
+open_then w words.Include true name args inner finish more is = rw is refl
+open_then w words.Include false name args inner finish more is = refl
+open_then w words.Other true name args inner finish more is = rw is refl
+open_then w words.Other false name args inner finish more is = refl
 
 -- nothing was written
 after_nothing : (x y z : Output) (a : Flow) (ends : List ℕ) → Emits x y nothing ends → Emits y z a ends → Emits x z a ends
@@ -133,102 +164,61 @@ pub part_grows : (g : Include → Flow) (back : ℕ) (part : Part) (end : ℕ) (
 part_grows g back part end c x y e = subst (λ (n : ℕ). Grows x y n) (part_is_long g 0 part c) (grows x y (part_flow g 0 part c) (part_ends part end (back ∷ [])) (e 0 (back ∷ []) refl))
 
 module _ (g : Include → Flow) (back : ℕ) (x y : Output) where
-  abbrev own_end : CommandTree → CommandTrees → ℕ
-  own_end c more = length x.code.items + (part_long (λ i. size (g i)) Branch c + branches_long (λ i. size (g i)) (branches_of more))
-
-  -- the end that is known where branches are open
-  abbrev KnownEnd : Bool → ℕ → CommandTrees → Output → Type 0
-  KnownEnd is_open end cs o = is_open ≡ true → end ≡ length o.code.items + branches_long (λ i. size (g i)) (branches_of cs)
-
   -- once what is behind a command is written, the whole is
-  part_emits : (word : CommandWord) (is_open : Bool) (end : ℕ) (name : List ℕ) (args : List Argument) (inner : InnerTests) (finish : EndingTree) (more : CommandTrees) → command_word name ≡ word
-      → KnownEnd is_open end (trees.command_then (command name args inner finish) more) x
-      → EmitsPart g back (part_of word is_open) (chain_end word (own_end (command name args inner finish) more) end) (command name args inner finish) x y
-      → (n : ℕ) (ends : List ℕ) (z : Output) → end_at ends n ≡ back → Emits y z (rest_flow g n (is_branch (part_of word is_open)) more) ends → Emits x z (rest_flow g n is_open (trees.command_then (command name args inner finish) more)) ends
-  part_emits words.If true end name args inner finish more is known e n ends z eq k = rw is (none_open x z (sequence (block (branches_flow g (suc n) (program.if_then (only_in inner) (block_in finish) (branches_of more)))) (flow g n (program_of more))) ends (first_of_block x y z (branch_flow g (suc n) (only_in inner) (block_in finish)) (branches_flow g (suc n) (branches_of more)) (flow g n (program_of more)) (own_end (command name args inner finish) more) ends (omega (arith, flow_long g (suc (suc n)) (block_in finish), branches_are_long g (suc n) (branches_of more))) (e n ends eq) k))
-  part_emits words.If false end name args inner finish more is known e n ends z eq k = rw is (first_of_block x y z (branch_flow g (suc n) (only_in inner) (block_in finish)) (branches_flow g (suc n) (branches_of more)) (flow g n (program_of more)) (own_end (command name args inner finish) more) ends (omega (arith, flow_long g (suc (suc n)) (block_in finish), branches_are_long g (suc n) (branches_of more))) (e n ends eq) k)
-  part_emits words.ElsIf true end name args inner finish more is known e n ends z eq k = rw is (let at = rw is at (known refl) in first_of_block x y z (branch_flow g (suc n) (only_in inner) (block_in finish)) (branches_flow g (suc n) (branches_of more)) (flow g n (program_of more)) end ends (omega (arith, at, flow_long g (suc (suc n)) (block_in finish), branches_are_long g (suc n) (branches_of more))) (e n ends eq) k)
-  part_emits words.ElsIf false end name args inner finish more is known e n ends z eq k = rw is (after_nothing x y z (flow g n (program_of more)) ends ((rw is at e) n ends eq) k)
-  part_emits words.Else true end name args inner finish more is known e n ends z eq k = rw is (let at = rw is at (known refl) in emits_sequence x y z (block (flow g (suc n) (block_in finish))) (flow g n (program_of more)) ends (emits_block x y (flow g (suc n) (block_in finish)) ends end (omega (arith, at, flow_long g (suc n) (block_in finish))) (e n ends eq)) k)
-  part_emits words.Else false end name args inner finish more is known e n ends z eq k = rw is (after_nothing x y z (flow g n (program_of more)) ends ((rw is at e) n ends eq) k)
-  part_emits words.Require true end name args inner finish more is known e n ends z eq k = rw is (none_open x z (sequence (plain_flow g n words.Require args) (flow g n (program_of more))) ends (emits_sequence x y z (plain_flow g n words.Require args) (flow g n (program_of more)) ends ((rw is at e) n ends eq) k))
-  part_emits words.Require false end name args inner finish more is known e n ends z eq k = rw is (emits_sequence x y z (plain_flow g n words.Require args) (flow g n (program_of more)) ends ((rw is at e) n ends eq) k)
-  part_emits words.Stop true end name args inner finish more is known e n ends z eq k = rw is (none_open x z (sequence (plain_flow g n words.Stop args) (flow g n (program_of more))) ends (emits_sequence x y z (plain_flow g n words.Stop args) (flow g n (program_of more)) ends ((rw is at e) n ends eq) k))
-  part_emits words.Stop false end name args inner finish more is known e n ends z eq k = rw is (emits_sequence x y z (plain_flow g n words.Stop args) (flow g n (program_of more)) ends ((rw is at e) n ends eq) k)
-  part_emits words.Keep true end name args inner finish more is known e n ends z eq k = rw is (none_open x z (sequence (plain_flow g n words.Keep args) (flow g n (program_of more))) ends (emits_sequence x y z (plain_flow g n words.Keep args) (flow g n (program_of more)) ends ((rw is at e) n ends eq) k))
-  part_emits words.Keep false end name args inner finish more is known e n ends z eq k = rw is (emits_sequence x y z (plain_flow g n words.Keep args) (flow g n (program_of more)) ends ((rw is at e) n ends eq) k)
-  part_emits words.Discard true end name args inner finish more is known e n ends z eq k = rw is (none_open x z (sequence (plain_flow g n words.Discard args) (flow g n (program_of more))) ends (emits_sequence x y z (plain_flow g n words.Discard args) (flow g n (program_of more)) ends ((rw is at e) n ends eq) k))
-  part_emits words.Discard false end name args inner finish more is known e n ends z eq k = rw is (emits_sequence x y z (plain_flow g n words.Discard args) (flow g n (program_of more)) ends ((rw is at e) n ends eq) k)
-  part_emits words.Return true end name args inner finish more is known e n ends z eq k = rw is (none_open x z (sequence (plain_flow g n words.Return args) (flow g n (program_of more))) ends (emits_sequence x y z (plain_flow g n words.Return args) (flow g n (program_of more)) ends ((rw is at e) n ends eq) k))
-  part_emits words.Return false end name args inner finish more is known e n ends z eq k = rw is (emits_sequence x y z (plain_flow g n words.Return args) (flow g n (program_of more)) ends ((rw is at e) n ends eq) k)
-  part_emits words.FileInto true end name args inner finish more is known e n ends z eq k = rw is (none_open x z (sequence (plain_flow g n words.FileInto args) (flow g n (program_of more))) ends (emits_sequence x y z (plain_flow g n words.FileInto args) (flow g n (program_of more)) ends ((rw is at e) n ends eq) k))
-  part_emits words.FileInto false end name args inner finish more is known e n ends z eq k = rw is (emits_sequence x y z (plain_flow g n words.FileInto args) (flow g n (program_of more)) ends ((rw is at e) n ends eq) k)
-  part_emits words.Include true end name args inner finish more is known e n ends z eq k = rw is (none_open x z (sequence (plain_flow g n words.Include args) (flow g n (program_of more))) ends (emits_sequence x y z (plain_flow g n words.Include args) (flow g n (program_of more)) ends ((rw is at e) n ends eq) k))
-  part_emits words.Include false end name args inner finish more is known e n ends z eq k = rw is (emits_sequence x y z (plain_flow g n words.Include args) (flow g n (program_of more)) ends ((rw is at e) n ends eq) k)
-  part_emits words.Other true end name args inner finish more is known e n ends z eq k = rw is (none_open x z (flow g n (program_of more)) ends (after_nothing x y z (flow g n (program_of more)) ends ((rw is at e) n ends eq) k))
-  part_emits words.Other false end name args inner finish more is known e n ends z eq k = rw is (after_nothing x y z (flow g n (program_of more)) ends ((rw is at e) n ends eq) k)
-
-  -- the end that is known behind it
-  part_end : (word : CommandWord) (is_open : Bool) (end : ℕ) (name : List ℕ) (args : List Argument) (inner : InnerTests) (finish : EndingTree) (more : CommandTrees) → command_word name ≡ word
-      → KnownEnd is_open end (trees.command_then (command name args inner finish) more) x
+  part_emits : (word : CommandWord) (is_open : Bool) (name : List ℕ) (args : List Argument) (inner : InnerTests) (finish : EndingTree) (more : CommandTrees) → command_word name ≡ word
       → length y.code.items ≡ length x.code.items + part_long (λ i. size (g i)) (part_of word is_open) (command name args inner finish)
-      → KnownEnd (is_branch (part_of word is_open)) (chain_end word (own_end (command name args inner finish) more) end) more y
-  part_end words.If true end name args inner finish more is known grown opened = omega (arith, grown)
-  part_end words.If false end name args inner finish more is known grown opened = omega (arith, grown)
-  part_end words.ElsIf true end name args inner finish more is known grown opened = let at = rw is at (known refl) in omega (arith, grown, at)
-  part_end words.ElsIf false end name args inner finish more is known grown opened = absurd (cc opened)
-  part_end words.Else true end name args inner finish more is known grown opened = absurd (cc opened)
-  part_end words.Else false end name args inner finish more is known grown opened = absurd (cc opened)
-  part_end words.Require true end name args inner finish more is known grown opened = absurd (cc opened)
-  part_end words.Require false end name args inner finish more is known grown opened = absurd (cc opened)
-  part_end words.Stop true end name args inner finish more is known grown opened = absurd (cc opened)
-  part_end words.Stop false end name args inner finish more is known grown opened = absurd (cc opened)
-  part_end words.Keep true end name args inner finish more is known grown opened = absurd (cc opened)
-  part_end words.Keep false end name args inner finish more is known grown opened = absurd (cc opened)
-  part_end words.Discard true end name args inner finish more is known grown opened = absurd (cc opened)
-  part_end words.Discard false end name args inner finish more is known grown opened = absurd (cc opened)
-  part_end words.Return true end name args inner finish more is known grown opened = absurd (cc opened)
-  part_end words.Return false end name args inner finish more is known grown opened = absurd (cc opened)
-  part_end words.FileInto true end name args inner finish more is known grown opened = absurd (cc opened)
-  part_end words.FileInto false end name args inner finish more is known grown opened = absurd (cc opened)
-  part_end words.Include true end name args inner finish more is known grown opened = absurd (cc opened)
-  part_end words.Include false end name args inner finish more is known grown opened = absurd (cc opened)
-  part_end words.Other true end name args inner finish more is known grown opened = absurd (cc opened)
-  part_end words.Other false end name args inner finish more is known grown opened = absurd (cc opened)
+      → EmitsPart g back (part_of word is_open) (length y.code.items + open_long (λ i. size (g i)) (is_branch (part_of word is_open)) more) (command name args inner finish) x y
+      → (n : ℕ) (ends : List ℕ) (z : Output) → end_at ends n ≡ back → Emits y z (rest_flow g n (is_branch (part_of word is_open)) more) ends → Emits x z (rest_flow g n is_open (trees.command_then (command name args inner finish) more)) ends
+  part_emits words.If true name args inner finish more is grown e n ends z eq k = rw is (none_open x z (sequence (block (branches_flow g (suc n) (program.if_then (only_in inner) (block_in finish) (branches_of more)))) (flow g n (program_of more))) ends (first_of_block x y z (branch_flow g (suc n) (only_in inner) (block_in finish)) (branches_flow g (suc n) (branches_of more)) (flow g n (program_of more)) (length y.code.items + branches_long (λ i. size (g i)) (branches_of more)) ends (omega (arith, grown, flow_long g (suc (suc n)) (block_in finish), branches_are_long g (suc n) (branches_of more))) (e n ends eq) k))
+  part_emits words.If false name args inner finish more is grown e n ends z eq k = rw is (first_of_block x y z (branch_flow g (suc n) (only_in inner) (block_in finish)) (branches_flow g (suc n) (branches_of more)) (flow g n (program_of more)) (length y.code.items + branches_long (λ i. size (g i)) (branches_of more)) ends (omega (arith, grown, flow_long g (suc (suc n)) (block_in finish), branches_are_long g (suc n) (branches_of more))) (e n ends eq) k)
+  part_emits words.ElsIf true name args inner finish more is grown e n ends z eq k = rw is (first_of_block x y z (branch_flow g (suc n) (only_in inner) (block_in finish)) (branches_flow g (suc n) (branches_of more)) (flow g n (program_of more)) (length y.code.items + branches_long (λ i. size (g i)) (branches_of more)) ends (omega (arith, grown, flow_long g (suc (suc n)) (block_in finish), branches_are_long g (suc n) (branches_of more))) (e n ends eq) k)
+  part_emits words.ElsIf false name args inner finish more is grown e n ends z eq k = rw is (after_nothing x y z (flow g n (program_of more)) ends ((rw is at e) n ends eq) k)
+  part_emits words.Else true name args inner finish more is grown e n ends z eq k = rw is (emits_sequence x y z (block (flow g (suc n) (block_in finish))) (flow g n (program_of more)) ends (emits_block x y (flow g (suc n) (block_in finish)) ends (length y.code.items + 0) (omega (arith, grown, flow_long g (suc n) (block_in finish))) (e n ends eq)) k)
+  part_emits words.Else false name args inner finish more is grown e n ends z eq k = rw is (after_nothing x y z (flow g n (program_of more)) ends ((rw is at e) n ends eq) k)
+  part_emits words.Require true name args inner finish more is grown e n ends z eq k = rw is (none_open x z (sequence (plain_flow g n words.Require args) (flow g n (program_of more))) ends (emits_sequence x y z (plain_flow g n words.Require args) (flow g n (program_of more)) ends ((rw is at e) n ends eq) k))
+  part_emits words.Require false name args inner finish more is grown e n ends z eq k = rw is (emits_sequence x y z (plain_flow g n words.Require args) (flow g n (program_of more)) ends ((rw is at e) n ends eq) k)
+  part_emits words.Stop true name args inner finish more is grown e n ends z eq k = rw is (none_open x z (sequence (plain_flow g n words.Stop args) (flow g n (program_of more))) ends (emits_sequence x y z (plain_flow g n words.Stop args) (flow g n (program_of more)) ends ((rw is at e) n ends eq) k))
+  part_emits words.Stop false name args inner finish more is grown e n ends z eq k = rw is (emits_sequence x y z (plain_flow g n words.Stop args) (flow g n (program_of more)) ends ((rw is at e) n ends eq) k)
+  part_emits words.Keep true name args inner finish more is grown e n ends z eq k = rw is (none_open x z (sequence (plain_flow g n words.Keep args) (flow g n (program_of more))) ends (emits_sequence x y z (plain_flow g n words.Keep args) (flow g n (program_of more)) ends ((rw is at e) n ends eq) k))
+  part_emits words.Keep false name args inner finish more is grown e n ends z eq k = rw is (emits_sequence x y z (plain_flow g n words.Keep args) (flow g n (program_of more)) ends ((rw is at e) n ends eq) k)
+  part_emits words.Discard true name args inner finish more is grown e n ends z eq k = rw is (none_open x z (sequence (plain_flow g n words.Discard args) (flow g n (program_of more))) ends (emits_sequence x y z (plain_flow g n words.Discard args) (flow g n (program_of more)) ends ((rw is at e) n ends eq) k))
+  part_emits words.Discard false name args inner finish more is grown e n ends z eq k = rw is (emits_sequence x y z (plain_flow g n words.Discard args) (flow g n (program_of more)) ends ((rw is at e) n ends eq) k)
+  part_emits words.Return true name args inner finish more is grown e n ends z eq k = rw is (none_open x z (sequence (plain_flow g n words.Return args) (flow g n (program_of more))) ends (emits_sequence x y z (plain_flow g n words.Return args) (flow g n (program_of more)) ends ((rw is at e) n ends eq) k))
+  part_emits words.Return false name args inner finish more is grown e n ends z eq k = rw is (emits_sequence x y z (plain_flow g n words.Return args) (flow g n (program_of more)) ends ((rw is at e) n ends eq) k)
+  part_emits words.FileInto true name args inner finish more is grown e n ends z eq k = rw is (none_open x z (sequence (plain_flow g n words.FileInto args) (flow g n (program_of more))) ends (emits_sequence x y z (plain_flow g n words.FileInto args) (flow g n (program_of more)) ends ((rw is at e) n ends eq) k))
+  part_emits words.FileInto false name args inner finish more is grown e n ends z eq k = rw is (emits_sequence x y z (plain_flow g n words.FileInto args) (flow g n (program_of more)) ends ((rw is at e) n ends eq) k)
+  part_emits words.Include true name args inner finish more is grown e n ends z eq k = rw is (none_open x z (sequence (plain_flow g n words.Include args) (flow g n (program_of more))) ends (emits_sequence x y z (plain_flow g n words.Include args) (flow g n (program_of more)) ends ((rw is at e) n ends eq) k))
+  part_emits words.Include false name args inner finish more is grown e n ends z eq k = rw is (emits_sequence x y z (plain_flow g n words.Include args) (flow g n (program_of more)) ends ((rw is at e) n ends eq) k)
+  part_emits words.Other true name args inner finish more is grown e n ends z eq k = rw is (none_open x z (flow g n (program_of more)) ends (after_nothing x y z (flow g n (program_of more)) ends ((rw is at e) n ends eq) k))
+  part_emits words.Other false name args inner finish more is grown e n ends z eq k = rw is (after_nothing x y z (flow g n (program_of more)) ends ((rw is at e) n ends eq) k)
 
 -- What was written so far, in commands.
-pub record Remains (g : Include → Flow) (back : ℕ) (old now : Output) (is_open : Bool) (end : ℕ) (rest : CommandTrees) (whole : Commands) : Type 0 where
+pub record Remains (g : Include → Flow) (back : ℕ) (old now : Output) (is_open : Bool) (rest : CommandTrees) (whole : Commands) : Type 0 where
   pub emits : (n : ℕ) (ends : List ℕ) (z : Output) → end_at ends n ≡ back → Emits now z (rest_flow g n is_open rest) ends → Emits old z (flow g n whole) ends
-  pub known : is_open ≡ true → end ≡ length now.code.items + branches_long (λ i. size (g i)) (branches_of rest)
   pub code : length now.code.items + long_from (λ i. size (g i)) is_open rest ≡ length old.code.items + commands_long (λ i. size (g i)) whole
   pub texts : length now.texts.items + long_from (λ i. size (g i)) is_open rest ≤ length old.texts.items + commands_long (λ i. size (g i)) whole
   pub numbers : length now.numbers.items + long_from (λ i. size (g i)) is_open rest ≤ length old.numbers.items + commands_long (λ i. size (g i)) whole
 
-pub remains_first : (g : Include → Flow) (back : ℕ) (x : Output) (end : ℕ) (cs : CommandTrees) → Remains g back x x false end cs (program_of cs)
-remains_first g back x end cs = record { emits = λ n ends z eq k. k; known = λ opened. absurd (cc opened); code = refl; texts = omega arith; numbers = omega arith }
-
-pub remains_turn : (g : Include → Flow) (back : ℕ) (old now new : Output) (word : CommandWord) (is_open : Bool) (end : ℕ) (name : List ℕ) (args : List Argument) (inner : InnerTests) (finish : EndingTree) (more : CommandTrees) (whole : Commands)
-    → Remains g back old now is_open end (trees.command_then (command name args inner finish) more) whole → command_word name ≡ word
-    → (next : ℕ) → next ≡ chain_end word (own_end g back now new (command name args inner finish) more) end
-    → EmitsPart g back (part_of word is_open) next (command name args inner finish) now new
-    → Remains g back old new (is_branch (part_of word is_open)) next more whole
-remains_turn g back old now new word is_open end name args inner finish more whole h is next told e =
+-- one more command; branches end behind those that are still open
+pub remains_turn : (g : Include → Flow) (back : ℕ) (old now new : Output) (word : CommandWord) (is_open : Bool) (name : List ℕ) (args : List Argument) (inner : InnerTests) (finish : EndingTree) (more : CommandTrees) (whole : Commands)
+    → Remains g back old now is_open (trees.command_then (command name args inner finish) more) whole → command_word name ≡ word
+    → EmitsPart g back (part_of word is_open) (length new.code.items + open_long (λ i. size (g i)) (is_branch (part_of word is_open)) more) (command name args inner finish) now new
+    → Remains g back old new (is_branch (part_of word is_open)) more whole
+remains_turn g back old now new word is_open name args inner finish more whole h is e =
     let c = command name args inner finish in
-    let f = subst (λ (k : ℕ). EmitsPart g back (part_of word is_open) k c now new) told e in
-    let q = part_grows g back (part_of word is_open) next c now new e in
+    let q = part_grows g back (part_of word is_open) (length new.code.items + open_long (λ i. size (g i)) (is_branch (part_of word is_open)) more) c now new e in
     let long = long_then (λ i. size (g i)) word is_open name args inner finish more is in
     record {
-      emits = λ n ends z eq k. h.emits n ends z eq (part_emits g back now new word is_open end name args inner finish more is h.known f n ends z eq k);
-      known = λ opened. told ∙ part_end g back now new word is_open end name args inner finish more is h.known q.code opened;
+      emits = λ n ends z eq k. h.emits n ends z eq (part_emits g back now new word is_open name args inner finish more is q.code e n ends z eq k);
       code = omega (arith, h.code, q.code, long);
       texts = omega (arith, h.texts, q.texts, long);
       numbers = omega (arith, h.numbers, q.numbers, long);
     }
 
 -- at the end of all commands
-pub remains_last : (g : Include → Flow) (back : ℕ) (old now : Output) (is_open : Bool) (end : ℕ) (whole : Commands) → Remains g back old now is_open end no_commands whole → (n : ℕ) (ends : List ℕ) → end_at ends n ≡ back → Emits old now (flow g n whole) ends
-remains_last g back old now true end whole h n ends eq = h.emits n ends now eq (none_open now now nothing ends (emits_nothing now ends))
-remains_last g back old now false end whole h n ends eq = h.emits n ends now eq (emits_nothing now ends)
+pub remains_last : (g : Include → Flow) (back : ℕ) (old now : Output) (is_open : Bool) (whole : Commands) → Remains g back old now is_open no_commands whole → (n : ℕ) (ends : List ℕ) → end_at ends n ≡ back → Emits old now (flow g n whole) ends
+remains_last g back old now true whole h n ends eq = h.emits n ends now eq (none_open now now nothing ends (emits_nothing now ends))
+remains_last g back old now false whole h n ends eq = h.emits n ends now eq (emits_nothing now ends)
 
 -- a test, a jump past the block where it is false, the block, and a jump to the end of all branches
 pub branch_emitted : (g : Include → Flow) (o0 o1 o2 o3 o4 : Output) (t : Test) (xs : Commands) (next end back : ℕ) → next ≡ length o0.code.items + (size (test_flow t) + commands_long (λ i. size (g i)) xs + 2)
@@ -246,10 +236,6 @@ pub turn_long : (w : Include → ℕ) (word : CommandWord) (is_open : Bool) (xs 
 turn_long w word is_open xs i x is lt named =
     rw (turn xs i x is lt, command_of-fields x) (long_then w word is_open (out-Command x).name (out-Command x).arguments (inner_of (out-Command x).tests) (ending_of (out-Command x).ending) (commands_of (map command_of (drop (i + 1) xs))) named)
 
-pub end_long : (w : Include → ℕ) (is_open : Bool) (xs : List TreeCommand) (i : ℕ) → length xs ≤ i → long_from w is_open (commands_of (map command_of (drop i xs))) ≡ 0
-end_long w true xs i le = rw (no_turn xs i le) refl
-end_long w false xs i le = rw (no_turn xs i le) refl
-
 -- a script and the end of the run, written from nothing
 pub code_of_empty : (x y : Output) (a : Flow) → x.texts.items ≡ [] → x.numbers.items ≡ [] → x.code.items ≡ [] → Emits x y (whole a) [] → IsCode y a
 code_of_empty x y a t n c e =
@@ -261,32 +247,3 @@ code_of_empty x y a t n c e =
       numbers = f.numbers ∙ ap (λ (l : List ℕ). l ++ p.numbers) n;
       code = f.code ∙ ap (λ (l : List Operation). l ++ p.code) c;
     }
-
--- room for the branches that an `if` begins
-pub chain_room : (w : Include → ℕ) (word : CommandWord) (is_open : Bool) (xs : List TreeCommand) (i : ℕ) (x : TreeCommand) → x ≡ get_or xs i x → i < length xs → command_word (out-Command x).name ≡ word → word ≡ words.If
-    → part_long w Branch (command_of x) + branches_long w (branches_of (commands_of (map command_of (drop (i + 1) xs)))) ≤ long_from w is_open (commands_of (map command_of (drop i xs)))
-chain_room w word is_open xs i x is lt named begins = let h = turn_long w words.If is_open xs i x is lt (named ∙ begins) in omega (arith, h)
-
-pub commands_turn : (g : Include → Flow) (back : ℕ) (old now new : Output) (word : CommandWord) (is_open : Bool) (end : ℕ) (xs : List TreeCommand) (i : ℕ) (x : TreeCommand) (whole : Commands)
-    → Remains g back old now is_open end (commands_of (map command_of (drop i xs))) whole → x ≡ get_or xs i x → i < length xs → command_word (out-Command x).name ≡ word
-    → (part : Part) → part ≡ part_of word is_open → (next : ℕ)
-    → next ≡ chain_end word (length now.code.items + (part_long (λ j. size (g j)) Branch (command_of x) + branches_long (λ j. size (g j)) (branches_of (commands_of (map command_of (drop (i + 1) xs)))))) end
-    → EmitsPart g back part next (command_of x) now new → (opened : Bool) → opened ≡ is_branch part → Remains g back old new opened next (commands_of (map command_of (drop (i + 1) xs))) whole
-commands_turn g back old now new word is_open end xs i x whole h is lt named part told next said e opened branches =
-    let more = commands_of (map command_of (drop (i + 1) xs)) in
-    let f = out-Command x in
-    let fields = command_of-fields x in
-    let c = command f.name f.arguments (inner_of f.tests) (ending_of f.ending) in
-    let h2 : Remains g back old now is_open end (trees.command_then c more) whole =
-    subst (λ (cs : CommandTrees). Remains g back old now is_open end cs whole) (ap (λ (ys : List TreeCommand). commands_of (map command_of ys)) (turn xs i x is lt) ∙ ap (λ (k : CommandTree). trees.command_then k more) fields) h in
-    let said2 : next ≡ chain_end word (length now.code.items + (part_long (λ j. size (g j)) Branch c + branches_long (λ j. size (g j)) (branches_of more))) end =
-    subst (λ (k : CommandTree). next ≡ chain_end word (length now.code.items + (part_long (λ j. size (g j)) Branch k + branches_long (λ j. size (g j)) (branches_of more))) end) fields said in
-    let e2 : EmitsPart g back (part_of word is_open) next c now new =
-    subst (λ (k : CommandTree). EmitsPart g back (part_of word is_open) next k now new) fields (subst (λ (p : Part). EmitsPart g back p next (command_of x) now new) told e) in
-    subst (λ (b : Bool). Remains g back old new b next more whole) (sym (branches ∙ ap is_branch told))
-    (remains_turn g back old now new word is_open end f.name f.arguments (inner_of f.tests) (ending_of f.ending) more whole h2 named next said2 e2)
-
-pub commands_last : (g : Include → Flow) (back : ℕ) (old now : Output) (is_open : Bool) (end : ℕ) (xs : List TreeCommand) (i : ℕ) (whole : Commands) → Remains g back old now is_open end (commands_of (map command_of (drop i xs))) whole → length xs ≤ i
-    → (n : ℕ) (ends : List ℕ) → end_at ends n ≡ back → Emits old now (flow g n whole) ends
-commands_last g back old now is_open end xs i whole h past =
-    remains_last g back old now is_open end whole (subst (λ (ys : List TreeCommand). Remains g back old now is_open end (commands_of (map command_of ys)) whole) (no_turn xs i past) h)

@@ -11,6 +11,7 @@ use Rattle.filing_flow.specs.Structure.{SetKept, SetCancelled, End, FileInto, Fl
 use Rattle.filing_flow.specs.Code.{end_at}
 use Rattle.filing_gen.specs.Structured.{test_flow, copy_number, flow, branches_flow, branch_flow}
 use Rattle.filing_gen.specs.Adds.{Emits}
+use Rattle.filing_gen.specs.Ends.{with_jumps}
 use Rattle.filing_gen.specs.declared.output.Output.{Output}
 use Rattle.sieve_meaning.specs.declared.branches.Part.{Part}
 use Rattle.sieve_meaning.specs.declared.branches.Part.TheVariants.{Branch, Otherwise, Plain}
@@ -76,6 +77,12 @@ part_flow g n Branch (command name args inner finish) = branch_flow g (suc n) (o
 part_flow g n Otherwise (command name args inner finish) = flow g (suc n) (block_in finish)
 part_flow g n Plain (command name args inner finish) = plain_flow g n (command_word name) args
 
+-- whether a command is none of the branches before it: it begins others, or is no part of branches
+abbrev pub is_apart : CommandWord → Part → Bool
+is_apart words.If part = true
+is_apart word Plain = true
+is_apart word part = false
+
 -- the ends of the blocks around a part, where the branches end at a place
 abbrev pub part_ends : Part → (end : ℕ) → List ℕ → List ℕ
 part_ends Branch end ends = end ∷ ends
@@ -87,11 +94,11 @@ abbrev pub rest_flow : (Include → Flow) → ℕ → (is_open : Bool) → Comma
 rest_flow g n true cs = sequence (block (branches_flow g (suc n) (branches_of cs))) (flow g n (program_of cs))
 rest_flow g n false cs = flow g n (program_of cs)
 
--- where the branches end that a command is one of: an `if` begins others
-abbrev pub chain_end : CommandWord → (own end : ℕ) → ℕ
-chain_end words.If own end = own
-chain_end word own end = end
-
 -- the command as a part was written, where `return` goes to a place
 abbrev pub EmitsPart : (Include → Flow) → (back : ℕ) → Part → (end : ℕ) → CommandTree → Output → Output → Type 0
 EmitsPart g back part end c x y = (n : ℕ) (ends : List ℕ) → end_at ends n ≡ back → Emits x y (part_flow g n part c) (part_ends part end ends)
+
+-- The command as a part was written, and the place of its jump to the end of all branches was put to those of the branches
+-- before it: it was written right wherever these jumps go.
+abbrev pub EmitsOpen : (Include → Flow) → (back : ℕ) → Part → CommandTree → Output → (before : List ℕ) → Output → (jumps : List ℕ) → Type 0
+EmitsOpen g back part c x before y jumps = (end : ℕ) → EmitsPart g back part end c (with_jumps end before x) (with_jumps end jumps y)

@@ -1,7 +1,9 @@
 -- Jumps to the end of a block, as long as it is not known.
-use Rattle.std.specs.Prelude.{ℕ, nat_eq, if◌then◌else◌}
+use Rattle.std.specs.Prelude.{ℕ, List, [], ◌∷◌, nat_eq, if◌then◌else◌}
+use Rattle.std.specs.Vec.{with_item}
 use Rattle.filing_image.specs.declared.instruction.Operation.{Operation}
 use Rattle.filing_image.specs.declared.instruction.Operation.TheVariants.{Jump, JumpIf, JumpUnless}
+use Rattle.filing_gen.specs.declared.output.Output.{Output}
 
 -- where such a jump goes until then
 abbrev pub no_place : ℕ
@@ -17,3 +19,12 @@ with_end end (Jump place) = Jump (place_or end place)
 with_end end (JumpIf place) = JumpIf (place_or end place)
 with_end end (JumpUnless place) = JumpUnless (place_or end place)
 with_end end operation = operation
+
+-- the output with another operation at a place
+abbrev pub with_operation : Output → (place : ℕ) → Operation → Output
+with_operation o place operation = record o { code = with_item o.code place operation }
+
+-- the output whose jumps at these places go to an end
+abbrev pub with_jumps : (end : ℕ) → (places : List ℕ) → Output → Output
+with_jumps end [] o = o
+with_jumps end (p ∷ ps) o = with_operation (with_jumps end ps o) p (Jump end)

@@ -1,20 +1,21 @@
 //! The code of commands, one after the other.
 
-ghost use Rattle.std.specs.Prelude.{◌≡◌, ◌+◌, ◌<◌, ◌≤◌, ◌^◌, ℕ, List, length, drop, map, codes, OnOk, false};
+ghost use Rattle.std.specs.Prelude.{◌≡◌, ◌<◌, ◌^◌, ℕ, List, [], length, map, codes, OnOk, false, if◌then◌else◌};
+ghost use Rattle.std.specs.List.{All};
 ghost use Rattle.sieve_syntax.specs.View.{command_of, commands_of, ending_of};
-ghost use Rattle.sieve_meaning.specs.Reading.{block_in, program_of, branches_of, has_tag as has_tag_of, first_string as first_string_of, string_lists};
-ghost use Rattle.sieve_meaning.specs.declared.words.CommandWord.TheVariants as words;
+ghost use Rattle.sieve_meaning.specs.Reading.{block_in, program_of, has_tag as has_tag_of, first_string as first_string_of, string_lists};
 ghost use Rattle.filing_flow.specs.Structure.{size, action, FileInto};
 ghost use Rattle.filing_flow.specs.Code.{end_at};
-ghost use Rattle.filing_gen.specs.Structured.{flow, branch_flow, copy_number};
+ghost use Rattle.filing_gen.specs.Structured.{flow, copy_number};
 ghost use Rattle.filing_gen.specs.Adds.{Emits, HasRoom};
-ghost use Rattle.filing_gen.specs.Emission.{commands_long, branches_long, plain_long, part_long, plain_flow, chain_end, EmitsPart};
+ghost use Rattle.filing_gen.specs.Emission.{commands_long, plain_long, part_long, plain_flow, is_apart, EmitsOpen};
+ghost use Rattle.filing_gen.specs.Ends.{with_jumps};
 ghost use Rattle.sieve_meaning.specs.declared.branches.Part.TheVariants as parts;
 
 use crate::emit_tests::emit_only;
+use crate::ends::{NO_PLACE, end_branches};
 use crate::linker::Linker;
-use crate::output::{Output, put, put_with};
-use crate::size_commands::{branches_size, part_size};
+use crate::output::{Output, put, put_at, put_with};
 use filing_image::Operation;
 use sieve_meaning::branches::{Part, is_branch, part_in};
 use sieve_meaning::reading::{first_string, has_tag, include};
@@ -90,24 +91,30 @@ fn emit_block<L: Linker>(
     }
 }
 
-/// A branch: its test, a jump past it where the test is false, its block, and a jump to the end of all branches.
+/// A branch: its test, a jump past it where the test is false, its block, and a jump to the end of all branches, whose
+/// place is put to the jumps of the branches before it.
 #[cycle(emission)]
 fn emit_branch<L: Linker>(
     alloc: Global,
     linker: &L,
     out: &mut Output,
     command: &Command,
-    end: u16,
+    jumps: &mut Vec<usize>,
     back: u16,
 ) -> Result<(), AllocError>
-    requires { HasRoom out.old (part_long (λ i. size (L.flow_of linker.now i)) parts.Branch (command_of command.now)) }
-    ensures adds { OnOk result (EmitsPart (L.flow_of linker.now) back parts.Branch end (command_of command.now) out.old out.new) }
+    requires room { HasRoom out.old (part_long (λ i. size (L.flow_of linker.now i)) parts.Branch (command_of command.now)) }
+    requires places { All (λ p. p < length out.old.code.items) jumps.old.items }
+    ensures adds { OnOk result (EmitsOpen (L.flow_of linker.now) back parts.Branch (command_of command.now) out.old jumps.old.items out.new jumps.new.items) }
+    ensures places { OnOk result (All (λ p. p < length out.new.code.items) jumps.new.items) }
 {
-    let next = (out.code.len() + part_size(linker, command, Part::Branch)) as u16;
     emit_only(alloc, out, &command.tests)?;
-    put(out, Operation::JumpUnless(next))?;
+    let past = out.code.len();
+    put(out, Operation::JumpUnless(NO_PLACE))?;
     emit_block(alloc, linker, out, &command.ending, back)?;
-    put(out, Operation::Jump(end))
+    let last = out.code.len();
+    put_at(out, past, Operation::JumpUnless((last + 1) as u16));
+    jumps.push(last)?;
+    put(out, Operation::Jump(NO_PLACE))
 }
 
 /// A command as a part: a branch, the block of an `else`, or a command that has no block.
@@ -118,14 +125,16 @@ fn emit_part<L: Linker>(
     out: &mut Output,
     command: &Command,
     part: Part,
-    end: u16,
+    jumps: &mut Vec<usize>,
     back: u16,
 ) -> Result<(), AllocError>
-    requires { HasRoom out.old (part_long (λ i. size (L.flow_of linker.now i)) part (command_of command.now)) }
-    ensures adds { OnOk result (EmitsPart (L.flow_of linker.now) back part end (command_of command.now) out.old out.new) }
+    requires room { HasRoom out.old (part_long (λ i. size (L.flow_of linker.now i)) part (command_of command.now)) }
+    requires places { All (λ p. p < length out.old.code.items) jumps.old.items }
+    ensures adds { OnOk result (EmitsOpen (L.flow_of linker.now) back part (command_of command.now) out.old jumps.old.items out.new jumps.new.items) }
+    ensures places { OnOk result (All (λ p. p < length out.new.code.items) jumps.new.items) }
 {
     match part {
-        Part::Branch => emit_branch(alloc, linker, out, command, end, back),
+        Part::Branch => emit_branch(alloc, linker, out, command, jumps, back),
         Part::Otherwise => emit_block(alloc, linker, out, &command.ending, back),
         Part::Plain => {
             let word = command_word(command.name.as_slice());
@@ -134,37 +143,21 @@ fn emit_part<L: Linker>(
     }
 }
 
-/// Where the branches end that a command is one of: those that an `if` begins end behind itself and the branches
-/// after it, and else the end is known.
-fn end_of_branches<L: Linker>(
-    linker: &L,
-    place: usize,
-    word: CommandWord,
-    command: &Command,
-    behind: &[Command],
-    end: u16,
-) -> u16
-    requires room { word ≡ words.If → place + (part_long (λ i. size (L.flow_of linker.now i)) parts.Branch (command_of command.now) + branches_long (λ i. size (L.flow_of linker.now i)) (branches_of (commands_of (map command_of behind.now)))) < 2 ^ 16 }
-    ensures { result ≡ chain_end word (place + (part_long (λ i. size (L.flow_of linker.now i)) parts.Branch (command_of command.now) + branches_long (λ i. size (L.flow_of linker.now i)) (branches_of (commands_of (map command_of behind.now))))) end }
+/// Ends the branches before a command that is none of them: it begins others, or is no part of branches.
+fn end_before(out: &mut Output, jumps: &mut Vec<usize>, word: CommandWord, part: Part)
+    requires room { length out.old.code.items < 2 ^ 16 }
+    requires places { All (λ p. p < length out.old.code.items) jumps.old.items }
+    ensures out { out.new ≡ (if is_apart word part then with_jumps (length out.old.code.items) jumps.old.items out.old else out.old) }
+    ensures jumps { jumps.new.items ≡ (if is_apart word part then [] else jumps.old.items) }
 {
-    match word {
-        CommandWord::If => {
-            (place
-                + (part_size(linker, command, Part::Branch) + branches_size(linker, behind))) as u16
-        }
-        _ => end,
+    match (word, part) {
+        (CommandWord::If, _) | (_, Part::Plain) => end_branches(out, jumps),
+        (_, Part::Branch | Part::Otherwise) => {}
     }
 }
 
-/// The commands from a place on.
-fn commands_from(commands: &Vec<Command>, place: usize) -> &[Command]
-    requires { place ≤ length commands.now.items }
-    ensures { result.now ≡ drop place commands.now.items }
-{
-    &commands[place..]
-}
-
-/// Commands, one after the other; `return` jumps to the place `back`.
+/// Commands, one after the other; `return` jumps to the place `back`. The jumps of branches get their place where the
+/// branches end.
 #[cycle(emission)]
 pub fn emit_commands<L: Linker>(
     alloc: Global,
@@ -176,17 +169,15 @@ pub fn emit_commands<L: Linker>(
     requires { HasRoom out.old (commands_long (λ i. size (L.flow_of linker.now i)) (program_of (commands_of (map command_of commands.now.items)))) }
     ensures adds { OnOk result ((n : ℕ) (ends : List ℕ) → end_at ends n ≡ back → Emits out.old out.new (flow (L.flow_of linker.now) n (program_of (commands_of (map command_of commands.now.items)))) ends) }
 {
+    let mut jumps = Vec::new(alloc);
     let mut is_open = false;
-    let mut end: u16 = 0;
-    let mut index: usize = 0;
     for command in commands {
-        index += 1;
         let word = command_word(command.name.as_slice());
         let part = part_in(word, is_open);
-        let behind = commands_from(commands, index);
-        end = end_of_branches(linker, out.code.len(), word, command, behind, end);
-        emit_part(alloc, linker, out, command, part, end, back)?;
+        end_before(out, &mut jumps, word, part);
+        emit_part(alloc, linker, out, command, part, &mut jumps, back)?;
         is_open = is_branch(part);
     }
+    end_branches(out, &mut jumps);
     Ok(())
 }

@@ -1,9 +1,10 @@
-//! The ends of blocks that are known only when all that stands in them is written.
+//! The ends of blocks and branches, which are known only when all that stands in them is written.
 
-ghost use Rattle.std.specs.Prelude.{◌≡◌, ◌≤◌, ◌<◌, ◌^◌, ◌++◌, length, map, take, drop};
-ghost use Rattle.filing_gen.specs.Ends.{place_or as place_or_of, with_end as with_end_of};
+ghost use Rattle.std.specs.Prelude.{◌≡◌, ◌≤◌, ◌<◌, ◌^◌, [], ◌++◌, length, map, take, drop};
+ghost use Rattle.std.specs.List.{All};
+ghost use Rattle.filing_gen.specs.Ends.{place_or as place_or_of, with_end as with_end_of, with_jumps};
 
-use crate::output::Output;
+use crate::output::{Output, put_at};
 use filing_image::Operation;
 
 /// The place that a jump goes to until the end of its block is known.
@@ -48,4 +49,17 @@ pub fn end_block(out: &mut Output, start: usize)
     let end = out.code.len() as u16;
     let (_, block) = out.code.as_mut_slice().split_at_mut(start);
     end_jumps(block, end);
+}
+
+/// Ends branches: their jumps, of which the places are given and then forgotten, go behind all that is written.
+pub fn end_branches(out: &mut Output, jumps: &mut Vec<usize>)
+    requires room { length out.old.code.items < 2 ^ 16 }
+    requires places { All (λ p. p < length out.old.code.items) jumps.old.items }
+    ensures out { out.new ≡ with_jumps (length out.old.code.items) jumps.old.items out.old }
+    ensures jumps { jumps.new.items ≡ [] }
+{
+    let end = out.code.len() as u16;
+    while let Some(place) = jumps.pop() {
+        put_at(out, place, Operation::Jump(end));
+    }
 }

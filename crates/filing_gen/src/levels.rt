@@ -1,7 +1,7 @@
 //! The code of includes, level by level (RFC 6609, section 3.2): the code of the included script stands in the place of
 //! the include. A level is how many further scripts may be active, so that the code ends however the includes lead on.
 
-ghost use Rattle.std.specs.Prelude.{◌≡◌, ◌+◌, ◌<◌, ◌^◌, ℕ, zero, suc, List, length, OnOk};
+ghost use Rattle.std.specs.Prelude.{◌<◌, ℕ, zero, suc, List, OnOk};
 ghost use Rattle.sieve_syntax.specs.View.{tree_of};
 ghost use Rattle.sieve_meaning.specs.Reading.{program_of};
 ghost use Rattle.sieve_meaning.specs.Weight.{included_weight};
@@ -20,7 +20,6 @@ use crate::ends::{NO_PLACE, end_block};
 use crate::finding::{Finding, Scope, find};
 use crate::linker::Linker;
 use crate::output::{Output, put};
-use crate::size_commands::commands_size;
 use crate::weight::weigh_commands;
 use filing_image::Operation;
 use sieve_meaning::Include;
@@ -36,11 +35,6 @@ pub trait Level {
     /// Takes what the script adds to the weight from what is left; none where it is more.
     fn weigh<C: Chain>(scope: &Scope<'_>, chain: &C, script: &Script, left: u32) -> Option<u32>
         ensures { IsLeft left (entered_weight (library_of scope.now.library.now) depth (C.names chain.now) (program_of (tree_of script.now))) result };
-
-    /// How many operations the entry of the script takes.
-    fn size<C: Chain>(scope: &Scope<'_>, chain: &C, slot: usize, script: &Script) -> usize
-        requires { size (entered_flow (library_of scope.now.library.now) (slots_of scope.now.library.now) (names_of scope.now.main) depth (C.names chain.now) slot (program_of (tree_of script.now))) < 2 ^ 16 }
-        ensures { result ≡ size (entered_flow (library_of scope.now.library.now) (slots_of scope.now.library.now) (names_of scope.now.main) depth (C.names chain.now) slot (program_of (tree_of script.now))) };
 
     /// Writes the entry of the script.
     fn emit<C: Chain>(
@@ -64,10 +58,6 @@ impl Level for Deepest {
 
     fn weigh<C: Chain>(_scope: &Scope<'_>, _chain: &C, _script: &Script, left: u32) -> Option<u32> {
         Some(left)
-    }
-
-    fn size<C: Chain>(_scope: &Scope<'_>, _chain: &C, _slot: usize, _script: &Script) -> usize {
-        1
     }
 
     fn emit<C: Chain>(
@@ -97,15 +87,6 @@ impl<L: Level> Level for Above<L> {
             below: PhantomData,
         };
         weigh_commands(&includes, &script.commands, left)
-    }
-
-    fn size<C: Chain>(scope: &Scope<'_>, chain: &C, _slot: usize, script: &Script) -> usize {
-        let includes: Includes<'_, C, L> = Includes {
-            scope: *scope,
-            chain,
-            below: PhantomData,
-        };
-        1 + commands_size(&includes, &script.commands)
     }
 
     fn emit<C: Chain>(
@@ -151,21 +132,6 @@ impl<C: Chain, L: Level> Linker for Includes<'_, C, L> {
                     before: self.chain,
                 };
                 L::weigh(&self.scope, &chain, script, left)
-            }
-        }
-    }
-
-    fn size(&self, include: &Include<'_>) -> usize {
-        match find(&self.scope, self.chain, include) {
-            Finding::Pass => 0,
-            Finding::Fault(_) => 1,
-            Finding::Entry(slot, script) => {
-                let chain = Link {
-                    script: include.script,
-                    before: self.chain,
-                };
-                let size = L::size(&self.scope, &chain, slot, script);
-                if include.is_once { size + 2 } else { size }
             }
         }
     }

@@ -4,14 +4,14 @@
 //! include, and `Correct` what an image owes its script. `Libraries` says what a `library` of scripts is (`Shelves`: as it
 //! lies in memory), and which of them an include finds. `Alike` says how a script and its code run side by side;
 //! `Emission`, `Adds`, `Ends`, `Weights`, `Levels` and `Scopes` what the passes over the tree keep. A script is weighed (`weight`),
-//! and left alone as soon as it is too heavy; then its code is written: `size_tests` and `size_commands` count the
-//! operations of branches ahead, so that each jump between them knows its place, and `emit_tests` and `emit_commands` write
-//! them. Jumps to the end of a whole script, for `return`, are written without their place, which `ends` puts in once the
-//! script's code stands. What a command is to the branches before it, and what an include asks for, the passes learn from
-//! `sieve_meaning`. What stands for an include is a `linker`'s affair, and the passes know no more of it. The one of
-//! `levels` looks the script up in the library, judges the include by the `chain` of active scripts (`finding`), and puts
-//! the script's own code in its place, one level further down; the deepest level has none. `program` makes the image and has
-//! it verified.
+//! and left alone as soon as it is too heavy; then its code is written once, from left to right, by `emit_tests` and
+//! `emit_commands`. `size_tests` counts the operations of tests ahead, so that each jump between them knows its place. The
+//! jumps of branches, and those to the end of a whole script, for `return`, are written without their place: it is put in
+//! where the branch, all branches, or the script ends (`ends`). What a command is to the branches before it, and what an
+//! include asks for, the passes learn from `sieve_meaning`. What stands for an include is a `linker`'s affair, and the
+//! passes know no more of it. The one of `levels` looks the script up in the library, judges the include by the `chain` of
+//! active scripts (`finding`), and puts the script's own code in its place, one level further down; the deepest level has
+//! none. `program` makes the image and has it verified.
 #![tactic(auto)]
 
 mod chain;
@@ -25,7 +25,6 @@ mod library;
 mod linker;
 mod output;
 mod program;
-mod size_commands;
 mod size_tests;
 mod weight;
 

@@ -1,6 +1,6 @@
 //! What stands for an include.
 
-ghost use Rattle.std.specs.Prelude.{◌≡◌, ◌<◌, ◌^◌, ℕ, List, OnOk};
+ghost use Rattle.std.specs.Prelude.{ℕ, List, OnOk};
 ghost use Rattle.filing_flow.specs.Structure.{Flow, size};
 ghost use Rattle.sieve_meaning.specs.Program as program;
 ghost use Rattle.sieve_meaning.specs.Scripts.{asked};
@@ -22,11 +22,6 @@ pub trait Linker {
     /// Takes what an include adds to the weight from what is left; none where it is more.
     fn weigh(&self, include: &Include<'_>, left: u32) -> Option<u32>
         ensures { IsLeft left (weight_of self.now (asked include.now)) result };
-
-    /// How many operations the code of an include takes.
-    fn size(&self, include: &Include<'_>) -> usize
-        requires { size (flow_of self.now (asked include.now)) < 2 ^ 16 }
-        ensures { result ≡ size (flow_of self.now (asked include.now)) };
 
     /// Writes the code of an include.
     fn emit(&self, alloc: Global, out: &mut Output, include: &Include<'_>) -> Result<(), AllocError>

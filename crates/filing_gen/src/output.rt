@@ -1,9 +1,10 @@
 //! What was written so far.
 
-ghost use Rattle.std.specs.Prelude.{◌≡◌, ◌+◌, [], ◌∷◌, length, OnOk};
+ghost use Rattle.std.specs.Prelude.{◌≡◌, ◌+◌, ◌<◌, [], ◌∷◌, length, OnOk};
 ghost use Rattle.filing_flow.specs.Structure.{Push};
 ghost use Rattle.filing_flow.specs.Code.{only, with_text, with_number, action_piece};
 ghost use Rattle.filing_gen.specs.Adds.{Adds, end_of};
+ghost use Rattle.filing_gen.specs.Ends.{with_operation};
 
 use filing_image::Operation;
 use std::alloc::{AllocError, Global};
@@ -25,6 +26,14 @@ pub fn put(out: &mut Output, operation: Operation) -> Result<(), AllocError>
 {
     out.code.push(operation)?;
     Ok(())
+}
+
+/// Writes an operation in the place of another.
+pub fn put_at(out: &mut Output, place: usize, operation: Operation)
+    requires { place < length out.old.code.items }
+    ensures { out.new ≡ with_operation out.old place operation }
+{
+    out.code[place] = operation;
 }
 
 /// Writes an operation and the text that it names.

@@ -142,7 +142,7 @@ fn weigh(script: &Script, scope: Scope<'_>) -> Option<u32>
 /// declares the script's weight as its budget in steps, it is one that may run, and in every case its run ends with
 /// the outcome of what the script means. `TooLarge`, 5, exactly where the weight is above 60,000; `NoMemory`, 99, where
 /// an allocation was refused, or a string is too long for an image. Memory is linear in the weight, and so is time, times
-/// how deep tests and blocks stand inside one another. A script that is too heavy takes time linear in 60,000.
+/// how deep tests stand inside one another. A script that is too heavy takes time linear in 60,000.
 pub fn compile(
     alloc: Global,
     main: &Checked,

@@ -55,7 +55,7 @@ pub fn test_size(test: &Test) -> usize
 
 /// Of the only test.
 #[cycle(test_sizes)]
-pub fn only_size(tests: &Tests) -> usize
+fn only_size(tests: &Tests) -> usize
     requires { size (test_flow (only_in (inner_of tests.now))) < 2 ^ 16 }
     ensures { result ≡ size (test_flow (only_in (inner_of tests.now))) }
 {

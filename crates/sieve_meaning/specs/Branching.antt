@@ -15,12 +15,6 @@ part_of words.Else true = Otherwise
 part_of words.Else false = Plain
 part_of word is_open = Plain
 
--- what a command is to open branches that it does not begin itself
-abbrev pub part_behind : CommandWord → Part
-part_behind words.ElsIf = Branch
-part_behind words.Else = Otherwise
-part_behind word = Plain
-
 -- whether branches are open behind it
 abbrev pub is_branch : Part → Bool
 is_branch Branch = true

@@ -1,7 +1,7 @@
 //! What a command is to the branches before it (RFC 5228, section 3.1).
 
 ghost use Rattle.std.specs.Prelude.{◌≡◌};
-ghost use Rattle.sieve_meaning.specs.Branching.{is_branch as is_branch_of, part_behind, part_of};
+ghost use Rattle.sieve_meaning.specs.Branching.{is_branch as is_branch_of, part_of};
 
 use crate::words::CommandWord;
 
@@ -24,17 +24,6 @@ pub fn part_in(word: CommandWord, is_open: bool) -> Part
         CommandWord::If => Part::Branch,
         CommandWord::ElsIf if is_open => Part::Branch,
         CommandWord::Else if is_open => Part::Otherwise,
-        _ => Part::Plain,
-    }
-}
-
-/// What a command is to open branches that it does not begin itself: an `if` begins others.
-pub fn part_of_open(word: CommandWord) -> Part
-    ensures { result ≡ part_behind word }
-{
-    match word {
-        CommandWord::ElsIf => Part::Branch,
-        CommandWord::Else => Part::Otherwise,
         _ => Part::Plain,
     }
 }

@@ -1,4 +1,6 @@
-use Rattle.std.proofs.Common.{◌≡◌, ◌+◌, ◌<◌, ◌^◌, rules, [], ◌∷◌, map, sym, ap, subst, ◌∙◌, arith, refl, List, length, drop, Vec, Global}
+use Rattle.std.proofs.Common.{◌≡◌, ◌+◌, ◌<◌, rules, [], ◌∷◌, ◌++◌, map, sym, ap, ◌∙◌, arith, refl, length, drop, Vec, Global}
+use Rattle.std.proofs.lemmas.List.{length-set}
+use Rattle.std.proofs.lemmas.List.Elements.{All-same, All-push, All-weaker}
 use Rattle.std.proofs.lemmas.Result.{on_ok_weaker}
 use Rattle.sieve_syntax.specs.View.{command_of, commands_of, inner_of, ending_of}
 use Rattle.sieve_syntax.specs.declared.tree.Command.{Command}
@@ -7,15 +9,17 @@ use Rattle.sieve_syntax.specs.declared.tree.Ending.TheViews.{the_lemmas, out-Com
 use Rattle.sieve_syntax.specs.Tree.{CommandTree, EndingTree}
 use Rattle.sieve_syntax.proofs.Views.{ending_of-Block, command_of-fields}
 use Rattle.sieve_meaning.specs.Words.{command_word}
-use Rattle.sieve_meaning.specs.Reading.{only_in, block_in, program_of, branches_of}
+use Rattle.sieve_meaning.specs.Reading.{only_in, block_in, program_of}
+use Rattle.filing_image.specs.declared.instruction.Operation.TheVariants.{JumpUnless}
 use Rattle.filing_flow.specs.Structure.{size}
-use Rattle.filing_gen.specs.Structured.{test_flow}
-use Rattle.filing_gen.specs.Adds.{HasRoom, Emits}
-use Rattle.filing_gen.specs.Emission.{commands_long, branches_long, part_long, part_flow, chain_end}
-use Rattle.sieve_meaning.specs.declared.branches.Part.{Part}
+use Rattle.filing_gen.specs.declared.output.Output.{Output}
+use Rattle.filing_gen.specs.Structured.{test_flow, flow}
+use Rattle.filing_gen.specs.Adds.{HasRoom}
+use Rattle.filing_gen.specs.Emission.{commands_long, part_long, plain_flow}
 use Rattle.sieve_meaning.specs.declared.branches.Part.TheVariants.{Branch}
 use Rattle.filing_gen.proofs.Emitted.{grows}
-use Rattle.filing_gen.proofs.Turns.{branch_emitted, remains_first, commands_turn, commands_last, chain_room, turn_long}
+use Rattle.filing_gen.proofs.Turns.{flow_long}
+use Rattle.filing_gen.proofs.Chains.{otherwise_open, plain_open, branch_open, stands_room, turn_ready, turn_stands, last_stands}
 use Rattle.filing_gen.proofs.emit_commands.+emission.Goals as goal
 
 pub emit_block-emit_commands-requires : goal.emit_block-emit_commands-requires
@@ -34,58 +38,125 @@ emit_branch-emit_block-requires g t c κs within =
     let p = c.in_ok-put.ensures in
     let q = grows c.args.out.now c.emit_only.new.out (test_flow (only_in (inner_of x.tests))) [] (c.in_ok-emit_only.ensures.adds []) in
     let room : HasRoom c.put.new.out (commands_long (λ i. size (g.L.Linker.flow_of c.args.linker.now i)) (block_in (ending_of x.ending))) =
-    (omega (arith, c.requires, p.code, q.code, same), omega (arith, c.requires, p.texts, q.texts, same), omega (arith, c.requires, p.numbers, q.numbers, same)) in
+    (omega (arith, c.requires.room, p.code, q.code, same), omega (arith, c.requires.room, p.texts, q.texts, same), omega (arith, c.requires.room, p.numbers, q.numbers, same)) in
     search (rules, the_lemmas, room)
 
-pub emit_branch-returns : goal.emit_branch-returns
-emit_branch-returns g t c =
+pub emit_branch-overflow_cast-last : goal.emit_branch-overflow_cast-last
+emit_branch-overflow_cast-last g t c =
     let f = g.L.Linker.flow_of c.args.linker.now in
     let x = out-Command c.args.command.now in
-    let fields = command_of-fields c.args.command.now in
-    let same = ap (λ (k : CommandTree). part_long (λ i. size (g.L.Linker.flow_of c.args.linker.now i)) Branch k) fields in
-    record {
-      adds = on_ok_weaker c.put-2.result (λ h n ends eq.
-          subst (λ (k : CommandTree). Emits c.args.out.now c.put-2.new.out (part_flow f n Branch k) (c.args.end ∷ ends)) (sym fields)
-          (branch_emitted f c.args.out.now c.emit_only.new.out c.put.new.out c.emit_block.new.out c.put-2.new.out (only_in (inner_of x.tests)) (block_in (ending_of x.ending)) (c.len.result + c.part_size.result) c.args.end c.args.back
-          (omega (arith, c.len.ensures, c.args.out.now.code.ok.0, c.part_size.ensures, same)) c.in_ok-emit_only.ensures.adds c.in_ok-put.ensures.adds c.in_ok-emit_block.ensures.adds h n ends eq)) c.put-2.ensures.adds;
-    }
+    let o3 = c.emit_block.new.out in
+    let xs = block_in (ending_of x.ending) in
+    let same = ap (λ (k : CommandTree). part_long (λ i. size (f i)) Branch k) (command_of-fields c.args.command.now) in
+    let p = c.in_ok-put.ensures in
+    let q = grows c.args.out.now c.emit_only.new.out (test_flow (only_in (inner_of x.tests))) [] (c.in_ok-emit_only.ensures.adds []) in
+    let r = grows c.put.new.out o3 (flow f 0 xs) (c.args.back ∷ []) (c.in_ok-emit_block.ensures.adds 0 (c.args.back ∷ []) refl) in
+    omega (arith, c.requires.room, same, p.code, q.code, r.code, flow_long f 0 xs, c.len-last.ensures, o3.code.ok.0)
 
-pub emit_commands-loop-command-init : goal.emit_commands-loop-command-init
-emit_commands-loop-command-init g t c = rw (c.deref-command-items.ensures.value) (remains_first (g.L.Linker.flow_of c.args.linker.now) c.args.back c.args.out.now 0 (commands_of (map command_of c.args.commands.now.items)), refl)
+pub emit_branch-put_at-requires : goal.emit_branch-put_at-requires
+emit_branch-put_at-requires g t c =
+    let f = g.L.Linker.flow_of c.args.linker.now in
+    let x = out-Command c.args.command.now in
+    let o1 = c.emit_only.new.out in
+    let r = grows c.put.new.out c.emit_block.new.out (flow f 0 (block_in (ending_of x.ending))) (c.args.back ∷ []) (c.in_ok-emit_block.ensures.adds 0 (c.args.back ∷ []) refl) in
+    omega (arith, c.len-past.ensures, o1.code.ok.0, c.in_ok-put.ensures.code, r.code)
 
-pub emit_commands-overflow_add-index : goal.emit_commands-overflow_add-index
-emit_commands-overflow_add-index g t c = omega (arith, c.loop-command.invariant, c.loop-command-test.true, c.deref-command-items.ensures, c.args.commands.now.ok)
+pub emit_branch-returns-clause-adds : goal.emit_branch-returns-clause-adds
+emit_branch-returns-clause-adds g t c =
+    let o1 = c.emit_only.new.out in
+    let o3 = c.emit_block.new.out in
+    on_ok_weaker c.put-2.result
+    (branch_open (g.L.Linker.flow_of c.args.linker.now) c.args.back c.args.command.now c.args.out.now c.put-2.new.out c.args.jumps.now.items c.requires.places
+    o1 c.put.new.out o3 c.put_at.new.out c.len-past.result c.len-last.result c.push.new.self.items (omega (arith, c.len-past.ensures, o1.code.ok.0)) (omega (arith, c.len-last.ensures, o3.code.ok.0)) c.put_at.ensures c.in_ok-push.ensures.items
+    c.in_ok-emit_only.ensures.adds c.in_ok-put.ensures.adds c.in_ok-emit_block.ensures.adds) c.put-2.ensures.adds
 
-pub emit_commands-loop-command-preserved : goal.emit_commands-loop-command-preserved
-emit_commands-loop-command-preserved g t c =
-    let here : c.len.result ≡ length c.loop-command.out.code.items = c.len.ensures ∙ c.loop-command.out.code.ok.0 in
-    let behind : c.commands_from-behind.result.now ≡ drop (c.loop-command.command-index + 1) c.deref-command-items.result.now =
-    c.commands_from-behind.ensures ∙ ap (λ k. drop (k + 1) c.args.commands.now.items) c.loop-command.invariant.1 ∙ ap (λ (l : List Command). drop (c.loop-command.command-index + 1) l) (sym c.deref-command-items.ensures.value) in
-    let told : c.end_of_branches-end.result ≡ chain_end c.command_word-word.result (c.len.result + (part_long (λ i. size (g.L.Linker.flow_of c.args.linker.now i)) Branch (command_of c.command-item.result) + branches_long (λ i. size (g.L.Linker.flow_of c.args.linker.now i)) (branches_of (commands_of (map command_of c.commands_from-behind.result.now))))) c.loop-command.end = c.end_of_branches-end.ensures in
-    let said = told ∙ ap (λ k. chain_end c.command_word-word.result (k + (part_long (λ i. size (g.L.Linker.flow_of c.args.linker.now i)) Branch (command_of c.command-item.result) + branches_long (λ i. size (g.L.Linker.flow_of c.args.linker.now i)) (branches_of (commands_of (map command_of c.commands_from-behind.result.now))))) c.loop-command.end) here
-    ∙ ap (λ (l : List Command). chain_end c.command_word-word.result (length c.loop-command.out.code.items + (part_long (λ i. size (g.L.Linker.flow_of c.args.linker.now i)) Branch (command_of c.command-item.result) + branches_long (λ i. size (g.L.Linker.flow_of c.args.linker.now i)) (branches_of (commands_of (map command_of l))))) c.loop-command.end) behind in (
-      commands_turn (g.L.Linker.flow_of c.args.linker.now) c.args.back c.args.out.now c.loop-command.out c.emit_part.new.out c.command_word-word.result c.loop-command.is_open c.loop-command.end c.deref-command-items.result.now c.loop-command.command-index c.command-item.result _
-          c.loop-command.invariant.0 c.command-item.is c.loop-command-test.true (ap (λ n. command_word n) (sym c.as_slice.ensures) ∙ sym c.command_word-word.ensures) c.part_in-part.result c.part_in-part.ensures c.end_of_branches-end.result
-          said c.in_ok-emit_part.ensures.adds c.is_branch-is_open.result c.is_branch-is_open.ensures,
-      omega (arith, c.loop-command.invariant.1),
-    )
+pub emit_branch-returns-clause-places : goal.emit_branch-returns-clause-places
+emit_branch-returns-clause-places g t c =
+    let f = g.L.Linker.flow_of c.args.linker.now in
+    let x = out-Command c.args.command.now in
+    let o3 = c.emit_block.new.out in
+    let o4 = c.put-2.new.out in
+    let jumps = c.args.jumps.now.items in
+    let last = c.len-last.result in
+    let p = c.in_ok-put.ensures in
+    let q = grows c.args.out.now c.emit_only.new.out (test_flow (only_in (inner_of x.tests))) [] (c.in_ok-emit_only.ensures.adds []) in
+    let r = grows c.put.new.out o3 (flow f 0 (block_in (ending_of x.ending))) (c.args.back ∷ []) (c.in_ok-emit_block.ensures.adds 0 (c.args.back ∷ []) refl) in
+    let long : length c.put_at.new.out.code.items ≡ length o3.code.items = ap (λ (o : Output). length o.code.items) c.put_at.ensures ∙ length-set o3.code.items c.len-past.result (JumpUnless (last + 1)) in
+    on_ok_weaker c.put-2.result (λ h.
+    All-same (λ k. k < length o4.code.items) c.push.new.self.items (jumps ++ last ∷ []) c.in_ok-push.ensures.items
+    (All-push (λ k. k < length o4.code.items) jumps last
+    (All-weaker (λ k. k < length c.args.out.now.code.items) (λ k. k < length o4.code.items) (λ k lt. omega (arith, lt, h, long, p.code, q.code, r.code)) jumps c.requires.places)
+    (omega (arith, h, long, c.len-last.ensures, o3.code.ok.0)))) c.put-2.ensures.code
 
-pub emit_commands-returns : goal.emit_commands-returns
-emit_commands-returns g t c = record { adds = commands_last (g.L.Linker.flow_of c.args.linker.now) c.args.back c.args.out.now c.loop-command.out c.loop-command.is_open c.loop-command.end c.deref-command-items.result.now c.loop-command.command-index _ c.loop-command.invariant.0 c.loop-command-test.false }
+pub emit_part-returns-in-Otherwise-clause-adds : goal.emit_part-returns-in-Otherwise-clause-adds
+emit_part-returns-in-Otherwise-clause-adds g t c =
+    rw (c.in-Otherwise.is)
+    (on_ok_weaker c.emit_block.result (otherwise_open (g.L.Linker.flow_of c.args.linker.now) c.args.back c.args.command.now c.args.out.now c.emit_block.new.out c.args.jumps.now.items c.requires.places) c.emit_block.ensures.adds)
 
-pub emit_commands-end_of_branches-end-requires : goal.emit_commands-end_of_branches-end-requires
-emit_commands-end_of_branches-end-requires g t c =
-    let here : c.len.result ≡ length c.loop-command.out.code.items = c.len.ensures ∙ c.loop-command.out.code.ok.0 in
-    let behind : c.commands_from-behind.result.now ≡ drop (c.loop-command.command-index + 1) c.deref-command-items.result.now =
-    c.commands_from-behind.ensures ∙ ap (λ k. drop (k + 1) c.args.commands.now.items) c.loop-command.invariant.1 ∙ ap (λ (l : List Command). drop (c.loop-command.command-index + 1) l) (sym c.deref-command-items.ensures.value) in
-    let same = ap (λ (l : List Command). branches_long (λ i. size (g.L.Linker.flow_of c.args.linker.now i)) (branches_of (commands_of (map command_of l)))) behind in
-    record { room = λ begins. let fits : c.len.result + (part_long (λ i. size (g.L.Linker.flow_of c.args.linker.now i)) Branch (command_of c.command-item.result) + branches_long (λ i. size (g.L.Linker.flow_of c.args.linker.now i)) (branches_of (commands_of (map command_of c.commands_from-behind.result.now)))) < 2 ^ 16 = omega (arith, c.requires, here, same, c.loop-command.invariant.0.code, chain_room (λ i. size (g.L.Linker.flow_of c.args.linker.now i)) c.command_word-word.result c.loop-command.is_open c.deref-command-items.result.now c.loop-command.command-index c.command-item.result c.command-item.is c.loop-command-test.true (ap (λ n. command_word n) (sym c.as_slice.ensures) ∙ sym c.command_word-word.ensures) begins) in fits }
+pub emit_part-returns-in-Otherwise-clause-places : goal.emit_part-returns-in-Otherwise-clause-places
+emit_part-returns-in-Otherwise-clause-places g t c =
+    let f = g.L.Linker.flow_of c.args.linker.now in
+    let x = out-Command c.args.command.now in
+    let o0 = c.args.out.now in
+    let o1 = c.emit_block.new.out in
+    on_ok_weaker c.emit_block.result (λ h.
+    let r = grows o0 o1 (flow f 0 (block_in (ending_of x.ending))) (c.args.back ∷ []) (h 0 (c.args.back ∷ []) refl) in
+    All-weaker (λ k. k < length o0.code.items) (λ k. k < length o1.code.items) (λ k lt. omega (arith, lt, r.code)) c.args.jumps.now.items c.requires.places) c.emit_block.ensures.adds
+
+pub emit_part-returns-in-Plain-clause-adds : goal.emit_part-returns-in-Plain-clause-adds
+emit_part-returns-in-Plain-clause-adds g t c =
+    rw (c.in-Plain.is)
+    (on_ok_weaker c.emit_plain.result
+    (plain_open (g.L.Linker.flow_of c.args.linker.now) c.args.back c.args.command.now c.args.out.now c.emit_plain.new.out c.args.jumps.now.items c.requires.places
+    c.command_word-word.result (ap (λ n. command_word n) (sym c.as_slice.ensures) ∙ sym c.command_word-word.ensures) c.as_slice-in-Plain.result.now c.as_slice-in-Plain.ensures)
+    c.emit_plain.ensures.adds)
+
+pub emit_part-returns-in-Plain-clause-places : goal.emit_part-returns-in-Plain-clause-places
+emit_part-returns-in-Plain-clause-places g t c =
+    let f = g.L.Linker.flow_of c.args.linker.now in
+    let o0 = c.args.out.now in
+    let o1 = c.emit_plain.new.out in
+    on_ok_weaker c.emit_plain.result (λ h.
+    let r = grows o0 o1 (plain_flow f 0 c.command_word-word.result c.as_slice-in-Plain.result.now) (c.args.back ∷ []) (h 0 (c.args.back ∷ []) refl) in
+    All-weaker (λ k. k < length o0.code.items) (λ k. k < length o1.code.items) (λ k lt. omega (arith, lt, r.code)) c.args.jumps.now.items c.requires.places) c.emit_plain.ensures.adds
+
+pub emit_commands-end_before-requires-clause-room : goal.emit_commands-end_before-requires-clause-room
+emit_commands-end_before-requires-clause-room g t c =
+    let f = g.L.Linker.flow_of c.args.linker.now in
+    let l = c.loop-command in
+    let rest = commands_of (map command_of (drop l.command-index c.deref-command-items.result.now)) in
+    let room = stands_room f c.args.back c.args.out.now l.out l.jumps.items l.is_open rest (program_of (commands_of (map command_of c.args.commands.now.items))) l.invariant c.requires in
+    omega (arith, room.0)
 
 pub emit_commands-emit_part-requires : goal.emit_commands-emit_part-requires
 emit_commands-emit_part-requires g t c κs within =
-    let long = turn_long (λ i. size (g.L.Linker.flow_of c.args.linker.now i)) c.command_word-word.result c.loop-command.is_open c.deref-command-items.result.now c.loop-command.command-index c.command-item.result c.command-item.is c.loop-command-test.true (ap (λ n. command_word n) (sym c.as_slice.ensures) ∙ sym c.command_word-word.ensures) in
-    let same = ap (λ (p : Part). part_long (λ i. size (g.L.Linker.flow_of c.args.linker.now i)) p (command_of c.command-item.result)) c.part_in-part.ensures in
-    let inv = c.loop-command.invariant.0 in
-    let room : HasRoom c.loop-command.out (part_long (λ i. size (g.L.Linker.flow_of c.args.linker.now i)) c.part_in-part.result (command_of c.command-item.result)) =
-    (omega (arith, c.requires, inv.code, long, same), omega (arith, c.requires, inv.texts, long, same), omega (arith, c.requires, inv.numbers, long, same)) in
-    search (rules, the_lemmas, room)
+    let f = g.L.Linker.flow_of c.args.linker.now in
+    let l = c.loop-command in
+    let whole = program_of (commands_of (map command_of c.args.commands.now.items)) in
+    let named : command_word (out-Command c.command-item.result).name ≡ c.command_word-word.result = ap (λ n. command_word n) (sym c.as_slice.ensures) ∙ sym c.command_word-word.ensures in
+    let ready = turn_ready f c.args.back c.args.out.now whole c.command_word-word.result l.is_open c.deref-command-items.result.now l.command-index c.command-item.result c.command-item.is c.loop-command-test.true named
+    c.part_in-part.result c.part_in-part.ensures l.out c.end_before.new.out l.jumps.items c.end_before.new.jumps.items l.invariant c.end_before.ensures.out c.end_before.ensures.jumps c.requires in
+    search (rules, the_lemmas, ready.0, ready.1)
+
+pub emit_commands-loop-command-preserved : goal.emit_commands-loop-command-preserved
+emit_commands-loop-command-preserved g t c =
+    let f = g.L.Linker.flow_of c.args.linker.now in
+    let l = c.loop-command in
+    let whole = program_of (commands_of (map command_of c.args.commands.now.items)) in
+    let named : command_word (out-Command c.command-item.result).name ≡ c.command_word-word.result = ap (λ n. command_word n) (sym c.as_slice.ensures) ∙ sym c.command_word-word.ensures in
+    turn_stands f c.args.back c.args.out.now whole c.command_word-word.result l.is_open c.deref-command-items.result.now l.command-index c.command-item.result c.command-item.is c.loop-command-test.true named
+    c.part_in-part.result c.part_in-part.ensures l.out c.end_before.new.out l.jumps.items c.end_before.new.jumps.items l.invariant c.end_before.ensures.out c.end_before.ensures.jumps
+    c.emit_part.new.out c.emit_part.new.jumps.items c.in_ok-emit_part.ensures.adds c.in_ok-emit_part.ensures.places c.is_branch-is_open.result c.is_branch-is_open.ensures
+
+pub emit_commands-end_branches-requires-clause-room : goal.emit_commands-end_branches-requires-clause-room
+emit_commands-end_branches-requires-clause-room g t c =
+    let f = g.L.Linker.flow_of c.args.linker.now in
+    let l = c.loop-command in
+    let rest = commands_of (map command_of (drop l.command-index c.deref-command-items.result.now)) in
+    let room = stands_room f c.args.back c.args.out.now l.out l.jumps.items l.is_open rest (program_of (commands_of (map command_of c.args.commands.now.items))) l.invariant c.requires in
+    omega (arith, room.0)
+
+pub emit_commands-returns : goal.emit_commands-returns
+emit_commands-returns g t c =
+    let l = c.loop-command in
+    record { adds = last_stands (g.L.Linker.flow_of c.args.linker.now) c.args.back c.args.out.now l.out c.end_branches.new.out l.jumps.items l.is_open c.deref-command-items.result.now l.command-index (program_of (commands_of (map command_of c.args.commands.now.items))) l.invariant c.loop-command-test.false c.end_branches.ensures.out }
