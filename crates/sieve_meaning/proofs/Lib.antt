@@ -1,2 +1,3 @@
 pub mod MatchingLemmas
+mod PathLemmas
 mod Rows
