@@ -83,6 +83,26 @@ pub fn session_of_filings(alloc: Global, octets: usize) -> Result<Vec<u8>, Alloc
     )
 }
 
+/// A session that opens a class for every 256 octets that are asked for, and 4,000 at most, and files a message into each
+/// of them.
+pub fn session_of_classes(alloc: Global, octets: usize) -> Result<Vec<u8>, AllocError> {
+    let mut session = Vec::new(alloc);
+    let mut script = Vec::from_slice(alloc, b"require \"fileinto\";\r\n")?;
+    for number in 0..(octets / 256).min(4_000) {
+        let class = format!(in alloc; "CLASS {number}\n")?;
+        session.extend_from_slice(class.as_bytes())?;
+        let filing = format!(in alloc; "fileinto \"{number}\";\r\n")?;
+        script.extend_from_slice(filing.as_bytes())?;
+    }
+    let message = message(alloc)?;
+    let (script_len, message_len) = (script.len(), message.len());
+    let line = format!(in alloc; "FILE {script_len} {message_len}\n")?;
+    session.extend_from_slice(line.as_bytes())?;
+    session.extend_from_slice(&script)?;
+    session.extend_from_slice(&message)?;
+    Ok(session)
+}
+
 /// The program of an image, or none where it may not run.
 pub fn judged(alloc: Global, image: &[u8]) -> Option<Verified> {
     let image = decode(alloc, image).ok()?;

@@ -10,6 +10,9 @@ use std::rc::Rc;
 /// What a script that includes others begins with.
 const FRONT: &str = "require \"include\";\r\n";
 
+/// How many `if`s stand around an include.
+const IFS: usize = 31;
+
 /// How many scripts there may be in a location.
 const SCRIPTS: u8 = 32;
 
@@ -53,6 +56,15 @@ fn ten_of(alloc: Global, name: &str) -> Result<String, AllocError> {
     Ok(text)
 }
 
+/// A script of one include inside so many `if`s.
+fn inside_ifs(alloc: Global, name: &str) -> Result<String, AllocError> {
+    let mut text = String::from_str(alloc, FRONT)?;
+    text.push_str("if true {".repeat(alloc, IFS)?.as_str())?;
+    push_include(&mut text, ":personal", name)?;
+    text.push_str("}".repeat(alloc, IFS)?.as_str())?;
+    Ok(text)
+}
+
 /// A script that includes each script of both locations.
 fn all_of(alloc: Global) -> Result<String, AllocError> {
     let mut text = String::from_str(alloc, FRONT)?;
@@ -82,6 +94,34 @@ impl Texts {
         })?;
         Ok(Texts {
             main: ten_of(alloc, "b")?,
+            others,
+        })
+    }
+
+    /// Eight scripts, of which each but the last includes the next inside thirty-one `if`s; the last has 12,000 commands.
+    pub fn of_ifs(alloc: Global) -> Result<Texts, AllocError> {
+        let mut others = Vec::new(alloc);
+        for (name, next) in [
+            ("b", "c"),
+            ("c", "d"),
+            ("d", "e"),
+            ("e", "f"),
+            ("f", "g"),
+            ("g", "h"),
+        ] {
+            others.push(Included {
+                location: Location::Personal,
+                name: String::from_str(alloc, name)?,
+                text: inside_ifs(alloc, next)?,
+            })?;
+        }
+        others.push(Included {
+            location: Location::Personal,
+            name: String::from_str(alloc, "h")?,
+            text: "keep;".repeat(alloc, 12_000)?,
+        })?;
+        Ok(Texts {
+            main: inside_ifs(alloc, "b")?,
             others,
         })
     }

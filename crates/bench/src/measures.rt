@@ -2,7 +2,7 @@
 
 use crate::filings::{
     INVOICE_SCRIPT, fields_of_cases, judged, message, octets_answered, script_of_tests,
-    session_of_filings, weight_of, weights_of,
+    session_of_classes, session_of_filings, weight_of, weights_of,
 };
 use crate::includes::Texts;
 use crate::inputs::{image_of_code, image_of_steps, image_of_texts, repeated};
@@ -72,10 +72,14 @@ pub enum Measure {
     LongScript,
     /// `compile` of a script of weight 48,885, of ten includes a script over four levels.
     TenIncludes,
+    /// `compile` of a script of weight 49,793, of eight scripts that include each other inside `if`s.
+    IncludesInIfs,
     /// `compile` of a script that is too heavy, of sixty-four scripts that include each other.
     AllIncludes,
     /// `serve` of a session that files that message by that script up to 10,000 times.
     Filings,
+    /// `serve` of a session that opens up to 4,000 classes, and files a message into each.
+    Classes,
 }
 
 /// A script of one thing repeated.
@@ -196,8 +200,10 @@ impl Measure {
             Measure::HalfScript => script_of_tests(alloc, octets / 2, 1_000),
             Measure::LongScript => script_of_tests(alloc, octets, 2_000),
             Measure::TenIncludes => Texts::of_ten(alloc)?.joined(alloc),
+            Measure::IncludesInIfs => Texts::of_ifs(alloc)?.joined(alloc),
             Measure::AllIncludes => Texts::of_all(alloc)?.joined(alloc),
             Measure::Filings => session_of_filings(alloc, octets),
+            Measure::Classes => session_of_classes(alloc, octets),
             _ => message(alloc),
         }
     }
@@ -248,8 +254,10 @@ impl Measure {
             Measure::Cases => fields_of_cases(alloc, input, TIMES),
             Measure::ShortScript => Ok(weights_of(alloc, input, TIMES)),
             Measure::HalfScript | Measure::LongScript => Ok(weight_of(alloc, input)),
-            Measure::TenIncludes | Measure::AllIncludes => Ok(setting.weight(alloc)),
-            Measure::Filings => octets_answered(alloc, input),
+            Measure::TenIncludes | Measure::IncludesInIfs | Measure::AllIncludes => {
+                Ok(setting.weight(alloc))
+            }
+            Measure::Filings | Measure::Classes => octets_answered(alloc, input),
             _ => Ok(parts_that_may_run(alloc, input)),
         }
     }

@@ -41,7 +41,7 @@ pub struct Row {
 }
 
 /// Each row, in the order of a message's way.
-pub const ROWS: [Row; 44] = [
+pub const ROWS: [Row; 46] = [
     Row {
         measure: Measure::Header,
         title: "`read_head`, a header in fields of 80 octets",
@@ -295,6 +295,12 @@ pub const ROWS: [Row; 44] = [
         baseline: Baseline::Words,
     },
     Row {
+        measure: Measure::IncludesInIfs,
+        title: "`compile`, eight scripts, each include inside 31 `if`s, weight 49,793",
+        asked: Asked::Time(5),
+        baseline: Baseline::Words,
+    },
+    Row {
         measure: Measure::AllIncludes,
         title: "`compile`, 64 scripts that include each other, too heavy",
         asked: Asked::Time(20),
@@ -304,6 +310,12 @@ pub const ROWS: [Row; 44] = [
         measure: Measure::Filings,
         title: "`serve`, 10,000 `FILE` of the script with that message",
         asked: Asked::Time(200),
+        baseline: Baseline::Copy,
+    },
+    Row {
+        measure: Measure::Classes,
+        title: "`serve`, 4,000 `CLASS` and a `FILE` of a script that files into each",
+        asked: LINEAR,
         baseline: Baseline::Copy,
     },
 ];

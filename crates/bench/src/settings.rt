@@ -36,6 +36,7 @@ impl Setting {
         };
         let linked = match measure {
             Measure::TenIncludes => Texts::of_ten(alloc)?.linked(alloc),
+            Measure::IncludesInIfs => Texts::of_ifs(alloc)?.linked(alloc),
             Measure::AllIncludes => Texts::of_all(alloc)?.linked(alloc),
             _ => None,
         };
