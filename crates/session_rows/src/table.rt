@@ -57,6 +57,16 @@ impl Case {
         self.wanted.as_slice()
     }
 
+    /// Adds input.
+    fn send(&mut self, octets: &[u8]) -> Result<(), AllocError> {
+        self.input.extend_from_slice(octets)
+    }
+
+    /// Adds to the script.
+    fn extend_program(&mut self, octets: &[u8]) -> Result<(), AllocError> {
+        self.program.extend_from_slice(octets)
+    }
+
     /// Takes a script or an image, with the command for it.
     fn set_program(&mut self, command: &'static str, program: Vec<u8>) {
         self.command = command;
@@ -67,17 +77,17 @@ impl Case {
     fn keep_global(&mut self, alloc: Global, name: &str, text: &[u8]) -> Result<(), AllocError> {
         let length = text.len();
         let line = format!(in alloc; "GLOBAL {name} {length}\n")?;
-        self.input.extend_from_slice(line.as_str().as_bytes())?;
-        self.input.extend_from_slice(text)
+        self.send(line.as_str().as_bytes())?;
+        self.send(text)
     }
 
     /// Files a message by the script, or tries the image on it.
     fn file(&mut self, alloc: Global, message: &[u8]) -> Result<(), AllocError> {
         let (command, program, message_length) = (self.command, self.program.len(), message.len());
         let line = format!(in alloc; "{command} {program} {message_length}\n")?;
-        self.input.extend_from_slice(line.as_str().as_bytes())?;
+        self.send(line.as_str().as_bytes())?;
         self.input.extend_from_slice(self.program.as_slice())?;
-        self.input.extend_from_slice(message)
+        self.send(message)
     }
 }
 
@@ -137,8 +147,8 @@ fn want(alloc: Global, case: &mut Case, times: usize, text: &str) -> Result<(), 
 pub fn read_line(alloc: Global, case: &mut Case, line: &str) -> Result<()> {
     let (word, text) = line.split_once(' ').unwrap_or((line, ""));
     match word {
-        "send" => case.input.extend_from_slice(octets_of(alloc, text)?.as_slice())?,
-        "times" => case.input.extend_from_slice(repeated(alloc, text)?.as_slice())?,
+        "send" => case.send(octets_of(alloc, text)?.as_slice())?,
+        "times" => case.send(repeated(alloc, text)?.as_slice())?,
         "count" => {
             let (first, text) = numbered(text)?;
             let (last, text) = numbered(text)?;
@@ -150,7 +160,7 @@ pub fn read_line(alloc: Global, case: &mut Case, line: &str) -> Result<()> {
         }
         "script" => case.set_program("FILE", octets_of(alloc, text)?),
         "image" => case.set_program("TRY", hex_octets(alloc, text)?),
-        "more" => case.program.extend_from_slice(repeated(alloc, text)?.as_slice())?,
+        "more" => case.extend_program(repeated(alloc, text)?.as_slice())?,
         "message" => case.file(alloc, octets_of(alloc, text)?.as_slice())?,
         "messages" => case.file(alloc, repeated(alloc, text)?.as_slice())?,
         "want" => want(alloc, case, 1, text)?,
