@@ -105,9 +105,8 @@ impl Machine {
         let Some(fault) = self.end else {
             unreachable!()
         };
-        let filed = self.at.filed.copy(self.alloc)?;
-        let (kept, cancelled) = (self.at.kept, self.at.cancelled);
-        let classes = captured_classes(self.alloc, fault, filed, kept, cancelled)?;
+        let at = &self.at;
+        let classes = captured_classes(self.alloc, fault, &at.filed, at.kept, at.cancelled)?;
         Ok(Outcome {
             classes,
             fault,

@@ -32,17 +32,11 @@ pub struct Outcome {
 }
 
 /// What a run leaves that ended so.
-fn captured(alloc: Global, ending: Ending, filing: Filing<'_>) -> Result<Outcome, AllocError>
-    ensures { IfOk result (λ o. outcome_view o ≡ outcome_at (fault_of ending) filing.entry.filed filing.entry.kept filing.entry.cancelled) }
+fn captured(alloc: Global, ending: Ending, filing: &Filing<'_>) -> Result<Outcome, AllocError>
+    ensures { IfOk result (λ o. outcome_view o ≡ outcome_at (fault_of ending) filing.now.filed filing.now.kept filing.now.cancelled) }
 {
     let fault = ending.fault();
-    let Filing {
-        filed,
-        kept,
-        cancelled,
-        ..
-    } = filing;
-    let classes = captured_classes(alloc, fault, filed, kept, cancelled)?;
+    let classes = captured_classes(alloc, fault, &filing.filed, filing.kept, filing.cancelled)?;
     Ok(Outcome { classes, fault })
 }
 
@@ -89,6 +83,6 @@ pub fn evaluate<'a>(
         entered,
     };
     let ending = run::<Levels>(alloc, &scope, &main.commands, &mut filing)?;
-    let outcome = captured(alloc, ending, filing)?;
+    let outcome = captured(alloc, ending, &filing)?;
     Ok(outcome)
 }

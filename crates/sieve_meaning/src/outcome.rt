@@ -20,20 +20,20 @@ pub fn default_class_alone(alloc: Global) -> Result<Paths, AllocError>
 
 /// What a run captures that ended so. With a fault it is the default class alone; with none it is the classes that the
 /// run filed into, and the default class too where the message is kept, explicitly or implicitly (RFC 5228, section
-/// 2.10.2). The only error is want of memory.
+/// 2.10.2). The set is copied only where it is captured. The only error is want of memory.
 pub fn captured_classes(
     alloc: Global,
     fault: Option<u8>,
-    filed: Paths,
+    filed: &Paths,
     kept: bool,
     cancelled: bool,
 ) -> Result<Paths, AllocError>
-    ensures { IfOk result (λ p. p ≡ (outcome_at fault filed kept cancelled).classes) }
+    ensures { IfOk result (λ p. p ≡ (outcome_at fault filed.now kept cancelled).classes) }
 {
     if fault.is_some() {
         return default_class_alone(alloc);
     }
-    let mut classes = filed;
+    let mut classes = filed.copy(alloc)?;
     if kept || !cancelled {
         classes.insert(alloc, UNFILED)?;
     }
