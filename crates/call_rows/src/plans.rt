@@ -55,6 +55,7 @@ pub fn parts(alloc: Global, path: &[u8], state: &[u8], years: &[u8]) -> Result<V
         count,
         unit: Unit::Years,
         action: Action::Review,
+        year_end: false,
     };
     let mut classes = Vec::new(alloc);
     classes.push((Vec::from_slice(alloc, b"a")?, true, None))?;

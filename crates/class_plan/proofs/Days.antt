@@ -32,7 +32,7 @@ pub days-added : (a r : Date) (n : ℤ) (s : Span) → IsOnly Day n s → (CanAd
 days-added a r n s only fits in_range = fits ((can_add-days a n s only).1 in_range) ∙ date_add-days a n s only
 
 -- the day count of 2200-01-01
-day_count-2200 : day_count (pos 2200) 1 1 ≡ 4_455_959
+pub day_count-2200 : day_count (pos 2200) 1 1 ≡ 4_455_959
 day_count-2200 = day_count-early (pos 2200) 12199 1 1 refl (omega arith) (omega arith) (omega arith)
 
 -- the dates before 2200 lie well below the last

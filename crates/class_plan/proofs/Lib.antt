@@ -18,10 +18,13 @@ pub mod Kept
 pub mod Cloned
 pub mod Ranges
 pub mod Days
+pub mod Capture
 pub mod Months
 pub mod Printed
+pub mod Spelled
 pub mod Parted
 pub mod Reparted
 pub mod Due
 pub mod Nearest
+pub mod CalendarLemmas
 pub mod Rows

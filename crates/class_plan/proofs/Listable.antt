@@ -11,12 +11,12 @@ use Rattle.class_plan.specs.declared.schedules.Schedule.{Schedule}
 use Rattle.class_plan.specs.declared.schedules.Schedule.TheVariants.{Permanent, After}
 use Rattle.class_plan.specs.Paths.{unfiled}
 use Rattle.class_plan.specs.Schedules.{most, IsInRange, IsInRangeIfAny}
-use Rattle.class_plan.specs.Texts.{count_of, unit_of, action_of, period_of, schedule_of_bytes}
+use Rattle.class_plan.specs.Texts.{count_of, unit_of, ending_of, period_of, schedule_of_bytes}
 use Rattle.class_plan.specs.Entries.{Entry, Contents, stated_if, own_of, IsListable, IsListableEntry}
 use Rattle.class_plan.specs.Document.{has_only, is_file_key, is_class_key, optional, class_of, class_of_parts, entry_of, entries_of, listed_of, contents_of, contents_of_parts}
 
-range_if : (b : Bool) (n : ℕ) (u : TimeUnit) (x : Action) (s : Schedule) → (b ≡ true → (1 ≤ n) × (n ≤ most u)) → Some s ≡ (if b then Some (After n u x) else None) → IsInRange s
-range_if true n u x s h e = let is : After n u x ≡ s = cc in subst IsInRange is (h refl)
+range_if : (b : Bool) (n : ℕ) (u : TimeUnit) (x : Action × Bool) (s : Schedule) → (b ≡ true → (1 ≤ n) × (n ≤ most u)) → Some s ≡ (if b then Some (After n u x.0 x.1) else None) → IsInRange s
+range_if true n u x s h e = let is : After n u x.0 x.1 ≡ s = cc in subst IsInRange is (h refl)
 range_if false n u x s h e = absurd (cc)
 
 low_of : (n m : ℕ) → (nat_le 1 n && nat_le n m) ≡ true → 1 ≤ n
@@ -25,7 +25,7 @@ low_of n m e = grind (arith, nat_tests)
 high_of : (n m : ℕ) → (nat_le 1 n && nat_le n m) ≡ true → n ≤ m
 high_of n m e = grind (arith, nat_tests)
 
-period_range : (o : Option ℕ) (u : Option TimeUnit) (x : Option Action) (a b c : List ℕ) (s : Schedule) → o ≡ count_of a → u ≡ unit_of b → x ≡ action_of c → Some s ≡ period_of a b c → IsInRange s
+period_range : (o : Option ℕ) (u : Option TimeUnit) (x : Option (Action × Bool)) (a b c : List ℕ) (s : Schedule) → o ≡ count_of a → u ≡ unit_of b → x ≡ ending_of c → Some s ≡ period_of a b c → IsInRange s
 unfolding period_of
 period_range None u x a b c s d e f h = let k : Some s ≡ None = rw (← d) at h in absurd (cc)
 period_range (Some n) None x a b c s d e f h = let k : Some s ≡ None = rw (← d, ← e) at h in absurd (cc)
@@ -34,7 +34,7 @@ period_range (Some n) (Some u) (Some x) a b c s d e f h = range_if (nat_le 1 n &
 
 text_range : (p : Bool) (t a b c : List ℕ) (s : Schedule) → Some s ≡ (if p then Some Permanent else period_of a b c) → IsInRange s
 text_range true t a b c s h = let is : Permanent ≡ s = cc in subst IsInRange is tt
-text_range false t a b c s h = period_range (count_of a) (unit_of b) (action_of c) a b c s refl refl refl h
+text_range false t a b c s h = period_range (count_of a) (unit_of b) (ending_of c) a b c s refl refl refl h
 
 -- the schedule of a text is in range
 pub schedule-range : (t : List ℕ) (s : Schedule) → Some s ≡ schedule_of_bytes t → IsInRange s

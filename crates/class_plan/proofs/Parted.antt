@@ -42,7 +42,7 @@ high_of n m e = grind (arith, nat_tests)
 
 pub in-range : (s : Schedule) → in_range s ≡ true → IsInRange s
 in-range Permanent e = tt
-in-range (After n u a) e = (low_of n (most u) e, high_of n (most u) e)
+in-range (After n u a y) e = (low_of n (most u) e, high_of n (most u) e)
 
 ranged_if : (s : Schedule) (b : Bool) → b ≡ in_range s → IsInRangeIfAny (if b then Some s else None)
 ranged_if s true e = in-range s (sym e)

@@ -14,7 +14,7 @@ use Rattle.class_plan.specs.declared.schedules.Action.TheVariants.{Review, Trans
 use Rattle.class_plan.specs.declared.schedules.Schedule.{Schedule}
 use Rattle.class_plan.specs.declared.schedules.Schedule.TheVariants.{Permanent, After}
 use Rattle.class_plan.specs.Schedules.{most, IsInRange}
-use Rattle.class_plan.specs.Texts.{count_from, count_of, unit_of, action_of, unit_word, action_word, text_of, is_space, schedule_of_bytes}
+use Rattle.class_plan.specs.Texts.{count_from, count_of, unit_of, unit_word, action_word, year_end_text, text_of, ending_of, is_space, schedule_of_bytes}
 use Rattle.class_plan.proofs.Periods.{text-permanent, text-parts, period-made}
 
 -- ---- counts
@@ -118,10 +118,13 @@ unit_no_space Days = refl
 unit_no_space Months = refl
 unit_no_space Years = refl
 
-action_reads : (x : Action) → Some x ≡ action_of (action_word x)
-action_reads Review = refl
-action_reads Transfer = refl
-action_reads Destroy = refl
+ending_reads : (x : Action) (y : Bool) → Some (x, y) ≡ ending_of (action_word x ++ year_end_text y)
+ending_reads Review false = refl
+ending_reads Review true = refl
+ending_reads Transfer false = refl
+ending_reads Transfer true = refl
+ending_reads Destroy false = refl
+ending_reads Destroy true = refl
 
 not_p : (c : ℕ) → is_digit c ≡ true → (c == 112) ≡ false
 not_p c e = grind (arith, nat_tests)
@@ -141,11 +144,12 @@ greatest Years = omega arith
 -- the text of a schedule in range reads back
 pub text-reads : (s : Schedule) → IsInRange s → schedule_of_bytes (text_of s) ≡ Some s
 text-reads Permanent h = sym (text-permanent (codes "permanent") refl)
-text-reads (After n u x) h =
+text-reads (After n u x y) h =
     let fits : n < 2 ^ 64 = let top = greatest u in omega arith in
     let count = decimal_counts n fits in
     let some : 0 < n = omega arith in
     let plain = digits_no_space (decimal n) count.digits in
-    let r = unit_word u ++ 32 ∷ action_word x in
-    sym (period-made (decimal n) (unit_word u) (action_word x) n u x (count_headed n (decimal n) (count.head some) count.value) (unit_reads u) (action_reads x) h.0 h.1
-    ∙ text-parts (text_of (After n u x)) (decimal n) r (unit_word u) (action_word x) (not_permanent (decimal n) (32 ∷ r) (count.head some) count.digits) (before_space (decimal n) r plain) (after_space (decimal n) r plain) (before_space (unit_word u) (action_word x) (unit_no_space u)) (after_space (unit_word u) (action_word x) (unit_no_space u)))
+    let ending = action_word x ++ year_end_text y in
+    let r = unit_word u ++ 32 ∷ ending in
+    sym (period-made (decimal n) (unit_word u) ending n u (x, y) (count_headed n (decimal n) (count.head some) count.value) (unit_reads u) (ending_reads x y) h.0 h.1
+    ∙ text-parts (text_of (After n u x y)) (decimal n) r (unit_word u) ending (not_permanent (decimal n) (32 ∷ r) (count.head some) count.digits) (before_space (decimal n) r plain) (after_space (decimal n) r plain) (before_space (unit_word u) ending (unit_no_space u)) (after_space (unit_word u) ending (unit_no_space u)))

@@ -5,7 +5,8 @@ use Rattle.std.specs.Str.{bytes_eq}
 use Rattle.std.specs.List.{AllByRecursion}
 use Rattle.class_plan.specs.declared.schedules.Schedule.{Schedule}
 use Rattle.class_plan.specs.Schedules.{IsInRange, IsInRangeIfAny}
-use Rattle.class_plan.specs.Plans.{Row, Listing, found, own_at, first_own, IsClass, IsPlan}
+use Rattle.class_plan.specs.Paths.{ancestors}
+use Rattle.class_plan.specs.Plans.{Row, Listing, found, has, own_at, first_own, schedule_at, IsClass, IsPlan}
 
 own_head : (b : Bool) (x : Row) (o : Option Row) → IsInRangeIfAny x.schedule → IsInRangeIfAny (option_and_then (λ r. r.schedule) o) → IsInRangeIfAny (option_and_then (λ r. r.schedule) (cond b (Some x) o))
 own_head true x o h k = h
@@ -29,3 +30,11 @@ first-range p h (q ∷ qs) = or_else (own_at p.rows q) (first_own p qs) (own-ran
 pub own-found : (o : Option Row) (s : Option Schedule) → Some s ≡ option_map (λ r. r.schedule) o → s ≡ option_and_then (λ r. r.schedule) o
 own-found None s h = absurd (cc)
 own-found (Some r) s h = cc
+
+range_if : (b : Bool) (s : Schedule) → IsInRange s → IsInRangeIfAny (cond b (Some s) None)
+range_if true s h = h
+range_if false s h = tt
+
+-- the schedule of a path is in range
+pub schedule-in_range : (p : Listing) → IsPlan p → (q : List ℕ) → IsInRangeIfAny (schedule_at p q)
+schedule-in_range p h q = range_if (has p.rows q) (first_own p (q ∷ ancestors q)) (first-range p h (q ∷ ancestors q))

@@ -110,7 +110,7 @@ range_test n m h k = grind (arith, nat_tests)
 
 pub range-in : (s : Schedule) → IsInRange s → in_range s ≡ true
 range-in Permanent h = refl
-range-in (After n u a) h = range_test n (most u) h.0 h.1
+range-in (After n u a y) h = range_test n (most u) h.0 h.1
 
 ranged_in : (s : Schedule) → IsInRange s → ranged s ≡ Some s
 ranged_in s h = rw (range-in s h)

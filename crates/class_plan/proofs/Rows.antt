@@ -1,10 +1,12 @@
 -- The definitions on worked rows.
 use Rattle.std.proofs.Common.{◌≡◌, true, false, [], ◌∷◌, codes, Some, None, Ok, Err, refl}
 use Rattle.class_plan.specs.declared.faults.PlanFault.TheVariants.{BadPath, ParentMissing, PathTwice}
-use Rattle.class_plan.specs.declared.schedules.Unit.TheVariants.{Days, Years}
+use Rattle.class_plan.specs.declared.schedules.Unit.TheVariants.{Days, Months, Years}
 use Rattle.class_plan.specs.declared.schedules.Action.TheVariants.{Review, Destroy}
 use Rattle.class_plan.specs.declared.schedules.Schedule.TheVariants.{Permanent, After}
 use Rattle.class_plan.specs.declared.entries.Stated.TheVariants.{Nothing, Faulty}
+use Rattle.jiff_core.specs.Calendar.{days_from_civil, day_count, days_of_years, days_of_months}
+use Rattle.class_plan.specs.Calendar.{civil, due_by}
 use Rattle.class_plan.specs.Paths.{is_path, ancestors, unfiled}
 use Rattle.class_plan.specs.Texts.{period_of, schedule_of_bytes}
 use Rattle.class_plan.specs.Plans.{Listing, open_row, first_plan, schedule_at, open_paths_of, keeps}
@@ -39,7 +41,7 @@ ancestors_none : ancestors (codes "ab") ≡ []
 ancestors_none = refl
 
 -- schedules
-text_days : schedule_of_bytes (codes "10 days destroy") ≡ Some (After 10 Days Destroy)
+text_days : schedule_of_bytes (codes "10 days destroy") ≡ Some (After 10 Days Destroy false)
 unfolding schedule_of_bytes period_of
 text_days = refl
 
@@ -55,6 +57,22 @@ text_above : schedule_of_bytes (codes "366001 days review") ≡ None
 unfolding schedule_of_bytes period_of
 text_above = refl
 
+text_year_end : schedule_of_bytes (codes "7 years destroy year-end") ≡ Some (After 7 Years Destroy true)
+unfolding schedule_of_bytes period_of
+text_year_end = refl
+
+text_permanent_year_end : schedule_of_bytes (codes "permanent year-end") ≡ None
+unfolding schedule_of_bytes period_of
+text_permanent_year_end = refl
+
+text_space : schedule_of_bytes (codes "7 years destroy ") ≡ None
+unfolding schedule_of_bytes period_of
+text_space = refl
+
+text_year_end_twice : schedule_of_bytes (codes "7 years destroy year-end year-end") ≡ None
+unfolding schedule_of_bytes period_of
+text_year_end_twice = refl
+
 text_weeks : schedule_of_bytes (codes "8 weeks review") ≡ None
 unfolding schedule_of_bytes period_of
 text_weeks = refl
@@ -63,19 +81,19 @@ text_weeks = refl
 worked : Listing
 worked = record {
   root = Permanent;
-  rows = record { path = codes "a"; is_open = true; schedule = Some (After 2 Years Review) }
+  rows = record { path = codes "a"; is_open = true; schedule = Some (After 2 Years Review false) }
       ∷ record { path = codes "a/b"; is_open = false; schedule = None }
-      ∷ record { path = codes "a/b/c"; is_open = true; schedule = Some (After 10 Days Destroy) }
+      ∷ record { path = codes "a/b/c"; is_open = true; schedule = Some (After 10 Days Destroy false) }
       ∷ open_row (codes "ab")
       ∷ open_row unfiled
       ∷ [];
 }
 
-inherited : schedule_at worked (codes "a/b") ≡ Some (After 2 Years Review)
+inherited : schedule_at worked (codes "a/b") ≡ Some (After 2 Years Review false)
 unfolding worked
 inherited = refl
 
-own : schedule_at worked (codes "a/b/c") ≡ Some (After 10 Days Destroy)
+own : schedule_at worked (codes "a/b/c") ≡ Some (After 10 Days Destroy false)
 unfolding worked
 own = refl
 
@@ -123,3 +141,22 @@ listed_child_first = record { root = Some Permanent; entries = record { path = c
 child_first : plan_of listed_child_first ≡ Ok (record { root = Permanent; rows = open_row unfiled ∷ open_row (codes "z") ∷ open_row (codes "z/b") ∷ [] })
 unfolding listed_child_first is_path
 child_first = refl
+
+-- due days: 2023-11-14 is day 19675, 2024-11-14 day 20041, 2030-11-14 day 22232, 2030-12-31 day
+-- 22279
+dates_are : (civil 19675 ≡ record { year = 2023; month = 11; day = 14 }) × (civil 20041 ≡ record { year = 2024; month = 11; day = 14 }) × (civil 22232 ≡ record { year = 2030; month = 11; day = 14 }) × (civil 22279 ≡ record { year = 2030; month = 12; day = 31 })
+dates_are = (refl, refl, refl, refl)
+
+years_are : (due_by 19675 (After 1 Years Destroy false) ≡ Some 20041) × (due_by 19675 (After 7 Years Destroy false) ≡ Some 22232) × (due_by 19675 (After 7 Years Destroy true) ≡ Some 22279)
+unfolding days_from_civil day_count days_of_years days_of_months
+years_are = (refl, refl, refl)
+
+-- 2024-01-31 and a month is 2024-02-29, and 2024-12-31 at the year's end
+months_are : (civil 19753 ≡ record { year = 2024; month = 1; day = 31 }) × (due_by 19753 (After 1 Months Review false) ≡ Some 19782) × (due_by 19753 (After 1 Months Review true) ≡ Some 20088)
+unfolding days_from_civil day_count days_of_years days_of_months
+months_are = (refl, refl, refl)
+
+-- 2024-12-31 and a day is 2025-01-01, and 2025-12-31 at the year's end
+days_are : (civil 20088 ≡ record { year = 2024; month = 12; day = 31 }) × (due_by 20088 (After 1 Days Review true) ≡ Some 20453) × (civil 20453 ≡ record { year = 2025; month = 12; day = 31 })
+unfolding days_from_civil day_count days_of_years days_of_months
+days_are = (refl, refl, refl)

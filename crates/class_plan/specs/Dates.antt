@@ -1,7 +1,8 @@
 -- Due dates, in terms of year, month, day and day number (days since 1970-01-01).
-use Rattle.std.specs.Prelude.{◌≡◌, ℕ, ◌+◌, ◌*◌, ◌-◌, ◌/◌, ◌%◌, ◌<◌, ◌⊎◌, min, pos, ◌+ℤ◌, ◌<ℤ◌, List, Option, Some, None, MatchOption, unsigned_abs}
+use Rattle.std.specs.Prelude.{◌≡◌, ℕ, true, false, ◌+◌, ◌*◌, ◌-◌, ◌/◌, ◌%◌, ◌<◌, ◌⊎◌, min, pos, ◌+ℤ◌, ◌<ℤ◌, List, Option, Some, None, MatchOption, unsigned_abs}
 use Rattle.jiff.specs.Words.{days_in_month, epoch_day, IsBetween}
 use Rattle.jiff_core.specs.declared.civil.date.Date.{Date}
+use Rattle.class_plan.specs.declared.schedules.Unit.{Unit as TimeUnit}
 use Rattle.class_plan.specs.declared.schedules.Unit.TheVariants.{Days, Months, Years}
 use Rattle.class_plan.specs.declared.schedules.Schedule.{Schedule}
 use Rattle.class_plan.specs.declared.schedules.Schedule.TheVariants.{Permanent, After}
@@ -27,15 +28,33 @@ pub record IsYearsAfter (d : Date) (n : ℕ) (e : Date) : Type 0 where
   pub month : e.month ≡ d.month
   pub day : e.day ≡ min d.day (days_in_month e.year e.month)
 
--- the due date of a capture day: days are added to the day number, and months and years to year
--- and month with the day cut; a permanent schedule has none
+-- a period later: days are added to the day number, and months and years to year and month with
+-- the day cut
+abbrev pub IsPeriodAfter : Date → ℕ → TimeUnit → Date → Type 0
+IsPeriodAfter d n Days e = epoch_day e ≡ epoch_day d +ℤ pos n
+IsPeriodAfter d n Months e = IsMonthsAfter d n e
+IsPeriodAfter d n Years e = IsYearsAfter d n e
+
+-- 31 December of the date's year
+pub record IsYearEnd (d e : Date) : Type 0 where
+  pub year : e.year ≡ d.year
+  pub month : e.month ≡ 12
+  pub day : e.day ≡ 31
+
+-- 31 December of the year in which the date a period later lies
+pub record IsYearEndAfter (d : Date) (n : ℕ) (u : TimeUnit) (e : Date) : Type 0 where
+  pub date : Date
+  pub period : IsPeriodAfter d n u date
+  pub year_end : IsYearEnd date e
+
+-- the due date of a capture day: the date a period later, or 31 December of its year where the
+-- schedule says so; a permanent schedule has none
 abbrev pub IsDue : Date → Schedule → Option Date → Type 0
 IsDue d Permanent None = Unit {0}
 IsDue d Permanent (Some e) = ⊥
-IsDue d (After n u a) None = ⊥
-IsDue d (After n Days a) (Some e) = epoch_day e ≡ epoch_day d +ℤ pos n
-IsDue d (After n Months a) (Some e) = IsMonthsAfter d n e
-IsDue d (After n Years a) (Some e) = IsYearsAfter d n e
+IsDue d (After n u a y) None = ⊥
+IsDue d (After n u a false) (Some e) = IsPeriodAfter d n u e
+IsDue d (After n u a true) (Some e) = IsYearEndAfter d n u e
 
 -- the first date comes before the second, by year, then by month, then by day
 abbrev pub IsEarlier : Date → Date → Type 0

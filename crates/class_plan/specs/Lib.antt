@@ -9,3 +9,4 @@ pub mod Entries
 pub mod Document
 pub mod Dates
 pub mod Parts
+pub mod Calendar

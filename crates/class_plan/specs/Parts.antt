@@ -21,7 +21,7 @@ Part = Vec ℕ Global × Bool × Option Schedule
 -- the count, if there is one, is in its unit's range
 abbrev pub in_range : Schedule → Bool
 in_range Permanent = true
-in_range (After n u a) = nat_le 1 n && nat_le n (most u)
+in_range (After n u a y) = nat_le 1 n && nat_le n (most u)
 
 abbrev pub ranged : Schedule → Option Schedule
 ranged s = if in_range s then Some s else None

@@ -14,7 +14,7 @@ most Years = 1000
 -- the count, if there is one, is in its unit's range
 abbrev pub IsInRange : Schedule → Type 0
 IsInRange Permanent = Unit {0}
-IsInRange (After n u a) = (1 ≤ n) × (n ≤ most u)
+IsInRange (After n u a y) = (1 ≤ n) × (n ≤ most u)
 
 -- the same of a schedule that may be missing
 abbrev pub IsInRangeIfAny : Option Schedule → Type 0

@@ -1,7 +1,8 @@
--- Schedules as texts: `permanent`, or a count, a unit and an action with single spaces between them.
-use Rattle.std.specs.Prelude.{ℕ, ◌+◌, ◌-◌, ◌*◌, nat_le, ◌<◌, ◌==◌, Bool, ◌&&◌, if◌then◌else◌, List, [], ◌∷◌, ◌++◌, codes, Option, Some, None, option_and_then}
+-- Schedules as texts: `permanent`, or a count, a unit and an action with single spaces between them,
+-- after which one space and `year-end` may stand.
+use Rattle.std.specs.Prelude.{ℕ, ◌+◌, ◌-◌, ◌*◌, nat_le, ◌<◌, ◌==◌, Bool, true, false, ◌&&◌, if◌then◌else◌, List, [], ◌∷◌, ◌++◌, drop, codes, Option, Some, None, option_and_then}
 use Rattle.std.specs.Str.{bytes_eq}
-use Rattle.std.specs.List.{before_first, after_first}
+use Rattle.std.specs.List.{before_first, after_first, position_or_len}
 use Rattle.std.specs.Fmt.{decimal}
 use Rattle.class_plan.specs.declared.schedules.Unit.{Unit as TimeUnit}
 use Rattle.class_plan.specs.declared.schedules.Unit.TheVariants.{Days, Months, Years}
@@ -11,7 +12,7 @@ use Rattle.class_plan.specs.declared.schedules.Schedule.{Schedule}
 use Rattle.class_plan.specs.declared.schedules.Schedule.TheVariants.{Permanent, After}
 use Rattle.class_plan.specs.Schedules.{most}
 
--- a decimal number, where those digits are behind n
+-- a decimal number, after the digits of n
 abbrev pub count_from : ℕ → List ℕ → Option ℕ
 count_from n [] = Some n
 count_from n (c ∷ cs) = if nat_le 48 c && nat_le c 57 then count_from (n * 10 + (c - 48)) cs else None
@@ -34,14 +35,29 @@ o >>= f = option_and_then f o
 abbrev pub is_space : ℕ → Bool
 is_space c = c == 32
 
--- the schedule of a count, a unit and an action, where each is well made and the count in its
+-- what stands after an action: nothing, or one space and `year-end`
+abbrev pub year_end_of : List ℕ → Option Bool
+year_end_of t = if bytes_eq t [] then Some false else if bytes_eq t (codes " year-end") then Some true else None
+
+-- what stands from the first space on
+abbrev pub from_space : List ℕ → List ℕ
+from_space t = drop (position_or_len is_space t) t
+
+-- an action, and whether `year-end` stands after it
+abbrev pub ending_of : List ℕ → Option (Action × Bool)
+ending_of t = do
+  x ← action_of (before_first is_space t)
+  y ← year_end_of (from_space t)
+  Some (x, y)
+
+-- the schedule of a count, a unit and an ending, where each is well made and the count in its
 -- unit's range
 unfoldable pub period_of : List ℕ → List ℕ → List ℕ → Option Schedule
 period_of a b c = do
   n ← count_of a
   u ← unit_of b
-  x ← action_of c
-  if nat_le 1 n && nat_le n (most u) then Some (After n u x) else None
+  x ← ending_of c
+  if nat_le 1 n && nat_le n (most u) then Some (After n u x.0 x.1) else None
 
 -- the schedule of a text
 unfoldable pub schedule_of_bytes : List ℕ → Option Schedule
@@ -57,10 +73,15 @@ action_word Review = codes "review"
 action_word Transfer = codes "transfer"
 action_word Destroy = codes "destroy"
 
+-- what stands after the action of a schedule
+abbrev pub year_end_text : Bool → List ℕ
+year_end_text false = []
+year_end_text true = codes " year-end"
+
 -- the text of a schedule
 abbrev pub text_of : Schedule → List ℕ
 text_of Permanent = codes "permanent"
-text_of (After n u x) = decimal n ++ 32 ∷ (unit_word u ++ 32 ∷ action_word x)
+text_of (After n u x y) = decimal n ++ 32 ∷ (unit_word u ++ 32 ∷ (action_word x ++ year_end_text y))
 
 -- no number, or one above all ranges
 abbrev pub IsLargeOrNone : Option ℕ → Type 0

@@ -1,9 +1,10 @@
 //! Capture days and due dates, by the proleptic Gregorian calendar of the crate `jiff`.
-ghost use Rattle.std.specs.Prelude.{◌≡◌, ℕ, pos, ◌/◌, ◌≤◌, ◌<◌, ◌+ℤ◌, ◌<ℤ◌, Option, Some, MatchOption, IfSome};
+ghost use Rattle.std.specs.Prelude.{◌≡◌, ℕ, pos, ◌/◌, ◌≤◌, ◌<◌, ◌+ℤ◌, ◌<ℤ◌, ◌≤ℤ◌, Option, Some, option_map, MatchOption, IfSome};
 ghost use Rattle.jiff.specs.Words.{epoch_day, IsBetween};
 ghost use Rattle.jiff_core.specs.declared.civil.date.Date.{Date};
-ghost use Rattle.class_plan.specs.Schedules.{IsInRange};
-ghost use Rattle.class_plan.specs.Dates.{IsCaptureDay, IsDue, IsEarlier, IsLater, IsMonthsAfter, IsSameDay};
+ghost use Rattle.class_plan.specs.Schedules.{most, IsInRange};
+ghost use Rattle.class_plan.specs.Calendar.{number_of_day, due_by};
+ghost use Rattle.class_plan.specs.Dates.{IsCaptureDay, IsDue, IsEarlier, IsLater, IsMonthsAfter, IsPeriodAfter, IsSameDay};
 
 use crate::schedules::{Schedule, Unit};
 use jiff::ToSpan;
@@ -36,10 +37,24 @@ fn months_after(day: Date, count: u32) -> Date
     day.saturating_add((count as i64).months())
 }
 
+/// The date a period later.
+fn period_after(day: Date, count: u32, unit: Unit) -> Date
+    requires day { IsCaptureDay day }
+    requires count { count ≤ most unit }
+    ensures { IsPeriodAfter day count unit result }
+{
+    match unit {
+        Unit::Days => days_after(day, count),
+        Unit::Months => months_after(day, count),
+        Unit::Years => months_after(day, count * 12),
+    }
+}
+
 /// The UTC date of a moment in seconds since 1970-01-01T00:00:00Z, or `None` for a moment after
 /// 2199-12-31T23:59:59Z.
 pub fn day_of(moment: u64) -> Option<Date>
-    ensures { MatchOption result (7258118399 < moment) (λ d. (moment ≤ 7258118399) × (epoch_day d ≡ pos (moment / 86400))) }
+    ensures capture { IfSome result (λ d. IsCaptureDay d) }
+    ensures date { MatchOption result (7258118399 < moment) (λ d. (moment ≤ 7258118399) × (epoch_day d ≡ pos (moment / 86400))) }
 {
     if moment > LAST_MOMENT {
         return None;
@@ -49,24 +64,30 @@ pub fn day_of(moment: u64) -> Option<Date>
 }
 
 /// The date on which a record that was captured on a day falls due: that many days later, or that
-/// many months or years later with the day cut to the last of a shorter month. `None` for a
-/// permanent schedule. The due date comes after the capture day.
+/// many months or years later with the day cut to the last of a shorter month; and where the
+/// schedule names the year's end, 31 December of that date's year. `None` for a permanent schedule.
+/// The due date comes after the capture day.
 ///
 /// The caller gives a day of 1970 to 2199 and a count in its unit's range.
 pub fn due_date(day: Date, schedule: Schedule) -> Option<Date>
     requires day { IsCaptureDay day }
     requires range { IsInRange schedule }
     ensures due { IsDue day schedule result }
+    ensures number { option_map number_of_day result ≡ due_by (number_of_day day) schedule }
     ensures only { (r : Option Date) → IsDue day schedule r → IsSameDay r result }
     ensures later { IfSome result (λ e. IsLater day e) }
 {
     match schedule {
         Schedule::Permanent => None,
-        Schedule::After { count, unit, .. } => Some(match unit {
-            Unit::Days => days_after(day, count),
-            Unit::Months => months_after(day, count),
-            Unit::Years => months_after(day, count * 12),
-        }),
+        Schedule::After {
+            count,
+            unit,
+            year_end,
+            ..
+        } => {
+            let date = period_after(day, count, unit);
+            Some(if year_end { date.last_of_year() } else { date })
+        }
     }
 }
 
@@ -74,6 +95,7 @@ pub fn due_date(day: Date, schedule: Schedule) -> Option<Date>
 ///
 /// An earlier date, by year, month and day, has a smaller number.
 pub fn day_number(day: Date) -> i64
+    ensures capture { IsCaptureDay day → IsBetween (pos 0) (pos 84005) result }
     ensures number { result ≡ epoch_day day }
     ensures ordered { (e : Date) → (IsEarlier day e → result <ℤ epoch_day e) × (result <ℤ epoch_day e → IsEarlier day e) }
 {
@@ -83,6 +105,7 @@ pub fn day_number(day: Date) -> i64
 /// The date with a day number, in days since 1970-01-01, or `None` for a number outside 1970 to
 /// 9999. No other date has that number.
 pub fn date_of(number: i64) -> Option<Date>
+    ensures capture { IfSome result (λ d. number ≤ℤ pos 84005 → IsCaptureDay d) }
     ensures date { MatchOption result (¬ (IsBetween (pos 0) (pos 2932896) number)) (λ d. IsBetween (pos 0) (pos 2932896) number × (epoch_day d ≡ number)) }
     ensures only { (e : Date) → epoch_day e ≡ number → IsBetween (pos 0) (pos 2932896) number → IsSameDay (Some e) result }
 {

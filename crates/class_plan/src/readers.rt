@@ -1,11 +1,13 @@
 //! What a plan says: its root's schedule, its classes, and the schedule of a path.
-ghost use Rattle.std.specs.Prelude.{◌≡◌, ◌<◌, length, IfSome};
+ghost use Rattle.std.specs.Prelude.{◌≡◌, ◌<◌, length, Option, option_map, IfSome};
 ghost use Rattle.std.specs.List.{HoldsAt};
 ghost use Rattle.class_plan.specs.Paths.{ancestors};
 ghost use Rattle.class_plan.specs.Schedules.{IsInRange};
 ghost use Rattle.class_plan.specs.Plans.{own_at, first_own, schedule_at, IsPlan, IsScheduleOf};
 ghost use Rattle.class_plan.specs.Fields.{rows_in};
-ghost use Rattle.class_plan.specs.Dates.{IsCaptureDay, IsDueOf, IsLater};
+ghost use Rattle.class_plan.specs.Calendar.{number_of_day, due_on};
+ghost use Rattle.class_plan.specs.Dates.{IsCaptureDay, IsDueOf, IsLater, IsSameDay};
+ghost use Rattle.jiff_core.specs.declared.civil.date.Date.{Date};
 
 use crate::dates::due_date;
 use crate::paths::SLASH;
@@ -62,6 +64,8 @@ impl Plan {
     pub fn due_of(&self, path: &[u8], day: Date) -> Option<Date>
         requires { IsCaptureDay day }
         ensures due { IsDueOf self.now path.now day result }
+        ensures number { option_map number_of_day result ≡ due_on self.now path.now (number_of_day day) }
+        ensures only { (r : Option Date) → IsDueOf self.now path.now day r → IsSameDay r result }
         ensures later { IfSome result (λ e. IsLater day e) }
     {
         match self.schedule_of(path) {

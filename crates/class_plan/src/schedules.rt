@@ -35,5 +35,7 @@ pub enum Schedule {
         unit: Unit,
         /// What is done then.
         action: Action,
+        /// Whether it falls due only at the end of the year in which that day lies.
+        year_end: bool,
     },
 }

@@ -1,9 +1,9 @@
 //! Schedules as texts: `permanent`, or a count, a unit and an action with single spaces between
-//! them, as `7 years destroy`.
+//! them, as `7 years destroy`, after which one space and `year-end` may stand.
 ghost use Rattle.std.specs.Prelude.{◌≡◌, Some, MatchOption, IfOk, IfSome, length};
 ghost use Rattle.std.specs.List.{position, position_or_len, before_first, after_first};
 ghost use Rattle.class_plan.specs.Schedules.{most, IsInRange};
-ghost use Rattle.class_plan.specs.Texts.{count_of, unit_of, action_of, schedule_of_bytes, IsLargeOrNone, is_space, text_of, unit_word, action_word};
+ghost use Rattle.class_plan.specs.Texts.{count_of, unit_of, action_of, year_end_of, ending_of, schedule_of_bytes, IsLargeOrNone, is_space, text_of, unit_word, action_word, year_end_text};
 ghost use Rattle.class_plan.specs.declared.schedules.Schedule.TheVariants.{After};
 
 use crate::schedules::{Action, Schedule, Unit};
@@ -11,6 +11,9 @@ use std::alloc::{AllocError, Global};
 
 /// The text of the permanent schedule.
 const PERMANENT: &[u8] = b"permanent";
+
+/// What stands after an action where the year's end is asked for.
+const YEAR_END: &[u8] = b" year-end";
 
 /// The greatest count of all units.
 const GREATEST_COUNT: u32 = 366_000;
@@ -45,9 +48,10 @@ fn split_at_space(text: &[u8]) -> Option<(&[u8], &[u8])>
 
 /// The schedule of a text: `permanent`, or a count (decimal, without leading zeros, in its unit's
 /// range), one space, `days`, `months` or `years`, one space, and `review`, `transfer` or
-/// `destroy`. `None` where the text is none.
+/// `destroy`, with one space and `year-end` after it or not. `None` where the text is none.
 pub fn schedule_of_text(text: &[u8]) -> Option<Schedule>
     ensures schedule { result ≡ schedule_of_bytes text.now }
+    ensures text { IfSome result (λ s. text_of s ≡ text.now) }
     ensures range { IfSome result (λ s. IsInRange s) }
 {
     if text == PERMANENT {
@@ -56,7 +60,7 @@ pub fn schedule_of_text(text: &[u8]) -> Option<Schedule>
     let Some((count, rest)) = split_at_space(text) else {
         return None;
     };
-    let Some((unit, action)) = split_at_space(rest) else {
+    let Some((unit, ending)) = split_at_space(rest) else {
         return None;
     };
     let Some(count) = read_count(count) else {
@@ -65,7 +69,7 @@ pub fn schedule_of_text(text: &[u8]) -> Option<Schedule>
     let Some(unit) = read_unit(unit) else {
         return None;
     };
-    let Some(action) = read_action(action) else {
+    let Some((action, year_end)) = read_ending(ending) else {
         return None;
     };
     if count < 1 || count > limit_of(unit) {
@@ -75,6 +79,7 @@ pub fn schedule_of_text(text: &[u8]) -> Option<Schedule>
         count,
         unit,
         action,
+        year_end,
     })
 }
 
@@ -92,17 +97,25 @@ pub fn schedule_text(alloc: Global, schedule: Schedule) -> Result<Vec<u8>, Alloc
             count,
             unit,
             action,
-        } => after_text(alloc, count, unit, action),
+            year_end,
+        } => after_text(alloc, count, unit, action, year_end),
     }
 }
 
-/// The text of a count, a unit and an action.
-fn after_text(alloc: Global, count: u32, unit: Unit, action: Action) -> Result<Vec<u8>, AllocError>
-    ensures { IfOk result (λ v. v.items ≡ text_of (After count unit action)) }
+/// The text of a schedule that is not permanent.
+fn after_text(
+    alloc: Global,
+    count: u32,
+    unit: Unit,
+    action: Action,
+    year_end: bool,
+) -> Result<Vec<u8>, AllocError>
+    ensures { IfOk result (λ v. v.items ≡ text_of (After count unit action year_end)) }
 {
     let unit = unit_text(unit);
     let action = action_text(action);
-    Ok(format!(in alloc; "{count} {unit} {action}")?.into_bytes())
+    let ending = ending_text(year_end);
+    Ok(format!(in alloc; "{count} {unit} {action}{ending}")?.into_bytes())
 }
 
 /// The word of a unit.
@@ -125,6 +138,13 @@ fn action_text(action: Action) -> &'static str
         Action::Transfer => "transfer",
         Action::Destroy => "destroy",
     }
+}
+
+/// What stands after the action.
+fn ending_text(year_end: bool) -> &'static str
+    ensures { result.now ≡ year_end_text year_end }
+{
+    if year_end { " year-end" } else { "" }
 }
 
 /// The unit of a word.
@@ -157,6 +177,33 @@ fn read_action(word: &[u8]) -> Option<Action>
         return Some(Action::Destroy);
     }
     None
+}
+
+/// Whether the year's end is named by what stands after an action.
+fn read_year_end(text: &[u8]) -> Option<bool>
+    ensures { result ≡ year_end_of text.now }
+{
+    if text.is_empty() {
+        return Some(false);
+    }
+    if text == YEAR_END {
+        return Some(true);
+    }
+    None
+}
+
+/// The action of an ending, and whether the year's end is named after it.
+fn read_ending(text: &[u8]) -> Option<(Action, bool)>
+    ensures { result ≡ ending_of text.now }
+{
+    let end = first_space(text).unwrap_or(text.len());
+    let Some(action) = read_action(&text[..end]) else {
+        return None;
+    };
+    let Some(year_end) = read_year_end(&text[end..]) else {
+        return None;
+    };
+    Some((action, year_end))
 }
 
 /// The count of a word, decimal and without leading zeros; `None` where the word is none, or where

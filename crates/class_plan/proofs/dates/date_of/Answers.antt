@@ -2,6 +2,7 @@ use Rattle.std.proofs.Common.{sym, pos, ◌+ℤ◌, ◌≤ℤ◌, arith, w64, �
 use Rattle.std.proofs.lemmas.Int.{to_z-of_z, ints}
 use Rattle.jiff.specs.Words.{epoch_day, IsEpochDay}
 use Rattle.jiff.proofs.SpanFacts.{signed_arith}
+use Rattle.class_plan.proofs.Capture.{capture-from_number}
 use Rattle.class_plan.proofs.Days.{days-added, epoch_day-zero}
 use Rattle.jiff_core.proofs.DateLemmas.{epoch_day_injective}
 use Rattle.class_plan.proofs.dates.date_of.Goals as goal
@@ -18,3 +19,10 @@ returns-clause-date c =
 
 pub returns-clause-only : goal.returns-clause-only
 returns-clause-only c = λ e same range. epoch_day_injective e c.saturating_add.result (same ∙ sym (returns-clause-date c).1)
+
+pub returns-clause-capture : goal.returns-clause-capture
+returns-clause-capture c =
+    let date = returns-clause-date c in
+    let low = date.0.0 in
+    let number = date.1 in
+    λ below. capture-from_number c.saturating_add.result (omega (arith, signed_arith)) (omega (arith, signed_arith))

@@ -4,6 +4,7 @@ use Rattle.jiff.proofs.SpanFacts.{signed_arith}
 use Rattle.jiff_core.proofs.DateLemmas.{epoch_day_range}
 use Rattle.class_plan.proofs.Days.{epoch_day-zero}
 use Rattle.jiff_core.proofs.DateLemmas.{epoch_day-lt}
+use Rattle.class_plan.proofs.Capture.{number-from_capture}
 use Rattle.class_plan.proofs.Due.{earlier-from_number}
 use Rattle.class_plan.proofs.dates.day_number.Goals as goal
 
@@ -18,3 +19,8 @@ pub returns-clause-ordered : goal.returns-clause-ordered
 returns-clause-ordered c =
     let number = returns-clause-number c in
     λ e. (λ h. rw number (epoch_day-lt c.args.day e h), λ h. earlier-from_number c.args.day e (rw number at h))
+
+pub returns-clause-capture : goal.returns-clause-capture
+returns-clause-capture c =
+    let number = returns-clause-number c in
+    λ day. rw number (number-from_capture c.args.day day)
