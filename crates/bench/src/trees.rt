@@ -64,8 +64,8 @@ fn octets_of_tests(tests: &Tests) -> usize {
         Tests::None => 0,
         Tests::One(test) => octets_of_test(test),
         Tests::Listed(list) => {
-            let mut octets = size_of::<Vec<Test>>();
-            for test in list.as_slice() {
+            let mut octets = size_of::<Vec<Test>>().saturating_add(octets_of_test(&list.first));
+            for test in list.others.as_slice() {
                 octets = octets.saturating_add(octets_of_test(test));
             }
             octets

@@ -63,7 +63,9 @@ fn write_tests(alloc: Global, out: &mut Vec<u8>, tests: &Tests) -> Result<(), Al
         }
         Tests::Listed(list) => {
             out.extend_from_slice(b" (")?;
-            for test in list.as_slice() {
+            write_test(alloc, out, &list.first)?;
+            out.push(b',')?;
+            for test in list.others.as_slice() {
                 write_test(alloc, out, test)?;
                 out.push(b',')?;
             }

@@ -2,15 +2,13 @@
 use Rattle.std.proofs.Common.{◌≡◌, ℕ, ◌+◌, ◌*◌, ◌<◌, List, [], ◌∷◌, length, map, Bool, true, false, refl, sym, ap, ◌∙◌, subst, arith, drop, get_or, codes, Box, Global}
 use Rattle.filing_image.specs.declared.instruction.Operation.TheVariants.{Join, Jump, Pop, PushTrue, PushFalse}
 use Rattle.sieve_syntax.specs.Arguments.{first_of, others_of}
-use Rattle.sieve_syntax.specs.Tree.{TestTree, InnerTests, one_test}
-use Rattle.sieve_syntax.specs.View.{tests_step, test_step, row_of, listed_of, test_of, inner_of}
+use Rattle.sieve_syntax.specs.Tree.{TestTree, listed_tests}
+use Rattle.sieve_syntax.specs.View.{row_of, test_of, inner_of}
 use Rattle.sieve_syntax.specs.declared.tree.Argument.{Argument}
 use Rattle.sieve_syntax.specs.declared.tree.StringList.{StringList}
 use Rattle.sieve_syntax.specs.declared.tree.Test.{Test}
-use Rattle.sieve_syntax.specs.declared.tree.Tests.TheViews.{roll-Tests}
-use Rattle.sieve_syntax.specs.declared.tree.Tests.TheFolds.{fold-roll-Tests}
-use Rattle.sieve_syntax.specs.declared.tree.Tests.TheOpen.{Tests-F}
 use Rattle.sieve_syntax.specs.declared.tree.Tests.TheVariants.{One}
+use Rattle.sieve_syntax.proofs.Views.{inner_of-One}
 use Rattle.sieve_meaning.specs.declared.matching.Comparator.{Comparator}
 use Rattle.sieve_meaning.specs.declared.matching.MatchType.{MatchType}
 use Rattle.sieve_meaning.specs.Reading.{test_in, tests_in, row_in, string_lists, exists_of, header_of, has_tag, number_in, size_of}
@@ -64,13 +62,8 @@ flow-row : (b : Bool) (ts : List TestTree) → tests_flow b (row_in (row_of ts))
 flow-row b [] = refl
 flow-row b (t ∷ ts) = ap (λ (a : Flow). sequence (test_flow (test_in t)) (sequence (leave_if b 0) a)) (flow-row b ts)
 
-pub flow-listed : (b : Bool) (ts : List TestTree) → tests_flow b (tests_in (listed_of ts)) ≡ row_flow b ts
-flow-listed b [] = refl
-flow-listed b (t ∷ ts) = ap (λ (a : Flow). sequence (test_flow (test_in t)) (sequence (leave_if b 0) a)) (flow-row b ts)
-
-inner_of-One : (b : Box Test Global) → inner_of (One b) ≡ one_test (test_of b.value)
-unfolding roll-Tests denote.Hole.Carrier.roll
-inner_of-One b = fold-roll-Tests InnerTests TestTree tests_step test_step (Tests-F.One b)
+pub flow-listed : (b : Bool) (t : TestTree) (ts : List TestTree) → tests_flow b (tests_in (listed_tests t (row_of ts))) ≡ row_flow b (t ∷ ts)
+flow-listed b t ts = ap (λ (a : Flow). sequence (test_flow (test_in t)) (sequence (leave_if b 0) a)) (flow-row b ts)
 
 -- a test outside brackets
 pub flow-one : (b : Box Test Global) (stop : Bool) → tests_flow stop (tests_in (inner_of (One b))) ≡ sequence (test_flow (test_in (test_of b.value))) (sequence (leave_if stop 0) nothing)

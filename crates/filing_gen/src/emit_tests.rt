@@ -299,10 +299,7 @@ pub fn emit_only(alloc: Global, out: &mut Output, tests: &Tests) -> Result<(), A
     match tests {
         Tests::None => put_truth(out, false),
         Tests::One(test) => emit_test(alloc, out, test),
-        Tests::Listed(list) => match list.first() {
-            Some(test) => emit_test(alloc, out, test),
-            None => put_truth(out, false),
-        },
+        Tests::Listed(list) => emit_test(alloc, out, &list.first),
     }
 }
 
@@ -339,7 +336,9 @@ fn emit_tests(
             put_jump(out, stop, stopped)
         }
         Tests::Listed(list) => {
-            for test in list.as_slice() {
+            emit_test(alloc, out, &list.first)?;
+            put_jump(out, stop, stopped)?;
+            for test in list.others.as_slice() {
                 emit_test(alloc, out, test)?;
                 put_jump(out, stop, stopped)?;
             }

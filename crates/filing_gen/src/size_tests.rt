@@ -62,10 +62,7 @@ fn only_size(tests: &Tests) -> usize
     match tests {
         Tests::None => 1,
         Tests::One(test) => test_size(test),
-        Tests::Listed(list) => match list.first() {
-            Some(test) => test_size(test),
-            None => 1,
-        },
+        Tests::Listed(list) => test_size(&list.first),
     }
 }
 
@@ -79,8 +76,8 @@ pub fn tests_size(tests: &Tests, stop: bool) -> usize
         Tests::None => 0,
         Tests::One(test) => test_size(test) + 1,
         Tests::Listed(list) => {
-            let mut sum = 0;
-            for test in list.as_slice() {
+            let mut sum = test_size(&list.first) + 1;
+            for test in list.others.as_slice() {
                 sum += test_size(test) + 1;
             }
             sum

@@ -76,10 +76,7 @@ fn weigh_only(tests: &Tests, left: u32) -> Option<u32>
     match tests {
         Tests::None => left.checked_sub(4),
         Tests::One(test) => weigh_test(test, left),
-        Tests::Listed(list) => match list.first() {
-            Some(test) => weigh_test(test, left),
-            None => left.checked_sub(4),
-        },
+        Tests::Listed(list) => weigh_test(&list.first, left),
     }
 }
 
@@ -92,8 +89,8 @@ fn weigh_tests(tests: &Tests, left: u32) -> Option<u32>
         Tests::None => Some(left),
         Tests::One(test) => weigh_test(test, left),
         Tests::Listed(list) => {
-            let mut rest = left;
-            for test in list.as_slice() {
+            let mut rest = weigh_test(&list.first, left)?;
+            for test in list.others.as_slice() {
                 rest = weigh_test(test, rest)?;
             }
             Some(rest)

@@ -1,9 +1,9 @@
 -- Tests over fields and over lists of tests.
-use Rattle.std.proofs.Common.{◌≡◌, ℕ, List, [], ◌∷◌, ◌&&◌, Bool, false, map, refl, sym, ap, ◌∙◌}
+use Rattle.std.proofs.Common.{◌≡◌, ℕ, List, [], ◌∷◌, ◌&&◌, Bool, true, false, map, refl, sym, ap, ◌∙◌}
 use Rattle.std.specs.Prelude.{◌||◌}
 use Rattle.std.specs.List.{list_any, list_all}
-use Rattle.sieve_syntax.specs.Tree.{TestTree}
-use Rattle.sieve_syntax.specs.View.{row_of, listed_of}
+use Rattle.sieve_syntax.specs.Tree.{TestTree, listed_tests}
+use Rattle.sieve_syntax.specs.View.{row_of}
 use Rattle.sieve_syntax.specs.Arguments.{strings_of}
 use Rattle.sieve_syntax.specs.declared.tree.StringList.{StringList}
 use Rattle.sieve_syntax.specs.declared.tree.Argument.{Argument}
@@ -24,21 +24,27 @@ list_any-map p f [] = refl
 list_any-map p f (x ∷ xs) = ap (λ b. p (f x) || b) (list_any-map p f xs)
 
 -- the tests of a list
-pub all_true-row : (facts : Facts) (ts : List TestTree) → all_true facts (row_in (row_of ts)) ≡ list_all (λ t. truth facts (test_in t)) ts
+all_true-row : (facts : Facts) (ts : List TestTree) → all_true facts (row_in (row_of ts)) ≡ list_all (λ t. truth facts (test_in t)) ts
 all_true-row facts [] = refl
 all_true-row facts (t ∷ ts) = ap (λ b. truth facts (test_in t) && b) (all_true-row facts ts)
 
-pub all_true-listed : (facts : Facts) (ts : List TestTree) → all_true facts (tests_in (listed_of ts)) ≡ list_all (λ t. truth facts (test_in t)) ts
-all_true-listed facts [] = refl
-all_true-listed facts (t ∷ ts) = ap (λ b. truth facts (test_in t) && b) (all_true-row facts ts)
+all_true-listed : (facts : Facts) (t : TestTree) (ts : List TestTree) → all_true facts (tests_in (listed_tests t (row_of ts))) ≡ (truth facts (test_in t) && list_all (λ t. truth facts (test_in t)) ts)
+all_true-listed facts t ts = ap (λ b. truth facts (test_in t) && b) (all_true-row facts ts)
 
-pub some_true-row : (facts : Facts) (ts : List TestTree) → some_true facts (row_in (row_of ts)) ≡ list_any (λ t. truth facts (test_in t)) ts
+-- where the first one is true
+pub all_true-others : (facts : Facts) (t : TestTree) (ts : List TestTree) → truth facts (test_in t) ≡ true → list_all (λ t. truth facts (test_in t)) ts ≡ all_true facts (tests_in (listed_tests t (row_of ts)))
+all_true-others facts t ts h = sym (all_true-listed facts t ts ∙ ap (λ b. b && list_all (λ t. truth facts (test_in t)) ts) h)
+
+some_true-row : (facts : Facts) (ts : List TestTree) → some_true facts (row_in (row_of ts)) ≡ list_any (λ t. truth facts (test_in t)) ts
 some_true-row facts [] = refl
 some_true-row facts (t ∷ ts) = ap (λ b. truth facts (test_in t) || b) (some_true-row facts ts)
 
-pub some_true-listed : (facts : Facts) (ts : List TestTree) → some_true facts (tests_in (listed_of ts)) ≡ list_any (λ t. truth facts (test_in t)) ts
-some_true-listed facts [] = refl
-some_true-listed facts (t ∷ ts) = ap (λ b. truth facts (test_in t) || b) (some_true-row facts ts)
+some_true-listed : (facts : Facts) (t : TestTree) (ts : List TestTree) → some_true facts (tests_in (listed_tests t (row_of ts))) ≡ (truth facts (test_in t) || list_any (λ t. truth facts (test_in t)) ts)
+some_true-listed facts t ts = ap (λ b. truth facts (test_in t) || b) (some_true-row facts ts)
+
+-- where the first one is false
+pub some_true-others : (facts : Facts) (t : TestTree) (ts : List TestTree) → truth facts (test_in t) ≡ false → list_any (λ t. truth facts (test_in t)) ts ≡ some_true facts (tests_in (listed_tests t (row_of ts)))
+some_true-others facts t ts h = sym (some_true-listed facts t ts ∙ ap (λ b. b || list_any (λ t. truth facts (test_in t)) ts) h)
 
 -- an `exists` over the fields of the code
 pub exists-shown : (case : BorrowedCase Paths) (names : StringList) (more : List StringList) → truth (facts_of case) (exists_of (names ∷ more)) ≡ list_all (λ name. list_any (λ f. is_named name (lent f)) case.fields.items) (strings_of names)

@@ -164,10 +164,7 @@ pub fn is_only_true(case: &BorrowedCase<'_, Paths>, tests: &Tests) -> bool
     match tests {
         Tests::None => false,
         Tests::One(test) => is_true(case, test),
-        Tests::Listed(list) => match list.first() {
-            Some(test) => is_true(case, test),
-            None => false,
-        },
+        Tests::Listed(list) => is_true(case, &list.first),
     }
 }
 
@@ -180,7 +177,10 @@ fn are_all_true(case: &BorrowedCase<'_, Paths>, tests: &Tests) -> bool
         Tests::None => true,
         Tests::One(test) => is_true(case, test),
         Tests::Listed(list) => {
-            for test in list.as_slice() {
+            if !is_true(case, &list.first) {
+                return false;
+            }
+            for test in list.others.as_slice() {
                 if !is_true(case, test) {
                     return false;
                 }
@@ -199,7 +199,10 @@ fn is_some_true(case: &BorrowedCase<'_, Paths>, tests: &Tests) -> bool
         Tests::None => false,
         Tests::One(test) => is_true(case, test),
         Tests::Listed(list) => {
-            for test in list.as_slice() {
+            if is_true(case, &list.first) {
+                return true;
+            }
+            for test in list.others.as_slice() {
                 if is_true(case, test) {
                     return true;
                 }

@@ -3,8 +3,8 @@ use Rattle.std.proofs.Common.{◌≡◌, ℕ, ◌+◌, ◌<◌, Bool, List, [], 
 use Rattle.std.specs.List.{flat_map}
 use Rattle.sieve_syntax.specs.declared.tree.Argument.{Argument}
 use Rattle.sieve_syntax.specs.declared.tree.Test.{Test}
-use Rattle.sieve_syntax.specs.Tree.{TestTree, test, InnerTests}
-use Rattle.sieve_syntax.specs.View.{test_of, row_of, listed_of}
+use Rattle.sieve_syntax.specs.Tree.{TestTree, test, InnerTests, listed_tests}
+use Rattle.sieve_syntax.specs.View.{test_of, row_of}
 use Rattle.sieve_check.specs.declared.table.Capability.{Capability}
 use Rattle.sieve_check.specs.Lookup.{test_named}
 use Rattle.sieve_check.specs.Pieces.{pieces}
@@ -31,9 +31,9 @@ row_is_each : (has : Capability → Bool) (ts : List TestTree) → broken_by_row
 row_is_each has [] = refl
 row_is_each has (t ∷ ts) = ap (λ (xs : List ℕ). broken_by_test has t ++ xs) (row_is_each has ts)
 
-pub listed_is_each : (has : Capability → Bool) (ts : List TestTree) → broken_by_inner has (listed_of ts) ≡ broken_by_each has ts
-listed_is_each has [] = refl
-listed_is_each has (t ∷ ts) = ap (λ (xs : List ℕ). broken_by_test has t ++ xs) (row_is_each has ts)
+-- the first test of a list and the others
+pub listed_least : (has : Capability → Bool) (t : TestTree) (ts : List TestTree) → lesser (least (broken_by_test has t)) (least (broken_by_each has ts)) ≡ least (broken_by_inner has (listed_tests t (row_of ts)))
+listed_least has t ts = ap (λ (xs : List ℕ). lesser (least (broken_by_test has t)) (least xs)) (sym (row_is_each has ts)) ∙ sym (least_append (broken_by_test has t) (broken_by_row has (row_of ts)))
 
 -- one more test of a list
 pub judge_turn : (has : Capability → Bool) (items : List Test) (i : ℕ) (t : Test) (f g r whole : Option ℕ) → i < length items → t ≡ get_or items i t → lesser f (least (broken_by_each has (map test_of (drop i items)))) ≡ whole → g ≡ least (broken_by_test has (test_of t)) → r ≡ lesser f g → lesser r (least (broken_by_each has (map test_of (drop (i + 1) items)))) ≡ whole

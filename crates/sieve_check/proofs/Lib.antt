@@ -3,7 +3,6 @@ pub mod Known
 pub mod Least
 pub mod Shaped
 pub mod Strings
-pub mod TreeViews
 pub mod Twice
 pub mod Walks
 mod Rows

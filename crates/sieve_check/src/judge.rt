@@ -76,8 +76,8 @@ fn tests_fault(tests: &Tests, named: Named) -> Option<CheckFault>
         Tests::None => None,
         Tests::One(test) => test_fault(test, named),
         Tests::Listed(list) => {
-            let mut fault = None;
-            for test in list.as_slice() {
+            let mut fault = test_fault(&list.first, named);
+            for test in list.others.as_slice() {
                 fault = lesser(fault, test_fault(test, named));
             }
             fault

@@ -231,20 +231,14 @@ pub fn has_unknown_comparator(form: &Form, arguments: &Arguments) -> bool
     Pieces::new(form, arguments).any(|piece| piece.is_unknown_comparator())
 }
 
-/// Which tests stand there. A list of no tests, which no text spells, counts as none.
+/// Which tests stand there.
 fn tests_there(tests: &Tests) -> TestsForm
     ensures { result ≡ tests_there (inner_of tests.now) }
 {
     match tests {
         Tests::None => TestsForm::NoTest,
         Tests::One(_) => TestsForm::OneTest,
-        Tests::Listed(list) => {
-            if list.is_empty() {
-                TestsForm::NoTest
-            } else {
-                TestsForm::TestList
-            }
-        }
+        Tests::Listed(_) => TestsForm::TestList,
     }
 }
 

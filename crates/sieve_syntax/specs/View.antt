@@ -3,8 +3,9 @@ use Rattle.std.specs.Prelude.{List, [], ◌∷◌, map}
 use Rattle.sieve_syntax.specs.Tree.{TestTree, test, InnerTests, no_tests, one_test, listed_tests, TestRow, last_test, next_test, CommandTree, command, EndingTree, semicolon, block, CommandTrees, no_commands, command_then}
 use Rattle.sieve_syntax.specs.declared.tree.Tests.{Tests}
 use Rattle.sieve_syntax.specs.declared.tree.Test.{Test}
-use Rattle.sieve_syntax.specs.declared.tree.Tests.TheFolds.{fold-Test, fold-Tests}
-use Rattle.sieve_syntax.specs.declared.tree.Tests.TheOpen.{Tests-F, Test-F}
+use Rattle.sieve_syntax.specs.declared.tree.TestList.{TestList}
+use Rattle.sieve_syntax.specs.declared.tree.Tests.TheFolds.{fold-Test, fold-Tests, fold-TestList}
+use Rattle.sieve_syntax.specs.declared.tree.Tests.TheOpen.{Tests-F, Test-F, TestList-F}
 use Rattle.sieve_syntax.specs.declared.tree.Ending.{Ending}
 use Rattle.sieve_syntax.specs.declared.tree.Command.{Command}
 use Rattle.sieve_syntax.specs.declared.tree.Ending.TheFolds.{fold-Command, fold-Ending}
@@ -15,24 +16,25 @@ abbrev pub row_of : List TestTree → TestRow
 row_of [] = last_test
 row_of (t ∷ ts) = next_test t (row_of ts)
 
--- a list of no tests is never made
-abbrev pub listed_of : List TestTree → InnerTests
-listed_of [] = no_tests
-listed_of (t ∷ ts) = listed_tests t (row_of ts)
+abbrev pub list_step : TestList-F InnerTests TestTree InnerTests → InnerTests
+list_step l = listed_tests l.first (row_of l.others.items)
 
-abbrev pub tests_step : Tests-F InnerTests TestTree → InnerTests
+abbrev pub tests_step : Tests-F InnerTests TestTree InnerTests → InnerTests
 tests_step Tests-F.None = no_tests
 tests_step (Tests-F.One t) = one_test t.value
-tests_step (Tests-F.Listed v) = listed_of v.value.items
+tests_step (Tests-F.Listed l) = l.value
 
-abbrev pub test_step : Test-F InnerTests TestTree → TestTree
+abbrev pub test_step : Test-F InnerTests TestTree InnerTests → TestTree
 test_step t = test t.name t.arguments t.tests
 
 abbrev pub test_of : Test → TestTree
-test_of = fold-Test InnerTests TestTree tests_step test_step
+test_of = fold-Test InnerTests TestTree InnerTests tests_step test_step list_step
+
+abbrev pub list_of : TestList → InnerTests
+list_of = fold-TestList InnerTests TestTree InnerTests tests_step test_step list_step
 
 abbrev pub inner_of : Tests → InnerTests
-inner_of = fold-Tests InnerTests TestTree tests_step test_step
+inner_of = fold-Tests InnerTests TestTree InnerTests tests_step test_step list_step
 
 abbrev pub commands_of : List CommandTree → CommandTrees
 commands_of [] = no_commands

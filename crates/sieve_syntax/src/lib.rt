@@ -13,4 +13,4 @@ mod tree;
 
 pub use text::{Text, Texts};
 pub use token::{Mark, Token, TokenKind};
-pub use tree::{Argument, Arguments, Command, Ending, Script, StringList, Test, Tests};
+pub use tree::{Argument, Arguments, Command, Ending, Script, StringList, Test, TestList, Tests};

@@ -125,8 +125,16 @@ pub enum Tests {
     None,
     /// One test outside brackets.
     One(Box<Test>),
-    /// Tests in brackets, at least one.
-    Listed(Box<Vec<Test>>),
+    /// Tests in brackets.
+    Listed(Box<TestList>),
+}
+
+/// The tests of a list in brackets, which has a first test and perhaps others.
+#[cycle(tests)]
+#[derive(Drop)]
+pub struct TestList {
+    pub first: Test,
+    pub others: Vec<Test>,
 }
 
 /// A command: its name as it was written, its arguments, its tests, and how it ends.

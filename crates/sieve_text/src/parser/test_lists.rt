@@ -1,16 +1,16 @@
 //! Tests and test-lists.
 
-ghost use Rattle.std.specs.Prelude.{◌≡◌, ◌≤◌, ◌<◌, [], ◌∷◌, length, map, IfOk, IfSome, option_map};
+ghost use Rattle.std.specs.Prelude.{◌≡◌, ◌≤◌, ◌<◌, length, map, IfOk, IfSome, option_map};
 ghost use Rattle.sieve_syntax.specs.View.{test_of, inner_of};
 ghost use Rattle.sieve_text.specs.Lexemes.{kinds_in, left_in};
-ghost use Rattle.sieve_text.specs.Reading.{Gives, behind, behind_paren, next_with, many_at, test_at, test_list_with, inner_with};
+ghost use Rattle.sieve_text.specs.Reading.{Gives, behind_paren, next_with, many_at, test_at, test_list_with, inner_with};
 
 use crate::lexeme::Lexeme;
 use crate::parser::arguments::arguments;
 use crate::parser::rows;
 use crate::parser::stop::{Misfit, Stop, left_from, syntax};
 use crate::scanner::split_lexeme;
-use sieve_syntax::{Mark, Test, Tests, Text};
+use sieve_syntax::{Mark, Test, TestList, Tests, Text};
 use std::alloc::Global;
 
 /// A test, with no more than `depth` tests inside one another, itself counted.
@@ -65,24 +65,20 @@ fn test_list(alloc: Global, depth: u8, text: &[u8]) -> Result<(Tests, &[u8]), St
     ensures left { IfOk result (λ x. left_in x.1.now ≡ left_in text.now) }
 {
     let (first, rest) = read_test(alloc, depth, text)?;
-    let (tests, rest) = with_others(alloc, depth, first, rest)?;
+    let (others, rest) = other_tests(alloc, depth, rest)?;
     let rest = behind_paren(rest)?;
-    Ok((Tests::Listed(Box::new(alloc, tests)?), rest))
+    let list = Box::new(alloc, TestList { first, others })?;
+    Ok((Tests::Listed(list), rest))
 }
 
-/// The first test of a list, and those behind it.
+/// The tests of a list after its first one.
 #[cycle(test_reader)]
-fn with_others(
-    alloc: Global,
-    depth: u8,
-    first: Test,
-    text: &[u8],
-) -> Result<(Vec<Test>, &[u8]), Stop>
-    ensures value { Gives (λ x. (map test_of x.0.items, kinds_in x.1.now)) result (behind (test_of first ∷ []) (many_at (next_with (test_at depth)) (length (kinds_in text.now)) (kinds_in text.now))) }
+fn other_tests(alloc: Global, depth: u8, text: &[u8]) -> Result<(Vec<Test>, &[u8]), Stop>
+    ensures value { Gives (λ x. (map test_of x.0.items, kinds_in x.1.now)) result (many_at (next_with (test_at depth)) (length (kinds_in text.now)) (kinds_in text.now)) }
     ensures fewer { IfOk result (λ x. length (kinds_in x.1.now) ≤ length (kinds_in text.now)) }
     ensures left { IfOk result (λ x. left_in x.1.now ≡ left_in text.now) }
 {
-    let mut tests = vec![in alloc; first]?;
+    let mut tests = Vec::new(alloc);
     let mut rest = text;
     while let Some((next, after)) = next_test(alloc, depth, rest)? {
         rows::push(&mut tests, next)?;

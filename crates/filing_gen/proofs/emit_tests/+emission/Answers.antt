@@ -1,8 +1,9 @@
-use Rattle.std.proofs.Common.{◌≡◌, ◌+◌, List, not, arith, ap, map, subst, sym, ◌∙◌}
+use Rattle.std.proofs.Common.{◌≡◌, ℕ, ◌+◌, List, ◌∷◌, refl, not, arith, ap, map, subst, sym, ◌∙◌}
 use Rattle.std.proofs.lemmas.Result.{on_ok_weaker}
 use Rattle.sieve_syntax.specs.View.{test_of, inner_of}
 use Rattle.sieve_syntax.proofs.Views.{inner_of-Listed}
 use Rattle.sieve_syntax.specs.declared.tree.Test.{Test}
+use Rattle.sieve_syntax.specs.declared.tree.TestList.{TestList, out-TestList}
 use Rattle.sieve_syntax.specs.declared.tree.Tests.{Tests}
 use Rattle.sieve_meaning.specs.Reading.{test_in, tests_in}
 use Rattle.filing_flow.specs.Structure.{Flow}
@@ -36,12 +37,16 @@ emit_row-returns t c = record {
 
 pub emit_tests-loop-test-init : goal.emit_tests-loop-test-init
 emit_tests-loop-test-init t c =
+    let list = out-TestList c.in-Listed.list.value in
+    let items : List Test = list.first ∷ list.others.items in
     let whole : Flow = tests_flow c.args.stop (tests_in (inner_of c.args.tests.now)) in
-    let e : tests_flow c.args.stop (tests_in (inner_of c.args.tests.now)) ≡ row_flow c.args.stop (map test_of c.as_slice-test-items.result.now) = rw (c.as_slice-test-items.ensures.value, c.deref-in-Listed.ensures, c.in-Listed.is, inner_of-Listed c.in-Listed.list) (flow-listed c.args.stop (map test_of c.in-Listed.list.value.items)) in
-    subst (λ (a : Flow). Leads c.args.out.now c.args.out.now a whole (To c.args.stopped)) e (leads_first c.args.out.now whole (To c.args.stopped))
+    let e : whole ≡ row_flow c.args.stop (map test_of items) = rw (c.in-Listed.is, inner_of-Listed c.in-Listed.list) (flow-listed c.args.stop (test_of list.first) (map test_of list.others.items)) in
+    let before = subst (λ (a : Flow). Leads c.args.out.now c.args.out.now a whole (To c.args.stopped)) e (leads_first c.args.out.now whole (To c.args.stopped)) in
+    let first = λ (ends : List ℕ). subst (λ (l : TestList). Emits c.args.out.now c.emit_test-in-Listed.new.out (test_flow (test_in (test_of (out-TestList l).first))) ends) c.deref-in-Listed.ensures (c.in_ok-emit_test-in-Listed.ensures.adds ends) in
+    rw (c.as_slice-test-items.ensures.value, c.deref-in-Listed-2.ensures) (tests_turn c.args.out.now c.args.out.now c.emit_test-in-Listed.new.out c.put_jump-in-Listed.new.out items 0 list.first (omega arith) refl whole c.args.stop c.args.stopped before first c.in_ok-put_jump-in-Listed.ensures.adds)
 
 pub emit_tests-loop-test-preserved : goal.emit_tests-loop-test-preserved
-emit_tests-loop-test-preserved t c = tests_turn c.args.out.now c.loop-test.out c.emit_test-in-loop-test.new.out c.put_jump-in-loop-test.new.out c.as_slice-test-items.result.now c.loop-test.test-index c.test-item.result c.loop-test-test.true c.test-item.is _ c.args.stop c.args.stopped c.loop-test.invariant c.in_ok-emit_test-in-Listed.ensures.adds c.in_ok-put_jump-in-Listed.ensures.adds
+emit_tests-loop-test-preserved t c = tests_turn c.args.out.now c.loop-test.out c.emit_test-in-loop-test.new.out c.put_jump-in-loop-test.new.out c.as_slice-test-items.result.now c.loop-test.test-index c.test-item.result c.loop-test-test.true c.test-item.is _ c.args.stop c.args.stopped c.loop-test.invariant c.in_ok-emit_test-in-Listed-2.ensures.adds c.in_ok-put_jump-in-Listed-2.ensures.adds
 
 pub emit_tests-returns-in_ok-emit_test-in-One : goal.emit_tests-returns-in_ok-emit_test-in-One
 emit_tests-returns-in_ok-emit_test-in-One t c =
