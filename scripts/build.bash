@@ -89,46 +89,189 @@ provers() {
     echo $((free < processors ? free : processors))
 }
 
-# Ends by a signal, with all that was started: where rt ends, it takes the provers along.
+# Each library is built in a lane: a folder with the sources of its crate and of those below, and with the libraries of these.
+# In the tree itself no two could be built at once, since rt keeps others out of the folders of all crates below its own.
+# `lanes` is the folder of the lanes, and `builders` has the process of each that is at work.
+lanes=
+declare -A builders=()
+
+# Makes the folder of the lanes; within .git, where it lies beside the tree and git and rt pass it over, if there is one. What a
+# start that was killed has left there is taken back.
+make_lanes() {
+    local name
+    if [[ -d $root/.git ]]; then
+        lanes=$root/.git/lanes
+        for name in $(crates_below "$1"); do
+            [[ ! -d $lanes/$name ]] || close_lane "$name"
+        done
+        mkdir -p -- "$lanes"
+    else
+        lanes=$(mktemp -d)
+    fi
+}
+
+# Lays out the lane of a crate; what earlier starts kept of it goes there.
+open_lane() {
+    local name lane=$lanes/$1
+    mkdir -p -- "$lane" || return
+    for name in $(crates_below "$1"); do
+        grep -e "^${name}[ :]" "$root/crates.txt" >> "$lane/crates.txt" || return
+        (cd -- "$root" && tar -c --exclude="crates/$name/out" "crates/$name") | tar -x -C "$lane" || return
+        if [[ $name != "$1" ]]; then
+            mkdir -- "$lane/crates/$name/out" && {
+                cp -al -- "$root/crates/$name/out/rlib" "$lane/crates/$name/out/" 2> "$lanes/error" ||
+                    cp -a -- "$root/crates/$name/out/rlib" "$lane/crates/$name/out/"
+            } || return
+        fi
+    done
+    if [[ -d $root/crates/$1/out ]]; then
+        mv -- "$root/crates/$1/out" "$lane/crates/$1/"
+    fi
+}
+
+# Gives the tree what was made in the lane of a crate.
+close_lane() {
+    local made=$lanes/$1/crates/$1/out
+    if [[ -d $made ]]; then
+        rm -rf -- "$root/crates/$1/out" && mv -- "$made" "$root/crates/$1/"
+    fi
+    rm -rf -- "${lanes:?}/$1"
+}
+
+# Keeps every rt out of the folders of a program's crates, as rt does for others, while their libraries are moved.
+lock_crates() {
+    local name lock
+    for name in $(crates_below "$1"); do
+        exec {lock}< "$root/crates/$name"
+        flock -n "$lock" || give_up "another rt is at work in crates/$name; start again when it is done"
+        locks+=("$lock")
+    done
+}
+
+unlock_crates() {
+    local lock
+    for lock in "${locks[@]}"; do
+        exec {lock}<&-
+    done
+}
+
+# Ends what is at work, and keeps what it did: rt takes along the provers that it started.
+end_lanes() {
+    local name
+    for name in "${!builders[@]}"; do
+        kill "${builders[$name]}" 2> "$lanes/error"
+        wait "${builders[$name]}" 2> "$lanes/error"
+        close_lane "$name"
+    done
+    builders=()
+    rm -rf -- "${lanes:?}"
+}
+
+# Ends by a signal.
 end_by() {
-    kill "$rt" 2> /dev/null
-    wait "$rt" 2> /dev/null
     echo "$self: ended by a signal; the next start goes on from here" >&2
+    [[ -z $lanes ]] || end_lanes
     exit "$1"
 }
 
-# Runs rt in the folder of a crate, with its lines in a log. Where it begins to report a library that it has built, that is
-# told, with how many there are.
-run_rt() {
-    local folder=$root/crates/$1 total=$2 lines line number=0
-    exec {lines}< <(cd -- "$folder" && exec rt "${@:3}" 2>&1 < /dev/null)
-    rt=$!
-    while read -r -u "$lines" line; do
-        echo "$line" >> "$folder/out/build.log"
-        if [[ $line == "== "* && -f $root/crates/${line#== }/out/rlib/stamp ]]; then
-            number=$((number + 1))
-            echo "$self: proved $number of $total: ${line#== }" >&2
-        elif [[ $line == "rt: waiting"* ]]; then
-            echo "$self: ${line#rt: }" >&2
+# Starts building a library by so many provers.
+start_builder() {
+    if ! open_lane "$1"; then
+        end_lanes
+        give_up "$1 has no place to be built in"
+    fi
+    (cd -- "$lanes/$1/crates/$1" && exec rt lib --jobs "$2") > "$lanes/$1.log" 2>&1 < /dev/null &
+    builders[$1]=$!
+}
+
+# Waits for a builder to end, and sets `ended` to the name of its library; the status is the builder's.
+await_builder() {
+    local process status=0
+    wait -n -p process "${builders[@]}" || status=$?
+    for ended in "${!builders[@]}"; do
+        [[ ${builders[$ended]} != "$process" ]] || break
+    done
+    close_lane "$ended"
+    unset "builders[$ended]"
+    return "$status"
+}
+
+# The libraries below a program, those with the longest way to it first. A way is as long as the sources of the crates on it.
+longest_first() {
+    local name other
+    local -A way=()
+    for name in $(crates_below "$1" | tac); do
+        way[$name]=${way[$name]:-0}
+        way[$name]=$((way[$name] + $(find "$root/crates/$name/src" "$root/crates/$name/proofs" -type f -exec cat {} + 2> /dev/null | wc -c)))
+        for other in $(crates_below "$name"); do
+            ((${way[$other]:-0} >= way[$name])) || [[ $other == "$name" ]] || way[$other]=${way[$name]}
+        done
+        [[ $name == "$1" ]] || echo "${way[$name]} $name"
+    done | sort -n -r | cut -d ' ' -f 2
+}
+
+# Whether all that a library stands on is built, or the library is there itself.
+is_ready() {
+    local name
+    for name in $(crates_below "$1"); do
+        [[ $name == "$1" || -n ${built[$name]-} ]] || return
+    done
+}
+
+# Starts building those of the libraries that are left which can be built, by as many provers as are idle.
+start_builders() {
+    local name jobs ready=()
+    for name in "${left[@]}"; do
+        if is_ready "$name"; then
+            ready+=("$name")
         fi
     done
-    exec {lines}<&-
-    wait "$rt"
+    while ((idle > 0 && ${#ready[@]} > 0)); do
+        name=${ready[0]}
+        jobs=$((idle / ${#ready[@]}))
+        jobs=$((jobs < 1 ? 1 : jobs < 4 ? jobs : 4))
+        idle=$((idle - jobs))
+        share[$name]=$jobs
+        ready=("${ready[@]:1}")
+        start_builder "$name" "$jobs"
+    done
+    ready=()
+    for name in "${left[@]}"; do
+        [[ -n ${share[$name]-} ]] || ready+=("$name")
+    done
+    left=("${ready[@]}")
 }
 
-# What a log of rt says of the crates that failed.
-failures_in() {
-    awk '
-        /^== / { name = $2; next }
-        name == "summary" && / failed \(/ { printf "%s%s\n", said[substr($1, 1, length($1) - 1)], $0; found = 1 }
-        { said[name] = said[name] $0 "\n" }
-        END { if (!found) printf "%s", said[name] }
-    ' "$1" | tail -n 40
+# Builds the libraries below a program, and tells of each that is done. Where one is not built, the rest is given up.
+build_libraries() {
+    local idle=$2 total=$3 number=0 ended='' left
+    local -A share=() built=()
+    mapfile -t left < <(longest_first "$1")
+    while ((${#left[@]} + ${#builders[@]} > 0)); do
+        start_builders
+        if ! await_builder; then
+            mv -- "$lanes/$ended.log" "$root/crates/$1/out/build.log"
+            end_lanes
+            return 1
+        fi
+        idle=$((idle + share[$ended]))
+        built[$ended]=yes
+        number=$((number + 1))
+        echo "$self: proved $number of $total: $ended" >&2
+    done
+    end_lanes
 }
 
-# Proves what a program stands on, side by side, and builds it. Which sources it is built from is noted as they were before.
+# Builds a program over its libraries.
+build_program() {
+    (cd -- "$root/crates/$1" && exec rt run) > "$root/crates/$1/out/build.log" 2>&1 < /dev/null &
+    builders[$1]=$!
+    wait "${builders[$1]}"
+}
+
+# Builds what a program stands on, and the program. Which sources it is built from is noted as they were before.
 build() {
-    local name=$1 sources=$2 folder=$root/crates/$1 began=$SECONDS lock provers total rt=
+    local name=$1 sources=$2 folder=$root/crates/$1 began=$SECONDS lock locks=() provers total
     [[ -n $(kit) ]] || give_up "the program is not built, and there is no command rt of a Rattle kit to build it with"
     if ! { mkdir -p -- "$folder/out" && : > "$folder/out/build.log"; } 2> /dev/null; then
         give_up "$folder/out cannot be written, so the program cannot be built"
@@ -140,17 +283,22 @@ build() {
     trap 'end_by 129' HUP
     trap 'end_by 130' INT
     trap 'end_by 143' TERM
-    echo "$self: proving and building $total crates, $provers at a time; from nothing this may take a quarter of an hour" >&2
-    if ! run_rt "$name" "$total" all check --jobs "$provers" || ! run_rt "$name" "$total" run; then
-        failures_in "$folder/out/build.log" >&2
-        grep -q -e 'failed (-9)' -e 'killed' "$folder/out/build.log" &&
+    lock_crates "$name"
+    make_lanes "$name" || give_up "there is no folder to build in"
+    echo "$self: proving and building $total crates; from nothing this may take a quarter of an hour (provers at once: $provers)" >&2
+    if ! { build_libraries "$name" "$provers" "$total" && unlock_crates && build_program "$name"; }; then
+        tail -n 40 -- "$folder/out/build.log" >&2
+        if grep -q killed "$folder/out/build.log"; then
             echo "$self: a prover was killed, most likely for want of memory" >&2
-        give_up "the program was not built; $folder/out/build.log has all that was said"
+        fi
+        give_up "the program was not built"
     fi
+    builders=()
     trap - HUP INT TERM
     note_sources "$name" "$sources"
     exec {lock}<&-
-    echo "$self: proved and built in $(((SECONDS - began) / 60)) minutes and $(((SECONDS - began) % 60)) seconds" >&2
+    echo "$self: proved $total of $total: $name" >&2
+    echo "$self: built in $(((SECONDS - began) / 60)) minutes and $(((SECONDS - began) % 60)) seconds" >&2
 }
 
 # Sees to it that a program is there, and was built from the sources as they are now.

@@ -8,35 +8,41 @@
 make_stage() {
     stage=$work/stage
     path=$stage/kit/bin:/usr/bin:/bin
-    mkdir -p -- "$stage"/kit/bin "$stage"/tree/{docs,scripts} "$stage"/tree/crates/{low,middle,mailfile,bench}/src
+    mkdir -p -- "$stage"/kit/bin "$stage"/tree/{.git,docs,scripts} "$stage"/tree/crates/{low,beside,middle,mailfile,bench}/src
     cp -- mailfile bench "$stage/tree/"
     cp -- scripts/build.bash "$stage/tree/scripts/"
-    printf '%s\n' '# crates' low: 'middle: low thiserror' 'mailfile: middle clap' 'bench: low' > "$stage/tree/crates.txt"
+    printf '%s\n' '# crates' low: 'beside:' 'middle: low thiserror' 'mailfile: beside middle clap' 'bench: low' > "$stage/tree/crates.txt"
     echo low > "$stage/tree/crates/low/src/lib.rt"
     echo 'Command::new("mailfile").version("1.2.3").about(' > "$stage/tree/crates/mailfile/src/command_line.rt"
     echo 'kit 1' > "$stage/kit/KIT-ID"
     cat > "$stage/kit/bin/rt" <<'RT'
 #!/usr/bin/env bash
-# Builds two libraries, and a program that tells its words and ends with status 7, as the files of the stage ask.
+# Builds libraries, and programs that tell their words and end with status 7, as the files of the stage ask.
 stage=$(dirname "$0")/../..
-echo "$*" >> "$stage/calls"
+name=${PWD##*/}
+echo "$* $name" >> "$stage/calls"
 echo $$ > "$stage/rt"
 [[ ! -f $stage/slow ]] || exec sleep 60
-[[ ! -f $stage/edits ]] || cat "$stage/edits" > ../low/src/lib.rt
-if [[ $1 == all ]]; then
-    for name in low middle; do
-        mkdir -p "../$name/out/rlib"
-        if [[ -f $stage/fails ]]; then
-            printf '== %s\nthe reason\n== summary\n%s: failed (1)\n' "$name" "$name"
-            exit 1
-        fi
-        touch "../$name/out/rlib/stamp"
-        printf '== %s\nlogic=proved\n' "$name"
-    done
-else
-    printf '#!/bin/sh\necho told "$@"\n[ "$1" != wait ] || exec sleep 60\nexit 7\n' > "out/${PWD##*/}"
-    chmod +x "out/${PWD##*/}"
+if [[ $1 == run ]]; then
+    [[ ! -f $stage/edits ]] || cp "$stage/edits" ../low/src/lib.rt
+    printf '#!/bin/sh\necho told "$@"\n[ "$1" != wait ] || exec sleep 60\nexit 7\n' > "out/$name"
+    chmod +x "out/$name"
+    exit
 fi
+if [[ -f $stage/meets && $name != middle ]]; then
+    touch "$stage/met-$name"
+    for _ in {1..500}; do
+        [[ -f $stage/met-low && -f $stage/met-beside ]] && break
+        sleep 0.02
+    done
+    [[ -f $stage/met-low && -f $stage/met-beside ]] || exit 1
+fi
+if [[ $name == middle && ! -f ../low/out/rlib/stamp || -f $stage/fails ]]; then
+    echo "the reason"
+    exit 1
+fi
+mkdir -p out/rlib
+touch out/rlib/stamp
 RT
     chmod +x "$stage/kit/bin/rt"
 }
@@ -52,7 +58,7 @@ start() {
 # Whether a start builds, and serves the program then.
 builds() {
     start mailfile "$@"
-    [[ $? -eq 7 && -s $stage/calls && $(< "$work/answer") == "told${1+ $1}" ]] && grep -q "^mailfile: proved and built in" "$work/error"
+    [[ $? -eq 7 && -s $stage/calls && $(< "$work/answer") == "told${1+ $1}" ]] && grep -q "^mailfile: built in" "$work/error"
 }
 
 # Whether a start serves the program at once.
@@ -72,8 +78,18 @@ answers_unbuilt() {
         start mailfile --help && [[ -s $work/answer && ! -e $stage/calls ]]
 }
 
-tells_progress() {
-    builds a && diff - <(grep "proved [0-9]" "$work/error") <<< $'mailfile: proved 1 of 3: low\nmailfile: proved 2 of 3: middle'
+# Two libraries that don't stand on each other are built at the same time, and the one above them after them.
+builds_side_by_side() {
+    touch "$stage/meets"
+    echo 'MemAvailable: 9000000 kB' > "$stage/memory"
+    MEMINFO=$stage/memory builds a && rm -- "$stage/meets" && [[ $(grep -c "proved [1-4] of 4: " "$work/error") -eq 4 ]] &&
+        [[ $(grep -o "proved 4 of 4: .*" "$work/error") == "proved 4 of 4: mailfile" && ! -e $stage/tree/.git/lanes ]]
+}
+
+builds_one_after_the_other() {
+    echo edited >> "$stage/tree/crates/low/src/lib.rt"
+    echo 'MemAvailable: 2000000 kB' > "$stage/memory"
+    MEMINFO=$stage/memory builds && grep -q "(provers at once: 1)" "$work/error"
 }
 
 builds_after_an_edit() {
@@ -125,10 +141,12 @@ gives_up_without_memory() {
 }
 
 gives_up_beside_another() {
-    exec {lock}< "$stage/tree/crates"
-    flock -n "$lock" && gives_up 125 "another start is building" mailfile
-    local status=$?
-    exec {lock}<&-
+    local folder lock status=0
+    for folder in crates crates/low; do
+        exec {lock}< "$stage/tree/$folder"
+        flock -n "$lock" && gives_up 125 "^mailfile: another .*; start again when it is done" mailfile || status=1
+        exec {lock}<&-
+    done
     return "$status"
 }
 
@@ -152,7 +170,7 @@ ends_what_it_started() {
     touch "$stage/slow"
     end_when "$stage/rt" || status=$?
     rm -- "$stage/slow"
-    [[ $status -eq 143 ]] && ! kill -0 "$(< "$stage/rt")" 2> "$work/said" && builds
+    [[ $status -eq 143 && ! -e $stage/tree/.git/lanes ]] && ! kill -0 "$(< "$stage/rt")" 2> "$work/said" && builds
 }
 
 ends_the_program() {
@@ -175,8 +193,9 @@ leaves_the_page() {
 scripts() {
     make_stage
     count "questions before the program is built" answers_unbuilt
-    count "the first start" tells_progress
+    count "the first start" builds_side_by_side
     count "a start at once" serves a
+    count "a start with little memory" builds_one_after_the_other
     count "a start after an edit" builds_after_an_edit
     count "a start after a deletion" builds_after_a_deletion
     count "a start with another kit" builds_with_another_kit
