@@ -4,7 +4,7 @@ use memchr::memchr;
 use std::alloc::{AllocError, Global};
 
 /// A plain pass over the octets of an input.
-#[derive(Clone, Copy, Debug, PartialEq, Eq)]
+#[derive(Clone, Copy)]
 pub enum Baseline {
     /// Adds up the octets.
     Sum,

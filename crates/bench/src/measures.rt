@@ -16,7 +16,7 @@ use sieve_text::{MOST_OCTETS, parse};
 use std::alloc::{AllocError, Global};
 
 /// A part of Mailfile on one kind of input.
-#[derive(Clone, Copy, Debug, PartialEq, Eq)]
+#[derive(Clone, Copy)]
 pub enum Measure {
     /// `read_head` of a header in fields of 80 octets.
     Header,
@@ -83,7 +83,7 @@ pub enum Measure {
 }
 
 /// A script of one thing repeated.
-#[derive(Clone, Copy, Debug, PartialEq, Eq)]
+#[derive(Clone, Copy)]
 pub enum AcceptedText {
     /// `keep;` alone.
     Keeps,
@@ -100,7 +100,7 @@ pub enum AcceptedText {
 }
 
 /// A text that is refused, of one thing repeated.
-#[derive(Clone, Copy, Debug, PartialEq, Eq)]
+#[derive(Clone, Copy)]
 pub enum HostileText {
     /// `(` alone.
     Brackets,

@@ -4,7 +4,7 @@ use crate::baselines::Baseline;
 use crate::measures::{AcceptedText, HostileText, Measure};
 
 /// What was asked of a measure.
-#[derive(Clone, Copy, Debug, PartialEq, Eq)]
+#[derive(Clone, Copy)]
 pub enum Asked {
     /// At least so many millions of octets a second.
     Rate(u32),

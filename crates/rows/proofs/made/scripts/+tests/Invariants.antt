@@ -1,5 +1,5 @@
 use Rattle.std.proofs.Common.{◌+◌, ◌*◌}
-use Rattle.compiled_rows.proofs.scripts.+tests.Given as goal
+use Rattle.rows.proofs.made.scripts.+tests.Given as goal
 
 abbrev pub decreases-push_test : goal.decreases-push_test
 decreases-push_test l = 2 * l.depth

@@ -1,20 +1,23 @@
-//! Makes the calls of a table, and tells which of them are answered otherwise than the table says. `src/row.rt` says how to
-//! read the table.
+//! Plays a table of calls (`src/row.rt`) and one of sessions (`src/sessions.rt`), and compares the outcomes of scripts that are
+//! made by chance (`src/made.rt`). Standard input has the calls and, after a line `[sessions]`, the sessions.
 #![tactic(auto)]
 
 mod call;
 mod compiled;
 mod given;
 mod images;
+mod made;
 mod matching;
 mod messages;
 mod plans;
 mod row;
+mod sessions;
+mod streams;
 mod tokens;
 mod told;
 mod trees;
 
-use anyhow::Result;
+use anyhow::{Context, Result};
 use call::Call;
 use filing_gen::Library;
 use given::Given;
@@ -24,7 +27,7 @@ use std::io::Read;
 use std::str;
 
 /// The answer of a row's call, where these scripts can be included.
-fn answer(alloc: Global, library: &Library, row: &Row) -> Result<Vec<u8>> {
+fn answer(alloc: Global, library: &mut Library, row: &Row) -> Result<Vec<u8>> {
     let (first, second, third) = (row.first(), row.second(), row.third());
     match row.call() {
         Call::Tokens => tokens::tokens(alloc, first),
@@ -55,13 +58,18 @@ fn answer(alloc: Global, library: &Library, row: &Row) -> Result<Vec<u8>> {
         Call::Changes => images::changes(alloc, first),
         Call::Run => images::run(alloc, first, second),
         Call::Compile => compiled::compile(alloc, library, first, second, third),
+        Call::Size => compiled::size(alloc, library, first, second),
+        Call::Put => compiled::put(alloc, library, first, second, third),
+        Call::Find => compiled::find(alloc, library, first, second),
+        Call::Streams => streams::streams(alloc, first),
+        Call::Unread => streams::unread(alloc, first),
     }
 }
 
 /// Whether a row's call is answered as the row says; if not, this is told.
-fn judge(rt: &(impl Print + AllocGlobal), given: &Given, line: &str) -> Result<bool> {
+fn judge(rt: &(impl Print + AllocGlobal), given: &mut Given, line: &str) -> Result<bool> {
     let row = read_row(rt.alloc(), given.front.as_slice(), line)?;
-    let mut found = answer(rt.alloc(), &given.library, &row)?;
+    let mut found = answer(rt.alloc(), &mut given.library, &row)?;
     if found.is_empty() {
         found.extend_from_slice(b"nothing")?;
     }
@@ -73,20 +81,29 @@ fn judge(rt: &(impl Print + AllocGlobal), given: &Given, line: &str) -> Result<b
     Ok(false)
 }
 
-fn main(rt: HostRuntime) -> Result<()> {
-    let mut text = String::new(rt.alloc());
-    rt.reader().read_to_string(&mut text)?;
+/// Makes the calls of a table, and tells how many are answered as it says.
+fn play_calls(rt: &(impl Print + AllocGlobal), table: &str) -> Result<()> {
     let mut given = Given::new(rt.alloc());
     let mut right = 0u64;
-    for line in text.lines() {
+    for line in table.lines() {
         if given.takes(rt.alloc(), line)? {
             continue;
         }
-        if judge(&rt, &given, line)? {
+        if judge(rt, &mut given, line)? {
             right = right.saturating_add(1);
         }
         given.front.clear();
     }
     println!(rt; "{right} calls are answered as the table says")?;
     Ok(())
+}
+
+fn main(rt: HostRuntime) -> Result<()> {
+    let mut text = String::new(rt.alloc());
+    rt.reader().read_to_string(&mut text)?;
+    let tables = text.as_str().split_once("\n[sessions]\n");
+    let (calls, cases) = tables.context("the sessions are missing")?;
+    play_calls(&rt, calls)?;
+    sessions::play_all(&rt, cases)?;
+    made::compare_all(&rt)
 }

@@ -1,4 +1,4 @@
-//! The table of cases. A line is a word, a space and what belongs to it:
+//! The table of sessions, each at a desk of its own. A line is a word, a space and what belongs to it:
 //!
 //! - `case NAME` begins a case;
 //! - `send TEXT` is input;
@@ -15,12 +15,16 @@
 //! Empty lines and those that begin with `#` are passed over.
 
 use anyhow::{Context, Result, bail};
+use filing_desk::Desk;
+use filing_session::memory::{MemorySink, MemorySource};
+use filing_session::serve;
 use row_text::{hex_value, octets_of};
 use std::alloc::{AllocError, Global};
+use std::{io, str};
 
 /// A session and the lines that it is to be answered.
 #[derive(Drop)]
-pub struct Case {
+struct Case {
     name: String,
     input: Vec<u8>,
     /// The command that takes the program and a message.
@@ -32,7 +36,7 @@ pub struct Case {
 
 impl Case {
     /// A case without input.
-    pub fn new(alloc: Global, name: &str) -> Result<Case, AllocError> {
+    fn new(alloc: Global, name: &str) -> Result<Case, AllocError> {
         Ok(Case {
             name: String::from_str(alloc, name)?,
             input: Vec::new(alloc),
@@ -40,21 +44,6 @@ impl Case {
             program: Vec::new(alloc),
             wanted: Vec::new(alloc),
         })
-    }
-
-    /// Its name.
-    pub fn name(&self) -> &str {
-        self.name.as_str()
-    }
-
-    /// What is read.
-    pub fn input(&self) -> &[u8] {
-        self.input.as_slice()
-    }
-
-    /// What is to be written.
-    pub fn wanted(&self) -> &[u8] {
-        self.wanted.as_slice()
     }
 
     /// Adds input.
@@ -144,7 +133,7 @@ fn want(alloc: Global, case: &mut Case, times: usize, text: &str) -> Result<(), 
 }
 
 /// Reads a line of a case.
-pub fn read_line(alloc: Global, case: &mut Case, line: &str) -> Result<()> {
+fn read_line(alloc: Global, case: &mut Case, line: &str) -> Result<()> {
     let (word, text) = line.split_once(' ').unwrap_or((line, ""));
     match word {
         "send" => case.send(octets_of(alloc, text)?.as_slice())?,
@@ -169,6 +158,56 @@ pub fn read_line(alloc: Global, case: &mut Case, line: &str) -> Result<()> {
             want(alloc, case, times, text)?;
         }
         _ => bail!("{line}: no such word"),
+    }
+    Ok(())
+}
+
+/// What a session is answered, or none where there is no desk or a fault.
+fn play(alloc: Global, input: &[u8]) -> Option<MemorySink> {
+    let mut desk = Desk::new(alloc).ok()?;
+    let mut sink = MemorySink::new(alloc);
+    serve(alloc, &mut MemorySource::new(input), &mut sink, &mut desk).ok()?;
+    Some(sink)
+}
+
+/// Octets as text, for a message.
+fn shown(octets: &[u8]) -> &str {
+    str::from_utf8(octets).unwrap_or("(not UTF-8)")
+}
+
+/// Plays a case, and tells how it went.
+fn judge(rt: &(impl Print + AllocGlobal), case: &Case) -> io::Result<()> {
+    let name = case.name.as_str();
+    let Some(sink) = play(rt.alloc(), case.input.as_slice()) else {
+        return println!(rt; "{name} had no answer");
+    };
+    if sink.as_slice() == case.wanted.as_slice() {
+        return println!(rt; "{name} ok");
+    }
+    let (answered, wanted) = (shown(sink.as_slice()), shown(case.wanted.as_slice()));
+    println!(rt; "{name} failed\nanswered:\n{answered}wanted:\n{wanted}")
+}
+
+/// Plays all cases, and tells how each went.
+pub fn play_all(rt: &(impl Print + AllocGlobal), table: &str) -> Result<()> {
+    let mut case: Option<Case> = None;
+    for line in table.lines() {
+        if let Some(name) = line.strip_prefix("case ") {
+            if let Some(done) = case.replace(Case::new(rt.alloc(), name)?) {
+                judge(rt, &done)?;
+            }
+            continue;
+        }
+        if line.is_empty() || line.starts_with('#') {
+            continue;
+        }
+        let Some(open) = case.as_mut() else {
+            bail!("{line}: before the first case");
+        };
+        read_line(rt.alloc(), open, line)?;
+    }
+    if let Some(done) = case {
+        judge(rt, &done)?;
     }
     Ok(())
 }

@@ -1,6 +1,6 @@
 //! Messages and open classes that are made by chance.
 
-use crate::chance::Chance;
+use crate::made::chance::Chance;
 use std::alloc::{AllocError, Global};
 
 /// The paths that scripts file into.

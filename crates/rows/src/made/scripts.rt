@@ -1,7 +1,7 @@
 //! Scripts that are made by chance, each of them well made.
 
-use crate::chance::Chance;
-use crate::messages::PATHS;
+use crate::made::chance::Chance;
+use crate::made::messages::PATHS;
 use std::alloc::{AllocError, Global};
 
 /// What each script may use.

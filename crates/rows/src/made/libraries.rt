@@ -1,7 +1,7 @@
 //! Libraries that are made by chance, of scripts that include each other.
 
-use crate::chance::Chance;
-use crate::scripts::included_script;
+use crate::made::chance::Chance;
+use crate::made::scripts::included_script;
 use sieve_meaning::Location;
 use std::alloc::{AllocError, Global};
 

@@ -1,5 +1,5 @@
 use Rattle.std.proofs.Common.{◌+◌, ◌*◌}
-use Rattle.compiled_rows.proofs.scripts.+commands.Given as goal
+use Rattle.rows.proofs.made.scripts.+commands.Given as goal
 
 abbrev pub decreases-push_command : goal.decreases-push_command
 decreases-push_command l = 4 * l.depth

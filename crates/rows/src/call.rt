@@ -31,10 +31,15 @@ pub enum Call {
     Changes,
     Run,
     Compile,
+    Size,
+    Put,
+    Find,
+    Streams,
+    Unread,
 }
 
 /// Each call's word.
-const WORDS: [(&str, Call); 28] = [
+const WORDS: [(&str, Call); 33] = [
     ("tokens", Call::Tokens),
     ("lengths", Call::Lengths),
     ("tree", Call::Tree),
@@ -63,6 +68,11 @@ const WORDS: [(&str, Call); 28] = [
     ("changes", Call::Changes),
     ("run", Call::Run),
     ("compile", Call::Compile),
+    ("size", Call::Size),
+    ("put", Call::Put),
+    ("find", Call::Find),
+    ("streams", Call::Streams),
+    ("unread", Call::Unread),
 ];
 
 impl Call {

@@ -1,28 +1,24 @@
 //! Makes scripts with others that they can include, and messages, by chance, the same in each run, and tells how many of them
 //! have the same outcome by the script's image (`filing_gen`, `filing_machine`) and by its tree (`plain_evaluator`); each other
 //! one is shown. What follows counts the outcomes of each kind, so that it shows that each kind was met.
-#![tactic(auto)]
 
 mod chance;
 mod libraries;
 mod messages;
-mod rows;
+mod outcomes;
 mod scripts;
 mod sides;
 
-use anyhow::{Result, bail};
+use crate::compiled::{checked, keep};
+use anyhow::Result;
 use chance::Chance;
 use filing_gen::Library;
 use libraries::{Included, included_scripts};
 use messages::{message, open_classes};
-use rows::{Kind, Row};
+use outcomes::{Kind, Tally};
 use scripts::script;
 use sides::{Linked, by_image, by_tree, case};
-use sieve_check::{Checked, check};
-use sieve_meaning::Location;
-use sieve_text::parse;
 use std::alloc::Global;
-use std::rc::Rc;
 
 /// How many scripts and messages are made.
 const PAIRS: usize = 600;
@@ -45,28 +41,12 @@ const KINDS: [(Kind, &str); 8] = [
     (Kind::FiledInSeveral, "several classes"),
 ];
 
-/// The checked script of a text.
-fn checked(alloc: Global, text: &str) -> Result<Checked> {
-    let Ok(script) = parse(alloc, text.as_bytes()) else {
-        bail!("no script: {text}");
-    };
-    let Ok(checked) = check(script) else {
-        bail!("a script that is not well made: {text}");
-    };
-    Ok(checked)
-}
-
 /// The library of some scripts.
 fn library_of(alloc: Global, scripts: &[Included]) -> Result<Library> {
     let mut library = Library::new(alloc);
     for script in scripts {
-        let Ok(checked) = Rc::new(alloc, checked(alloc, script.text.as_str())?) else {
-            bail!("no memory for a script");
-        };
-        match script.location {
-            Location::Personal => library.set_personal(script.name.as_bytes(), checked)?,
-            Location::Global => library.set_global(script.name.as_bytes(), checked)?,
-        }
+        let (name, text) = (script.name.as_bytes(), script.text.as_bytes());
+        keep(alloc, &mut library, script.location, name, text)?;
     }
     Ok(library)
 }
@@ -105,14 +85,12 @@ fn show(rt: &impl Print, made: &Made, by_image: &str, by_tree: &str) -> Result<(
     Ok(())
 }
 
-/// Compares the two outcomes of a script, and tells whether the message and the library mattered.
-fn compare(rt: &(impl Print + AllocGlobal), made: &Made) -> Result<Row> {
+/// Adds how a pair went.
+fn compare(rt: &(impl Print + AllocGlobal), tally: &mut Tally, made: &Made) -> Result<()> {
     let alloc = rt.alloc();
-    let main = checked(alloc, made.text.as_str())?;
-    let (library, nothing) = (
-        library_of(alloc, made.scripts.as_slice())?,
-        Library::new(alloc),
-    );
+    let main = checked(alloc, made.text.as_bytes())?;
+    let library = library_of(alloc, made.scripts.as_slice())?;
+    let nothing = Library::new(alloc);
     let linked = Linked {
         main: &main,
         known_as: made.is_named.then_some(b"main".as_slice()),
@@ -123,39 +101,41 @@ fn compare(rt: &(impl Print + AllocGlobal), made: &Made) -> Result<Row> {
         ..linked
     };
     let classes = made.classes.as_slice();
-    let filed = case(alloc, made.message.as_str().as_bytes(), classes)?;
+    let filed = case(alloc, made.message.as_bytes(), classes)?;
     let empty = case(alloc, NO_FIELD, classes)?;
     let captured = by_image(alloc, linked, &filed)?;
     let compiled = captured.shown(alloc)?;
     let wanted = by_tree(alloc, linked, &filed)?.shown(alloc)?;
-    let agrees = compiled == wanted;
-    if !agrees {
+    if compiled == wanted {
+        tally.agree = tally.agree.saturating_add(1);
+    } else {
         show(rt, made, compiled.as_str(), wanted.as_str())?;
     }
-    Ok(Row {
-        kind: Kind::of(&captured),
-        agrees,
-        by_message: by_tree(alloc, linked, &empty)?.shown(alloc)? != wanted,
-        by_library: by_tree(alloc, alone, &filed)?.shown(alloc)? != wanted,
-    })
+    if by_tree(alloc, linked, &empty)?.shown(alloc)? != wanted {
+        tally.by_message = tally.by_message.saturating_add(1);
+    }
+    if by_tree(alloc, alone, &filed)?.shown(alloc)? != wanted {
+        tally.by_library = tally.by_library.saturating_add(1);
+    }
+    tally.kinds.push(Kind::of(&captured))?;
+    Ok(())
 }
 
-fn main(rt: HostRuntime) -> Result<()> {
+/// Makes all pairs, and tells how they went.
+pub fn compare_all(rt: &(impl Print + AllocGlobal)) -> Result<()> {
     let mut chance = Chance::new(SEED);
-    let mut rows = Vec::new(rt.alloc());
+    let mut tally = Tally::new(rt.alloc());
     for _ in 0..PAIRS {
         let made = make(rt.alloc(), &mut chance)?;
-        rows.push(compare(&rt, &made)?)?;
+        compare(rt, &mut tally, &made)?;
     }
-    let agree = rows.iter().filter(|row| row.agrees).count();
+    let (agree, by_message, by_library) = (tally.agree, tally.by_message, tally.by_library);
     println!(rt; "{PAIRS} scripts and messages: {agree} agree")?;
     for (kind, name) in KINDS {
-        let met = rows.iter().filter(|row| row.kind == kind).count();
+        let met = tally.count(kind);
         println!(rt; "{name}: {met}")?;
     }
-    let by_message = rows.iter().filter(|row| row.by_message).count();
     println!(rt; "another outcome than for a message without a field: {by_message}")?;
-    let by_library = rows.iter().filter(|row| row.by_library).count();
     println!(rt; "another outcome than where nothing can be included: {by_library}")?;
     Ok(())
 }

@@ -1,0 +1,146 @@
+//! What the compiler answers, where scripts include others, and what the runs of their images capture.
+
+use crate::messages::whole_case;
+use crate::told::{refused, word};
+use anyhow::{Result, bail};
+use filing_gen::{Library, LibraryFault, compile as compile_script};
+use filing_machine::{Outcome, run};
+use filing_verify::Verified;
+use sieve_check::{Checked, check};
+use sieve_meaning::Location;
+use sieve_text::parse;
+use std::alloc::Global;
+use std::rc::Rc;
+
+/// The checked script of a text.
+pub fn checked(alloc: Global, text: &[u8]) -> Result<Checked> {
+    let Ok(script) = parse(alloc, text) else {
+        bail!("a script has no tree");
+    };
+    let Ok(checked) = check(script) else {
+        bail!("a script is not well made");
+    };
+    Ok(checked)
+}
+
+/// Puts the script of a text at a name, where there is room.
+fn set(
+    alloc: Global,
+    library: &mut Library,
+    location: Location,
+    name: &[u8],
+    text: &[u8],
+) -> Result<Result<(), LibraryFault>> {
+    let Ok(script) = Rc::new(alloc, checked(alloc, text)?) else {
+        bail!("no memory for a script");
+    };
+    Ok(match location {
+        Location::Personal => library.set_personal(name, script),
+        Location::Global => library.set_global(name, script),
+    })
+}
+
+/// Puts the script of a text at a name, where there is known to be room.
+pub fn keep(
+    alloc: Global,
+    library: &mut Library,
+    location: Location,
+    name: &[u8],
+    text: &[u8],
+) -> Result<()> {
+    Ok(set(alloc, library, location, name, text)??)
+}
+
+/// The location of a word.
+fn location_of(word: &[u8]) -> Location {
+    if word == b"personal".as_slice() {
+        Location::Personal
+    } else {
+        Location::Global
+    }
+}
+
+/// Puts a script at a name.
+pub fn put(
+    alloc: Global,
+    library: &mut Library,
+    location: &[u8],
+    name: &[u8],
+    text: &[u8],
+) -> Result<Vec<u8>> {
+    match set(alloc, library, location_of(location), name, text)? {
+        Ok(()) => word(alloc, "kept"),
+        Err(fault) => refused(alloc, fault.number()),
+    }
+}
+
+/// How many commands the script at a name has.
+pub fn find(alloc: Global, library: &Library, location: &[u8], name: &[u8]) -> Result<Vec<u8>> {
+    let Some(script) = library.get(location_of(location), name) else {
+        return word(alloc, "none");
+    };
+    let count = script.script().commands.len();
+    Ok(format!(in alloc; "{count} commands")?.into_bytes())
+}
+
+/// A budget, and behind it the fault of a run, if there is one, and the classes.
+fn told(alloc: Global, budget: u32, outcome: &Outcome) -> Result<Vec<u8>> {
+    let mut out = format!(in alloc; "budget {budget}:")?.into_bytes();
+    if let Some(fault) = outcome.fault {
+        out.extend_from_slice(format!(in alloc; " fault {fault}")?.as_bytes())?;
+    }
+    if outcome.classes.as_slice().is_empty() {
+        out.extend_from_slice(b" discarded")?;
+    }
+    for class in outcome.classes.as_slice() {
+        out.push(b' ')?;
+        out.extend_from_slice(class.as_slice())?;
+    }
+    Ok(out)
+}
+
+/// The program of a script that is known by a personal name, unless that is empty, or by which number it is refused.
+fn program(
+    alloc: Global,
+    library: &Library,
+    script: &[u8],
+    known_as: &[u8],
+) -> Result<Result<Verified, u8>> {
+    let main = checked(alloc, script)?;
+    let known_as = if known_as.is_empty() {
+        None
+    } else {
+        Some(known_as)
+    };
+    match compile_script(alloc, &main, known_as, library) {
+        Ok(program) => Ok(Ok(program)),
+        Err(fault) => Ok(Err(fault.number())),
+    }
+}
+
+/// The budget of a script's image, and how many instructions it has, or by which number the script is refused.
+pub fn size(alloc: Global, library: &Library, script: &[u8], known_as: &[u8]) -> Result<Vec<u8>> {
+    let program = match program(alloc, library, script, known_as)? {
+        Ok(program) => program,
+        Err(number) => return refused(alloc, number),
+    };
+    let (budget, count) = (program.budget(), program.image().code().len());
+    Ok(format!(in alloc; "budget {budget}, {count} instructions")?.into_bytes())
+}
+
+/// The budget of a script's image, and what the image's run captures in the case of a message, or by which number the
+/// script is refused.
+pub fn compile(
+    alloc: Global,
+    library: &Library,
+    script: &[u8],
+    known_as: &[u8],
+    message: &[u8],
+) -> Result<Vec<u8>> {
+    let program = match program(alloc, library, script, known_as)? {
+        Ok(program) => program,
+        Err(number) => return refused(alloc, number),
+    };
+    let outcome = run(alloc, &program, &whole_case(alloc, message)?)?;
+    told(alloc, program.budget(), &outcome)
+}

@@ -1,0 +1,76 @@
+//! What the outcome of a script and a message was, to be counted.
+
+use crate::made::sides::Captured;
+use std::alloc::Global;
+
+/// The kinds of outcomes.
+#[derive(Clone, Copy, PartialEq)]
+pub enum Kind {
+    /// A fault with its number.
+    Fault(u8),
+    /// No class.
+    Discarded,
+    /// The default class alone.
+    Unfiled,
+    /// One other class.
+    Filed,
+    /// Several classes.
+    FiledInSeveral,
+}
+
+impl Kind {
+    /// The kind of an outcome.
+    pub fn of(captured: &Captured) -> Kind {
+        if let Some(fault) = captured.fault {
+            return Kind::Fault(fault);
+        }
+        let classes = captured.classes.as_slice();
+        match classes.first() {
+            None => Kind::Discarded,
+            Some(_) if classes.len() > 1 => Kind::FiledInSeveral,
+            Some(only) => {
+                if only.as_slice() == b"unfiled".as_slice() {
+                    Kind::Unfiled
+                } else {
+                    Kind::Filed
+                }
+            }
+        }
+    }
+}
+
+/// How the pairs of scripts and messages went.
+#[derive(Drop)]
+pub struct Tally {
+    /// The kinds of their outcomes.
+    pub kinds: Vec<Kind>,
+    /// How many had the same outcome both ways.
+    pub agree: usize,
+    /// How many had another outcome than for a message without a field.
+    pub by_message: usize,
+    /// How many had another outcome than where nothing can be included.
+    pub by_library: usize,
+}
+
+impl Tally {
+    /// Of no pair.
+    pub fn new(alloc: Global) -> Tally {
+        Tally {
+            kinds: Vec::new(alloc),
+            agree: 0,
+            by_message: 0,
+            by_library: 0,
+        }
+    }
+
+    /// How many outcomes were of a kind.
+    pub fn count(&self, kind: Kind) -> usize {
+        let mut count = 0usize;
+        for met in &self.kinds {
+            if *met == kind {
+                count = count.saturating_add(1);
+            }
+        }
+        count
+    }
+}
