@@ -1,4 +1,5 @@
 pub mod FoldLemmas
 pub mod OccurrenceLemmas
 pub mod SearchLemmas
+pub mod TrialLemmas
 pub mod TwoWayLemmas

@@ -69,7 +69,7 @@ stuck_is c (One ∷ is) [] e m = m
 stuck_is c (One ∷ is) (b ∷ bs) e m = cc
 stuck_is c (Any ∷ is) text e m = cc
 
-ends_is : (c : Comparator) (items : List Item) (rest : List ℕ) → turn_of c items rest ≡ ends → (items ≡ []) × (rest ≡ [])
+pub ends_is : (c : Comparator) (items : List Item) (rest : List ℕ) → turn_of c items rest ≡ ends → (items ≡ []) × (rest ≡ [])
 ends_is c [] [] e = (refl, refl)
 ends_is c [] (b ∷ bs) e = absurd cc
 ends_is c (Octet o ∷ is) [] e = absurd cc
@@ -78,7 +78,7 @@ ends_is c (One ∷ is) [] e = absurd cc
 ends_is c (One ∷ is) (b ∷ bs) e = absurd cc
 ends_is c (Any ∷ is) text e = absurd cc
 
-star_is : (c : Comparator) (items : List Item) (rest : List ℕ) (next : List Item) → turn_of c items rest ≡ star next → items ≡ Any ∷ next
+pub star_is : (c : Comparator) (items : List Item) (rest : List ℕ) (next : List Item) → turn_of c items rest ≡ star next → items ≡ Any ∷ next
 star_is c [] [] next e = absurd cc
 star_is c [] (b ∷ bs) next e = absurd cc
 star_is c (Octet o ∷ is) [] next e = absurd cc
@@ -166,6 +166,15 @@ pub record Tried (c : Comparator) (all : List Item) (value : List ℕ) (items : 
   pub used : count ≤ done * (length value + 1) + gone * fixed after + steps
   pub least : octet_count all ≤ count + octet_count items
   pub least_since : octet_count all ≤ count + octet_count after
+
+pub Fresh-first : (c : Comparator) (all : List Item) (value : List ℕ) → Fresh c all value all value 0
+Fresh-first c all value = record {
+  to = λ x. x;
+  from = λ x. x;
+  short = omega arith;
+  used = omega arith;
+  least = omega arith;
+}
 
 pub Fresh-goes : (c : Comparator) (all : List Item) (value : List ℕ) (items next : List Item) (rest behind : List ℕ) (count more : ℕ) → Fresh c all value items rest count → Goes c items rest next behind → more ≡ compared items rest → Fresh c all value next behind (count + more)
 Fresh-goes c all value items next rest behind count more h g m = record {

@@ -3,8 +3,9 @@
 //! The search goes back to the last `*` only: where the items behind it cover some front of what is left, an earlier
 //! `*` has no better place. So each item is compared at most once for each place of the value.
 
-ghost use Rattle.std.specs.Prelude.{◌≡◌, ◌≤◌, ◌+◌, ◌*◌, ◌↔◌, ◌∷◌, ◌==◌, [], length, IsTrue, MatchOption};
+ghost use Rattle.std.specs.Prelude.{◌≡◌, ◌≤◌, ◌+◌, ◌*◌, ◌↔◌, ◌∷◌, ◌==◌, [], length, false, IsTrue, MatchOption};
 ghost use Rattle.sieve_meaning.specs.Matching.{folded, items_of, covers, Matches};
+ghost use Rattle.sieve_match.specs.Search.{Search};
 ghost use Rattle.sieve_match.specs.Steps.{turn_of, turn_view, compared, octet_count};
 
 use crate::Comparator;
@@ -78,12 +79,15 @@ fn first_step<'a>(comparator: Comparator, pattern: &'a [u8], text: &'a [u8]) -> 
 /// compared with one of the value: the match type `:matches` (RFC 5228, section 2.7.1).
 ///
 /// `*` is zero or more octets, `?` is one octet, and a backslash makes the next octet stand for itself; a last lone
-/// backslash is a backslash. For p items and t octets there are at most `(p + 1) * (t + 1)` comparisons, and where the
-/// pattern covers the value, at least one for each item that stands for an octet.
+/// backslash is a backslash. The items before the first `*` are tried at the front of the value alone, and those after a `*`
+/// at one place after another; the comparisons are those of all tries, each of which ends with the first item that does not
+/// fit. For p items and t octets there are at most `(p + 1) * (t + 1)`, and where the pattern covers the value, at least one
+/// for each item that stands for an octet.
 pub fn matches_counted(pattern: &[u8], value: &[u8], comparator: Comparator) -> (bool, u128)
     ensures answer { IsTrue result.0 ↔ Matches comparator (items_of pattern.now) value.now }
     ensures test { result.0 ≡ covers comparator (items_of pattern.now) value.now }
     ensures count { result.1 ≤ (length (items_of pattern.now) + 1) * (length value.now + 1) }
+    ensures exact { Search comparator false (items_of pattern.now) value.now result.0 result.1 }
     ensures least { IsTrue result.0 → octet_count (items_of pattern.now) ≤ result.1 }
 {
     let mut items = pattern;
