@@ -3,6 +3,8 @@ pub mod Found
 pub mod Put
 pub mod Keeping
 pub mod Opened
+pub mod OpenPaths
+pub mod Told
 pub mod Added
 pub mod Judged
 pub mod Steps

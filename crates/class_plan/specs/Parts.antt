@@ -2,6 +2,7 @@
 -- own schedule, if it has one.
 use Rattle.std.specs.Prelude.{ℕ, nat_le, Bool, true, not, ◌&&◌, if◌then◌else◌, List, map, Option, Some, None, option_map, Vec, Result}
 use Rattle.std.specs.Str.{bytes_eq}
+use denote.Ref.{Bor}
 use Rattle.std.specs.List.{list_any}
 use Rattle.std.specs.declared.alloc.Global.{Global}
 use Rattle.class_plan.specs.declared.faults.PlanFault.{PlanFault}
@@ -45,6 +46,13 @@ parts_faults f g = contents_faults f g
 -- the plan of its parts, or the fault with the smallest number
 abbrev pub plan_of_parts : Contents → Result Listing PlanFault
 plan_of_parts f = judged (parts_faults f) (listing_of f)
+
+-- a class as a plan tells it
+abbrev pub Told : Type 0
+Told = Bor (List ℕ) × Bool × Option Schedule
+
+abbrev pub told_row : Told → Row
+told_row c = record { path = c.0.now; is_open = c.1; schedule = c.2 }
 
 -- the class that a part shows
 abbrev pub part_row : Part → Row

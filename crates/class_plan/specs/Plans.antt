@@ -1,7 +1,7 @@
 -- Plans of classes, what they say of a path, and what each of them keeps.
 use Rattle.std.specs.Prelude.{◌≡◌, ℕ, suc, ◌<◌, ◌≤◌, ◌⊎◌, take, slice_index, Bool, true, false, if◌then◌else◌, List, [], ◌∷◌, map, filter, length, Option, Some, None, is_some, option_map, option_and_then, unwrap_or}
 use Rattle.std.specs.Str.{bytes_eq}
-use Rattle.std.specs.List.{All, list_all}
+use Rattle.std.specs.List.{All, list_all, list_any}
 use Rattle.std.specs.List.Sorted.{IsStrictlySortedBy}
 use Rattle.std.specs.Ordering.{nat_cmp, match_ordering}
 use Rattle.std.specs.Cmp.Lexicographic.{slice_cmp}
@@ -93,6 +93,10 @@ keeps old new = list_all (λ r. has new.rows r.path) old.rows
 -- the paths of the open classes, in byte order
 abbrev pub paths_of : List Row → List (List ℕ)
 paths_of rows = map (λ r. r.path) rows
+
+-- whether a path is among some, octet for octet
+abbrev pub is_among : List (List ℕ) → List ℕ → Bool
+is_among paths q = list_any (bytes_eq q) paths
 
 abbrev pub open_paths_of : Listing → List (List ℕ)
 open_paths_of p = paths_of (filter (λ r. r.is_open) p.rows)

@@ -2,7 +2,7 @@
 //! schedule of its own or none.
 ghost use Rattle.std.specs.Prelude.{◌≡◌, ◌≢◌, ◌≤◌, Bool, true, false, is_some, Option, Some, None, option_map, Ok, Err, IfOk, IfErr, OnOk, OnErr, MatchResult, map};
 ghost use Rattle.class_plan.specs.Paths.{has_parent_in};
-ghost use Rattle.class_plan.specs.Plans.{found, has, is_open_in, open_paths_of, first_plan};
+ghost use Rattle.class_plan.specs.Plans.{found, has, is_among, is_open_in, open_paths_of, first_plan};
 ghost use Rattle.class_plan.specs.Fields.{rows_in};
 ghost use Rattle.class_plan.specs.Changes.{added, speaks_against};
 ghost use Rattle.class_plan.specs.Faults.{first_fault, HoldsNone, IsSmallest};
@@ -141,11 +141,12 @@ impl Plan {
         }
     }
 
-    /// The paths of the open classes.
+    /// The paths of the open classes: a path is among them exactly where [`Plan::is_open`] says so.
     ///
     /// Refuses for want of memory only.
     pub fn open_paths(&self, alloc: Global) -> Result<BTreeSet<Vec<u8>>, AllocError>
-        ensures { IfOk result (λ s. map (λ v. v.items) s.keys ≡ open_paths_of self.now) }
+        ensures paths { IfOk result (λ s. map (λ v. v.items) s.keys ≡ open_paths_of self.now) }
+        ensures among { IfOk result (λ s. is_among (map (λ v. v.items) s.keys) ≡ is_open_in self.now) }
     {
         let mut paths = BTreeSet::new(alloc);
         for (path, class) in &self.classes {

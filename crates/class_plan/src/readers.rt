@@ -1,10 +1,11 @@
 //! What a plan says: its root's schedule, its classes, and the schedule of a path.
-ghost use Rattle.std.specs.Prelude.{◌≡◌, ◌<◌, length, Option, option_map, IfSome};
+ghost use Rattle.std.specs.Prelude.{◌≡◌, ◌<◌, length, map, Option, option_map, IfOk, IfSome};
 ghost use Rattle.std.specs.List.{HoldsAt};
 ghost use Rattle.class_plan.specs.Paths.{ancestors};
 ghost use Rattle.class_plan.specs.Schedules.{IsInRange};
 ghost use Rattle.class_plan.specs.Plans.{own_at, first_own, schedule_at, IsPlan, IsScheduleOf};
 ghost use Rattle.class_plan.specs.Fields.{rows_in};
+ghost use Rattle.class_plan.specs.Parts.{told_row};
 ghost use Rattle.class_plan.specs.Calendar.{number_of_day, due_on};
 ghost use Rattle.class_plan.specs.Dates.{IsCaptureDay, IsDueOf, IsLater, IsSameDay};
 ghost use Rattle.jiff_core.specs.declared.civil.date.Date.{Date};
@@ -14,6 +15,7 @@ use crate::paths::SLASH;
 use crate::plans::{Class, Plan, class_at};
 use crate::schedules::Schedule;
 use jiff::civil::Date;
+use std::alloc::{AllocError, Global};
 use std::collections::BTreeMap;
 
 /// The schedule of its own that the class at a path has.
@@ -90,8 +92,23 @@ impl Plan {
         self.classes.len()
     }
 
+    /// All classes in byte order of their paths, each as [`Plan::class`] tells it. It takes one walk
+    /// over them.
+    ///
+    /// Refuses for want of memory only.
+    pub fn classes(&self, alloc: Global) -> Result<Vec<(&[u8], bool, Option<Schedule>)>, AllocError>
+        ensures { IfOk result (λ v. map told_row v.items ≡ self.now.rows) }
+    {
+        let mut told = Vec::with_capacity(alloc, self.class_count())?;
+        for (path, class) in &self.classes {
+            told.push((path.as_slice(), class.is_open, class.schedule))?;
+        }
+        Ok(told)
+    }
+
     /// The class at a place in byte order of the paths: its path, whether it is open, and the
-    /// schedule of its own, if it has one.
+    /// schedule of its own, if it has one. It walks there from the first class, so
+    /// [`Plan::classes`] is the call that reads all.
     pub fn class(&self, i: usize) -> (&[u8], bool, Option<Schedule>)
         requires { i < length self.now.rows }
         ensures { HoldsAt (λ r. r ≡ record { path = result.0.now; is_open = result.1; schedule = result.2 }) self.now.rows i }
