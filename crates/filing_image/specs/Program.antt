@@ -1,5 +1,6 @@
 -- What an image says: a filing program, and the same as it is written.
-use Rattle.std.specs.Prelude.{ℕ, List, map}
+use Rattle.std.specs.Prelude.{ℕ, List, map, Vec}
+use Rattle.std.specs.declared.alloc.Global.{Global}
 use Rattle.filing_image.specs.declared.instruction.Instruction.{Instruction}
 use Rattle.filing_image.specs.declared.instruction.Operation.{Operation}
 use Rattle.filing_image.specs.declared.instruction.Operation.TheVariants.{PushTrue, PushFalse, Not, Values, Join, Match, Pop, Exists, Size, Number, Less, Jump, JumpIf, JumpUnless, Marked, Mark, File, Keep, Discard, Stop, Fault}
@@ -51,3 +52,7 @@ pub record Parts : Type 0 where
 
 abbrev pub parts : Program → Parts
 parts p = record { budget = p.budget; texts = p.texts; numbers = p.numbers; slots = p.slots; instructions = map instruction_of p.code }
+
+-- the same from what holds each
+abbrev pub parts_from : (budget : ℕ) (texts : List (Vec ℕ Global)) (numbers : List ℕ) (slots : ℕ) (instructions : List Instruction) → Parts
+parts_from budget texts numbers slots instructions = record { budget = budget; texts = map (λ t. t.items) texts; numbers = numbers; slots = slots; instructions = instructions }

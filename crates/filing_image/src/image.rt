@@ -1,7 +1,7 @@
 //! An image: the parts of a filing program, of which the format has a spelling.
 
 ghost use Rattle.std.specs.Prelude.{◌≡◌, ◌<◌, ◌^◌, length, map, All, slice_get, IfOk, Err, Some, IsTrue, ◌↔◌};
-ghost use Rattle.filing_image.specs.Program.{Program, Parts, parts, instruction_of};
+ghost use Rattle.filing_image.specs.Program.{Program, parts, parts_from, instruction_of};
 ghost use Rattle.filing_image.specs.Spelling.{IsShort, IsProgram, FitsInstruction, Fits};
 
 use crate::fault::FormFault;
@@ -30,7 +30,8 @@ impl Model for Image {
 impl Image {
     /// The image of these parts. `BadForm`, 60, exactly where the format has no spelling of them: more than 65,535
     /// texts, numbers or instructions, a text of more than 65,535 octets, an instruction whose number is none of 1
-    /// to 21, or a non-zero operand that its operation does not have.
+    /// to 21, or a non-zero operand that its operation does not have. `NoMemory`, 99, where an allocation was refused:
+    /// counts and lengths that are too great are told as 60 all the same, since they are judged before memory is taken.
     pub fn new(
         alloc: Global,
         budget: u32,
@@ -39,9 +40,11 @@ impl Image {
         slots: u16,
         instructions: Vec<Instruction>,
     ) -> Result<Image, FormFault>
-        ensures made { IfOk result (λ i. parts i ≡ record { budget = budget; texts = map (λ t. t.items) texts.items; numbers = numbers.items; slots = slots; instructions = instructions.items }) }
-        ensures refused { let given : Parts = record { budget = budget; texts = map (λ t. t.items) texts.items; numbers = numbers.items; slots = slots; instructions = instructions.items } in
+        ensures made { IfOk result (λ i. parts i ≡ parts_from budget texts.items numbers.items slots instructions.items) }
+        ensures fits { IfOk result (λ i. Fits (parts i)) }
+        ensures refused { let given = parts_from budget texts.items numbers.items slots instructions.items in
             result ≡ Err FormFault.BadForm → IsShort given → IsProgram given → ⊥ }
+        ensures short { result ≡ Err FormFault.NoMemory → IsShort (parts_from budget texts.items numbers.items slots instructions.items) }
     {
         if texts.len() > 65_535 || numbers.len() > 65_535 || instructions.len() > 65_535 {
             return Err(FormFault::BadForm);
@@ -50,13 +53,15 @@ impl Image {
             return Err(FormFault::BadForm);
         }
         let code = operations(alloc, &instructions)?;
-        Ok(Image {
+        let image = Image {
             budget,
             texts,
             numbers,
             slots,
             code,
-        })
+        };
+        image.fits();
+        Ok(image)
     }
 
     /// The budget that the image declares, in steps.

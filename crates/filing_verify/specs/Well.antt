@@ -52,9 +52,9 @@ pub record IsWell (program : Program) : Type 0 where
   pub inside : StaysInside program
   pub within : IsWithin program
 
--- The first that fails gives the fault.
+-- The first that fails gives the fault. Memory is taken once all operations are in range, and not before.
 abbrev pub Fails : VerifyFault → Program → Type 0
-Fails NoMemory p = Unit {0}
+Fails NoMemory p = AreInRange p
 Fails Operand p = AreInRange p → ⊥
 Fails Backward p = AreInRange p × (GoesForward p → ⊥)
 Fails Stack p = AreInRange p × GoesForward p × (HasShapes p → ⊥)

@@ -47,8 +47,8 @@ impl Verified {
 }
 
 /// Accepts exactly the images that may run, and refuses each other one by the first rule that it breaks, 62 to 66; 99
-/// where memory ran out. A refused image is handed back unchanged. Time and memory are linear in the length of the
-/// code.
+/// where memory ran out, which is never told in the place of 62. A refused image is handed back unchanged. Time and
+/// memory are linear in the length of the code.
 pub fn verify(alloc: Global, image: Image) -> Result<Verified, (VerifyFault, Image)>
     ensures accepted { IfOk result (λ v. v ≡ image) }
     ensures well { IfOk result (λ v. IsWell image) }
