@@ -1,4 +1,5 @@
 pub mod Answers
 pub mod Faults
+pub mod Payloads
 pub mod Steps
 pub mod Judging

@@ -58,6 +58,18 @@ greatest_script = 262144
 abbrev pub greatest_message : ℕ
 greatest_message = 8388608
 
+-- the greatest length of a plan's text, in octets
+abbrev pub greatest_plan : ℕ
+greatest_plan = 1048576
+
+-- the greatest length of an image, in octets
+abbrev pub greatest_image : ℕ
+greatest_image = 16777216
+
+-- There was no memory. A payload that is over its limit is told so, and not this.
+abbrev pub LacksMemory : (limit : ℕ) (payload : List ℕ) (number : ℕ) → Type 0
+LacksMemory limit payload number = (number ≡ 99) × (length payload ≤ limit)
+
 -- the text is a script with a well made tree
 pub record IsGood (script : List ℕ) (tree : CommandTrees) : Type 0 where
   pub is_script : IsScript script tree
@@ -100,7 +112,7 @@ pub record IsTooLong (script message : List ℕ) (number : ℕ) : Type 0 where
 
 -- filing is refused with this number: want of memory, or the first of the text, the check and the message that fails
 abbrev pub RefusesFiling : (script message : List ℕ) (number : ℕ) → Type 0
-RefusesFiling script message number = (number ≡ 99) ⊎ (IsNoScript script number ⊎ (IsIllMade script number ⊎ IsTooLong script message number))
+RefusesFiling script message number = LacksMemory greatest_script script number ⊎ (IsNoScript script number ⊎ (IsIllMade script number ⊎ IsTooLong script message number))
 
 -- the text is a script, and it is kept under the name: in the place of one that has the name, or behind all others
 pub record IsKept (s : State) (name text : List ℕ) (new : State) : Type 0 where
@@ -120,7 +132,7 @@ pub record IsOneTooMany (s : State) (name text : List ℕ) (number : ℕ) : Type
 -- a global script is refused with this number: want of memory, or the first of the text, the check and the room that
 -- fails
 abbrev pub RefusesGlobal : State → (name text : List ℕ) (number : ℕ) → Type 0
-RefusesGlobal s name text number = (number ≡ 99) ⊎ (IsNoScript text number ⊎ (IsIllMade text number ⊎ IsOneTooMany s name text number))
+RefusesGlobal s name text number = LacksMemory greatest_script text number ⊎ (IsNoScript text number ⊎ (IsIllMade text number ⊎ IsOneTooMany s name text number))
 
 -- the plan refuses one more class with this number
 pub record IsNoClass (s : State) (path : List ℕ) (number : ℕ) : Type 0 where
@@ -130,10 +142,6 @@ pub record IsNoClass (s : State) (path : List ℕ) (number : ℕ) : Type 0 where
 
 abbrev pub RefusesClass : State → (path : List ℕ) (number : ℕ) → Type 0
 RefusesClass s path number = (number ≡ 99) ⊎ IsNoClass s path number
-
--- the greatest length of a plan's text, in octets
-abbrev pub greatest_plan : ℕ
-greatest_plan = 1048576
 
 -- the text is that of a plan which keeps each path of the plan so far
 pub record IsRevision (s : State) (text : List ℕ) (new : State) : Type 0 where
@@ -159,11 +167,7 @@ pub record DropsPath (s : State) (text : List ℕ) (number : ℕ) : Type 0 where
 
 -- a plan is refused with this number: want of memory, or the first of its length, its text and its paths that fails
 abbrev pub RefusesPlan : State → (text : List ℕ) (number : ℕ) → Type 0
-RefusesPlan s text number = (number ≡ 99) ⊎ (((greatest_plan < length text) × (number ≡ 58)) ⊎ (IsNoPlan text number ⊎ DropsPath s text number))
-
--- the greatest length of an image, in octets
-abbrev pub greatest_image : ℕ
-greatest_image = 16777216
+RefusesPlan s text number = LacksMemory greatest_plan text number ⊎ (((greatest_plan < length text) × (number ≡ 58)) ⊎ (IsNoPlan text number ⊎ DropsPath s text number))
 
 -- the octets are the image of a program
 pub record IsImageOf (image : List ℕ) (program : Program) : Type 0 where
@@ -213,7 +217,7 @@ pub record IsTooLongToTry (image message : List ℕ) (number : ℕ) : Type 0 whe
 -- a trial is refused with this number: want of memory, or the first of the image's length, its form, its fitness to
 -- run and the message's length that fails
 abbrev pub RefusesTrial : (image message : List ℕ) (number : ℕ) → Type 0
-RefusesTrial image message number = (number ≡ 99) ⊎ (IsLongImage image number ⊎ (IsNoImage image number ⊎ (IsUnfit image number ⊎ IsTooLongToTry image message number)))
+RefusesTrial image message number = LacksMemory greatest_image image number ⊎ (IsLongImage image number ⊎ (IsNoImage image number ⊎ (IsUnfit image number ⊎ IsTooLongToTry image message number)))
 
 -- the answer to a call that has nothing to tell but that it was done
 abbrev pub settled : Result (Unit {0}) DeskFault → Answer
@@ -224,20 +228,33 @@ abbrev pub filed : Result Outcome DeskFault → Answer
 filed (Ok o) = captured (record { classes = o.classes; fault = o.fault })
 filed (Err f) = refused_by f
 
--- A command may be answered so, and leaves that. A refusal has an offset exactly where its number is shown with one.
+-- a command that has nothing to tell but that it was done leaves that
+abbrev pub Settles : State → Command → State → Type 0
+Settles s (add_class path) new = (changes.added s.plan path ≡ Ok new.plan) × (new.globals ≡ s.globals)
+Settles s (set_global name text) new = IsKept s name text new
+Settles s (set_plan text) new = IsRevision s text new
+Settles s (file script message) new = ⊥
+Settles s (try_image image message) new = ⊥
+
+-- a command captures a message so
+abbrev pub Captures : State → Command → meaning.Outcome → Type 0
+Captures s (file script message) o = IsFiled s script message o
+Captures s (try_image image message) o = IsTried s image message o
+Captures s (add_class path) o = ⊥
+Captures s (set_global name text) o = ⊥
+Captures s (set_plan text) o = ⊥
+
+-- a command is refused with this number
+abbrev pub Refuses : State → Command → (number : ℕ) → Type 0
+Refuses s (add_class path) number = RefusesClass s path number
+Refuses s (file script message) number = RefusesFiling script message number
+Refuses s (set_global name text) number = RefusesGlobal s name text number
+Refuses s (set_plan text) number = RefusesPlan s text number
+Refuses s (try_image image message) number = RefusesTrial image message number
+
+-- A command may be answered so, and leaves that. Only a command that settles something changes anything, and a refusal
+-- has an offset exactly where its number is shown with one.
 unfoldable pub Step : State → Command → Answer → State → Type 0
-Step s (add_class path) done new = (changes.added s.plan path ≡ Ok new.plan) × (new.globals ≡ s.globals)
-Step s (add_class path) (refused n at) new = (new ≡ s) × (is_some at ≡ has_place n) × RefusesClass s path n
-Step s (add_class path) (captured o) new = ⊥
-Step s (file script message) (captured o) new = (new ≡ s) × IsFiled s script message o
-Step s (file script message) (refused n at) new = (new ≡ s) × (is_some at ≡ has_place n) × RefusesFiling script message n
-Step s (file script message) done new = ⊥
-Step s (set_global name text) done new = IsKept s name text new
-Step s (set_global name text) (refused n at) new = (new ≡ s) × (is_some at ≡ has_place n) × RefusesGlobal s name text n
-Step s (set_global name text) (captured o) new = ⊥
-Step s (set_plan text) done new = IsRevision s text new
-Step s (set_plan text) (refused n at) new = (new ≡ s) × (is_some at ≡ has_place n) × RefusesPlan s text n
-Step s (set_plan text) (captured o) new = ⊥
-Step s (try_image image message) (captured o) new = (new ≡ s) × IsTried s image message o
-Step s (try_image image message) (refused n at) new = (new ≡ s) × (is_some at ≡ has_place n) × RefusesTrial image message n
-Step s (try_image image message) done new = ⊥
+Step s c done new = Settles s c new
+Step s c (captured o) new = (new ≡ s) × Captures s c o
+Step s c (refused n at) new = (new ≡ s) × (is_some at ≡ has_place n) × Refuses s c n

@@ -8,7 +8,7 @@ ghost use Rattle.filing_gen.specs.Correct.{library_of};
 ghost use Rattle.sieve_meaning.specs.Outcome.{outcome_at, outcome};
 ghost use Rattle.filing_desk.specs.Judging.{RefusesScript, RefusesImage, RefusesMessage, IsFaultOf, outcome_view};
 ghost use Rattle.filing_desk.specs.Steps.{add_class, file, set_global, set_plan, try_image, Step, settled, filed, IsGood, IsGoodImage, greatest_image, greatest_message, greatest_plan, greatest_script};
-ghost use Rattle.filing_desk.specs.Faults.{refused_by};
+ghost use Rattle.filing_desk.specs.Payloads.{IsOf};
 ghost use Rattle.filing_desk.specs.declared.fault.DeskFault.TheVariants.{NoMemory};
 ghost use Rattle.filing_table.specs.Ends.{HasOutcome};
 ghost use Rattle.filing_machine.specs.Borrowed.{facts_by};
@@ -16,6 +16,7 @@ ghost use Rattle.filing_machine.specs.Message.{case_of};
 
 use crate::classes::PlanClasses;
 use crate::fault::DeskFault;
+use crate::payload::Payload;
 use class_plan::{Plan, PlanFault};
 use filing_gen::{GenFault, Library, compile};
 use filing_image::decode;
@@ -113,24 +114,36 @@ fn outcome_of<C: Case>(
     }
 }
 
-/// The checked script of a text.
-fn judge(alloc: Global, script: &[u8]) -> Result<Checked, DeskFault>
-    ensures good { IfOk result (λ c. IsGood script.now (tree_of c.script)) }
-    ensures refused { IfErr result (IsFaultOf (RefusesScript script.now)) }
+/// The checked script of a text within its limit.
+fn judge_text(alloc: Global, text: &[u8]) -> Result<Checked, DeskFault>
+    requires { length text.now ≤ greatest_script }
+    ensures good { IfOk result (λ c. IsGood text.now (tree_of c.script)) }
+    ensures refused { IfErr result (IsFaultOf (RefusesScript text.now)) }
 {
-    let tree = parse(alloc, script)?;
+    let tree = parse(alloc, text)?;
     let checked = check(tree)?;
     Ok(checked)
 }
 
-/// The program of an image that may run.
-fn judge_image(alloc: Global, image: &[u8]) -> Result<Verified, DeskFault>
+/// The checked script of a payload.
+fn judge(alloc: Global, script: &Payload) -> Result<Checked, DeskFault>
+    ensures short { (s : List ℕ) → IsOf greatest_script script.now s → OnOk result (length s ≤ greatest_script) }
+    ensures good { (s : List ℕ) → IsOf greatest_script script.now s → IfOk result (λ c. IsGood s (tree_of c.script)) }
+    ensures refused { (s : List ℕ) → IsOf greatest_script script.now s → IfErr result (IsFaultOf (RefusesScript s)) }
+{
+    let too_long = TextRefusal::Scan(ScanRefusal::ScriptTooLong);
+    match script.octets(GREATEST_SCRIPT, DeskFault::Text(too_long, 0)) {
+        Ok(text) => judge_text(alloc, text),
+        Err(fault) => Err(fault),
+    }
+}
+
+/// The program of an image within its limit.
+fn judge_octets(alloc: Global, image: &[u8]) -> Result<Verified, DeskFault>
+    requires { length image.now ≤ greatest_image }
     ensures good { IfOk result (λ v. IsGoodImage image.now v) }
     ensures refused { IfErr result (IsFaultOf (RefusesImage image.now)) }
 {
-    if image.len() > GREATEST_IMAGE {
-        return Err(DeskFault::ImageTooLong);
-    }
     let image = decode(alloc, image)?;
     match verify(alloc, image) {
         Ok(program) => Ok(program),
@@ -138,20 +151,29 @@ fn judge_image(alloc: Global, image: &[u8]) -> Result<Verified, DeskFault>
     }
 }
 
+/// The program of an image that may run.
+fn judge_image(alloc: Global, image: &Payload) -> Result<Verified, DeskFault>
+    ensures good { (i : List ℕ) → IsOf greatest_image image.now i → IfOk result (λ v. IsGoodImage i v) }
+    ensures refused { (i : List ℕ) → IsOf greatest_image image.now i → IfErr result (IsFaultOf (RefusesImage i)) }
+{
+    match image.octets(GREATEST_IMAGE, DeskFault::ImageTooLong) {
+        Ok(octets) => judge_octets(alloc, octets),
+        Err(fault) => Err(fault),
+    }
+}
+
 /// The case of a message and of the open classes of a plan.
 fn judge_message<'a>(
     alloc: Global,
     plan: &'a Plan,
-    message: &'a [u8],
+    message: &'a Payload,
 ) -> Result<BorrowedCase<'a, PlanClasses<'a>>, DeskFault>
-    ensures short { OnOk result (length message.now ≤ greatest_message) }
-    ensures case { IfOk result (λ c. facts_by (λ p. is_open_in (p.0).now) c ≡ case_of message.now (is_open_in plan.now)) }
-    ensures refused { IfErr result (IsFaultOf (RefusesMessage message.now)) }
+    ensures short { (m : List ℕ) → IsOf greatest_message message.now m → OnOk result (length m ≤ greatest_message) }
+    ensures case { (m : List ℕ) → IsOf greatest_message message.now m → IfOk result (λ c. facts_by (λ p. is_open_in (p.0).now) c ≡ case_of m (is_open_in plan.now)) }
+    ensures refused { (m : List ℕ) → IsOf greatest_message message.now m → IfErr result (IsFaultOf (RefusesMessage m)) }
 {
-    if message.len() > GREATEST_MESSAGE {
-        return Err(DeskFault::MessageTooLong);
-    }
-    let case = BorrowedCase::read(alloc, message, PlanClasses(plan))?;
+    let octets = message.octets(GREATEST_MESSAGE, DeskFault::MessageTooLong)?;
+    let case = BorrowedCase::read(alloc, octets, PlanClasses(plan))?;
     Ok(case)
 }
 
@@ -182,33 +204,23 @@ impl Desk {
     /// that holds of its text, or where it drops a path of the plan so far (57); 99 is want of memory. The plan is then
     /// as before.
     #[tactic(auto, unfolding(crate::specs::Steps::Step))]
-    pub fn set_plan(&mut self, text: &[u8]) -> Result<(), DeskFault>
-        ensures { Step self.old (set_plan text.now) (settled result) self.new }
+    pub fn set_plan(&mut self, text: &Payload) -> Result<(), DeskFault>
+        ensures { (t : List ℕ) → IsOf greatest_plan text.now t → Step self.old (set_plan t) (settled result) self.new }
     {
-        if text.len() > GREATEST_PLAN {
-            return Err(DeskFault::PlanTooLong);
-        }
-        let plan = Plan::from_toml(self.alloc, text)?;
+        let octets = text.octets(GREATEST_PLAN, DeskFault::PlanTooLong)?;
+        let plan = Plan::from_toml(self.alloc, octets)?;
         match self.plan.revise(plan) {
             Ok(()) => Ok(()),
             Err(_) => Err(DeskFault::Plan(PlanFault::PathDropped)),
         }
     }
 
-    /// What `set_plan` answers to a text over its limit of 1,048,576 octets, which need not be at hand.
-    #[tactic(auto, unfolding(crate::specs::Steps::Step))]
-    pub fn set_plan_too_long(&self) -> DeskFault
-        ensures { (text : List ℕ) → greatest_plan < length text → Step self.now (set_plan text) (refused_by result) self.now }
-    {
-        DeskFault::PlanTooLong
-    }
-
     /// Keeps a script under a name, for scripts that include it by `:global`; it takes the place of the one that has the
     /// name, if there is one. It is refused by its text (10 to 16, 20, 21), then by the check (30 to 41), then where
     /// thirty-two global scripts have other names (96); 99 is want of memory. The global scripts are then as before.
     #[tactic(auto, unfolding(crate::specs::Steps::Step))]
-    pub fn set_global(&mut self, name: &[u8], text: &[u8]) -> Result<(), DeskFault>
-        ensures { Step self.old (set_global name.now text.now) (settled result) self.new }
+    pub fn set_global(&mut self, name: &[u8], text: &Payload) -> Result<(), DeskFault>
+        ensures { (t : List ℕ) → IsOf greatest_script text.now t → Step self.old (set_global name.now t) (settled result) self.new }
     {
         let script = judge(self.alloc, text)?;
         let script = Rc::new(self.alloc, script)?;
@@ -216,21 +228,12 @@ impl Desk {
         Ok(())
     }
 
-    /// What `set_global` answers to a text over its limit of 262,144 octets, which need not be at hand.
-    #[tactic(auto, unfolding(crate::specs::Steps::Step))]
-    pub fn set_global_too_long(&self) -> DeskFault
-        ensures { (name text : List ℕ) → greatest_script < length text → Step self.now (set_global name text) (refused_by result) self.now }
-    {
-        let refusal = TextRefusal::Scan(ScanRefusal::ScriptTooLong);
-        DeskFault::Text(refusal, 0)
-    }
-
     /// What an image captures a message in: a dry run that stores nothing. An image is refused by its length (61: more
     /// than 16,777,216 octets), its form (60) and its code (62 to 66); then a message over 8,388,608 octets by 95; 99
     /// is want of memory.
     #[tactic(auto, unfolding(crate::specs::Steps::Step))]
-    pub fn try_image(&self, image: &[u8], message: &[u8]) -> Result<Outcome, DeskFault>
-        ensures { Step self.now (try_image image.now message.now) (filed result) self.now }
+    pub fn try_image(&self, image: &Payload, message: &Payload) -> Result<Outcome, DeskFault>
+        ensures { (i m : List ℕ) → IsOf greatest_image image.now i → IsOf greatest_message message.now m → Step self.now (try_image i m) (filed result) self.now }
     {
         let program = judge_image(self.alloc, image)?;
         let case = judge_message(self.alloc, &self.plan, message)?;
@@ -238,54 +241,16 @@ impl Desk {
         Ok(outcome)
     }
 
-    /// What `try_image` answers to a message over its limit, which need not be at hand.
-    #[tactic(auto, unfolding(crate::specs::Steps::Step))]
-    pub fn try_image_too_long(&self, image: &[u8]) -> DeskFault
-        ensures { (message : List ℕ) → greatest_message < length message → Step self.now (try_image image.now message) (refused_by result) self.now }
-    {
-        match judge_image(self.alloc, image) {
-            Ok(_) => DeskFault::MessageTooLong,
-            Err(refusal) => refusal,
-        }
-    }
-
-    /// What `try_image` answers to an image over its limit of 16,777,216 octets, which need not be at hand.
-    #[tactic(auto, unfolding(crate::specs::Steps::Step))]
-    pub fn try_long_image(&self) -> DeskFault
-        ensures { (image message : List ℕ) → greatest_image < length image → Step self.now (try_image image message) (refused_by result) self.now }
-    {
-        DeskFault::ImageTooLong
-    }
-
     /// What a script captures a message in: a dry run that stores nothing. A script is refused by its text (10 to 16,
     /// 20, 21), then by the check (30 to 41); then a message over 8,388,608 octets by 95; 99 is want of memory. It
     /// can include the global scripts, and no others. A script of weight above 60,000 has the outcome fault 5.
     #[tactic(auto, unfolding(crate::specs::Steps::Step))]
-    pub fn file(&self, script: &[u8], message: &[u8]) -> Result<Outcome, DeskFault>
-        ensures { Step self.now (file script.now message.now) (filed result) self.now }
+    pub fn file(&self, script: &Payload, message: &Payload) -> Result<Outcome, DeskFault>
+        ensures { (s m : List ℕ) → IsOf greatest_script script.now s → IsOf greatest_message message.now m → Step self.now (file s m) (filed result) self.now }
     {
         let checked = judge(self.alloc, script)?;
         let case = judge_message(self.alloc, &self.plan, message)?;
         let outcome = outcome_of(self.alloc, &case, &checked, &self.library)?;
         Ok(outcome)
-    }
-
-    /// What `file` answers to a message over its limit, which need not be at hand.
-    #[tactic(auto, unfolding(crate::specs::Steps::Step))]
-    pub fn file_too_long(&self, script: &[u8]) -> DeskFault
-        ensures { (message : List ℕ) → greatest_message < length message → Step self.now (file script.now message) (refused_by result) self.now }
-    {
-        match judge(self.alloc, script) {
-            Ok(_) => DeskFault::MessageTooLong,
-            Err(fault) => fault,
-        }
-    }
-
-    /// What `file` answers to a script over its limit of 262,144 octets, which need not be at hand.
-    #[tactic(auto, unfolding(crate::specs::Steps::Step))]
-    pub fn file_script_too_long(&self) -> DeskFault
-        ensures { (script message : List ℕ) → greatest_script < length script → Step self.now (file script message) (refused_by result) self.now }
-    {
-        DeskFault::Text(TextRefusal::Scan(ScanRefusal::ScriptTooLong), 0)
     }
 }

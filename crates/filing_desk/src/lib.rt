@@ -6,6 +6,8 @@
 mod classes;
 mod desk;
 mod fault;
+mod payload;
 
 pub use desk::{Desk, GREATEST_IMAGE, GREATEST_MESSAGE, GREATEST_PLAN, GREATEST_SCRIPT, Outcome};
 pub use fault::{DeskFault, Refusal};
+pub use payload::Payload;

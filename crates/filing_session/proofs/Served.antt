@@ -87,8 +87,8 @@ cut_in_ending n all s₀ w₀ left s w e w' h stop b =
     let is = all_ends n all s₀ w₀ left s w e h stop in
     rw is (h.answers, h.run, (b.0, b.1 ∙ ap (λ x. x ++ take b.0 (ending_octets e)) h.written))
 
-pub stops : (n : ℕ) (left : List ℕ) (e : Ending) → heard left ≡ Stop e → session_of (suc n) left ≡ record { items = []; ending = e }
-stops n left e h = session_more n left ∙ ap (λ x. go_on x (λ y. session_of n y)) h
+pub stops : (n : ℕ) (left rest : List ℕ) (e : Ending) → heard left ≡ Stop e rest → session_of (suc n) left ≡ record { items = []; ending = e }
+stops n left rest e h = session_more n left ∙ ap (λ x. go_on x (λ y. session_of n y)) h
 
 pub one_less : (i : ℕ) → i < 1000000 → 1000000 - i ≡ suc (1000000 - (i + 1))
 one_less i h = omega arith
@@ -99,8 +99,8 @@ none_left i h = omega arith
 pub limit_ends : (i : ℕ) (left : List ℕ) → 1000000 ≤ i → session_of (1000000 - i) left ≡ record { items = []; ending = Limit }
 limit_ends i left h = ap (λ n. session_of n left) (none_left i h) ∙ session_over left
 
-pub stop_ends : (i : ℕ) (left : List ℕ) (e : Ending) → i < 1000000 → heard left ≡ Stop e → session_of (1000000 - i) left ≡ record { items = []; ending = e }
-stop_ends i left e h is = ap (λ n. session_of n left) (one_less i h) ∙ stops (1000000 - (i + 1)) left e is
+pub stop_ends : (i : ℕ) (left rest : List ℕ) (e : Ending) → i < 1000000 → heard left ≡ Stop e rest → session_of (1000000 - i) left ≡ record { items = []; ending = e }
+stop_ends i left rest e h is = ap (λ n. session_of n left) (one_less i h) ∙ stops (1000000 - (i + 1)) left rest e is
 
 pub ended_ok : {E : Type 0} (r : Result (Unit {0}) E) (n : ℕ) (all : Session) (s₀ : State) (w₀ left : List ℕ) (s : State) (w : List ℕ) (e : Ending) (w' : List ℕ) → Served n all s₀ w₀ left s w → session_of n left ≡ record { items = []; ending = e } → Writes r w (ending_octets e) w' → OnOk r (IsServed all s₀ w₀ w' s)
 ended_ok (Ok x) n all s₀ w₀ left s w e w' h stop wrote = ends_now n all s₀ w₀ left s w e w' h stop wrote

@@ -3,6 +3,7 @@ pub mod Written
 pub mod Lines
 pub mod Words
 pub mod WordsLeft
+pub mod Commands
 pub mod Payloads
 pub mod Replies
 pub mod Session

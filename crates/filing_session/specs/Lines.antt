@@ -8,8 +8,8 @@ use Rattle.filing_session.specs.declared.lines.LineEnd.TheVariants as ended
 pub data Line : Type 0 where
   -- a line, without its LF, and what follows the LF
   Whole : (text rest : List ℕ) → Line
-  -- 513 octets without LF
-  TooLong : Line
+  -- 513 octets without LF, and what follows them
+  TooLong : (rest : List ℕ) → Line
   -- at most 512 octets without LF, and the end
   Cut : Line
   -- the end
@@ -18,10 +18,6 @@ pub data Line : Type 0 where
 -- where the first LF stands, or the input's length where there is none
 abbrev pub line_length : List ℕ → ℕ
 line_length input = position_or_len (λ o. o == 10) input
-
--- what stands behind the first LF of an input
-abbrev pub behind_line : List ℕ → List ℕ
-behind_line input = drop (line_length input + 1) input
 
 -- an input that ends without LF
 abbrev pub cut_at : List ℕ → Line
@@ -32,12 +28,12 @@ cut_at (x ∷ xs) = Cut
 unfoldable pub line_of : List ℕ → Line
 line_of input =
     if nat_lt (line_length input) (length input) && nat_le (line_length input) 512 then Whole (take (line_length input) input) (drop (line_length input + 1) input)
-    else if nat_lt 512 (length input) then TooLong
+    else if nat_lt 512 (length input) then TooLong (drop 513 input)
     else cut_at input
 
 -- what was found, as the program tells it
 abbrev pub line_as : LineEnd → (text rest : List ℕ) → Line
 line_as ended.Whole text rest = Whole text rest
-line_as ended.TooLong text rest = TooLong
+line_as ended.TooLong text rest = TooLong rest
 line_as ended.Cut text rest = Cut
 line_as ended.Nothing text rest = End

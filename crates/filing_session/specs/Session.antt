@@ -2,7 +2,7 @@
 use Rattle.std.specs.Prelude.{◌≡◌, ℕ, zero, suc, ◌+◌, List, [], ◌∷◌, ◌++◌, if◌then◌else◌, nat_le, None, length, take, drop, codes, flat_map}
 use Rattle.filing_desk.specs.Answers.{Answer, refused}
 use Rattle.filing_desk.specs.Steps.{State, Command, add_class, file, set_global, set_plan, try_image, Step}
-use Rattle.filing_session.specs.Lines.{Line, Whole, TooLong, Cut, End, line_of, behind_line}
+use Rattle.filing_session.specs.Lines.{Line, Whole, TooLong, Cut, End, line_of}
 use Rattle.filing_session.specs.Words.{Asked, AddClass, File, SetGlobal, SetPlan, Try, Quit, Unknown, BadWord, asked}
 use Rattle.filing_session.specs.Replies.{reply_octets}
 use Rattle.filing_session.specs.Streams.{IsBehind}
@@ -18,10 +18,10 @@ pub data Item : Type 0 where
   -- a line with a wrong word, or a wrong number of words
   WrongWord : Item
 
--- what an input begins with: an item, and the octets behind it; or the session's end
+-- what an input begins with: an item or the session's end, and the octets behind it
 pub data Heard : Type 0 where
   Got : Item → (rest : List ℕ) → Heard
-  Stop : Ending → Heard
+  Stop : Ending → (rest : List ℕ) → Heard
 
 -- a session: its items, and its way of ending
 pub record Session : Type 0 where
@@ -30,13 +30,13 @@ pub record Session : Type 0 where
 
 -- a payload follows the line's LF directly
 abbrev pub with_payload : (size : ℕ) → (List ℕ → Command) → (rest : List ℕ) → Heard
-with_payload size command rest = if nat_le size (length rest) then Got (Call (command (take size rest))) (drop size rest) else Stop ending.CutShort
+with_payload size command rest = if nat_le size (length rest) then Got (Call (command (take size rest))) (drop size rest) else Stop ending.CutShort []
 
 -- and a second one the first
 abbrev pub with_payloads : (first second : ℕ) → (List ℕ → List ℕ → Command) → (rest : List ℕ) → Heard
 with_payloads first second command rest =
     if nat_le (first + second) (length rest) then Got (Call (command (take first rest) (take second (drop first rest)))) (drop (first + second) rest)
-    else Stop ending.CutShort
+    else Stop ending.CutShort []
 
 abbrev pub heard_line : Asked → (rest : List ℕ) → Heard
 heard_line (AddClass path) rest = Got (Call (add_class path)) rest
@@ -44,15 +44,15 @@ heard_line (File script message) rest = with_payloads script message file rest
 heard_line (SetGlobal name text) rest = with_payload text (set_global name) rest
 heard_line (SetPlan text) rest = with_payload text set_plan rest
 heard_line (Try image message) rest = with_payloads image message try_image rest
-heard_line Quit rest = Stop ending.Quit
+heard_line Quit rest = Stop ending.Quit rest
 heard_line Unknown rest = Got UnknownCommand rest
 heard_line BadWord rest = Got WrongWord rest
 
 abbrev pub heard_in : Line → Heard
 heard_in (Whole text rest) = heard_line (asked text) rest
-heard_in TooLong = Stop ending.LongLine
-heard_in Cut = Stop ending.CutShort
-heard_in End = Stop ending.Ended
+heard_in (TooLong rest) = Stop ending.LongLine rest
+heard_in Cut = Stop ending.CutShort []
+heard_in End = Stop ending.Ended []
 
 -- what an input begins with
 abbrev pub heard : List ℕ → Heard
@@ -60,31 +60,23 @@ heard input = heard_in (line_of input)
 
 abbrev pub go_on : Heard → (List ℕ → Session) → Session
 go_on (Got item rest) next = record { items = item ∷ (next rest).items; ending = (next rest).ending }
-go_on (Stop e) next = record { items = []; ending = e }
+go_on (Stop e rest) next = record { items = []; ending = e }
 
 -- the session of an input, of so many items at most
 unfoldable pub session_of : ℕ → List ℕ → Session
 session_of zero input = record { items = []; ending = ending.Limit }
 session_of (suc most) input = go_on (heard input) (λ rest. session_of most rest)
 
--- what is left unread: behind an item what is left of the rest, and else what stands behind the line
-abbrev pub left_behind : Heard → (behind : List ℕ) → (List ℕ → List ℕ) → List ℕ
-left_behind (Got item rest) behind next = next rest
-left_behind (Stop e) behind next = behind
+-- what is left unread: behind an item what is left of the rest, and behind the end all
+abbrev pub left_behind : Heard → (List ℕ → List ℕ) → List ℕ
+left_behind (Got item rest) next = next rest
+left_behind (Stop e rest) next = rest
 
--- What a session of so many items at most leaves unread of an input, where it ends before the input does: what stands
--- behind the line that ends it, or behind its last item.
+-- What a session of so many items at most leaves unread of an input: what stands behind the line that ends it, or behind its
+-- last item; of a line that is too long 513 octets are read.
 unfoldable pub left_by : ℕ → List ℕ → List ℕ
 left_by zero input = input
-left_by (suc most) input = left_behind (heard input) (behind_line input) (λ rest. left_by most rest)
-
--- the session ended before its input did: by its command, or after the last item that it may have
-abbrev pub EndsBefore : Ending → Type 0
-EndsBefore ending.Quit = Unit {0}
-EndsBefore ending.Limit = Unit {0}
-EndsBefore ending.Ended = ⊥
-EndsBefore ending.CutShort = ⊥
-EndsBefore ending.LongLine = ⊥
+left_by (suc most) input = left_behind (heard input) (λ rest. left_by most rest)
 
 -- what is written at the end
 abbrev pub ending_octets : Ending → List ℕ

@@ -1,5 +1,5 @@
 -- What sources and sinks tell of their octets and their troubles.
-use Rattle.std.specs.Prelude.{◌≡◌, ℕ, ◌+◌, ◌-◌, ◌*◌, ◌^◌, ◌≤◌, List, ◌++◌, take, Bool, true, false, ◌&&◌, ◌==◌, nat_lt, min, Result, Ok, Err, OnOk, OnErr}
+use Rattle.std.specs.Prelude.{◌≡◌, ℕ, ◌+◌, ◌-◌, ◌^◌, ◌≤◌, ◌⊎◌, List, ◌++◌, take, Bool, true, false, not, ◌&&◌, ◌==◌, nat_lt, min, max, Result, Ok, Err, OnOk, OnErr}
 use Rattle.filing_session.specs.declared.stream.Trouble.{Trouble}
 use Rattle.filing_session.specs.declared.stream.Trouble.TheVariants.{Interrupted, Failed}
 
@@ -7,11 +7,6 @@ use Rattle.filing_session.specs.declared.stream.Trouble.TheVariants.{Interrupted
 abbrev pub tells_end : (room : ℕ) → Result ℕ Trouble → Bool
 tells_end room (Ok n) = nat_lt 0 room && (n == 0)
 tells_end room (Err e) = false
-
--- a write that was refused, or that took no octet of one or more
-abbrev pub is_trouble : (size : ℕ) → Result ℕ Trouble → Bool
-is_trouble size (Ok n) = nat_lt 0 size && (n == 0)
-is_trouble size (Err e) = true
 
 -- a trouble that is no interruption
 abbrev pub is_failed : Trouble → Bool
@@ -28,6 +23,11 @@ abbrev pub fails_to_write : (size : ℕ) → Result ℕ Trouble → Bool
 fails_to_write size (Ok n) = nat_lt 0 size && (n == 0)
 fails_to_write size (Err e) = is_failed e
 
+-- a call that was interrupted
+abbrev pub is_interrupted : Result ℕ Trouble → Bool
+is_interrupted (Ok n) = false
+is_interrupted (Err e) = not (is_failed e)
+
 -- how many octets a call moved
 abbrev pub moved : Result ℕ Trouble → ℕ
 moved (Ok n) = n
@@ -41,18 +41,29 @@ IsBehind old octets new = (n : ℕ) × (new ≡ old ++ take n octets)
 abbrev pub Rises : (before now : ℕ) → Type 0
 Rises before now = min (before + 1) (2 ^ 64 - 1) ≤ now
 
--- Some call failed, or 64 were interrupted, by the counts of troubles and of failures before and now: a failure weighs as
--- much as 64 interruptions. A count at its greatest value says no more.
-abbrev pub GivesUp : (troubles failures troubles' failures' : ℕ) → Type 0
-GivesUp troubles failures troubles' failures' = min (64 * failures + troubles + 64) (2 ^ 64 - 1) ≤ 64 * failures' + troubles'
+-- Some call failed, or 64 in a row were interrupted, by the counts of failures before and now and that of the last
+-- interruptions in a row.
+abbrev pub GivesUp : (failures failures' interruptions' : ℕ) → Type 0
+GivesUp failures failures' interruptions' = Rises failures failures' ⊎ (64 ≤ interruptions')
 
--- What a result tells of the troubles that were met before it, by their counts: after a fault some call failed or 64 were
--- interrupted, and else none failed. No trouble is forgotten.
-abbrev pub TellsTroubles : {V T F : Type 0} → (troubles failures : V → ℕ) → Result T F → (old new : V) → Type 0
-TellsTroubles troubles failures result old new = record {
-  rises : troubles old ≤ troubles new;
-  fault : OnErr result (GivesUp (troubles old) (failures old) (troubles new) (failures new));
+-- What a result tells of the troubles that were met before it, by the counts of failures, of the last interruptions in a
+-- row, and of the most in a row: after a fault some call failed or 64 in a row were interrupted, and never more were.
+-- Without one no call failed, and fewer than 64 in a row were interrupted.
+abbrev pub TellsTroubles : {V T F : Type 0} → (failures interruptions most : V → ℕ) → Result T F → (old new : V) → Type 0
+TellsTroubles failures interruptions most result old new = record {
+  fault : OnErr result (GivesUp (failures old) (failures new) (interruptions new));
+  within : most new ≤ max (most old) (interruptions old + 64);
   outlasts : OnOk result (failures new ≡ failures old);
+  over : OnOk result (interruptions new ≤ interruptions old);
+  patient : OnOk result (most new ≤ max (most old) (interruptions old + 63));
+}
+
+-- No call is made again after 64 interruptions in a row, and where there is no fault there were fewer: by those in a row
+-- before, and the most in a row before and now.
+abbrev pub TriesOn : {T F : Type 0} → Result T F → (interruptions most most' : ℕ) → Type 0
+TriesOn result interruptions most most' = record {
+  within : most' ≤ max most (interruptions + 64);
+  patient : OnOk result (most' ≤ max most (interruptions + 63));
 }
 
 -- where the input is said to have ended, a read told so, by the counts of such reads before and now; none is forgotten
@@ -66,3 +77,8 @@ TellsEnd ended before now = record {
 abbrev pub Counts : Bool → (before now : ℕ) → Type 0
 Counts true before now = (before ≤ now) × Rises before now × (now ≤ before + 1)
 Counts false before now = now ≡ before
+
+-- an interruption is one more in a row, and any other call ends the row
+abbrev pub CountsInARow : (is_interruption : Bool) → (before now : ℕ) → Type 0
+CountsInARow true before now = Rises before now × (now ≤ before + 1)
+CountsInARow false before now = now ≡ 0

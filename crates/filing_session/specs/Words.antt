@@ -4,6 +4,10 @@ use Rattle.std.specs.Char.{is_ascii_digit}
 use Rattle.std.specs.List.{slice_split, list_all}
 use Rattle.std.specs.Str.{bytes_eq}
 use Rattle.std.specs.Str.Parse.{digits_value}
+use Rattle.filing_session.specs.declared.words.OnePayload.{OnePayload}
+use Rattle.filing_session.specs.declared.words.OnePayload.TheVariants as one
+use Rattle.filing_session.specs.declared.words.TwoPayloads.{TwoPayloads}
+use Rattle.filing_session.specs.declared.words.TwoPayloads.TheVariants as two
 use Rattle.filing_session.specs.declared.words.Request.{Request}
 use Rattle.filing_session.specs.declared.words.Request.TheVariants as ask
 
@@ -116,12 +120,18 @@ unfoldable pub asked : (line : List ℕ) → Asked
 asked line = asked_by (words_of line)
 
 -- a request as the program has it
+abbrev pub asked_one : OnePayload → (size : ℕ) → Asked
+asked_one (one.SetGlobal name) size = SetGlobal name.now size
+asked_one one.SetPlan size = SetPlan size
+
+abbrev pub asked_two : TwoPayloads → (first second : ℕ) → Asked
+asked_two two.File first second = File first second
+asked_two two.Try first second = Try first second
+
 abbrev pub asked_as : Request → Asked
 asked_as (ask.AddClass path) = AddClass path.now
-asked_as (ask.File script message) = File script message
-asked_as (ask.SetGlobal name text) = SetGlobal name.now text
-asked_as (ask.SetPlan text) = SetPlan text
-asked_as (ask.Try image message) = Try image message
+asked_as (ask.One command size) = asked_one command size
+asked_as (ask.Two command first second) = asked_two command first second
 asked_as ask.Quit = Quit
 asked_as ask.Unknown = Unknown
 asked_as ask.BadWord = BadWord

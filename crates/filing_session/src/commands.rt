@@ -3,13 +3,17 @@
 ghost use Rattle.std.specs.Prelude.{ℕ, List, ◌≡◌, None};
 ghost use Rattle.filing_desk.specs.Answers.{refused as refused_answer};
 ghost use Rattle.filing_desk.specs.Faults.{refused_by};
-ghost use Rattle.filing_desk.specs.Steps.{add_class as class_command, file as file_command, set_global as global_command, set_plan as plan_command, try_image as try_command, filed, greatest_image, greatest_message, greatest_plan, greatest_script, settled as settled_answer, Step};
-ghost use Rattle.filing_session.specs.Payloads.{IsOf};
+ghost use Rattle.filing_desk.specs.Payloads.{IsOf};
+ghost use Rattle.filing_desk.specs.Steps.{add_class as class_command, filed, settled as settled_answer, Step};
+ghost use Rattle.filing_session.specs.Commands.{one_command, one_limit, two_command, two_limits};
 ghost use Rattle.filing_session.specs.Replies.{answer_of};
 
-use crate::payload::Payload;
 use crate::reply::Reply;
-use filing_desk::{Desk, DeskFault, Outcome, Refusal};
+use crate::words::{OnePayload, TwoPayloads};
+use filing_desk::{
+    Desk, DeskFault, GREATEST_IMAGE, GREATEST_MESSAGE, GREATEST_PLAN, GREATEST_SCRIPT, Outcome,
+    Payload, Refusal,
+};
 
 /// A refusal that has no offset.
 pub fn refused(number: u8) -> Reply
@@ -55,60 +59,42 @@ pub fn add_class(desk: &mut Desk, path: &[u8]) -> Reply
     settled(desk.add_class(path))
 }
 
-/// Files a message by a script. The script is judged before the message.
-#[tactic(auto, unfolding(filing_desk::specs::Steps::Step))]
-pub fn file(desk: &Desk, script: &Payload, message: &Payload) -> Reply
-    ensures { (s m : List ℕ) → IsOf greatest_script script.now s → IsOf greatest_message message.now m → Step desk.now (file_command s m) (answer_of result) desk.now }
+/// The limit of a command's payload, in octets.
+pub fn limit_of_one(command: OnePayload<'_>) -> usize
+    ensures { result ≡ one_limit command.entry }
 {
-    let script = match script {
-        Payload::Whole(octets) => octets.as_slice(),
-        Payload::TooLong => return refused_for(desk.file_script_too_long()),
-        Payload::NoMemory => return refused(99),
-    };
-    match message {
-        Payload::Whole(octets) => captured(desk.file(script, octets.as_slice())),
-        Payload::TooLong => refused_for(desk.file_too_long(script)),
-        Payload::NoMemory => refused(99),
+    match command {
+        OnePayload::SetGlobal(_) => GREATEST_SCRIPT,
+        OnePayload::SetPlan => GREATEST_PLAN,
     }
 }
 
-/// Runs an image on a message. The image is judged before the message.
-#[tactic(auto, unfolding(filing_desk::specs::Steps::Step))]
-pub fn try_image(desk: &Desk, image: &Payload, message: &Payload) -> Reply
-    ensures { (i m : List ℕ) → IsOf greatest_image image.now i → IsOf greatest_message message.now m → Step desk.now (try_command i m) (answer_of result) desk.now }
+/// The limits of a command's two payloads, in octets.
+pub fn limits_of_two(command: TwoPayloads) -> (usize, usize)
+    ensures { result ≡ two_limits command }
 {
-    let image = match image {
-        Payload::Whole(octets) => octets.as_slice(),
-        Payload::TooLong => return refused_for(desk.try_long_image()),
-        Payload::NoMemory => return refused(99),
-    };
-    match message {
-        Payload::Whole(octets) => captured(desk.try_image(image, octets.as_slice())),
-        Payload::TooLong => refused_for(desk.try_image_too_long(image)),
-        Payload::NoMemory => refused(99),
+    match command {
+        TwoPayloads::File => (GREATEST_SCRIPT, GREATEST_MESSAGE),
+        TwoPayloads::Try => (GREATEST_IMAGE, GREATEST_MESSAGE),
     }
 }
 
-/// Takes over a plan.
-#[tactic(auto, unfolding(filing_desk::specs::Steps::Step))]
-pub fn set_plan(desk: &mut Desk, text: &Payload) -> Reply
-    ensures { (t : List ℕ) → IsOf greatest_plan text.now t → Step desk.old (plan_command t) (answer_of result) desk.new }
+/// Does what one payload is for.
+pub fn do_one(desk: &mut Desk, command: OnePayload<'_>, payload: &Payload) -> Reply
+    ensures { (octets : List ℕ) → IsOf (one_limit command.entry) payload.now octets → Step desk.old (one_command command.entry octets) (answer_of result) desk.new }
 {
-    match text {
-        Payload::Whole(octets) => settled(desk.set_plan(octets.as_slice())),
-        Payload::TooLong => refused_for(desk.set_plan_too_long()),
-        Payload::NoMemory => refused(99),
+    match command {
+        OnePayload::SetGlobal(name) => settled(desk.set_global(name, payload)),
+        OnePayload::SetPlan => settled(desk.set_plan(payload)),
     }
 }
 
-/// Keeps a global script under a name.
-#[tactic(auto, unfolding(filing_desk::specs::Steps::Step))]
-pub fn set_global(desk: &mut Desk, name: &[u8], text: &Payload) -> Reply
-    ensures { (t : List ℕ) → IsOf greatest_script text.now t → Step desk.old (global_command name.now t) (answer_of result) desk.new }
+/// Does what two payloads are for.
+pub fn do_two(desk: &Desk, command: TwoPayloads, first: &Payload, second: &Payload) -> Reply
+    ensures { (a b : List ℕ) → IsOf (two_limits command).0 first.now a → IsOf (two_limits command).1 second.now b → Step desk.now (two_command command a b) (answer_of result) desk.now }
 {
-    match text {
-        Payload::Whole(octets) => settled(desk.set_global(name, octets.as_slice())),
-        Payload::TooLong => refused_for(desk.set_global_too_long()),
-        Payload::NoMemory => refused(99),
+    match command {
+        TwoPayloads::File => captured(desk.file(first, second)),
+        TwoPayloads::Try => captured(desk.try_image(first, second)),
     }
 }

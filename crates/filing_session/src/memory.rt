@@ -1,9 +1,9 @@
 //! A source and a sink over memory, which know their octets, for tests. They can be told to move few octets at once,
 //! and to meet trouble at a place.
 
-ghost use Rattle.std.specs.Prelude.{◌≡◌, ◌<◌, ℕ, [], true, IfOk};
+ghost use Rattle.std.specs.Prelude.{◌≡◌, ◌<◌, ℕ, [], IfOk, max};
 ghost use Rattle.filing_session.specs.Memory.{left_of, written_of};
-ghost use Rattle.filing_session.specs.Streams.{Counts, fails_to_write};
+ghost use Rattle.filing_session.specs.Streams.{Counts, CountsInARow, fails_to_write, is_interrupted};
 
 use crate::stream::{Sink, Source, Trouble};
 use crate::tally::Tally;
@@ -75,9 +75,11 @@ impl Source for MemorySource<'_> {
 
     ghost left = { left_of };
 
-    ghost troubles = { λ s. s.tally.troubles };
-
     ghost failures = { λ s. s.tally.failures };
+
+    ghost interruptions = { λ s. s.tally.interruptions };
+
+    ghost most_interruptions = { λ s. s.tally.most_interruptions };
 
     ghost ends = { λ s. s.ends };
 
@@ -97,7 +99,7 @@ impl Source for MemorySource<'_> {
         let (front, rest) = self.rest.split_at(count);
         room[..count].copy_from_slice(front);
         self.rest = rest;
-        Ok(count)
+        Ok(self.tally.count_moved(count))
     }
 }
 
@@ -163,8 +165,9 @@ impl MemorySink {
     fn meet(&mut self, hitch: Hitch) -> Result<usize, Trouble>
         ensures written { written_of self.new ≡ written_of self.old }
         ensures count { IfOk result (λ n. n ≡ 0) }
-        ensures troubles { Counts true self.old.tally.troubles self.new.tally.troubles }
         ensures failures { (size : ℕ) → 0 < size → Counts (fails_to_write size result) self.old.tally.failures self.new.tally.failures }
+        ensures interruptions { CountsInARow (is_interrupted result) self.old.tally.interruptions self.new.tally.interruptions }
+        ensures most { self.new.tally.most_interruptions ≡ max self.old.tally.most_interruptions self.new.tally.interruptions }
     {
         match hitch {
             Hitch::Interrupted => Err(self.tally.count(Trouble::Interrupted)),
@@ -192,9 +195,11 @@ impl Sink for MemorySink {
 
     ghost written = { written_of };
 
-    ghost troubles = { λ s. s.tally.troubles };
-
     ghost failures = { λ s. s.tally.failures };
+
+    ghost interruptions = { λ s. s.tally.interruptions };
+
+    ghost most_interruptions = { λ s. s.tally.most_interruptions };
 
     fn write(&mut self, octets: &[u8]) -> Result<usize, Trouble> {
         let mut count = octets.len().min(self.piece.max(1));
@@ -209,6 +214,6 @@ impl Sink for MemorySink {
         if self.written.extend_from_slice(&octets[..count]).is_err() {
             return Err(self.tally.count(Trouble::Failed));
         }
-        Ok(count)
+        Ok(self.tally.count_moved(count))
     }
 }

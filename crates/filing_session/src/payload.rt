@@ -1,33 +1,23 @@
 //! Payloads: so many octets as the line before them said. One that is not kept is read through all the same, so that
 //! the next line is where it should be.
 
-ghost use Rattle.std.specs.Prelude.{◌≡◌, ◌+◌, ◌<◌, ◌≤◌, ◌++◌, length, drop, IfOk, Ok, None, true, false, vec_len, vec_capacity};
+ghost use Rattle.std.specs.Prelude.{◌≡◌, ◌+◌, ◌<◌, ◌≤◌, ◌++◌, [], length, drop, IfOk, Ok, None, true, false, vec_len, vec_capacity};
 ghost use Rattle.filing_session.specs.Payloads.{IsRead, AreRead};
 ghost use Rattle.filing_session.specs.Streams.{TellsEnd, TellsTroubles};
 
 use crate::stream::{ReadFault, Source, read_some};
+use filing_desk::Payload;
 use std::alloc::Global;
 
 /// How many octets are read at once.
 const PIECE: usize = 4096;
 
-/// What there is of a payload that was read to its end.
-#[derive(Drop)]
-pub enum Payload {
-    /// Its octets.
-    Whole(Vec<u8>),
-    /// Nothing: it is longer than its limit.
-    TooLong,
-    /// Nothing: there was no memory for it (99).
-    NoMemory,
-}
-
 /// Reads so many octets and drops them; false where the input ends before.
 fn skip<S: Source>(source: &mut S, size: usize) -> Result<bool, ReadFault>
     ensures whole { S.tells → result ≡ Ok true → (size ≤ length (S.left source.old)) × (S.left source.new ≡ drop size (S.left source.old)) }
-    ensures cut { S.tells → result ≡ Ok false → length (S.left source.old) < size }
+    ensures cut { S.tells → result ≡ Ok false → (length (S.left source.old) < size) × (S.left source.new ≡ []) }
     ensures ends { TellsEnd (result ≡ Ok false) (S.ends source.old) (S.ends source.new) }
-    ensures troubles { TellsTroubles S.troubles S.failures result source.old source.new }
+    ensures troubles { TellsTroubles S.failures S.interruptions S.most_interruptions result source.old source.new }
 {
     let mut room = [0u8; PIECE];
     let mut got = 0;
@@ -57,9 +47,9 @@ fn fill<S: Source>(source: &mut S, octets: &mut Vec<u8>, size: usize) -> Result<
     requires empty { vec_len octets.old ≡ 0 }
     requires room { size ≤ vec_capacity octets.old }
     ensures whole { S.tells → result ≡ Ok true → (S.left source.old ≡ octets.new.items ++ S.left source.new) × (length octets.new.items ≡ size) }
-    ensures cut { S.tells → result ≡ Ok false → length (S.left source.old) < size }
+    ensures cut { S.tells → result ≡ Ok false → (length (S.left source.old) < size) × (S.left source.new ≡ []) }
     ensures ends { TellsEnd (result ≡ Ok false) (S.ends source.old) (S.ends source.new) }
-    ensures troubles { TellsTroubles S.troubles S.failures result source.old source.new }
+    ensures troubles { TellsTroubles S.failures S.interruptions S.most_interruptions result source.old source.new }
 {
     let mut room = [0u8; PIECE];
     while octets.len() < size {
@@ -83,7 +73,7 @@ pub fn read_payload<S: Source>(
 ) -> Result<Option<Payload>, ReadFault>
     ensures octets { S.tells → IfOk result (λ p. IsRead size limit p (S.left source.old) (S.left source.new)) }
     ensures ends { TellsEnd (result ≡ Ok None) (S.ends source.old) (S.ends source.new) }
-    ensures troubles { TellsTroubles S.troubles S.failures result source.old source.new }
+    ensures troubles { TellsTroubles S.failures S.interruptions S.most_interruptions result source.old source.new }
 {
     if size > limit {
         return Ok(skip(source, size)?.then_some(Payload::TooLong));
@@ -104,7 +94,7 @@ pub fn read_two<S: Source>(
 ) -> Result<Option<(Payload, Payload)>, ReadFault>
     ensures octets { S.tells → IfOk result (λ p. AreRead sizes limits p (S.left source.old) (S.left source.new)) }
     ensures ends { TellsEnd (result ≡ Ok None) (S.ends source.old) (S.ends source.new) }
-    ensures troubles { TellsTroubles S.troubles S.failures result source.old source.new }
+    ensures troubles { TellsTroubles S.failures S.interruptions S.most_interruptions result source.old source.new }
 {
     let Some(first) = read_payload(alloc, source, sizes.0, limits.0)? else {
         return Ok(None);

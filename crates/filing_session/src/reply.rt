@@ -23,7 +23,7 @@ pub enum Reply {
 /// Writes the line of a class.
 fn write_class<K: Sink>(sink: &mut K, path: &[u8]) -> Result<(), WriteFault>
     ensures written { K.tells → Writes result (K.written sink.old) (class_octets path.now) (K.written sink.new) }
-    ensures troubles { TellsTroubles K.troubles K.failures result sink.old sink.new }
+    ensures troubles { TellsTroubles K.failures K.interruptions K.most_interruptions result sink.old sink.new }
 {
     write_pieces(sink, &[b"class ".as_slice(), path, b"\n".as_slice()])
 }
@@ -31,7 +31,7 @@ fn write_class<K: Sink>(sink: &mut K, path: &[u8]) -> Result<(), WriteFault>
 /// Writes the lines of classes, or that there is none.
 fn write_classes<K: Sink>(sink: &mut K, paths: &[Text]) -> Result<(), WriteFault>
     ensures written { K.tells → Writes result (K.written sink.old) (classes_octets paths.now) (K.written sink.new) }
-    ensures troubles { TellsTroubles K.troubles K.failures result sink.old sink.new }
+    ensures troubles { TellsTroubles K.failures K.interruptions K.most_interruptions result sink.old sink.new }
 {
     if paths.is_empty() {
         return write_all(sink, b"discarded\n");
@@ -45,7 +45,7 @@ fn write_classes<K: Sink>(sink: &mut K, paths: &[Text]) -> Result<(), WriteFault
 /// Writes the line of a fault.
 fn write_fault<K: Sink>(sink: &mut K, fault: u8) -> Result<(), WriteFault>
     ensures written { K.tells → Writes result (K.written sink.old) (fault_octets fault) (K.written sink.new) }
-    ensures troubles { TellsTroubles K.troubles K.failures result sink.old sink.new }
+    ensures troubles { TellsTroubles K.failures K.interruptions K.most_interruptions result sink.old sink.new }
 {
     let mut number = Buffer::new();
     let number = number.format(fault).as_bytes();
@@ -55,7 +55,7 @@ fn write_fault<K: Sink>(sink: &mut K, fault: u8) -> Result<(), WriteFault>
 /// Writes the lines of an outcome.
 fn write_outcome<K: Sink>(sink: &mut K, outcome: &Outcome) -> Result<(), WriteFault>
     ensures written { K.tells → Writes result (K.written sink.old) (outcome_octets (outcome_of outcome.now)) (K.written sink.new) }
-    ensures troubles { TellsTroubles K.troubles K.failures result sink.old sink.new }
+    ensures troubles { TellsTroubles K.failures K.interruptions K.most_interruptions result sink.old sink.new }
 {
     if let Some(fault) = outcome.fault {
         write_fault(sink, fault)?;
@@ -66,7 +66,7 @@ fn write_outcome<K: Sink>(sink: &mut K, outcome: &Outcome) -> Result<(), WriteFa
 /// Writes the line of a refusal.
 fn write_refusal<K: Sink>(sink: &mut K, refusal: Refusal) -> Result<(), WriteFault>
     ensures written { K.tells → Writes result (K.written sink.old) (refused_octets refusal.number refusal.offset) (K.written sink.new) }
-    ensures troubles { TellsTroubles K.troubles K.failures result sink.old sink.new }
+    ensures troubles { TellsTroubles K.failures K.interruptions K.most_interruptions result sink.old sink.new }
 {
     let mut number = Buffer::new();
     let number = number.format(refusal.number).as_bytes();
@@ -90,7 +90,7 @@ fn write_refusal<K: Sink>(sink: &mut K, refusal: Refusal) -> Result<(), WriteFau
 /// Writes a reply.
 pub fn write_reply<K: Sink>(sink: &mut K, reply: &Reply) -> Result<(), WriteFault>
     ensures written { K.tells → Writes result (K.written sink.old) (reply_octets (answer_of reply.now)) (K.written sink.new) }
-    ensures troubles { TellsTroubles K.troubles K.failures result sink.old sink.new }
+    ensures troubles { TellsTroubles K.failures K.interruptions K.most_interruptions result sink.old sink.new }
 {
     match reply {
         Reply::Done => write_all(sink, b"ok\n"),

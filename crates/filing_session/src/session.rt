@@ -1,8 +1,8 @@
 //! The session: lines are read, done and answered, one after the other.
 
 ghost use Rattle.std.specs.Prelude.{◌≡◌, ◌≢◌, ◌⊎◌, OnOk, Ok, Err, IsErrOf};
-ghost use Rattle.filing_session.specs.Session.{session_of, ending_octets, left_by, IsServed, IsAnswered, IsCutInAnswer, IsCutInEnding, EndsByInput, EndsBefore};
-ghost use Rattle.filing_session.specs.Streams.{Rises, GivesUp, TellsTroubles};
+ghost use Rattle.filing_session.specs.Session.{session_of, ending_octets, left_by, IsServed, IsAnswered, IsCutInAnswer, IsCutInEnding, EndsByInput};
+ghost use Rattle.filing_session.specs.Streams.{Rises, GivesUp, TellsTroubles, TriesOn};
 ghost use Rattle.filing_session.specs.Written.{Writes};
 
 use crate::items::{Ending, Said, next};
@@ -42,7 +42,7 @@ fn ending_text(ending: Ending) -> &'static str
 fn write_ending<K: Sink>(sink: &mut K, ending: Ending) -> Result<(), ServeFault>
     ensures written { K.tells → Writes result (K.written sink.old) (ending_octets ending) (K.written sink.new) }
     ensures read { result ≢ Err ServeFault.Read }
-    ensures troubles { TellsTroubles K.troubles K.failures result sink.old sink.new }
+    ensures troubles { TellsTroubles K.failures K.interruptions K.most_interruptions result sink.old sink.new }
 {
     if write_all(sink, ending_text(ending).as_bytes()).is_err() {
         return Err(ServeFault::Write);
@@ -53,13 +53,15 @@ fn write_ending<K: Sink>(sink: &mut K, ending: Ending) -> Result<(), ServeFault>
 /// Serves a session: reads commands from a source, does them at a desk, and writes their answers to a sink, until a
 /// command or the input ends the session, or a fault does. What was done before a fault stays done, and nothing is done
 /// behind it: on a read fault all that was done is answered, and on a write fault all but a rest of the last answer or of
-/// the ending. Nothing is read behind `QUIT`, nor behind the last command that a session may have.
+/// the ending. Nothing is read behind `QUIT`, nor behind the last command that a session may have, nor behind the first 513
+/// octets of a line that is too long.
 ///
 /// Memory is taken for payloads and by the desk's calls, and for nothing else.
 ///
 /// # Errors
 ///
-/// `Read` where a read failed or 64 were interrupted, `Write` where a write failed, took no octet, or 64 were interrupted.
+/// `Read` where a read failed or 64 in a row were interrupted, `Write` where a write failed, took no octet, or 64 in a row
+/// were interrupted. No call is made again after 64 in a row.
 pub fn serve<S: Source, K: Sink>(
     alloc: Global,
     source: &mut S,
@@ -70,11 +72,13 @@ pub fn serve<S: Source, K: Sink>(
     ensures unheard { S.tells → K.tells → IsErrOf result ServeFault.Read → IsAnswered (session_of 1000000 (S.left source.old)) desk.old (K.written sink.old) (K.written sink.new) desk.new }
     ensures unsaid { S.tells → K.tells → IsErrOf result ServeFault.Write →
         IsCutInAnswer (session_of 1000000 (S.left source.old)) desk.old (K.written sink.old) (K.written sink.new) desk.new ⊎ IsCutInEnding (session_of 1000000 (S.left source.old)) desk.old (K.written sink.old) (K.written sink.new) desk.new }
-    ensures read { IsErrOf result ServeFault.Read → GivesUp (S.troubles source.old) (S.failures source.old) (S.troubles source.new) (S.failures source.new) }
-    ensures write { IsErrOf result ServeFault.Write → GivesUp (K.troubles sink.old) (K.failures sink.old) (K.troubles sink.new) (K.failures sink.new) }
+    ensures read { IsErrOf result ServeFault.Read → GivesUp (S.failures source.old) (S.failures source.new) (S.interruptions source.new) }
+    ensures write { IsErrOf result ServeFault.Write → GivesUp (K.failures sink.old) (K.failures sink.new) (K.interruptions sink.new) }
     ensures outlasts { OnOk result ((S.failures source.new ≡ S.failures source.old) × (K.failures sink.new ≡ K.failures sink.old)) }
+    ensures reads { TriesOn result (S.interruptions source.old) (S.most_interruptions source.old) (S.most_interruptions source.new) }
+    ensures writes { TriesOn result (K.interruptions sink.old) (K.most_interruptions sink.old) (K.most_interruptions sink.new) }
     ensures ending { S.tells → K.tells → result ≡ Ok tt → EndsByInput (session_of 1000000 (S.left source.old)).ending → Rises (S.ends source.old) (S.ends source.new) }
-    ensures unread { S.tells → K.tells → result ≡ Ok tt → EndsBefore (session_of 1000000 (S.left source.old)).ending → S.left source.new ≡ left_by 1000000 (S.left source.old) }
+    ensures unread { S.tells → K.tells → result ≡ Ok tt → S.left source.new ≡ left_by 1000000 (S.left source.old) }
 {
     let mut line = LineBuffer::new();
     for _ in 0..COMMANDS {

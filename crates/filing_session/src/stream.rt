@@ -1,11 +1,11 @@
 //! Where the octets of a session come from and go to, and calls that try again after an interruption.
 //!
 //! Nothing is known of the octets of a terminal, a file or a pipe. So the two traits leave it to the type whether it
-//! tells its octets, and count what each type can count: troubles, those among them that were no interruptions, and reads
-//! that told the input's end.
+//! tells its octets, and count what each type can count: failures, interruptions in a row, and reads that told the input's
+//! end.
 
-ghost use Rattle.std.specs.Prelude.{◌≡◌, ℕ, List, ◌+◌, ◌<◌, ◌≤◌, ◌++◌, ◌∷◌, [], length, take, drop, IfOk, OnOk, OnErr, IfSome, IfNone, is_err, true, Ok, None, flat_map};
-ghost use Rattle.filing_session.specs.Streams.{Counts, tells_end, is_trouble, fails_to_read, fails_to_write, moved, TellsEnd, TellsTroubles};
+ghost use Rattle.std.specs.Prelude.{◌≡◌, ℕ, List, ◌+◌, ◌<◌, ◌≤◌, ◌++◌, ◌∷◌, [], length, take, drop, IfOk, OnErr, IfSome, IfNone, true, Ok, None, max, flat_map};
+ghost use Rattle.filing_session.specs.Streams.{Counts, tells_end, fails_to_read, fails_to_write, is_interrupted, moved, CountsInARow, TellsEnd, TellsTroubles};
 ghost use Rattle.filing_session.specs.Written.{Writes};
 
 /// Why a call moved no octet.
@@ -25,11 +25,15 @@ pub trait Source {
     /// The octets that are left.
     ghost left: { Self → List ℕ };
 
-    /// How many reads met trouble. The count stays at its greatest value, 2^64 - 1.
-    ghost troubles: { Self → ℕ };
-
     /// How many reads failed, and were not only interrupted. The count stays at its greatest value, 2^64 - 1.
     ghost failures: { Self → ℕ };
+
+    /// How many of the last reads were interrupted, one directly after the other. The count stays at its greatest value,
+    /// 2^64 - 1.
+    ghost interruptions: { Self → ℕ };
+
+    /// The most interruptions there ever were in a row.
+    ghost most_interruptions: { Self → ℕ };
 
     /// How many reads told the input's end. The count stays at its greatest value, 2^64 - 1.
     ghost ends: { Self → ℕ };
@@ -41,8 +45,9 @@ pub trait Source {
         ensures octets { tells → IfOk result (λ n. (n ≤ length (left self.old)) × (take n room.new ≡ take n (left self.old))) }
         ensures left { tells → left self.new ≡ drop (moved result) (left self.old) }
         ensures end { tells → tells_end (length room.old) result ≡ true → left self.old ≡ [] }
-        ensures troubles { Counts (is_err result) (troubles self.old) (troubles self.new) }
         ensures failures { Counts (fails_to_read result) (failures self.old) (failures self.new) }
+        ensures interruptions { CountsInARow (is_interrupted result) (interruptions self.old) (interruptions self.new) }
+        ensures most { most_interruptions self.new ≡ max (most_interruptions self.old) (interruptions self.new) }
         ensures ends { Counts (tells_end (length room.old) result) (ends self.old) (ends self.new) };
 }
 
@@ -54,20 +59,24 @@ pub trait Sink {
     /// The octets that were taken.
     ghost written: { Self → List ℕ };
 
-    /// How many writes met trouble; one that took no octet of one or more is among them. The count stays at its
-    /// greatest value, 2^64 - 1.
-    ghost troubles: { Self → ℕ };
-
     /// How many writes failed, and were not only interrupted; one that took no octet of one or more is among them. The
     /// count stays at its greatest value, 2^64 - 1.
     ghost failures: { Self → ℕ };
+
+    /// How many of the last writes were interrupted, one directly after the other. The count stays at its greatest value,
+    /// 2^64 - 1.
+    ghost interruptions: { Self → ℕ };
+
+    /// The most interruptions there ever were in a row.
+    ghost most_interruptions: { Self → ℕ };
 
     /// Takes octets from the front, and answers how many.
     fn write(&mut self, octets: &[u8]) -> Result<usize, Trouble>
         ensures within { IfOk result (λ n. n ≤ length octets.now) }
         ensures written { tells → written self.new ≡ written self.old ++ take (moved result) octets.now }
-        ensures troubles { Counts (is_trouble (length octets.now) result) (troubles self.old) (troubles self.new) }
-        ensures failures { Counts (fails_to_write (length octets.now) result) (failures self.old) (failures self.new) };
+        ensures failures { Counts (fails_to_write (length octets.now) result) (failures self.old) (failures self.new) }
+        ensures interruptions { CountsInARow (is_interrupted result) (interruptions self.old) (interruptions self.new) }
+        ensures most { most_interruptions self.new ≡ max (most_interruptions self.old) (interruptions self.new) };
 }
 
 /// A read that met trouble.
@@ -87,9 +96,9 @@ pub fn read_some<S: Source>(source: &mut S, room: &mut [u8]) -> Result<usize, Re
     ensures within { IfOk result (λ n. n ≤ length room.old) }
     ensures octets { S.tells → IfOk result (λ n. S.left source.old ≡ take n room.new ++ S.left source.new) }
     ensures end { S.tells → result ≡ Ok 0 → S.left source.old ≡ [] }
+    ensures over { S.tells → result ≡ Ok 0 → S.left source.new ≡ [] }
     ensures ends { TellsEnd (result ≡ Ok 0) (S.ends source.old) (S.ends source.new) }
-    ensures troubles { TellsTroubles S.troubles S.failures result source.old source.new }
-    ensures patience { OnOk result (S.troubles source.new ≤ S.troubles source.old + 63) }
+    ensures troubles { TellsTroubles S.failures S.interruptions S.most_interruptions result source.old source.new }
 {
     for _ in 0..PATIENCE {
         match source.read(room) {
@@ -106,8 +115,7 @@ pub fn read_one<S: Source>(source: &mut S) -> Result<Option<u8>, ReadFault>
     ensures some { S.tells → IfOk result (λ o. IfSome o (λ x. S.left source.old ≡ x ∷ S.left source.new)) }
     ensures none { S.tells → IfOk result (λ o. IfNone o ((S.left source.old ≡ []) × (S.left source.new ≡ []))) }
     ensures ends { TellsEnd (result ≡ Ok None) (S.ends source.old) (S.ends source.new) }
-    ensures troubles { TellsTroubles S.troubles S.failures result source.old source.new }
-    ensures patience { OnOk result (S.troubles source.new ≤ S.troubles source.old + 63) }
+    ensures troubles { TellsTroubles S.failures S.interruptions S.most_interruptions result source.old source.new }
 {
     let mut room = [0u8; 1];
     match read_some(source, &mut room)? {
@@ -122,8 +130,7 @@ fn write_some<K: Sink>(sink: &mut K, octets: &[u8]) -> Result<usize, WriteFault>
     ensures within { IfOk result (λ n. (0 < n) × (n ≤ length octets.now)) }
     ensures written { K.tells → IfOk result (λ n. K.written sink.new ≡ K.written sink.old ++ take n octets.now) }
     ensures same { K.tells → OnErr result (K.written sink.new ≡ K.written sink.old) }
-    ensures troubles { TellsTroubles K.troubles K.failures result sink.old sink.new }
-    ensures patience { OnOk result (K.troubles sink.new ≤ K.troubles sink.old + 63) }
+    ensures troubles { TellsTroubles K.failures K.interruptions K.most_interruptions result sink.old sink.new }
 {
     for _ in 0..PATIENCE {
         match sink.write(octets) {
@@ -139,7 +146,7 @@ fn write_some<K: Sink>(sink: &mut K, octets: &[u8]) -> Result<usize, WriteFault>
 /// Writes all octets. After a fault some prefix of them is written.
 pub fn write_all<K: Sink>(sink: &mut K, octets: &[u8]) -> Result<(), WriteFault>
     ensures written { K.tells → Writes result (K.written sink.old) octets.now (K.written sink.new) }
-    ensures troubles { TellsTroubles K.troubles K.failures result sink.old sink.new }
+    ensures troubles { TellsTroubles K.failures K.interruptions K.most_interruptions result sink.old sink.new }
 {
     let mut at = 0;
     while at < octets.len() {
@@ -151,7 +158,7 @@ pub fn write_all<K: Sink>(sink: &mut K, octets: &[u8]) -> Result<(), WriteFault>
 /// Writes pieces, one after the other. After a fault some prefix of them all is written.
 pub fn write_pieces<K: Sink>(sink: &mut K, pieces: &[&[u8]]) -> Result<(), WriteFault>
     ensures written { K.tells → Writes result (K.written sink.old) (flat_map (λ p. p.now) pieces.now) (K.written sink.new) }
-    ensures troubles { TellsTroubles K.troubles K.failures result sink.old sink.new }
+    ensures troubles { TellsTroubles K.failures K.interruptions K.most_interruptions result sink.old sink.new }
 {
     for piece in pieces {
         write_all(sink, *piece)?;

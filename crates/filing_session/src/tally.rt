@@ -1,38 +1,62 @@
 //! How the troubles of a stream are counted.
 
-ghost use Rattle.std.specs.Prelude.{◌≡◌, true};
-ghost use Rattle.filing_session.specs.Streams.{Counts, is_failed};
+ghost use Rattle.std.specs.Prelude.{◌≡◌, max, not};
+ghost use Rattle.filing_session.specs.Streams.{Counts, CountsInARow, is_failed};
 
 use crate::stream::Trouble;
 
-/// How many calls of a stream met trouble, and how many of these failed. Each count stays at its greatest value, 2^64 - 1.
+/// How many calls of a stream failed, and how many in a row were interrupted. Each count stays at its greatest value,
+/// 2^64 - 1.
 #[derive(Drop)]
 pub struct Tally {
-    pub troubles: u64,
+    /// How many calls failed, and were not only interrupted.
     pub failures: u64,
+    /// How many of the last calls were interrupted, one directly after the other.
+    pub interruptions: u64,
+    /// The most interruptions there ever were in a row.
+    pub most_interruptions: u64,
 }
 
 impl Tally {
-    /// No trouble yet.
+    /// No call yet.
     pub fn new() -> Tally
-        ensures { result ≡ record { troubles = 0; failures = 0 } }
+        ensures { result ≡ record { failures = 0; interruptions = 0; most_interruptions = 0 } }
     {
         Tally {
-            troubles: 0,
             failures: 0,
+            interruptions: 0,
+            most_interruptions: 0,
         }
     }
 
     /// Counts a trouble, and answers it.
     pub fn count(&mut self, trouble: Trouble) -> Trouble
         ensures same { result ≡ trouble }
-        ensures troubles { Counts true self.old.troubles self.new.troubles }
         ensures failures { Counts (is_failed trouble) self.old.failures self.new.failures }
+        ensures interruptions { CountsInARow (not (is_failed trouble)) self.old.interruptions self.new.interruptions }
+        ensures most { self.new.most_interruptions ≡ max self.old.most_interruptions self.new.interruptions }
     {
-        self.troubles = self.troubles.saturating_add(1);
-        if trouble == Trouble::Failed {
-            self.failures = self.failures.saturating_add(1);
+        match trouble {
+            Trouble::Interrupted => {
+                self.interruptions = self.interruptions.saturating_add(1);
+                self.most_interruptions = self.most_interruptions.max(self.interruptions);
+            }
+            Trouble::Failed => {
+                self.failures = self.failures.saturating_add(1);
+                self.interruptions = 0;
+            }
         }
         trouble
+    }
+
+    /// Counts a call that met no trouble, and answers how many octets it moved.
+    pub fn count_moved(&mut self, count: usize) -> usize
+        ensures same { result ≡ count }
+        ensures failures { self.new.failures ≡ self.old.failures }
+        ensures interruptions { self.new.interruptions ≡ 0 }
+        ensures most { self.new.most_interruptions ≡ max self.old.most_interruptions self.new.interruptions }
+    {
+        self.interruptions = 0;
+        count
     }
 }

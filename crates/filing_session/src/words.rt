@@ -11,19 +11,33 @@ use std::str;
 /// How many octets a name has at most.
 const NAME_OCTETS: usize = 64;
 
+/// A command with one payload.
+#[derive(Clone, Copy, Debug, PartialEq, Eq)]
+pub enum OnePayload<'a> {
+    /// Keeps the payload as a global script, under this name.
+    SetGlobal(&'a [u8]),
+    /// Takes the payload over as a plan.
+    SetPlan,
+}
+
+/// A command with two payloads.
+#[derive(Clone, Copy, Debug, PartialEq, Eq)]
+pub enum TwoPayloads {
+    /// Files the second, a message, by the first, a script.
+    File,
+    /// Runs the first, an image, on the second, a message.
+    Try,
+}
+
 /// What a line asks.
 #[derive(Clone, Copy, Debug, PartialEq, Eq)]
 pub enum Request<'a> {
     /// To add the class of a path.
     AddClass(&'a [u8]),
-    /// To file a message by a script, payloads of these lengths in octets.
-    File { script: u32, message: u32 },
-    /// To keep a global script under a name, a payload of this length in octets.
-    SetGlobal { name: &'a [u8], text: u32 },
-    /// To take over a plan, a payload of this length in octets.
-    SetPlan { text: u32 },
-    /// To run an image on a message, payloads of these lengths in octets.
-    Try { image: u32, message: u32 },
+    /// What a payload of this length in octets is for.
+    One(OnePayload<'a>, u32),
+    /// What two payloads of these lengths in octets are for.
+    Two(TwoPayloads, u32, u32),
     /// To end the session.
     Quit,
     /// Nothing: the first word is no command's (70).
@@ -134,7 +148,7 @@ fn read_file<'a>(words: Words<'a>) -> Request<'a>
     ensures { asked_as result ≡ file_of (words_left words.entry) }
 {
     match read_two_lengths(words) {
-        Some((script, message)) => Request::File { script, message },
+        Some((script, message)) => Request::Two(TwoPayloads::File, script, message),
         None => Request::BadWord,
     }
 }
@@ -144,7 +158,7 @@ fn read_try<'a>(words: Words<'a>) -> Request<'a>
     ensures { asked_as result ≡ try_of (words_left words.entry) }
 {
     match read_two_lengths(words) {
-        Some((image, message)) => Request::Try { image, message },
+        Some((image, message)) => Request::Two(TwoPayloads::Try, image, message),
         None => Request::BadWord,
     }
 }
@@ -157,7 +171,7 @@ fn read_plan<'a>(mut words: Words<'a>) -> Request<'a>
         return Request::BadWord;
     };
     match read_length(text) {
-        Some(text) => Request::SetPlan { text },
+        Some(size) => Request::One(OnePayload::SetPlan, size),
         None => Request::BadWord,
     }
 }
@@ -170,7 +184,7 @@ fn read_global<'a>(mut words: Words<'a>) -> Request<'a>
         return Request::BadWord;
     };
     match read_length(text) {
-        Some(text) if is_name(name) => Request::SetGlobal { name, text },
+        Some(size) if is_name(name) => Request::One(OnePayload::SetGlobal(name), size),
         _ => Request::BadWord,
     }
 }

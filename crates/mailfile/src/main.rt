@@ -1,14 +1,18 @@
 //! The program: serves a session from standard input to standard output.
 #![tactic(auto)]
 
+mod ahead;
 mod command_line;
-mod streams;
+mod input;
+mod output;
+mod trouble;
 
 use command_line::{LineFault, read_command_line};
 use filing_desk::Desk;
 use filing_session::serve;
+use input::Input;
+use output::Output;
 use std::process::ExitCode;
-use streams::{Input, Output};
 
 /// The status after a read or a write fault.
 const STATUS_FAULT: u8 = 1;

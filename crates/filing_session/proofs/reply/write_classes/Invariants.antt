@@ -1,4 +1,4 @@
-use Rattle.std.proofs.Common.{◌≡◌, ◌≤◌, ◌++◌, take}
+use Rattle.std.proofs.Common.{◌≡◌, ◌+◌, ◌≤◌, ◌++◌, take, max}
 use Rattle.std.specs.Prelude.{flat_map}
 use Rattle.filing_session.specs.Replies.{class_octets}
 use Rattle.filing_session.proofs.reply.write_classes.Given as goal
@@ -6,6 +6,7 @@ use Rattle.filing_session.proofs.reply.write_classes.Given as goal
 abbrev pub invariant-loop-path : goal.invariant-loop-path
 invariant-loop-path g l = record {
   written : g.K.Sink.tells → g.K.Sink.written l.sink ≡ g.K.Sink.written l.fn.sink ++ flat_map class_octets (take l.path-index l.paths);
-  troubles : g.K.Sink.troubles l.fn.sink ≤ g.K.Sink.troubles l.sink;
+  over : g.K.Sink.interruptions l.sink ≤ g.K.Sink.interruptions l.fn.sink;
+  patient : g.K.Sink.most_interruptions l.sink ≤ max (g.K.Sink.most_interruptions l.fn.sink) (g.K.Sink.interruptions l.fn.sink + 63);
   failures : g.K.Sink.failures l.sink ≡ g.K.Sink.failures l.fn.sink;
 }

@@ -1,8 +1,7 @@
 use Rattle.std.proofs.Common.{◌-◌, ℕ, arith, refl, [], inl, inr, ap, sym, ◌∙◌, subst, Ok}
 use Rattle.std.proofs.lemmas.List.{append-nil}
 use Rattle.filing_desk.specs.Steps.{State}
-use Rattle.filing_session.specs.Lines.{behind_line}
-use Rattle.filing_session.specs.Session.{heard, session_of, EndsByInput, EndsBefore, IsAnswered}
+use Rattle.filing_session.specs.Session.{heard, session_of, EndsByInput, IsAnswered}
 use Rattle.filing_session.specs.Heard.{Answers, SaysEnd}
 use Rattle.filing_session.specs.Replies.{answer_of, reply_octets}
 use Rattle.filing_session.specs.Streams.{TellsEnd}
@@ -19,7 +18,9 @@ loop-init g c = record {
   served = λ s k. record { items = []; answers = []; rest = refl; run = refl; written = sym (append-nil _) };
   unread = λ s. refl;
   ends = omega arith;
+  reads_over = omega arith;
   reads = omega arith;
+  writes_over = omega arith;
   writes = omega arith;
   read_failures = refl;
   write_failures = refl;
@@ -36,17 +37,23 @@ loop-preserved g c =
     record {
       served = λ s k.
           let P : ℕ → Type 0 = λ n. Served n (session_of 1000000 (g.S.Source.left c.args.source.now)) c.args.desk.now (g.K.Sink.written c.args.sink.now) (g.S.Source.left c.loop.source) c.loop.desk (g.K.Sink.written c.loop.sink) in
-          let Q : Said → Type 0 = λ x. Answers c.loop.desk (heard (g.S.Source.left c.loop.source)) (behind_line (g.S.Source.left c.loop.source)) x c.next.new.desk (g.S.Source.left c.next.new.source) in
+          let Q : Said → Type 0 = λ x. Answers c.loop.desk (heard (g.S.Source.left c.loop.source)) x c.next.new.desk (g.S.Source.left c.next.new.source) in
           let a = subst Q c.in-Reply.is (c.in-Ok.ensures.said s) in
           more _ _ _ _ _ _ _ a.0 (answer_of c.in-Reply.reply) _ _ _ (subst P (one_less c.loop.counter c.loop-test.true) (c.loop.invariant.served s k)) a.1 a.2
           (written_ok c.write_reply.result (g.K.Sink.written c.loop.sink) (reply_octets (answer_of c.in-Reply.reply)) (g.K.Sink.written c.write_reply.new.sink) (c.write_reply.ensures.written k) (sym c.is_err.ensures.value ∙ c.if-is_err.false));
       unread = λ s.
-          let Q : Said → Type 0 = λ x. Answers c.loop.desk (heard (g.S.Source.left c.loop.source)) (behind_line (g.S.Source.left c.loop.source)) x c.next.new.desk (g.S.Source.left c.next.new.source) in
+          let Q : Said → Type 0 = λ x. Answers c.loop.desk (heard (g.S.Source.left c.loop.source)) x c.next.new.desk (g.S.Source.left c.next.new.source) in
           let a = subst Q c.in-Reply.is (c.in-Ok.ensures.said s) in
           c.loop.invariant.unread s ∙ left_more c.loop.counter _ a.0 _ c.loop-test.true a.1;
       ends = omega (arith, c.next.ensures.ends.rises);
-      reads = omega (arith, c.next.ensures.troubles.rises);
-      writes = omega (arith, c.write_reply.ensures.troubles.rises);
+      reads_over = omega (arith, c.in-Ok.ensures.troubles.over, c.loop.invariant.reads_over);
+      reads = omega (arith, c.in-Ok.ensures.troubles.patient, c.loop.invariant.reads_over, c.loop.invariant.reads);
+      writes_over =
+          let over = outlasted c.write_reply.result c.write_reply.ensures.troubles.over (sym c.is_err.ensures.value ∙ c.if-is_err.false) in
+          omega (arith, over, c.loop.invariant.writes_over);
+      writes =
+          let patient = outlasted c.write_reply.result c.write_reply.ensures.troubles.patient (sym c.is_err.ensures.value ∙ c.if-is_err.false) in
+          omega (arith, patient, c.loop.invariant.writes_over, c.loop.invariant.writes);
       read_failures = c.in-Ok.ensures.troubles.outlasts ∙ c.loop.invariant.read_failures;
       write_failures = outlasted c.write_reply.result c.write_reply.ensures.troubles.outlasts (sym c.is_err.ensures.value ∙ c.if-is_err.false) ∙ c.loop.invariant.write_failures;
     }
@@ -54,30 +61,30 @@ loop-preserved g c =
 pub returns-then-is_err-clause-unsaid : goal.returns-then-is_err-clause-unsaid
 returns-then-is_err-clause-unsaid g c = λ s k is.
     let P : ℕ → Type 0 = λ n. Served n (session_of 1000000 (g.S.Source.left c.args.source.now)) c.args.desk.now (g.K.Sink.written c.args.sink.now) (g.S.Source.left c.loop.source) c.loop.desk (g.K.Sink.written c.loop.sink) in
-    let Q : Said → Type 0 = λ x. Answers c.loop.desk (heard (g.S.Source.left c.loop.source)) (behind_line (g.S.Source.left c.loop.source)) x c.next.new.desk (g.S.Source.left c.next.new.source) in
+    let Q : Said → Type 0 = λ x. Answers c.loop.desk (heard (g.S.Source.left c.loop.source)) x c.next.new.desk (g.S.Source.left c.next.new.source) in
     let a = subst Q c.in-Reply.is (c.in-Ok.ensures.said s) in
     let behind = written_fault c.write_reply.result (g.K.Sink.written c.loop.sink) (reply_octets (answer_of c.in-Reply.reply)) (g.K.Sink.written c.write_reply.new.sink) (c.write_reply.ensures.written k) (sym c.is_err.ensures.value ∙ c.if-is_err.true) in
     inl (cut_in_answer _ _ _ _ _ _ _ a.0 (answer_of c.in-Reply.reply) _ _ _ (subst P (one_less c.loop.counter c.loop-test.true) (c.loop.invariant.served s k)) a.1 a.2 behind)
 
 pub returns-in-End-clause-ok : goal.returns-in-End-clause-ok
 returns-in-End-clause-ok g c = λ s k.
-    let Q : Said → Type 0 = λ x. Answers c.loop.desk (heard (g.S.Source.left c.loop.source)) (behind_line (g.S.Source.left c.loop.source)) x c.next.new.desk (g.S.Source.left c.next.new.source) in
+    let Q : Said → Type 0 = λ x. Answers c.loop.desk (heard (g.S.Source.left c.loop.source)) x c.next.new.desk (g.S.Source.left c.next.new.source) in
     let a = subst Q c.in-End.is (c.in-Ok.ensures.said s) in
     let P : State → Type 0 = λ x. Served (1000000 - c.loop.counter) (session_of 1000000 (g.S.Source.left c.args.source.now)) c.args.desk.now (g.K.Sink.written c.args.sink.now) (g.S.Source.left c.loop.source) x (g.K.Sink.written c.loop.sink) in
-    ended_ok c.write_ending.result _ _ _ _ _ c.next.new.desk (g.K.Sink.written c.loop.sink) c.in-End.ending (g.K.Sink.written c.write_ending.new.sink) (subst P (sym a.1) (c.loop.invariant.served s k)) (stop_ends c.loop.counter _ _ c.loop-test.true a.0) (c.write_ending.ensures.written k)
+    ended_ok c.write_ending.result _ _ _ _ _ c.next.new.desk (g.K.Sink.written c.loop.sink) c.in-End.ending (g.K.Sink.written c.write_ending.new.sink) (subst P (sym a.1) (c.loop.invariant.served s k)) (stop_ends c.loop.counter _ _ _ c.loop-test.true a.0) (c.write_ending.ensures.written k)
 
 pub returns-in-End-clause-unsaid : goal.returns-in-End-clause-unsaid
 returns-in-End-clause-unsaid g c = λ s k is.
-    let Q : Said → Type 0 = λ x. Answers c.loop.desk (heard (g.S.Source.left c.loop.source)) (behind_line (g.S.Source.left c.loop.source)) x c.next.new.desk (g.S.Source.left c.next.new.source) in
+    let Q : Said → Type 0 = λ x. Answers c.loop.desk (heard (g.S.Source.left c.loop.source)) x c.next.new.desk (g.S.Source.left c.next.new.source) in
     let a = subst Q c.in-End.is (c.in-Ok.ensures.said s) in
     let P : State → Type 0 = λ x. Served (1000000 - c.loop.counter) (session_of 1000000 (g.S.Source.left c.args.source.now)) c.args.desk.now (g.K.Sink.written c.args.sink.now) (g.S.Source.left c.loop.source) x (g.K.Sink.written c.loop.sink) in
-    inr (ended_cut c.write_ending.result _ _ _ _ _ _ c.next.new.desk (g.K.Sink.written c.loop.sink) c.in-End.ending (g.K.Sink.written c.write_ending.new.sink) (subst P (sym a.1) (c.loop.invariant.served s k)) (stop_ends c.loop.counter _ _ c.loop-test.true a.0) (c.write_ending.ensures.written k) is)
+    inr (ended_cut c.write_ending.result _ _ _ _ _ _ c.next.new.desk (g.K.Sink.written c.loop.sink) c.in-End.ending (g.K.Sink.written c.write_ending.new.sink) (subst P (sym a.1) (c.loop.invariant.served s k)) (stop_ends c.loop.counter _ _ _ c.loop-test.true a.0) (c.write_ending.ensures.written k) is)
 
 pub returns-in-End-clause-ending : goal.returns-in-End-clause-ending
 returns-in-End-clause-ending g c = λ s k ok by.
-    let Q : Said → Type 0 = λ x. Answers c.loop.desk (heard (g.S.Source.left c.loop.source)) (behind_line (g.S.Source.left c.loop.source)) x c.next.new.desk (g.S.Source.left c.next.new.source) in
+    let Q : Said → Type 0 = λ x. Answers c.loop.desk (heard (g.S.Source.left c.loop.source)) x c.next.new.desk (g.S.Source.left c.next.new.source) in
     let a = subst Q c.in-End.is (c.in-Ok.ensures.said s) in
-    let all = all_ends _ _ _ _ _ _ _ c.in-End.ending (c.loop.invariant.served s k) (stop_ends c.loop.counter _ _ c.loop-test.true a.0) in
+    let all = all_ends _ _ _ _ _ _ _ c.in-End.ending (c.loop.invariant.served s k) (stop_ends c.loop.counter _ _ _ c.loop-test.true a.0) in
     let P : Ending → Type 0 = EndsByInput in
     let R : Said → Type 0 = λ x. TellsEnd (SaysEnd (Ok x)) (g.S.Source.ends c.loop.source) (g.S.Source.ends c.next.new.source) in
     let ends = subst R c.in-End.is c.in-Ok.ensures.ends in
@@ -85,12 +92,10 @@ returns-in-End-clause-ending g c = λ s k ok by.
     omega (arith, told, c.loop.invariant.ends)
 
 pub returns-in-End-clause-unread : goal.returns-in-End-clause-unread
-returns-in-End-clause-unread g c = λ s k ok before.
-    let Q : Said → Type 0 = λ x. Answers c.loop.desk (heard (g.S.Source.left c.loop.source)) (behind_line (g.S.Source.left c.loop.source)) x c.next.new.desk (g.S.Source.left c.next.new.source) in
+returns-in-End-clause-unread g c = λ s k ok.
+    let Q : Said → Type 0 = λ x. Answers c.loop.desk (heard (g.S.Source.left c.loop.source)) x c.next.new.desk (g.S.Source.left c.next.new.source) in
     let a = subst Q c.in-End.is (c.in-Ok.ensures.said s) in
-    let all = all_ends _ _ _ _ _ _ _ c.in-End.ending (c.loop.invariant.served s k) (stop_ends c.loop.counter _ _ c.loop-test.true a.0) in
-    let P : Ending → Type 0 = EndsBefore in
-    a.2 (subst P (ap (λ x. x.ending) all) before) ∙ sym (c.loop.invariant.unread s ∙ left_stop c.loop.counter _ c.in-End.ending c.loop-test.true a.0)
+    sym (c.loop.invariant.unread s ∙ left_stop c.loop.counter _ _ c.in-End.ending c.loop-test.true a.0)
 
 pub returns-clause-ok : goal.returns-clause-ok
 returns-clause-ok g c = λ s k. ended_ok c.write_ending-2.result _ _ _ _ _ c.loop.desk (g.K.Sink.written c.loop.sink) Limit (g.K.Sink.written c.write_ending-2.new.sink) (c.loop.invariant.served s k) (limit_ends c.loop.counter _ c.loop-test.false) (c.write_ending-2.ensures.written k)
@@ -105,4 +110,4 @@ returns-clause-ending g c = λ s k ok by.
     absurd (subst P (ap (λ x. x.ending) all) by)
 
 pub returns-clause-unread : goal.returns-clause-unread
-returns-clause-unread g c = λ s k ok before. sym (c.loop.invariant.unread s ∙ left_limit c.loop.counter _ c.loop-test.false)
+returns-clause-unread g c = λ s k ok. sym (c.loop.invariant.unread s ∙ left_limit c.loop.counter _ c.loop-test.false)

@@ -1,89 +1,13 @@
-//! Standard input and standard output as a session's source and sink. Nothing is claimed of their octets.
+//! A writer as a session's sink. Nothing is claimed of the octets of a terminal, a file or a pipe.
 
 ghost use Rattle.std.specs.Prelude.{◌≡◌, ◌≤◌, length, IfOk};
 
-use filing_session::{Sink, Source, Tally, Trouble};
-use std::io::{self, Read, Write};
-
-/// How many octets are read at once.
-const READ: usize = 8192;
+use crate::trouble::trouble_of;
+use filing_session::{Sink, Tally, Trouble};
+use std::io::{self, Write};
 
 /// How many octets are held until their line ends.
 const HELD: usize = 1024;
-
-/// What trouble an error is.
-fn trouble_of(error: &io::Error) -> Trouble {
-    match error.kind() {
-        io::ErrorKind::Interrupted => Trouble::Interrupted,
-        _ => Trouble::Failed,
-    }
-}
-
-/// A reader that is read ahead, so that a session may ask for one octet at a time.
-#[derive(Drop)]
-pub struct Input<R> {
-    inner: R,
-    ahead: [u8; READ],
-    start: usize,
-    end: usize,
-    tally: Tally,
-    ends: u64,
-}
-
-impl<R> Input<R> {
-    /// A source over a reader.
-    pub fn new(inner: R) -> Input<R> {
-        Input {
-            inner,
-            ahead: [0; READ],
-            start: 0,
-            end: 0,
-            tally: Tally::new(),
-            ends: 0,
-        }
-    }
-}
-
-impl<R: Read> Source for Input<R> {
-    ghost use Rattle.std.specs.Prelude.{ℕ, List, []};
-
-    ghost tells = { ⊥ };
-
-    ghost left = { λ _. [] };
-
-    ghost troubles = { λ s. s.tally.troubles };
-
-    ghost failures = { λ s. s.tally.failures };
-
-    ghost ends = { λ s. s.ends };
-
-    fn read(&mut self, room: &mut [u8]) -> Result<usize, Trouble> {
-        if room.is_empty() {
-            return Ok(0);
-        }
-        let rest = self.ahead.get(self.start..self.end).unwrap_or(&[]);
-        if !rest.is_empty() {
-            let count = rest.len().min(room.len());
-            room[..count].copy_from_slice(&rest[..count]);
-            self.start = self.start.saturating_add(count);
-            return Ok(count);
-        }
-        match self.inner.read(&mut self.ahead) {
-            Ok(0) => {
-                self.ends = self.ends.saturating_add(1);
-                Ok(0)
-            }
-            Ok(got) => {
-                let count = got.min(room.len());
-                room[..count].copy_from_slice(&self.ahead[..count]);
-                self.start = count;
-                self.end = got;
-                Ok(count)
-            }
-            Err(error) => Err(self.tally.count(trouble_of(&error))),
-        }
-    }
-}
 
 /// A writer that is given whole lines where they are short enough, as soon as they end: so whoever waits for a reply
 /// has it before more input is asked for.
@@ -162,18 +86,20 @@ impl<W: Write> Sink for Output<W> {
 
     ghost written = { λ _. [] };
 
-    ghost troubles = { λ s. s.tally.troubles };
-
     ghost failures = { λ s. s.tally.failures };
+
+    ghost interruptions = { λ s. s.tally.interruptions };
+
+    ghost most_interruptions = { λ s. s.tally.most_interruptions };
 
     fn write(&mut self, octets: &[u8]) -> Result<usize, Trouble> {
         if octets.is_empty() {
-            return Ok(0);
+            return Ok(self.tally.count_moved(0));
         }
         if !octets.contains(&b'\n') {
             let count = self.hold(octets);
             if count > 0 {
-                return Ok(count);
+                return Ok(self.tally.count_moved(count));
             }
         }
         match self.write_through(octets) {
@@ -181,7 +107,7 @@ impl<W: Write> Sink for Output<W> {
                 let _ = self.tally.count(Trouble::Failed);
                 Ok(0)
             }
-            Ok(count) => Ok(count),
+            Ok(count) => Ok(self.tally.count_moved(count)),
             Err(error) => Err(self.tally.count(trouble_of(&error))),
         }
     }

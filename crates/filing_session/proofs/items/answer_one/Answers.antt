@@ -1,0 +1,19 @@
+use Rattle.std.proofs.Common.{Option, take, subst}
+use Rattle.filing_desk.specs.declared.payload.Payload.{Payload}
+use Rattle.filing_session.specs.Commands.{one_command}
+use Rattle.filing_session.specs.Payloads.{IsRead}
+use Rattle.filing_session.specs.Session.{Call}
+use Rattle.filing_session.proofs.PayloadLemmas.{one_heard}
+use Rattle.filing_session.proofs.items.answer_one.Goals as goal
+
+pub returns-clause-said : goal.returns-clause-said
+returns-clause-said g c = λ t.
+    let old = g.S.Source.left c.args.source.now in
+    let new = g.S.Source.left c.read_payload.new.source in
+    let command = c.args.command in
+    let P : Option Payload → Type 0 = λ p. IsRead c.args.size c.limit_of_one.result p old new in
+    let s = subst P c.in-Some.is (c.in_ok-payload.ensures.octets t) in (
+      Call (one_command command (take c.args.size old)),
+      one_heard c.args.size (one_command command) old new s.0 s.1,
+      c.do_one.ensures (take c.args.size old) (rw (← c.limit_of_one.ensures) s.2),
+    )

@@ -1,0 +1,80 @@
+//! A reader as a session's source. Nothing is claimed of the octets of a terminal, a file or a pipe; where a reader knows what
+//! it has left, what is read is exactly that.
+
+ghost use Rattle.std.specs.Prelude.{◌<◌, ◌≤◌, ◌≡◌, length, IfOk};
+ghost use Rattle.std.specs.Io.KnownBytes.{ReadConsumes};
+ghost use Rattle.mailfile.specs.Known.{octets_left};
+
+use crate::ahead::Ahead;
+use crate::trouble::trouble_of;
+use filing_session::{Source, Tally, Trouble};
+use std::io::{self, Read};
+
+/// A reader that is read ahead, so that a session may ask for one octet at a time.
+#[derive(Drop)]
+pub struct Input<R> {
+    inner: R,
+    ahead: Ahead,
+    tally: Tally,
+    ends: u64,
+}
+
+impl<R> Input<R> {
+    /// A source over a reader.
+    pub fn new(inner: R) -> Input<R> {
+        Input {
+            inner,
+            ahead: Ahead::new(),
+            tally: Tally::new(),
+            ends: 0,
+        }
+    }
+}
+
+impl<R: Read> Input<R> {
+    /// Reads octets into the front of the room, those first that were read ahead, and answers how many: 0 only at the end.
+    fn read_on(&mut self, room: &mut [u8]) -> io::Result<usize>
+        requires { 0 < length room.old }
+        ensures within { IfOk result (λ n. n ≤ length room.old) }
+        ensures octets { ReadConsumes (octets_left R.remaining self.old) (octets_left R.remaining self.new) result room.new }
+        ensures tally { self.new.tally ≡ self.old.tally }
+        ensures ends { self.new.ends ≡ self.old.ends }
+    {
+        if !self.ahead.is_empty() {
+            return Ok(self.ahead.take(room));
+        }
+        self.ahead.fill(&mut self.inner)?;
+        Ok(self.ahead.take(room))
+    }
+}
+
+impl<R: Read> Source for Input<R> {
+    ghost use Rattle.std.specs.Prelude.{ℕ, List, []};
+
+    ghost tells = { ⊥ };
+
+    ghost left = { λ _. [] };
+
+    ghost failures = { λ s. s.tally.failures };
+
+    ghost interruptions = { λ s. s.tally.interruptions };
+
+    ghost most_interruptions = { λ s. s.tally.most_interruptions };
+
+    ghost ends = { λ s. s.ends };
+
+    fn read(&mut self, room: &mut [u8]) -> Result<usize, Trouble> {
+        if room.is_empty() {
+            return Ok(self.tally.count_moved(0));
+        }
+        match self.read_on(room) {
+            Ok(count) => {
+                if count == 0 {
+                    self.ends = self.ends.saturating_add(1);
+                }
+                Ok(self.tally.count_moved(count))
+            }
+            Err(error) => Err(self.tally.count(trouble_of(&error))),
+        }
+    }
+}

@@ -1,0 +1,17 @@
+//! The troubles of readers and writers, as a session tells them.
+
+ghost use Rattle.std.specs.Prelude.{◌≡◌, ◌↔◌};
+ghost use Rattle.std.specs.IoError.{error_kind};
+
+use filing_session::Trouble;
+use std::io::{self, ErrorKind};
+
+/// What trouble an error is: an interruption exactly where its kind is that.
+pub fn trouble_of(error: &io::Error) -> Trouble
+    ensures { (result ≡ Trouble.Interrupted) ↔ (error_kind error.now ≡ ErrorKind.Interrupted) }
+{
+    match error.kind() {
+        ErrorKind::Interrupted => Trouble::Interrupted,
+        _ => Trouble::Failed,
+    }
+}
