@@ -11,7 +11,7 @@ use std::marker::Model;
 #[derive(Debug, Drop)]
 pub struct Shape {
     kinds: [Kind; 33],
-    depth: usize,
+    depth: u8,
 }
 
 impl Model for Shape {
@@ -61,7 +61,7 @@ impl Shape {
     fn entries(&self) -> &[Kind]
         ensures { reverse result.now ≡ self.now }
     {
-        &self.kinds[..self.depth]
+        &self.kinds[..self.depth as usize]
     }
 
     /// Puts an entry on top. The caller keeps the depth below 33.
@@ -69,7 +69,7 @@ impl Shape {
         requires { length self.old < 33 }
         ensures { self.new ≡ kind ∷ self.old }
     {
-        self.kinds[self.depth] = kind;
+        self.kinds[self.depth as usize] = kind;
         self.depth += 1;
     }
 
@@ -81,7 +81,7 @@ impl Shape {
             return None;
         }
         self.depth -= 1;
-        Some(self.kinds[self.depth])
+        Some(self.kinds[self.depth as usize])
     }
 }
 

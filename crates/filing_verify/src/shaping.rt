@@ -18,7 +18,7 @@ pub fn has_shapes(alloc: Global, image: &Image) -> Result<bool, AllocError>
     ensures yes { IfOk result (λ yes. yes ≡ true → HasShapes image.now) }
     ensures no { IfOk result (λ yes. yes ≡ false → HasShapes image.now → ⊥) }
 {
-    let mut table = Vec::new(alloc);
+    let mut table = Vec::with_capacity(alloc, place_count(image))?;
     for _ in 0..place_count(image) {
         table.push(None)?;
     }
