@@ -20,6 +20,8 @@ pub enum Call {
     Revise,
     Parts,
     PlanDue,
+    OpenPaths,
+    ScheduleOf,
     Schedule,
     Due,
     Day,
@@ -27,6 +29,7 @@ pub enum Call {
     Moment,
     Image,
     Stops,
+    LongText,
     Verify,
     Changes,
     Run,
@@ -39,7 +42,7 @@ pub enum Call {
 }
 
 /// Each call's word.
-const WORDS: [(&str, Call); 33] = [
+const WORDS: [(&str, Call); 36] = [
     ("tokens", Call::Tokens),
     ("lengths", Call::Lengths),
     ("tree", Call::Tree),
@@ -57,6 +60,8 @@ const WORDS: [(&str, Call); 33] = [
     ("revise", Call::Revise),
     ("parts", Call::Parts),
     ("plan_due", Call::PlanDue),
+    ("open_paths", Call::OpenPaths),
+    ("schedule_of", Call::ScheduleOf),
     ("schedule", Call::Schedule),
     ("due", Call::Due),
     ("day", Call::Day),
@@ -64,6 +69,7 @@ const WORDS: [(&str, Call); 33] = [
     ("moment", Call::Moment),
     ("image", Call::Image),
     ("stops", Call::Stops),
+    ("long_text", Call::LongText),
     ("verify", Call::Verify),
     ("changes", Call::Changes),
     ("run", Call::Run),

@@ -36,6 +36,22 @@ pub fn stops(alloc: Global, count: &[u8]) -> Result<Vec<u8>> {
     }
 }
 
+/// How many octets the image of one text of so many octets and one STOP has.
+pub fn long_text(alloc: Global, size: &[u8]) -> Result<Vec<u8>> {
+    let size: usize = str::from_utf8(size)?.parse().context("a number is wrong")?;
+    let mut texts = Vec::new(alloc);
+    texts.push(vec![in alloc; b'a'; size]?)?;
+    let stop = Instruction { op: 20, a: 0, b: 0 };
+    let code = vec![in alloc; stop; 1]?;
+    match Image::new(alloc, 1, texts, Vec::new(alloc), 0, code) {
+        Ok(image) => {
+            let count = encode(alloc, &image)?.len();
+            Ok(format!(in alloc; "{count}")?.into_bytes())
+        }
+        Err(fault) => refused(alloc, fault.number()),
+    }
+}
+
 /// By which number octets are refused, as an image or by the verifier; 0 where their image may run.
 fn refusal(alloc: Global, octets: &[u8]) -> u8 {
     match decode(alloc, octets) {

@@ -96,6 +96,25 @@ pub fn plan_due(alloc: Global, text: &[u8], path: &[u8], day: &[u8]) -> Result<V
     told(alloc, plan_of(alloc, text)?.due_of(path, day))
 }
 
+/// The paths of a plan's open classes.
+pub fn open_paths(alloc: Global, text: &[u8]) -> Result<Vec<u8>> {
+    let paths = plan_of(alloc, text)?.open_paths(alloc)?;
+    let mut out = Vec::new(alloc);
+    for path in paths.iter() {
+        out.extend_from_slice(path.as_slice())?;
+        out.push(b' ')?;
+    }
+    Ok(out)
+}
+
+/// The text of the schedule that a plan has for a path.
+pub fn schedule_of(alloc: Global, text: &[u8], path: &[u8]) -> Result<Vec<u8>> {
+    match plan_of(alloc, text)?.schedule_of(path) {
+        Some(schedule) => Ok(schedule_text(alloc, schedule)?),
+        None => word(alloc, "none"),
+    }
+}
+
 /// A schedule's text, from that text.
 pub fn schedule(alloc: Global, text: &[u8]) -> Result<Vec<u8>> {
     match schedule_of_text(text) {
