@@ -95,21 +95,6 @@ provers() {
 lanes=
 declare -A builders=()
 
-# Makes the folder of the lanes; within .git, where it lies beside the tree and git and rt pass it over, if there is one. What a
-# start that was killed has left there is taken back.
-make_lanes() {
-    local name
-    if [[ -d $root/.git ]]; then
-        lanes=$root/.git/lanes
-        for name in $(crates_below "$1"); do
-            [[ ! -d $lanes/$name ]] || close_lane "$name"
-        done
-        mkdir -p -- "$lanes"
-    else
-        lanes=$(mktemp -d)
-    fi
-}
-
 # Lays out the lane of a crate; what earlier starts kept of it goes there.
 open_lane() {
     local name lane=$lanes/$1
@@ -155,16 +140,30 @@ unlock_crates() {
     done
 }
 
-# Ends what is at work, and keeps what it did: rt takes along the provers that it started.
+# Ends what is at work, and gives the tree what was done: where rt ends, it takes along the provers that it started.
 end_lanes() {
     local name
     for name in "${!builders[@]}"; do
         kill "${builders[$name]}" 2> "$lanes/error"
         wait "${builders[$name]}" 2> "$lanes/error"
-        close_lane "$name"
     done
     builders=()
+    for name in "$lanes"/*/; do
+        [[ ! -d $name ]] || close_lane "$(basename -- "$name")"
+    done
     rm -rf -- "${lanes:?}"
+}
+
+# Makes the folder of the lanes; within .git, where it lies beside the tree and git and rt pass it over, if there is one. What a
+# start that was killed has left there is taken back.
+make_lanes() {
+    if [[ -d $root/.git ]]; then
+        lanes=$root/.git/lanes
+        [[ ! -d $lanes ]] || end_lanes
+        mkdir -p -- "$lanes"
+    else
+        lanes=$(mktemp -d)
+    fi
 }
 
 # Ends by a signal.

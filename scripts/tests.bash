@@ -134,6 +134,13 @@ goes_on_after_a_failure() {
         rm -- "$stage/fails" && builds
 }
 
+# What a start that was killed has left in a lane is kept.
+goes_on_after_a_kill() {
+    local left=$stage/tree/.git/lanes/low/crates/low/out
+    echo edited >> "$stage/tree/crates/low/src/lib.rt"
+    mkdir -p -- "$left" && touch "$left/kept" && builds && [[ -f $stage/tree/crates/low/out/kept ]]
+}
+
 gives_up_without_memory() {
     echo edited >> "$stage/tree/crates/low/src/lib.rt"
     echo 'MemAvailable: 100000 kB' > "$stage/memory"
@@ -202,6 +209,7 @@ scripts() {
     count "an edit while the program is built" sees_an_edit_while_building
     count "a start from another folder, by a link" serves_from_anywhere
     count "a build that fails" goes_on_after_a_failure
+    count "a start after one that was killed" goes_on_after_a_kill
     count "a start without memory" gives_up_without_memory
     count "a start beside another" gives_up_beside_another
     count "a start that is ended by a signal" ends_what_it_started
