@@ -13,11 +13,13 @@ use crate::compiled::{checked, keep};
 use anyhow::Result;
 use chance::Chance;
 use filing_gen::Library;
+use filing_machine::BorrowedCase;
 use libraries::{Included, included_scripts};
 use messages::{message, open_classes};
 use outcomes::{Kind, Tally};
 use scripts::script;
-use sides::{Linked, by_image, by_tree, case};
+use sides::{Captured, Linked, by_image, by_tree, case};
+use sieve_meaning::Paths;
 use std::alloc::Global;
 
 /// How many scripts and messages are made.
@@ -85,40 +87,91 @@ fn show(rt: &impl Print, made: &Made, by_image: &str, by_tree: &str) -> Result<(
     Ok(())
 }
 
-/// Adds how a pair went.
-fn compare(rt: &(impl Print + AllocGlobal), tally: &mut Tally, made: &Made) -> Result<()> {
-    let alloc = rt.alloc();
-    let main = checked(alloc, made.text.as_bytes())?;
-    let library = library_of(alloc, made.scripts.as_slice())?;
+/// Whether a script has another outcome in a case, by its tree.
+fn differs(
+    alloc: Global,
+    script: Linked<'_>,
+    case: &BorrowedCase<'_, Paths>,
+    outcome: &str,
+) -> Result<bool> {
+    Ok(by_tree(alloc, script, case)?.shown(alloc)?.as_str() != outcome)
+}
+
+/// Whether a script has another outcome for a message without a field.
+fn differs_by_message(
+    alloc: Global,
+    script: Linked<'_>,
+    classes: &[&'static str],
+    outcome: &str,
+) -> Result<bool> {
+    let empty = case(alloc, NO_FIELD, classes)?;
+    differs(alloc, script, &empty, outcome)
+}
+
+/// Whether a script has another outcome where nothing can be included.
+fn differs_by_library(
+    alloc: Global,
+    script: Linked<'_>,
+    case: &BorrowedCase<'_, Paths>,
+    outcome: &str,
+) -> Result<bool> {
     let nothing = Library::new(alloc);
-    let linked = Linked {
-        main: &main,
-        known_as: made.is_named.then_some(b"main".as_slice()),
-        library: &library,
-    };
     let alone = Linked {
         library: &nothing,
-        ..linked
+        ..script
     };
-    let classes = made.classes.as_slice();
-    let filed = case(alloc, made.message.as_bytes(), classes)?;
-    let empty = case(alloc, NO_FIELD, classes)?;
-    let captured = by_image(alloc, linked, &filed)?;
-    let compiled = captured.shown(alloc)?;
-    let wanted = by_tree(alloc, linked, &filed)?.shown(alloc)?;
-    if compiled == wanted {
+    differs(alloc, alone, case, outcome)
+}
+
+/// Adds the outcome of a script's image, and whether it is that of its tree.
+fn compare_image(
+    rt: &(impl Print + AllocGlobal),
+    tally: &mut Tally,
+    made: &Made,
+    captured: &Captured,
+    by_tree: &str,
+) -> Result<()> {
+    tally.kinds.push(Kind::of(captured))?;
+    let by_image = captured.shown(rt.alloc())?;
+    if by_image.as_str() == by_tree {
         tally.agree = tally.agree.saturating_add(1);
-    } else {
-        show(rt, made, compiled.as_str(), wanted.as_str())?;
+        return Ok(());
     }
-    if by_tree(alloc, linked, &empty)?.shown(alloc)? != wanted {
+    show(rt, made, by_image.as_str(), by_tree)
+}
+
+/// Adds how a script goes with a message.
+fn compare_linked(
+    rt: &(impl Print + AllocGlobal),
+    tally: &mut Tally,
+    made: &Made,
+    script: Linked<'_>,
+) -> Result<()> {
+    let (alloc, classes) = (rt.alloc(), made.classes.as_slice());
+    let filed = case(alloc, made.message.as_bytes(), classes)?;
+    let outcome = by_tree(alloc, script, &filed)?.shown(alloc)?;
+    let captured = by_image(alloc, script, &filed)?;
+    compare_image(rt, tally, made, &captured, outcome.as_str())?;
+    if differs_by_message(alloc, script, classes, outcome.as_str())? {
         tally.by_message = tally.by_message.saturating_add(1);
     }
-    if by_tree(alloc, alone, &filed)?.shown(alloc)? != wanted {
+    if differs_by_library(alloc, script, &filed, outcome.as_str())? {
         tally.by_library = tally.by_library.saturating_add(1);
     }
-    tally.kinds.push(Kind::of(&captured))?;
     Ok(())
+}
+
+/// Adds how a pair goes.
+fn compare(rt: &(impl Print + AllocGlobal), tally: &mut Tally, made: &Made) -> Result<()> {
+    let main = checked(rt.alloc(), made.text.as_bytes())?;
+    let library = library_of(rt.alloc(), made.scripts.as_slice())?;
+    let known_as = made.is_named.then_some(b"main".as_slice());
+    let script = Linked {
+        main: &main,
+        known_as,
+        library: &library,
+    };
+    compare_linked(rt, tally, made, script)
 }
 
 /// Makes all pairs, and tells how they went.

@@ -12,7 +12,8 @@
 //! - `want TEXT` is a line that is to be answered, and `wants N TEXT` N such lines.
 //!
 //! In TEXT `\n`, `\r`, `\s` (a space) and `\xHH` are octets, and a backslash before another octet is left out (`row_text`).
-//! Empty lines and those that begin with `#` are passed over.
+//! Empty lines and those that begin with `#` are passed over, and so is
+//! what stands before the first case.
 
 use anyhow::{Context, Result, bail};
 use filing_desk::Desk;
@@ -132,34 +133,75 @@ fn want(alloc: Global, case: &mut Case, times: usize, text: &str) -> Result<(), 
     case.wanted.extend_from_slice(lines.as_slice())
 }
 
-/// Reads a line of a case.
-fn read_line(alloc: Global, case: &mut Case, line: &str) -> Result<()> {
-    let (word, text) = line.split_once(' ').unwrap_or((line, ""));
+/// Reads a line that has octets alone; false where its word takes something else.
+fn read_octets(alloc: Global, case: &mut Case, word: &str, text: &str) -> Result<bool> {
+    let octets = octets_of(alloc, text)?;
     match word {
-        "send" => case.send(octets_of(alloc, text)?.as_slice())?,
-        "times" => case.send(repeated(alloc, text)?.as_slice())?,
-        "count" => {
-            let (first, text) = numbered(text)?;
-            let (last, text) = numbered(text)?;
-            count(alloc, &mut case.input, first, last, text)?;
-        }
-        "global" => {
-            let (name, text) = text.split_once(' ').unwrap_or((text, ""));
-            case.keep_global(alloc, name, octets_of(alloc, text)?.as_slice())?;
-        }
-        "script" => case.set_program("FILE", octets_of(alloc, text)?),
-        "image" => case.set_program("TRY", hex_octets(alloc, text)?),
-        "more" => case.extend_program(repeated(alloc, text)?.as_slice())?,
-        "message" => case.file(alloc, octets_of(alloc, text)?.as_slice())?,
-        "messages" => case.file(alloc, repeated(alloc, text)?.as_slice())?,
+        "send" => case.send(octets.as_slice())?,
+        "script" => case.set_program("FILE", octets),
+        "message" => case.file(alloc, octets.as_slice())?,
+        _ => return Ok(false),
+    }
+    Ok(true)
+}
+
+/// Reads a line that has octets and how often they come; false where its word takes something else.
+fn read_repeated(alloc: Global, case: &mut Case, word: &str, text: &str) -> Result<bool> {
+    if word != "times" && word != "more" && word != "messages" {
+        return Ok(false);
+    }
+    let octets = repeated(alloc, text)?;
+    match word {
+        "times" => case.send(octets.as_slice())?,
+        "more" => case.extend_program(octets.as_slice())?,
+        _ => case.file(alloc, octets.as_slice())?,
+    }
+    Ok(true)
+}
+
+/// Reads a line that tells what is to be answered; false where its word takes something else.
+fn read_wanted(alloc: Global, case: &mut Case, word: &str, text: &str) -> Result<bool> {
+    match word {
         "want" => want(alloc, case, 1, text)?,
         "wants" => {
             let (times, text) = numbered(text)?;
             want(alloc, case, times, text)?;
         }
-        _ => bail!("{line}: no such word"),
+        _ => return Ok(false),
     }
-    Ok(())
+    Ok(true)
+}
+
+/// Reads any other line.
+fn read_other(alloc: Global, case: &mut Case, word: &str, text: &str) -> Result<()> {
+    match word {
+        "count" => {
+            let (first, text) = numbered(text)?;
+            let (last, text) = numbered(text)?;
+            count(alloc, &mut case.input, first, last, text)
+        }
+        "global" => {
+            let (name, text) = text.split_once(' ').unwrap_or((text, ""));
+            Ok(case.keep_global(alloc, name, octets_of(alloc, text)?.as_slice())?)
+        }
+        "image" => {
+            case.set_program("TRY", hex_octets(alloc, text)?);
+            Ok(())
+        }
+        _ => bail!("{word}: no such word"),
+    }
+}
+
+/// Reads a line of a case.
+fn read_line(alloc: Global, case: &mut Case, line: &str) -> Result<()> {
+    let (word, text) = line.split_once(' ').unwrap_or((line, ""));
+    if read_wanted(alloc, case, word, text)?
+        || read_repeated(alloc, case, word, text)?
+        || read_octets(alloc, case, word, text)?
+    {
+        return Ok(());
+    }
+    read_other(alloc, case, word, text)
 }
 
 /// What a session is answered, or none where there is no desk or a fault.
@@ -188,26 +230,22 @@ fn judge(rt: &(impl Print + AllocGlobal), case: &Case) -> io::Result<()> {
     println!(rt; "{name} failed\nanswered:\n{answered}wanted:\n{wanted}")
 }
 
+/// Plays the case of a text, whose first line is its name, and tells how it went.
+fn play_case(rt: &(impl Print + AllocGlobal), text: &str) -> Result<()> {
+    let (name, lines) = text.split_once('\n').context("a case is empty")?;
+    let mut case = Case::new(rt.alloc(), name)?;
+    for line in lines.lines() {
+        if !line.is_empty() && !line.starts_with('#') {
+            read_line(rt.alloc(), &mut case, line)?;
+        }
+    }
+    Ok(judge(rt, &case)?)
+}
+
 /// Plays all cases, and tells how each went.
 pub fn play_all(rt: &(impl Print + AllocGlobal), table: &str) -> Result<()> {
-    let mut case: Option<Case> = None;
-    for line in table.lines() {
-        if let Some(name) = line.strip_prefix("case ") {
-            if let Some(done) = case.replace(Case::new(rt.alloc(), name)?) {
-                judge(rt, &done)?;
-            }
-            continue;
-        }
-        if line.is_empty() || line.starts_with('#') {
-            continue;
-        }
-        let Some(open) = case.as_mut() else {
-            bail!("{line}: before the first case");
-        };
-        read_line(rt.alloc(), open, line)?;
-    }
-    if let Some(done) = case {
-        judge(rt, &done)?;
+    for text in table.split("\ncase ").skip(1) {
+        play_case(rt, text)?;
     }
     Ok(())
 }
