@@ -1,3 +1,4 @@
 pub mod MatchingLemmas
+pub mod PartLaws
 mod PathLemmas
 mod Rows

@@ -9,4 +9,5 @@ pub mod Truth
 pub mod Meaning
 pub mod Scripts
 pub mod Outcome
+pub mod Parts
 pub mod Weight

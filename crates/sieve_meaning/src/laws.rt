@@ -2,6 +2,7 @@
 
 ghost use Rattle.std.specs.Prelude.{ℕ, List, IsTrue, ◌↔◌};
 ghost use Rattle.sieve_meaning.specs.Matching.{equals, IsEqualUnder, contains, Contains, covers, Matches};
+ghost use Rattle.sieve_meaning.specs.Parts.{PartLaw};
 ghost use Rattle.sieve_meaning.specs.declared.matching.Comparator.{Comparator};
 ghost use Rattle.sieve_meaning.specs.declared.matching.Item.{Item};
 
@@ -18,4 +19,9 @@ pub fn contains_is_decided()
 /// The test for `:matches` says what the relation says.
 pub fn pattern_is_decided()
     ensures { (c : Comparator) (items : List Item) (value : List ℕ) → IsTrue (covers c items value) ↔ Matches c items value }
+{}
+
+/// What `branches::part_in` says of a command is how the program has it: begun, gone on with, ended or passed over.
+pub fn parts_are_read()
+    ensures { PartLaw }
 {}

@@ -8,7 +8,7 @@
 //! - `Paths`: sets of classes;
 //! - `Program`: scripts as they are run, with each `if` and its branches in one piece;
 //! - `Reading`: from the tree of the grammar (`sieve_syntax`) to a program;
-//! - `Branching`: what a command of the tree is to the branches before it;
+//! - `Branching`, `Parts`: what a command of the tree is to the branches before it, and how the program has it;
 //! - `Truth`, `Meaning`, `Outcome`: tests, runs, and the classes that a run captures;
 //! - `Scripts`: what the code's names of scripts and includes stand for;
 //! - `Weight`: how large the code of a script may be.
@@ -25,7 +25,7 @@ pub mod reading;
 mod scripts;
 mod words;
 
-pub use laws::{contains_is_decided, equality_is_decided, pattern_is_decided};
+pub use laws::{contains_is_decided, equality_is_decided, parts_are_read, pattern_is_decided};
 pub use matching::{Comparator, Item, MatchType};
 pub use outcome::{captured_classes, default_class_alone};
 pub use paths::Paths;

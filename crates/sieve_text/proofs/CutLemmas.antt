@@ -6,13 +6,13 @@ use Rattle.sieve_syntax.specs.declared.token.Token.{Token}
 use Rattle.sieve_syntax.specs.declared.token.TokenKind.{TokenKind}
 use Rattle.sieve_text.specs.declared.fault.ScanRefusal.{ScanRefusal}
 use Rattle.sieve_text.specs.Gaps.{gap_len}
-use Rattle.sieve_text.specs.Tokens.{kind_at, token_at, Reads, IsScan}
-use Rattle.sieve_text.specs.TokenGrammar.{Lexeme, IsWithinLimits, Gap, IsFirst, IsCut}
+use Rattle.sieve_text.specs.Tokens.{kind_at, token_at, Reads}
+use Rattle.sieve_text.specs.TokenGrammar.{Gap, IsToken, IsFirst, IsCut}
 use Rattle.sieve_text.proofs.GapLemmas.{drop_more}
 use Rattle.sieve_text.proofs.GapGrammar.{gap_sound, dropped}
 use Rattle.sieve_text.proofs.KindGrammar.{kind_sound}
 use Rattle.sieve_text.proofs.KindLemmas.{read_as, bound_parts}
-use Rattle.sieve_text.proofs.Longest.{lexeme_short}
+use Rattle.sieve_text.proofs.Longest.{lexeme_short, kind_apart}
 use Rattle.sieve_text.proofs.WithinLemmas.{token_parts}
 
 -- where no token follows, the gap goes on to the end
@@ -50,7 +50,7 @@ last_gap bs h =
     append_nil (b ∷ bs) = ap (λ cs. b ∷ cs) (append_nil bs)
 
 -- one token, and what is behind it
-token_cut : (script : List ℕ) (at : ℕ) (t : Token) → token_at script at ≡ Ok (Some t) → IsFirst at (drop at script) t (drop t.end script)
+pub token_cut : (script : List ℕ) (at : ℕ) (t : Token) → token_at script at ≡ Ok (Some t) → IsFirst at (drop at script) t (drop t.end script)
 token_cut script at t e =
     let p = token_parts script at t e in
     let g = gap_sound (drop at script) in
@@ -64,17 +64,17 @@ token_cut script at t e =
       gap_is = subst (λ cs. Gap g.gap cs) (sym rest ∙ k.cut) g.gap_is;
       start = p.begins ∙ ap (λ n. at + n) (sym g.long);
       end = p.ends ∙ ap (λ n. t.start + n) (sym k.long);
-      spelled = subst (λ (kind : TokenKind). Lexeme kind k.octets k.behind) (sym p.says) k.spelled;
-      limited = subst IsWithinLimits (sym p.says) k.limited;
-      longest = λ kind more others same lexeme. (let s = lexeme_short kind more others p.kind lexeme (sym (ap kind_at (k.cut ∙ same)) ∙ p.read) in let l = k.long in omega arith);
+      token = subst (λ (kind : TokenKind). IsToken kind k.octets k.behind) (sym p.says) (record {
+        spelled = k.spelled;
+        longest = λ kind more others same lexeme. (let s = lexeme_short kind more others p.kind lexeme (sym (ap kind_at (k.cut ∙ same)) ∙ p.read) in let l = k.long in omega arith);
+        apart = kind_apart p.kind.0 k.octets k.behind k.spelled p.kind.1 (sym (ap kind_at k.cut) ∙ p.read);
+        limited = k.limited;
+      });
     })
 
-cut_from : (script : List ℕ) (at : ℕ) (ts : List Token) (end : ℕ) → Reads script at ts end → token_at script end ≡ Ok None → IsCut at (drop at script) ts
+pub cut_from : (script : List ℕ) (at : ℕ) (ts : List Token) (end : ℕ) → Reads script at ts end → token_at script end ≡ Ok None → IsCut at (drop at script) ts
 cut_from script at [] end h e =
     let l = at_end script at (rw h e) in
     let d = length-drop at script in
     last_gap (drop at script) (omega arith)
 cut_from script at (t ∷ ts) end h e = (drop t.end script, token_cut script at t h.0, cut_from script t.end ts end h.1 e)
-
-pub scan_cut : (script : List ℕ) (ts : List Token) → IsScan script ts → IsCut 0 script ts
-scan_cut script ts h = cut_from script 0 ts h.1.0 h.1.1 h.1.2

@@ -28,11 +28,11 @@ prefix_ends p (b ∷ bs) = elim (cases_Bool (p b)) [
 ]
 
 -- behind a star, or not
-abbrev before : Bool → List ℕ → List ℕ
+abbrev pub before : Bool → List ℕ → List ℕ
 before true bs = 42 ∷ bs
 before false bs = bs
 
-closes_behind : (b : ℕ) (bs : List ℕ) → closes (before (b == 42) bs) ≡ false → closes (b ∷ bs) ≡ false
+pub closes_behind : (b : ℕ) (bs : List ℕ) → closes (before (b == 42) bs) ≡ false → closes (b ∷ bs) ≡ false
 closes_behind b bs h = elim (cases_Bool (b == 42)) [
   | inl e ↦ rw e (rw e at h)
   | inr e ↦ rw e (rw e at h)
@@ -156,8 +156,9 @@ pub record IsGap (bs : List ℕ) : Type 0 where
   pub cut : bs ≡ gap ++ rest
   pub long : length gap ≡ gap_len 0 bs
   pub gap_is : Gap gap rest
+  pub stops : gap_len 0 rest ≡ 0
 
-white_more : (b : ℕ) (bs : List ℕ) → is_white b ≡ true → gap_len 0 (b ∷ bs) ≡ suc (gap_len 0 bs)
+pub white_more : (b : ℕ) (bs : List ℕ) → is_white b ≡ true → gap_len 0 (b ∷ bs) ≡ suc (gap_len 0 bs)
 unfolding gap_len
 white_more b bs w = rw w refl
 
@@ -166,7 +167,7 @@ dropped bs front back e n l = rw (e, ← l) (drop-append_seam front back)
 
 gap_from : (turns : ℕ) (bs : List ℕ) → length bs < turns → IsGap bs
 gap_from zero bs enough = absurd (omega arith)
-gap_from (suc turns) [] enough = record { gap = []; rest = []; cut = refl; long = sym (gap_nothing [] refl); gap_is = gap_end [] }
+gap_from (suc turns) [] enough = record { gap = []; rest = []; cut = refl; long = sym (gap_nothing [] refl); gap_is = gap_end []; stops = gap_nothing [] refl }
 gap_from (suc turns) (b ∷ bs) enough = elim (cases_Bool (is_white b)) [
   | inl w ↦ (let r = gap_from turns bs (omega arith) in record {
     gap = b ∷ r.gap;
@@ -174,6 +175,7 @@ gap_from (suc turns) (b ∷ bs) enough = elim (cases_Bool (is_white b)) [
     cut = ap (λ cs. b ∷ cs) r.cut;
     long = ap suc r.long ∙ sym (white_more b bs w);
     gap_is = gap_white b r.gap r.rest w r.gap_is;
+    stops = r.stops;
   })
   | inr w ↦ elim (cases_lt 0 (comment_len (b ∷ bs))) [
     | inl some ↦ (
@@ -190,8 +192,9 @@ gap_from (suc turns) (b ∷ bs) enough = elim (cases_Bool (is_white b)) [
           cut = k.cut ∙ ap (λ cs. k.comment ++ cs) r.cut ∙ sym (append_assoc k.comment r.gap r.rest);
           long = (let g = rw behind at m in omega (arith, length-append k.comment r.gap));
           gap_is = k.joins r.gap r.rest r.cut r.gap_is;
+          stops = r.stops;
         })
-    | inr none ↦ record { gap = []; rest = b ∷ bs; cut = refl; long = sym (gap_none (b ∷ bs) w (omega arith)); gap_is = gap_end (b ∷ bs) }
+    | inr none ↦ record { gap = []; rest = b ∷ bs; cut = refl; long = sym (gap_none (b ∷ bs) w (omega arith)); gap_is = gap_end (b ∷ bs); stops = gap_none (b ∷ bs) w (omega arith) }
   ]
 ]
 

@@ -14,8 +14,9 @@ use Rattle.sieve_text.specs.declared.fault.ScanRefusal.TheVariants.{NoToken, Str
 use Rattle.sieve_text.specs.Octets.{is_blank, is_start, is_word, not_lf, begins, begins_with, line_end_len}
 use Rattle.sieve_text.specs.Strings.{quoted_len, unescaped, quoted_value, begins_as, begins_text, opening_end_at, is_last_line, lines_len, unstuffed, lines_value}
 use Rattle.sieve_text.specs.Tokens.{mark_of, lines_at, multi_line_at, factor_at, kind_at}
-use Rattle.sieve_text.specs.TokenGrammar.{IsName, QuotedText, quoted_end, quoted_plain, quoted_pair, IsLineEnd, is_dot, without_dot, Lines, no_lines, line, Lexeme, IsWithinLimits}
+use Rattle.sieve_text.specs.TokenGrammar.{IsName, QuotedText, quoted_end, quoted_plain, quoted_pair, IsLineEnd, is_dot, without_dot, Lines, no_lines, line, IsTextColon, IsHashComment, IsQuoted, IsMultiLine, Lexeme, IsWithinLimits}
 use Rattle.sieve_text.proofs.GapLemmas.{drop_more}
+use Rattle.sieve_text.proofs.GrammarParts.{mark_octet, quantifier_taken}
 use Rattle.sieve_text.proofs.GapGrammar.{prefix_passes}
 use Rattle.sieve_text.proofs.KindLemmas.{tested, same_kind, no_kind, quoted_parts, lines_parts, multi_line_parts, tag_parts, number_parts, mark_parts, branch, lines, name, digits, colon, quote, one}
 use Rattle.sieve_text.proofs.WithinLemmas.{line_end_within, factor_within, one_more, nothing_here, text_within}
@@ -64,19 +65,6 @@ tag_sound b bs e h = record {
 }
 
 -- numbers
-factor_taken : (bs : List ℕ) → factor_at (take (factor_at bs).1 bs) ≡ ((factor_at bs).0, length (take (factor_at bs).1 bs))
-factor_taken [] = refl
-factor_taken (b ∷ bs) = elim (cases_Bool ((b == 75) || (b == 107))) [
-  | inl h ↦ rw (h, h) refl
-  | inr h ↦ elim (cases_Bool ((b == 77) || (b == 109))) [
-    | inl h1 ↦ rw (h, h1, h, h1) refl
-    | inr h1 ↦ elim (cases_Bool ((b == 71) || (b == 103))) [
-      | inl h2 ↦ rw (h, h1, h2, h, h1, h2) refl
-      | inr h2 ↦ rw (h, h1, h2) refl
-    ]
-  ]
-]
-
 number_sound : (bs : List ℕ) → 0 < prefix_len is_ascii_digit bs → digits_value 10 (take (prefix_len is_ascii_digit bs) bs) * (factor_at (drop (prefix_len is_ascii_digit bs) bs)).0 ≤ 9223372036854775807 → IsSpelled bs (kinds.Number (digits_value 10 (take (prefix_len is_ascii_digit bs) bs) * (factor_at (drop (prefix_len is_ascii_digit bs) bs)).0), prefix_len is_ascii_digit bs + (factor_at (drop (prefix_len is_ascii_digit bs) bs)).1)
 number_sound bs some small =
     let n : ℕ = prefix_len is_ascii_digit bs in
@@ -96,7 +84,7 @@ number_sound bs some small =
         cut = refl;
         some = omega arith;
         all = prefix_passes is_ascii_digit bs;
-        counts = factor_taken rest;
+        counts = quantifier_taken rest;
         says = refl;
       };
       limited = small;
@@ -127,8 +115,19 @@ quoted_text (b ∷ c ∷ bs) h = elim (cases_Bool (b == 34)) [
   ])
 ]
 
-quoted_sound : (b : ℕ) (bs : List ℕ) → b ≡ 34 → quoted_len false bs < length bs → length (quoted_value (take (quoted_len false bs) bs)) ≤ 65535 → IsSpelled (b ∷ bs) (kinds.StringValue (quoted_value (take (quoted_len false bs) bs)), quoted_len false bs + 2)
-quoted_sound b bs e h small =
+-- a string that stands here on so many octets, of any length
+pub record IsString (bs value : List ℕ) (n : ℕ) : Type 0 where
+  pub octets : List ℕ
+  pub behind : List ℕ
+  pub cut : bs ≡ octets ++ behind
+  pub long : length octets ≡ n
+  pub spelled : IsQuoted value octets ⊎ IsMultiLine value octets behind
+
+string_spelled : (bs value : List ℕ) (n : ℕ) → IsString bs value n → length value ≤ 65535 → IsSpelled bs (kinds.StringValue value, n)
+string_spelled bs value n s small = record { octets = s.octets; behind = s.behind; cut = s.cut; long = s.long; spelled = s.spelled; limited = small }
+
+pub quoted_cut : (b : ℕ) (bs : List ℕ) → b ≡ 34 → quoted_len false bs < length bs → IsString (b ∷ bs) (quoted_value (take (quoted_len false bs) bs)) (quoted_len false bs + 2)
+quoted_cut b bs e h =
     let n : ℕ = quoted_len false bs in
     let t = quoted_text bs h in
     let whole : bs ≡ (take n bs ++ 34 ∷ []) ++ drop (suc n) bs = sym (take-append-drop n bs) ∙ ap (λ cs. take n bs ++ cs) t.1 ∙ sym (append_assoc (take n bs) (34 ∷ []) (drop (suc n) bs)) in
@@ -145,7 +144,6 @@ quoted_sound b bs e h small =
         spells = t.0;
         says = refl;
       });
-      limited = small;
     }
 
 -- multi-line strings: the lines, each with its LF
@@ -161,7 +159,7 @@ line_rest (b ∷ bs) h = elim (cases_Bool (b == 10)) [
       rw (e, one) (omega arith))
 ]
 
-line_alone : (bs : List ℕ) → length bs ≤ prefix_len not_lf bs → lines_len false bs ≡ length bs
+pub line_alone : (bs : List ℕ) → length bs ≤ prefix_len not_lf bs → lines_len false bs ≡ length bs
 unfolding lines_len
 line_alone [] h = refl
 line_alone (b ∷ bs) h = elim (cases_Bool (b == 10)) [
@@ -244,7 +242,7 @@ dot_line (b ∷ c ∷ d ∷ bs) rest h =
     rw (suc_eqb (suc (length (bs ++ 10 ∷ rest))), not-true (c == 10) q.0, not-true (d == 10) r.0) (other_test (b == 46) (c == 13))
 
 -- an LF stands behind a line's octets
-at_line_feed : (bs : List ℕ) → prefix_len not_lf bs < length bs → drop (prefix_len not_lf bs) bs ≡ 10 ∷ drop (suc (prefix_len not_lf bs)) bs
+pub at_line_feed : (bs : List ℕ) → prefix_len not_lf bs < length bs → drop (prefix_len not_lf bs) bs ≡ 10 ∷ drop (suc (prefix_len not_lf bs)) bs
 at_line_feed [] h = absurd (omega arith)
 at_line_feed (b ∷ bs) h = elim (cases_Bool (b == 10)) [
   | inl e ↦ rw e (ap (λ c. c ∷ bs) (eqb-true b 10 e))
@@ -286,7 +284,7 @@ lines_from (suc turns) bs enough h = elim (cases_Bool (is_last_line bs)) [
 ]
 
 -- a line end, or the script's end
-line_end_taken : (bs : List ℕ) → 0 < line_end_len bs → IsLineEnd (take (line_end_len bs) bs)
+pub line_end_taken : (bs : List ℕ) → 0 < line_end_len bs → IsLineEnd (take (line_end_len bs) bs)
 line_end_taken [] h = absurd (omega arith)
 line_end_taken (b ∷ []) h = elim (cases_Bool (b == 10)) [
   | inl e ↦ rw e (inl (ap (λ c. c ∷ []) (eqb-true b 10 e)))
@@ -366,7 +364,7 @@ bare_opening bs some = record {
   end_is = line_end_taken bs some;
 }
 
-opening_sound : (bs : List ℕ) (n : ℕ) → opening_end_at bs ≡ Ok n → IsOpening bs n
+pub opening_sound : (bs : List ℕ) (n : ℕ) → opening_end_at bs ≡ Ok n → IsOpening bs n
 opening_sound bs n e = elim (tested (length bs == 0) (Err StringNotClosed) _ n e) [
   | inl h ↦ absurd (no_kind StringNotClosed n h.1)
   | inr h ↦ elim (tested (begins_with 35 bs) (if nat_lt (prefix_len not_lf bs) (length bs) then Ok (suc (prefix_len not_lf bs)) else Err StringNotClosed) _ n h.1) [
@@ -382,7 +380,7 @@ opening_sound bs n e = elim (tested (length bs == 0) (Err StringNotClosed) _ n e
 ]
 
 -- "text:"
-word_taken : (xs bs : List ℕ) → begins_as xs bs ≡ true → map to_ascii_lowercase (take (length xs) bs) ≡ xs
+pub word_taken : (xs bs : List ℕ) → begins_as xs bs ≡ true → map to_ascii_lowercase (take (length xs) bs) ≡ xs
 word_taken [] bs h = refl
 word_taken (x ∷ xs) [] h = absurd (false≢true h)
 word_taken (x ∷ xs) (b ∷ bs) h =
@@ -395,11 +393,10 @@ word_taken (x ∷ xs) (b ∷ bs) h =
 joined : (bs word blanks comment end body last behind rest more : List ℕ) → bs ≡ word ++ (blanks ++ (comment ++ (end ++ rest))) → rest ≡ body ++ 46 ∷ more → more ≡ last ++ behind → bs ≡ (word ++ (blanks ++ (comment ++ (end ++ (body ++ 46 ∷ last))))) ++ behind
 joined bs word blanks comment end body last behind rest more e f g = rw (e, f, g) (sym (simp append_assoc))
 
-lines_spelled : (bs word blanks comment end rest : List ℕ) → bs ≡ word ++ (blanks ++ (comment ++ (end ++ rest))) → map to_ascii_lowercase word ≡ codes "text:" → list_all is_blank blanks ≡ true → (comment ≡ []) ⊎ ((begins_with 35 comment ≡ true) × (list_all not_lf comment ≡ true)) → IsLineEnd end → (before : ℕ) → before ≡ length word + (length blanks + (length comment + length end)) → (k : TokenKind × ℕ) → lines_at before rest ≡ Ok k → IsSpelled bs k
-lines_spelled bs word blanks comment end rest whole w b c en before count k e =
-    let p = lines_parts before rest k e in
+pub lines_cut : (bs word blanks comment end rest : List ℕ) → bs ≡ word ++ (blanks ++ (comment ++ (end ++ rest))) → IsTextColon word → list_all is_blank blanks ≡ true → IsHashComment comment → IsLineEnd end → (before : ℕ) → before ≡ length word + (length blanks + (length comment + length end)) → lines_len true rest < length rest → IsString bs (lines_value (take (lines_len true rest) rest)) (before + (lines_len true rest + (1 + line_end_len (drop (lines_len true rest + 1) rest))))
+lines_cut bs word blanks comment end rest whole w b c en before count some =
     let n : ℕ = lines_len true rest in
-    let last = last_sound (drop n rest) (last_line true rest p.0) in
+    let last = last_sound (drop n rest) (last_line true rest some) in
     let more : List ℕ = last.rest in
     let m : ℕ = line_end_len more in
     let l = length-take-le n rest (omega arith) in
@@ -407,7 +404,7 @@ lines_spelled bs word blanks comment end rest whole w b c en before count k e =
     let behind : drop (n + 1) rest ≡ more = drop_more n 1 rest ∙ ap (λ cs. drop 1 cs) last.cut in
     let pieces : rest ≡ take n rest ++ 46 ∷ more = sym (take-append-drop n rest) ∙ ap (λ cs. take n rest ++ cs) last.cut in
     let count_is : before + (n + (1 + line_end_len (drop (n + 1) rest))) ≡ before + (n + (1 + m)) = ap (λ cs. before + (n + (1 + line_end_len cs))) behind in
-    spelled_as bs (kinds.StringValue (lines_value (take n rest)), before + (n + (1 + line_end_len (drop (n + 1) rest)))) k p.2 (record {
+    record {
       octets = word ++ (blanks ++ (comment ++ (end ++ (take n rest ++ 46 ∷ take m more))));
       behind = drop m more;
       cut = joined bs word blanks comment end (take n rest) (take m more) (drop m more) rest more whole pieces (sym (take-append-drop m more));
@@ -425,12 +422,18 @@ lines_spelled bs word blanks comment end rest whole w b c en before count k e =
         blanks_are = b;
         comment_is = c;
         end_is = en;
-        body_is = lines_from (suc (length rest)) rest (omega arith) p.0;
+        body_is = lines_from (suc (length rest)) rest (omega arith) some;
         last_is = last.ends;
         says = refl;
       });
-      limited = p.1;
-    })
+    }
+
+lines_spelled : (bs word blanks comment end rest : List ℕ) → bs ≡ word ++ (blanks ++ (comment ++ (end ++ rest))) → IsTextColon word → list_all is_blank blanks ≡ true → IsHashComment comment → IsLineEnd end → (before : ℕ) → before ≡ length word + (length blanks + (length comment + length end)) → (k : TokenKind × ℕ) → lines_at before rest ≡ Ok k → IsSpelled bs k
+lines_spelled bs word blanks comment end rest whole w b c en before count k e =
+    let p = lines_parts before rest k e in
+    let n : ℕ = lines_len true rest in
+    let m : ℕ = before + (n + (1 + line_end_len (drop (n + 1) rest))) in
+    spelled_as bs (kinds.StringValue (lines_value (take n rest)), m) k p.2 (string_spelled bs (lines_value (take n rest)) m (lines_cut bs word blanks comment end rest whole w b c en before count p.0) p.1)
 
 text_sound : (bs : List ℕ) (k : TokenKind × ℕ) → begins_text bs ≡ true → multi_line_at (drop 5 bs) ≡ Ok k → IsSpelled bs k
 text_sound bs k t e =
@@ -454,8 +457,8 @@ kind_sound (b ∷ bs) k e = elim (branch b bs k e) [
   | name t s h ↦ spelled_as (b ∷ bs) (kinds.Identifier (take (prefix_len is_word (b ∷ bs)) (b ∷ bs)), prefix_len is_word (b ∷ bs)) k h (name_sound (b ∷ bs) s)
   | digits t s h ↦ (let p = number_parts (b ∷ bs) k h in spelled_as (b ∷ bs) _ k p.1 (number_sound (b ∷ bs) (one_more is_ascii_digit b bs s) p.0))
   | colon t h ↦ (let p = tag_parts bs k h in spelled_as (b ∷ bs) (kinds.Tag (take (prefix_len is_word bs) bs), suc (prefix_len is_word bs)) k p.1 (tag_sound b bs t p.0))
-  | quote t h ↦ (let p = quoted_parts bs k h in spelled_as (b ∷ bs) (kinds.StringValue (quoted_value (take (quoted_len false bs) bs)), quoted_len false bs + 2) k p.2 (quoted_sound b bs t p.0 p.1))
+  | quote t h ↦ (let p = quoted_parts bs k h in spelled_as (b ∷ bs) (kinds.StringValue (quoted_value (take (quoted_len false bs) bs)), quoted_len false bs + 2) k p.2 (string_spelled (b ∷ bs) (quoted_value (take (quoted_len false bs) bs)) (quoted_len false bs + 2) (quoted_cut b bs t p.0) p.1))
   | one s d c q h ↦ (
       let p = mark_parts (mark_of b) k h in
-      spelled_as (b ∷ bs) (kinds.Mark p.0, 1) k p.2 (record { octets = b ∷ []; behind = bs; cut = refl; long = refl; spelled = (b, refl, p.1); limited = tt }))
+      spelled_as (b ∷ bs) (kinds.Mark p.0, 1) k p.2 (record { octets = b ∷ []; behind = bs; cut = refl; long = refl; spelled = ap (λ c. c ∷ []) (mark_octet b p.0 p.1); limited = tt }))
 ]

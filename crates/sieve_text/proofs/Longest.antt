@@ -3,17 +3,19 @@ use Rattle.std.proofs.Common.{◌≡◌, ℕ, suc, ◌+◌, ◌<◌, ◌≤◌, 
 use Rattle.std.specs.Prelude.{◌==◌, ◌||◌, codes}
 use Rattle.std.specs.List.{prefix_len, list_all}
 use Rattle.std.specs.Char.{is_ascii_digit, to_ascii_lowercase}
-use Rattle.std.proofs.lemmas.Bool.{false≢true, true≢false, both_ways, cases_lt, eqb-true, eq-eqb, ne_eqb, lt-ltb, le-ltb, leb-true, lt-leb, and_parts, and_from}
+use Rattle.std.proofs.lemmas.Bool.{false≢true, true≢false, both_ways, cases_Bool, cases_lt, eqb-true, eq-eqb, ne_eqb, lt-ltb, le-ltb, leb-true, lt-leb, and_parts, and_from}
 use Rattle.std.proofs.lemmas.List.{length-map}
 use Rattle.std.proofs.lemmas.List.Folds.{list_all-append}
 use Rattle.std.proofs.Math.Seq.{drop-append_seam, drop-append-add}
 use Rattle.sieve_syntax.specs.declared.token.TokenKind.{TokenKind}
 use Rattle.sieve_syntax.specs.declared.token.TokenKind.TheVariants as kinds
 use Rattle.sieve_text.specs.Octets.{is_blank, is_start, is_word, not_lf, begins, begins_with, line_end_len}
-use Rattle.sieve_text.specs.Strings.{quoted_len, begins_as, begins_text, opening_end_at, is_last_line, lines_len}
+use Rattle.sieve_text.specs.Strings.{quoted_len, begins_as, begins_text, opening_end_at, is_last_line, lines_len, lines_value}
 use Rattle.sieve_text.specs.Tokens.{lines_at, multi_line_at, factor_at, kind_at}
-use Rattle.sieve_text.specs.TokenGrammar.{IsName, QuotedText, quoted_end, quoted_plain, quoted_pair, IsLineEnd, Lines, no_lines, line, IsMultiLine, Lexeme}
+use Rattle.sieve_text.specs.TokenGrammar.{IsName, QuotedText, quoted_end, quoted_plain, quoted_pair, IsLineEnd, Lines, no_lines, line, IsMultiLine, Lexeme, IsApart}
+use Rattle.sieve_text.proofs.GapFound.{exactly}
 use Rattle.sieve_text.proofs.GapLemmas.{drop_more}
+use Rattle.sieve_text.proofs.GrammarParts.{quantifier_counts}
 use Rattle.sieve_text.proofs.KindLemmas.{same_kind, quoted_parts, lines_parts, multi_line_parts, tag_parts, number_parts, branch, lines, name, digits, colon, quote, one}
 use Rattle.sieve_text.proofs.WithinLemmas.{if_le_1, kind_within, multi_line_within}
 use Rattle.sieve_text.proofs.KindGrammar.{line_rest, no_last, last_here, dot_line, suc_eqb}
@@ -25,14 +27,6 @@ at_least p (x ∷ xs) ys h =
     let r = at_least p xs ys t.1 in
     rw t.0 (omega arith)
 
-exactly : (p : ℕ → Bool) (xs ys : List ℕ) → list_all p xs ≡ true → begins p ys ≡ false → prefix_len p (xs ++ ys) ≡ length xs
-exactly p [] [] h n = refl
-exactly p [] (y ∷ ys) h n = rw n refl
-exactly p (x ∷ xs) ys h n =
-    let t = and_parts (p x) (list_all p xs) h in
-    let r = exactly p xs ys t.1 n in
-    rw t.0 (omega arith)
-
 ends_at : (k l : TokenKind × ℕ) → k ≡ l → k.1 ≡ l.1
 ends_at k l e = ap (λ (k : TokenKind × ℕ). k.1) e
 
@@ -40,16 +34,16 @@ ends_at k l e = ap (λ (k : TokenKind × ℕ). k.1) e
 digit_bounds : (b : ℕ) → is_ascii_digit b ≡ true → (48 ≤ b) × (b ≤ 57)
 digit_bounds b h = let p = and_parts (nat_le 48 b) (nat_le b 57) h in (leb-true 48 b p.0, leb-true b 57 p.1)
 
-lower_below : (b : ℕ) → b < 65 → to_ascii_lowercase b ≡ b
+pub lower_below : (b : ℕ) → b < 65 → to_ascii_lowercase b ≡ b
 lower_below b h = rw (lt-ltb b 65 h) refl
 
-lower_above : (b : ℕ) → 91 ≤ b → to_ascii_lowercase b ≡ b
+pub lower_above : (b : ℕ) → 91 ≤ b → to_ascii_lowercase b ≡ b
 lower_above b h = rw (le-ltb b 65 (omega arith), le-ltb b 91 h) refl
 
-lower_between : (b : ℕ) → 65 ≤ b → b < 91 → to_ascii_lowercase b ≡ b + 32
+pub lower_between : (b : ℕ) → 65 ≤ b → b < 91 → to_ascii_lowercase b ≡ b + 32
 lower_between b h k = rw (le-ltb b 65 h, lt-ltb b 91 k) refl
 
-colon_only : (b : ℕ) → to_ascii_lowercase b ≡ 58 → b ≡ 58
+pub colon_only : (b : ℕ) → to_ascii_lowercase b ≡ 58 → b ≡ 58
 colon_only b e = elim (cases_lt b 65) [
   | inl h ↦ sym (lower_below b h) ∙ e
   | inr h ↦ elim (cases_lt b 91) [
@@ -58,7 +52,7 @@ colon_only b e = elim (cases_lt b 65) [
   ]
 ]
 
-t_starts : (b : ℕ) → to_ascii_lowercase b ≡ 116 → is_start b ≡ true
+pub t_starts : (b : ℕ) → to_ascii_lowercase b ≡ 116 → is_start b ≡ true
 t_starts b e = elim (cases_lt b 65) [
   | inl h ↦ (let l = lower_below b h in absurd (omega arith))
   | inr h ↦ elim (cases_lt b 91) [
@@ -67,21 +61,21 @@ t_starts b e = elim (cases_lt b 65) [
   ]
 ]
 
-digit_no_t : (b : ℕ) → is_ascii_digit b ≡ true → to_ascii_lowercase b ≡ 116 → ⊥
+pub digit_no_t : (b : ℕ) → is_ascii_digit b ≡ true → to_ascii_lowercase b ≡ 116 → ⊥
 digit_no_t b h e = let d = digit_bounds b h in let l = lower_below b (omega arith) in omega arith
 
-digit_no_start : (b : ℕ) → is_ascii_digit b ≡ true → is_start b ≡ false
+pub digit_no_start : (b : ℕ) → is_ascii_digit b ≡ true → is_start b ≡ false
 digit_no_start b h =
     let d = digit_bounds b h in
     rw (lt-leb 65 b (omega arith), lt-leb 97 b (omega arith), ne_eqb b 95 (λ e. omega arith)) refl
 
-digit_no_factor : (b : ℕ) (bs : List ℕ) → is_ascii_digit b ≡ true → (factor_at (b ∷ bs)).1 ≡ 0
+pub digit_no_factor : (b : ℕ) (bs : List ℕ) → is_ascii_digit b ≡ true → (factor_at (b ∷ bs)).1 ≡ 0
 digit_no_factor b bs h =
     let d = digit_bounds b h in
     rw (ne_eqb b 75 (λ e. omega arith), ne_eqb b 107 (λ e. omega arith), ne_eqb b 77 (λ e. omega arith), ne_eqb b 109 (λ e. omega arith), ne_eqb b 71 (λ e. omega arith), ne_eqb b 103 (λ e. omega arith)) refl
 
 -- an identifier
-no_word : (b : ℕ) → to_ascii_lowercase b ≡ 58 → is_word b ≡ true → ⊥
+pub no_word : (b : ℕ) → to_ascii_lowercase b ≡ 58 → is_word b ≡ true → ⊥
 no_word b e h = false≢true (rw (colon_only b e) at h)
 
 before_colon : (xs behind : List ℕ) → list_all is_word xs ≡ true → begins_text (xs ++ behind) ≡ true → length xs ≤ 4
@@ -133,7 +127,7 @@ tag_short xs behind k h e = elim (branch 58 (xs ++ behind) k e) [
 factor_short : (b : ℕ) (bs : List ℕ) → (factor_at (b ∷ bs)).1 ≤ 1
 factor_short b bs = if_le_1 ((b == 75) || (b == 107)) (1024, 1) _ 1 (omega arith) (if_le_1 ((b == 77) || (b == 109)) (1048576, 1) _ 1 (omega arith) (if_le_1 ((b == 71) || (b == 103)) (1073741824, 1) (1, 0) 1 (omega arith) (omega arith)))
 
-digits_short : (ds quantifier behind : List ℕ) (factor : ℕ) → list_all is_ascii_digit ds ≡ true → factor_at quantifier ≡ (factor, length quantifier) → length ds + length quantifier ≤ prefix_len is_ascii_digit (ds ++ (quantifier ++ behind)) + (factor_at (drop (prefix_len is_ascii_digit (ds ++ (quantifier ++ behind))) (ds ++ (quantifier ++ behind)))).1
+pub digits_short : (ds quantifier behind : List ℕ) (factor : ℕ) → list_all is_ascii_digit ds ≡ true → factor_at quantifier ≡ (factor, length quantifier) → length ds + length quantifier ≤ prefix_len is_ascii_digit (ds ++ (quantifier ++ behind)) + (factor_at (drop (prefix_len is_ascii_digit (ds ++ (quantifier ++ behind))) (ds ++ (quantifier ++ behind)))).1
 digits_short ds [] behind factor h f = let l = at_least is_ascii_digit ds behind h in omega arith
 digits_short ds (q ∷ more) behind factor h f =
     let one_octet : (factor_at (q ∷ more)).1 ≡ suc (length more) = ap (λ (x : ℕ × ℕ). x.1) f in
@@ -165,7 +159,7 @@ number_short (d ∷ ds) quantifier behind factor k some h f e =
     ]
 
 -- a quoted string
-quoted_whole : (body text : List ℕ) → QuotedText body text → (behind : List ℕ) → quoted_len false (body ++ 34 ∷ behind) ≡ length body
+pub quoted_whole : (body text : List ℕ) → QuotedText body text → (behind : List ℕ) → quoted_len false (body ++ 34 ∷ behind) ≡ length body
 unfolding quoted_len
 quoted_whole _ _ quoted_end behind = refl
 quoted_whole _ _ (quoted_plain b bs says n34 n92 q) behind = rw (ne_eqb b 34 n34, ne_eqb b 92 n92) (ap suc (quoted_whole bs says q behind))
@@ -186,7 +180,11 @@ quoted_short body text behind k h e = elim (branch 34 (body ++ 34 ∷ behind) k 
 ]
 
 -- a multi-line string
-lines_whole : (body text : List ℕ) → Lines body text → (more : List ℕ) → is_last_line (46 ∷ more) ≡ true → lines_len true (body ++ 46 ∷ more) ≡ length body
+pub behind_line : (content rest : List ℕ) → drop (suc (length content)) (content ++ 10 ∷ rest) ≡ rest
+behind_line [] rest = refl
+behind_line (c ∷ content) rest = behind_line content rest
+
+pub lines_whole : (body text : List ℕ) → Lines body text → (more : List ℕ) → is_last_line (46 ∷ more) ≡ true → lines_len true (body ++ 46 ∷ more) ≡ length body
 lines_whole _ _ no_lines more h = last_here (46 ∷ more) h
 lines_whole _ _ (line content bs says all dot r) more h =
     let rest : List ℕ = bs ++ 46 ∷ more in
@@ -200,10 +198,6 @@ lines_whole _ _ (line content bs says all dot r) more h =
     let r1 = lines_whole bs says r more h in
     let l1 = length-append content (10 ∷ bs) in
     rw a (omega arith)
-  where
-    behind_line : (content rest : List ℕ) → drop (suc (length content)) (content ++ 10 ∷ rest) ≡ rest
-    behind_line [] rest = refl
-    behind_line (c ∷ content) rest = behind_line content rest
 
 line_feed_opens : (rest : List ℕ) → opening_end_at (10 ∷ rest) ≡ Ok 1
 line_feed_opens rest = rw (suc_eqb (length rest)) refl
@@ -214,11 +208,11 @@ return_opens rest = rw (suc_eqb (suc (length rest))) refl
 hash_opens : (bs : List ℕ) (n : ℕ) → begins_with 35 bs ≡ true → prefix_len not_lf bs ≡ n → n < length bs → opening_end_at bs ≡ Ok (suc n)
 hash_opens bs n h e l = rw (ne_eqb (length bs) 0 (λ z. omega arith), h, e, lt-ltb n (length bs) l) refl
 
-hash_first : (comment rest : List ℕ) → begins_with 35 comment ≡ true → (begins_with 35 (comment ++ rest) ≡ true) × (begins is_blank (comment ++ rest) ≡ false)
+pub hash_first : (comment rest : List ℕ) → begins_with 35 comment ≡ true → (begins_with 35 (comment ++ rest) ≡ true) × (begins is_blank (comment ++ rest) ≡ false)
 hash_first [] rest h = absurd (false≢true h)
 hash_first (b ∷ comment) rest h = (h, rw (eqb-true b 35 h) refl)
 
-opening_whole : (comment end rest : List ℕ) → (comment ≡ []) ⊎ ((begins_with 35 comment ≡ true) × (list_all not_lf comment ≡ true)) → IsLineEnd end → (opening_end_at (comment ++ (end ++ rest)) ≡ Ok (length comment + length end)) × (begins is_blank (comment ++ (end ++ rest)) ≡ false)
+pub opening_whole : (comment end rest : List ℕ) → (comment ≡ []) ⊎ ((begins_with 35 comment ≡ true) × (list_all not_lf comment ≡ true)) → IsLineEnd end → (opening_end_at (comment ++ (end ++ rest)) ≡ Ok (length comment + length end)) × (begins is_blank (comment ++ (end ++ rest)) ≡ false)
 opening_whole comment end rest (inl c) (inl e) = rw (c, e) (line_feed_opens rest, refl)
 opening_whole comment end rest (inl c) (inr e) = rw (c, e) (return_opens rest, refl)
 opening_whole comment end rest (inr c) (inl e) =
@@ -236,12 +230,12 @@ opening_whole comment end rest (inr c) (inr e) =
     let two : length comment + 2 ≡ suc (length (comment ++ 13 ∷ [])) = omega arith in
     rw (e, two) (hash_opens (comment ++ 13 ∷ 10 ∷ rest) (length (comment ++ 13 ∷ [])) f.0 n (omega arith), f.1)
 
-last_whole : (last behind : List ℕ) → IsLineEnd last ⊎ ((last ≡ []) × (behind ≡ [])) → (is_last_line (46 ∷ (last ++ behind)) ≡ true) × (length last ≤ line_end_len (last ++ behind))
+pub last_whole : (last behind : List ℕ) → IsLineEnd last ⊎ ((last ≡ []) × (behind ≡ [])) → (is_last_line (46 ∷ (last ++ behind)) ≡ true) × (length last ≤ line_end_len (last ++ behind))
 last_whole last behind (inl (inl e)) = rw (e, suc_eqb (length behind)) (refl, omega arith)
 last_whole last behind (inl (inr e)) = rw (e, suc_eqb (suc (length behind))) (refl, omega arith)
 last_whole last behind (inr e) = rw (e.0, e.1) (refl, omega arith)
 
-behind_opening : (comment end rest : List ℕ) → drop (length comment + length end) (comment ++ (end ++ rest)) ≡ rest
+pub behind_opening : (comment end rest : List ℕ) → drop (length comment + length end) (comment ++ (end ++ rest)) ≡ rest
 behind_opening comment end rest = drop-append-add comment (end ++ rest) (length end) ∙ drop-append_seam end rest
 
 -- behind "text:"
@@ -268,7 +262,7 @@ multi_line_whole blanks comment end body text last behind k b c en ls la e =
     let within = l.1 in
     omega arith
 
-begins_word : (xs word rest : List ℕ) → map to_ascii_lowercase word ≡ xs → begins_as xs (word ++ rest) ≡ true
+pub begins_word : (xs word rest : List ℕ) → map to_ascii_lowercase word ≡ xs → begins_as xs (word ++ rest) ≡ true
 begins_word [] word rest e = refl
 begins_word (x ∷ xs) [] rest e = cc
 begins_word (x ∷ xs) (b ∷ word) rest e =
@@ -323,11 +317,52 @@ lexeme_short (kinds.Identifier xs) octets behind k h e = rw h.0 (name_short xs b
 lexeme_short (kinds.Tag xs) octets behind k h e = rw h.0 (tag_short xs behind k h.1 (rw h.0 at e))
 lexeme_short (kinds.Number n) octets behind k h e =
     let l = length-append h.digits h.quantifier in
-    let s = number_short h.digits h.quantifier behind h.factor k h.some h.all h.counts (rw (h.cut, append_assoc) at e) in
+    let s = number_short h.digits h.quantifier behind h.factor k h.some h.all (quantifier_counts h.quantifier h.factor h.counts) (rw (h.cut, append_assoc) at e) in
     rw h.cut (omega arith)
 lexeme_short (kinds.StringValue value) octets behind k (inl h) e =
     let l = length-append h.body (34 ∷ []) in
     let s = quoted_short h.body h.text behind k h.spells (rw (h.cut, append_assoc) at e) in
     rw h.cut (omega arith)
 lexeme_short (kinds.StringValue value) octets behind k (inr h) e = multi_line_short octets value behind k h e
-lexeme_short (kinds.Mark mark) octets behind k h e = let w = kind_within (octets ++ behind) k e in rw h.1 (omega arith)
+lexeme_short (kinds.Mark mark) octets behind k h e = let w = kind_within (octets ++ behind) k e in rw h (omega arith)
+
+-- what is read as an identifier is no "text" before ":"
+word_begins : (ws xs behind : List ℕ) → map to_ascii_lowercase xs ≡ ws → begins_with 58 behind ≡ true → begins_as (ws ++ 58 ∷ []) (xs ++ behind) ≡ true
+word_begins [] [] [] e h = absurd (false≢true h)
+word_begins [] [] (b ∷ bs) e h = let is : b ≡ 58 = eqb-true b 58 h in rw is refl
+word_begins [] (x ∷ xs) behind e h = cc
+word_begins (w ∷ ws) [] behind e h = cc
+word_begins (w ∷ ws) (x ∷ xs) behind e h =
+    and_from (to_ascii_lowercase x == w) (begins_as (ws ++ 58 ∷ []) (xs ++ behind)) (eq-eqb (to_ascii_lowercase x) w (first (to_ascii_lowercase x) w (map to_ascii_lowercase xs) ws e)) (word_begins ws xs behind (others (to_ascii_lowercase x) w (map to_ascii_lowercase xs) ws e) h)
+  where
+    first : (a b : ℕ) (bs cs : List ℕ) → a ∷ bs ≡ b ∷ cs → a ≡ b
+    first a b bs cs e = cc
+
+    others : (a b : ℕ) (bs cs : List ℕ) → a ∷ bs ≡ b ∷ cs → bs ≡ cs
+    others a b bs cs e = cc
+
+name_apart : (xs behind : List ℕ) (n : ℕ) → IsName xs → kind_at (xs ++ behind) ≡ Ok (kinds.Identifier xs, n) → map to_ascii_lowercase xs ≡ codes "text" → begins_with 58 behind ≡ false
+name_apart [] behind n h e t = absurd (false≢true h.0)
+name_apart (b ∷ bs) behind n h e t = elim (cases_Bool (begins_with 58 behind)) [
+  | inr none ↦ none
+  | inl is ↦ (
+      let word = word_begins (codes "text") (b ∷ bs) behind t is in
+      elim (branch b (bs ++ behind) (kinds.Identifier (b ∷ bs), n) e) [
+        | lines x m ↦ (let p = multi_line_parts (drop 5 (b ∷ (bs ++ behind))) (kinds.Identifier (b ∷ bs), n) m in let q = lines_parts _ _ _ p.2 in absurd (no_string (lines_value (take (lines_len true _) _)) (b ∷ bs) (ap (λ (k : TokenKind × ℕ). k.0) q.2)))
+        | name x s m ↦ absurd (both_ways (begins_text (b ∷ (bs ++ behind))) x word)
+        | digits x s m ↦ absurd (both_ways (is_start b) x h.0)
+        | colon x m ↦ absurd (false≢true (rw x at h.0))
+        | quote x m ↦ absurd (false≢true (rw x at h.0))
+        | one s d c q m ↦ absurd (both_ways (is_start b) s h.0)
+      ])
+]
+  where
+    no_string : (value xs : List ℕ) → kinds.StringValue value ≡ kinds.Identifier xs → ⊥
+    no_string value xs e = cc
+
+pub kind_apart : (kind : TokenKind) (octets behind : List ℕ) → Lexeme kind octets behind → (n : ℕ) → kind_at (octets ++ behind) ≡ Ok (kind, n) → IsApart kind behind
+kind_apart (kinds.Identifier xs) octets behind h n e = name_apart xs behind n h.1 (rw h.0 at e)
+kind_apart (kinds.Tag xs) octets behind h n e = tt
+kind_apart (kinds.Number m) octets behind h n e = tt
+kind_apart (kinds.StringValue value) octets behind h n e = tt
+kind_apart (kinds.Mark mark) octets behind h n e = tt

@@ -1,21 +1,29 @@
 -- The grammar of scripts as sequences of gaps and tokens (RFC 5228, sections 2.2 to 2.4 and 8.1), apart from how they
 -- are found.
-use Rattle.std.specs.Prelude.{◌≡◌, ℕ, ◌+◌, ◌*◌, ◌<◌, ◌≤◌, ◌⊎◌, Bool, true, false, List, [], ◌∷◌, ◌++◌, map, length, Some, ◌==◌, ◌&&◌, ◌||◌, codes, if◌then◌else◌}
+use Rattle.std.specs.Prelude.{◌≡◌, ℕ, ◌+◌, ◌*◌, ◌<◌, ◌≤◌, ◌⊎◌, Bool, true, false, List, [], ◌∷◌, ◌++◌, map, length, ◌==◌, ◌&&◌, ◌||◌, codes, if◌then◌else◌}
 use Rattle.std.specs.List.{list_all}
 use Rattle.std.specs.Char.{is_ascii_digit, to_ascii_lowercase}
 use Rattle.std.specs.Str.Parse.{digits_value}
+use Rattle.sieve_syntax.specs.declared.token.Mark.{Mark}
+use Rattle.sieve_syntax.specs.declared.token.Mark.TheVariants.{Semicolon, OpenBrace, CloseBrace, OpenParen, CloseParen, OpenBracket, CloseBracket, Comma}
 use Rattle.sieve_syntax.specs.declared.token.TokenKind.{TokenKind}
 use Rattle.sieve_syntax.specs.declared.token.TokenKind.TheVariants as kinds
 use Rattle.sieve_syntax.specs.declared.token.Token.{Token}
 use Rattle.sieve_text.specs.Octets.{is_blank, is_white, is_start, is_word, not_lf, begins, begins_with}
 use Rattle.sieve_text.specs.Strings.{with_crlf}
-use Rattle.sieve_text.specs.Tokens.{mark_of, factor_at}
 
 -- (ALPHA / "_") *(ALPHA / DIGIT / "_")
 abbrev pub IsName : List ℕ → Type 0
 IsName name = (begins is_start name ≡ true) × (list_all is_word name ≡ true)
 
--- 1*DIGIT [QUANTIFIER]; where no quantifier stands its factor is 1
+-- QUANTIFIER = "K" / "M" / "G", in letters of either case: 2^10, 2^20 and 2^30
+pub data Quantifier : List ℕ → ℕ → Type 0 where
+  no_quantifier : Quantifier [] 1
+  kilo : (b : ℕ) → (b ≡ 75) ⊎ (b ≡ 107) → Quantifier (b ∷ []) 1024
+  mega : (b : ℕ) → (b ≡ 77) ⊎ (b ≡ 109) → Quantifier (b ∷ []) 1048576
+  giga : (b : ℕ) → (b ≡ 71) ⊎ (b ≡ 103) → Quantifier (b ∷ []) 1073741824
+
+-- 1*DIGIT [QUANTIFIER]
 pub record IsNumber (value : ℕ) (octets : List ℕ) : Type 0 where
   pub digits : List ℕ
   pub quantifier : List ℕ
@@ -23,10 +31,10 @@ pub record IsNumber (value : ℕ) (octets : List ℕ) : Type 0 where
   pub cut : octets ≡ digits ++ quantifier
   pub some : 0 < length digits
   pub all : list_all is_ascii_digit digits ≡ true
-  pub counts : factor_at quantifier ≡ (factor, length quantifier)
+  pub counts : Quantifier quantifier factor
   pub says : value ≡ digits_value 10 digits * factor
 
--- the text between quotation marks, and what it says: a quotation mark or backslash stands behind a backslash alone
+-- the text between quotation marks, and what it says: a quotation mark or backslash stands only after a backslash
 pub data QuotedText : List ℕ → List ℕ → Type 0 where
   quoted_end : QuotedText [] []
   quoted_plain : (b : ℕ) (bs says : List ℕ) → (b ≡ 34 → ⊥) → (b ≡ 92 → ⊥) → QuotedText bs says → QuotedText (b ∷ bs) (b ∷ says)
@@ -61,6 +69,14 @@ pub data Lines : List ℕ → List ℕ → Type 0 where
   no_lines : Lines [] []
   line : (content bs says : List ℕ) → list_all not_lf content ≡ true → is_dot content ≡ false → Lines bs says → Lines (content ++ 10 ∷ bs) (without_dot content ++ 10 ∷ says)
 
+-- "text:", in letters of either case
+abbrev pub IsTextColon : List ℕ → Type 0
+IsTextColon word = map to_ascii_lowercase word ≡ codes "text:"
+
+-- [hash-comment], without its line end
+abbrev pub IsHashComment : List ℕ → Type 0
+IsHashComment comment = (comment ≡ []) ⊎ ((begins_with 35 comment ≡ true) × (list_all not_lf comment ≡ true))
+
 -- "text:" *(SP / HTAB) [hash-comment] line-end lines "." line-end, where the script's end may stand for the last one
 pub record IsMultiLine (value octets behind : List ℕ) : Type 0 where
   pub word : List ℕ
@@ -71,13 +87,23 @@ pub record IsMultiLine (value octets behind : List ℕ) : Type 0 where
   pub text : List ℕ
   pub last : List ℕ
   pub cut : octets ≡ word ++ (blanks ++ (comment ++ (end ++ (body ++ 46 ∷ last))))
-  pub word_is : map to_ascii_lowercase word ≡ codes "text:"
+  pub word_is : IsTextColon word
   pub blanks_are : list_all is_blank blanks ≡ true
-  pub comment_is : (comment ≡ []) ⊎ ((begins_with 35 comment ≡ true) × (list_all not_lf comment ≡ true))
+  pub comment_is : IsHashComment comment
   pub end_is : IsLineEnd end
   pub body_is : Lines body text
   pub last_is : IsLineEnd last ⊎ ((last ≡ []) × (behind ≡ []))
   pub says : value ≡ with_crlf false text
+
+abbrev pub octet_of : Mark → ℕ
+octet_of Semicolon = 59
+octet_of OpenBrace = 123
+octet_of CloseBrace = 125
+octet_of OpenParen = 40
+octet_of CloseParen = 41
+octet_of OpenBracket = 91
+octet_of CloseBracket = 93
+octet_of Comma = 44
 
 -- the octets of a token, before others
 abbrev pub Lexeme : TokenKind → List ℕ → List ℕ → Type 0
@@ -85,7 +111,7 @@ Lexeme (kinds.Identifier name) octets behind = (octets ≡ name) × IsName name
 Lexeme (kinds.Tag name) octets behind = (octets ≡ 58 ∷ name) × IsName name
 Lexeme (kinds.Number n) octets behind = IsNumber n octets
 Lexeme (kinds.StringValue value) octets behind = IsQuoted value octets ⊎ IsMultiLine value octets behind
-Lexeme (kinds.Mark mark) octets behind = (b : ℕ) × (octets ≡ b ∷ []) × (mark_of b ≡ Some mark)
+Lexeme (kinds.Mark mark) octets behind = octets ≡ octet_of mark ∷ []
 
 -- a number is at most 2^63 - 1, a string has at most 65,535 octets
 abbrev pub IsWithinLimits : TokenKind → Type 0
@@ -94,6 +120,21 @@ IsWithinLimits (kinds.Tag name) = Unit {0}
 IsWithinLimits (kinds.Number n) = n ≤ 9223372036854775807
 IsWithinLimits (kinds.StringValue value) = length value ≤ 65535
 IsWithinLimits (kinds.Mark mark) = Unit {0}
+
+-- "text:" begins a multi-line string: the name "text", in letters of either case, is no identifier before ":"
+abbrev pub IsApart : TokenKind → List ℕ → Type 0
+IsApart (kinds.Identifier name) behind = map to_ascii_lowercase name ≡ codes "text" → begins_with 58 behind ≡ false
+IsApart (kinds.Tag name) behind = Unit {0}
+IsApart (kinds.Number n) behind = Unit {0}
+IsApart (kinds.StringValue value) behind = Unit {0}
+IsApart (kinds.Mark mark) behind = Unit {0}
+
+-- a token stands on these octets, before others: the longest that fits
+pub record IsToken (kind : TokenKind) (octets behind : List ℕ) : Type 0 where
+  pub spelled : Lexeme kind octets behind
+  pub longest : (other : TokenKind) (more rest : List ℕ) → octets ++ behind ≡ more ++ rest → Lexeme other more rest → length more ≤ length octets
+  pub apart : IsApart kind behind
+  pub limited : IsWithinLimits kind
 
 -- whether "*/" stands somewhere
 abbrev pub closes : List ℕ → Bool
@@ -108,7 +149,7 @@ pub data Gap : List ℕ → List ℕ → Type 0 where
   gap_hash : (text bs behind : List ℕ) → list_all not_lf text ≡ true → begins not_lf (bs ++ behind) ≡ false → Gap bs behind → Gap (35 ∷ (text ++ bs)) behind
   gap_bracketed : (text bs behind : List ℕ) → closes (text ++ 42 ∷ []) ≡ false → Gap bs behind → Gap (47 ∷ 42 ∷ (text ++ 42 ∷ 47 ∷ bs)) behind
 
--- a token stands first, behind a gap, from an offset on: it is the longest that fits
+-- a token stands first, after a gap, from an offset on
 pub record IsFirst (at : ℕ) (bs : List ℕ) (t : Token) (behind : List ℕ) : Type 0 where
   pub gap : List ℕ
   pub octets : List ℕ
@@ -116,11 +157,14 @@ pub record IsFirst (at : ℕ) (bs : List ℕ) (t : Token) (behind : List ℕ) : 
   pub gap_is : Gap gap (octets ++ behind)
   pub start : t.start ≡ at + length gap
   pub end : t.end ≡ t.start + length octets
-  pub spelled : Lexeme t.kind octets behind
-  pub limited : IsWithinLimits t.kind
-  pub longest : (kind : TokenKind) (more rest : List ℕ) → octets ++ behind ≡ more ++ rest → Lexeme kind more rest → length more ≤ length octets
+  pub token : IsToken t.kind octets behind
 
 -- gaps and tokens in turn, from an offset on to the script's end
 abbrev pub IsCut : ℕ → List ℕ → List Token → Type 0
 IsCut at bs [] = Gap bs []
 IsCut at bs (t ∷ ts) = (behind : List ℕ) × IsFirst at bs t behind × IsCut t.end behind ts
+
+-- gaps and tokens in turn, from an offset on up to another, from which on this is left
+abbrev pub IsFront : ℕ → List ℕ → List Token → ℕ → List ℕ → Type 0
+IsFront at bs [] end rest = (at ≡ end) × (bs ≡ rest)
+IsFront at bs (t ∷ ts) end rest = (behind : List ℕ) × IsFirst at bs t behind × IsFront t.end behind ts end rest

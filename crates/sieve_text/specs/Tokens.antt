@@ -174,4 +174,4 @@ abbrev pub StandsIn : List ℕ → ScanFault → Type 0
 StandsIn script NoMemory = Unit {0}
 StandsIn script (Refused refusal at) =
     (IsUnsound script refusal × (at ≡ either_place 0 (stray_len script) refusal))
-    ⊎ ((ts : List Token) × (end : ℕ) × Reads script 0 ts end × (token_at script end ≡ Err refusal) × (at ≡ fault_place script end refusal))
+    ⊎ (IsSound script × ((ts : List Token) × (end : ℕ) × Reads script 0 ts end × (token_at script end ≡ Err refusal) × (at ≡ fault_place script end refusal)))

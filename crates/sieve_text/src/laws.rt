@@ -1,10 +1,12 @@
 //! Laws of the tokens of a script. The functions have no code: their contracts are the laws.
 
-ghost use Rattle.std.specs.Prelude.{◌≡◌, ◌⊎◌, ℕ, List};
+ghost use Rattle.std.specs.Prelude.{◌≡◌, ◌⊎◌, ◌↔◌, ℕ, List};
 ghost use Rattle.sieve_syntax.specs.declared.token.Token.{Token};
 ghost use Rattle.sieve_text.specs.declared.fault.ScanRefusal.{ScanRefusal};
+ghost use Rattle.sieve_text.specs.declared.fault.ScanFault.TheVariants.{Refused};
+ghost use Rattle.sieve_text.specs.FaultGrammar.{IsText, IsRefusedAt};
 ghost use Rattle.sieve_text.specs.TokenGrammar.{IsCut};
-ghost use Rattle.sieve_text.specs.Tokens.{IsScan, IsFaulty};
+ghost use Rattle.sieve_text.specs.Tokens.{IsScan, IsFaulty, StandsIn};
 
 /// No script has two lists of tokens.
 pub fn one_scan()
@@ -22,8 +24,15 @@ pub fn some_verdict()
     ensures { (script : List ℕ) → ((ts : List Token) × IsScan script ts) ⊎ ((refusal : ScanRefusal) × IsFaulty script refusal) }
 {}
 
-/// The tokens of a script and the gaps before them make the script, by the grammar of RFC 5228, section 8.1; each token
-/// is the longest that fits.
+/// A script has these tokens exactly where it is a text that is cut so: gaps and tokens in turn, each token the longest
+/// that fits by the grammar of RFC 5228, section 8.1, and within the limits.
 pub fn cut()
-    ensures { (script : List ℕ) (ts : List Token) → IsScan script ts → IsCut 0 script ts }
+    ensures { (script : List ℕ) (ts : List Token) → IsScan script ts ↔ (IsText script × IsCut 0 script ts) }
+{}
+
+/// A refusal stands at a place exactly where the grammar has it: the script is too long (15), no UTF-8 (10) or has a stray
+/// octet (11), or else what is left after a front of tokens and a gap begins with no token, for the reason that it gives.
+pub fn refused_place()
+    ensures at { (script : List ℕ) (refusal : ScanRefusal) (place : ℕ) → StandsIn script (Refused refusal place) ↔ IsRefusedAt script refusal place }
+    ensures some { (script : List ℕ) (refusal : ScanRefusal) → IsFaulty script refusal ↔ ((place : ℕ) × IsRefusedAt script refusal place) }
 {}

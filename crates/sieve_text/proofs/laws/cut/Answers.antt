@@ -1,5 +1,5 @@
-use Rattle.sieve_text.proofs.CutLemmas.{scan_cut}
+use Rattle.sieve_text.proofs.CutLaws.{tokens_law}
 use Rattle.sieve_text.proofs.laws.cut.Goals as goal
 
 pub returns : goal.returns
-returns c = scan_cut
+returns c = tokens_law

@@ -1,0 +1,90 @@
+-- A gap by the grammar is as long as what is read as one, where no more of it follows.
+use Rattle.std.proofs.Common.{◌≡◌, ℕ, zero, suc, ◌+◌, ◌-◌, ◌<◌, ◌≤◌, ◌⊎◌, Bool, true, false, List, [], ◌∷◌, ◌++◌, length, drop, nat_lt, refl, sym, ap, ◌∙◌, arith, inl, inr, length-append, append_assoc}
+use Rattle.std.specs.Prelude.{◌==◌, ◌&&◌, ◌||◌}
+use Rattle.std.specs.List.{prefix_len, list_all}
+use Rattle.std.proofs.lemmas.Bool.{false≢true, true≢false, both_ways, cases_Bool, eqb-true, lt-ltb, and_parts}
+use Rattle.std.proofs.Math.Seq.{drop-append_seam}
+use Rattle.sieve_text.specs.Octets.{is_white, not_lf, begins, begins_with}
+use Rattle.sieve_text.specs.Gaps.{bracketed_len, opens_bracketed, closed_len, comment_len, gap_len}
+use Rattle.sieve_text.specs.TokenGrammar.{closes, Gap, gap_end, gap_white, gap_hash, gap_bracketed}
+use Rattle.sieve_text.proofs.GapLemmas.{gap_comment}
+use Rattle.sieve_text.proofs.GapGrammar.{before, white_more}
+
+pub exactly : (p : ℕ → Bool) (xs ys : List ℕ) → list_all p xs ≡ true → begins p ys ≡ false → prefix_len p (xs ++ ys) ≡ length xs
+exactly p [] [] h n = refl
+exactly p [] (y ∷ ys) h n = rw n refl
+exactly p (x ∷ xs) ys h n =
+    let t = and_parts (p x) (list_all p xs) h in
+    let r = exactly p xs ys t.1 n in
+    rw t.0 (omega arith)
+
+-- the octets of a comment, and what is behind it
+after_comment : (comment behind : List ℕ) → begins is_white (comment ++ behind) ≡ false → comment_len (comment ++ behind) ≡ length comment → 0 < length comment → gap_len 0 (comment ++ behind) ≡ length comment + gap_len 0 behind
+after_comment comment behind white long some =
+    let l = length-append comment behind in
+    let g = gap_comment (comment ++ behind) white (omega arith) (omega arith) in
+    let d : drop (comment_len (comment ++ behind)) (comment ++ behind) ≡ behind = ap (λ n. drop n (comment ++ behind)) long ∙ drop-append_seam comment behind in
+    let e = ap (λ cs. gap_len 0 cs) d in
+    omega arith
+
+hash_long : (text behind : List ℕ) → list_all not_lf text ≡ true → begins not_lf behind ≡ false → comment_len (35 ∷ (text ++ behind)) ≡ suc (length text)
+unfolding comment_len
+hash_long text behind all stops = let e = exactly not_lf text behind all stops in omega arith
+
+-- what follows the first octet of a text has no "*/" where the text has none
+pub closes_rest : (b : ℕ) (bs : List ℕ) → closes (b ∷ bs) ≡ false → closes bs ≡ false
+closes_rest b bs h = elim (cases_Bool (closes bs)) [
+  | inl e ↦ absurd (true≢false (or_right ((b == 42) && begins_with 47 bs) (closes bs) e h))
+  | inr e ↦ e
+]
+  where
+    or_right : (x y : Bool) → y ≡ true → (x || y) ≡ false → true ≡ false
+    or_right true y e h = h
+    or_right false y e h = sym e ∙ h
+
+pub closes_after : (b : ℕ) (bs : List ℕ) → closes (b ∷ bs) ≡ false → closes (before (b == 42) bs) ≡ false
+closes_after b bs h = elim (cases_Bool (b == 42)) [
+  | inl e ↦ rw e (rw (eqb-true b 42 e) at h)
+  | inr e ↦ rw e (closes_rest b bs h)
+]
+
+bracketed_found : (after_star : Bool) (text behind : List ℕ) → closes (before after_star (text ++ 42 ∷ [])) ≡ false → bracketed_len after_star (text ++ 42 ∷ 47 ∷ behind) ≡ suc (length text)
+unfolding bracketed_len
+bracketed_found true [] behind h = refl
+bracketed_found false [] behind h = refl
+bracketed_found true (b ∷ text) behind h = elim (cases_Bool (b == 47)) [
+  | inl e ↦ absurd (true≢false (rw e at h))
+  | inr e ↦ rw e (ap suc (bracketed_found (b == 42) text behind (closes_after b (text ++ 42 ∷ []) (closes_rest 42 (b ∷ (text ++ 42 ∷ [])) h))))
+]
+bracketed_found false (b ∷ text) behind h = ap suc (bracketed_found (b == 42) text behind (closes_after b (text ++ 42 ∷ []) h))
+
+bracketed_long : (text behind : List ℕ) → closes (text ++ 42 ∷ []) ≡ false → comment_len (47 ∷ 42 ∷ (text ++ 42 ∷ 47 ∷ behind)) ≡ length text + 4
+unfolding comment_len
+bracketed_long text behind h =
+    let n = bracketed_found false text behind h in
+    let l = length-append text (42 ∷ 47 ∷ behind) in
+    let t = lt-ltb (bracketed_len false (text ++ 42 ∷ 47 ∷ behind)) (length (text ++ 42 ∷ 47 ∷ behind)) (omega arith) in
+    rw t (omega arith)
+
+pub gap_found : (gap behind : List ℕ) → Gap gap behind → gap_len 0 behind ≡ 0 → gap_len 0 (gap ++ behind) ≡ length gap
+gap_found _ _ (gap_end behind) h = h
+gap_found _ _ (gap_white b bs behind w g) h = white_more b (bs ++ behind) w ∙ ap suc (gap_found bs behind g h)
+gap_found _ _ (gap_hash text bs behind all stops g) h =
+    let comment : List ℕ = 35 ∷ text in
+    let r = gap_found bs behind g h in
+    let a = after_comment comment (bs ++ behind) refl (hash_long text (bs ++ behind) all stops) (omega arith) in
+    let l = length-append text bs in
+    rw append_assoc (omega arith)
+gap_found _ _ (gap_bracketed text bs behind c g) h =
+    let comment : List ℕ = 47 ∷ 42 ∷ (text ++ 42 ∷ 47 ∷ []) in
+    let r = gap_found bs behind g h in
+    let joined : text ++ (42 ∷ 47 ∷ (bs ++ behind)) ≡ (text ++ 42 ∷ 47 ∷ []) ++ (bs ++ behind) = sym (append_assoc text (42 ∷ 47 ∷ []) (bs ++ behind)) in
+    let long : comment_len (comment ++ (bs ++ behind)) ≡ length comment = ap (λ cs. comment_len (47 ∷ 42 ∷ cs)) (sym joined) ∙ bracketed_long text (bs ++ behind) c ∙ four text in
+    let a = after_comment comment (bs ++ behind) refl long (omega arith) in
+    let w : gap_len 0 ((47 ∷ 42 ∷ (text ++ 42 ∷ 47 ∷ bs)) ++ behind) ≡ gap_len 0 (comment ++ (bs ++ behind)) = ap (λ cs. gap_len 0 (47 ∷ 42 ∷ cs)) (append_assoc text (42 ∷ 47 ∷ bs) behind ∙ joined) in
+    let l = length-append text (42 ∷ 47 ∷ bs) in
+    let m = length-append text (42 ∷ 47 ∷ []) in
+    omega arith
+  where
+    four : (text : List ℕ) → length text + 4 ≡ length (47 ∷ 42 ∷ (text ++ 42 ∷ 47 ∷ []))
+    four text = let l = length-append text (42 ∷ 47 ∷ []) in omega arith
