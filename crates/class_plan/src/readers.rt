@@ -3,7 +3,7 @@ ghost use Rattle.std.specs.Prelude.{◌≡◌, ◌<◌, length, map, Option, opt
 ghost use Rattle.std.specs.List.{HoldsAt};
 ghost use Rattle.class_plan.specs.Paths.{ancestors};
 ghost use Rattle.class_plan.specs.Schedules.{IsInRange};
-ghost use Rattle.class_plan.specs.Plans.{own_at, first_own, schedule_at, IsPlan, IsScheduleOf};
+ghost use Rattle.class_plan.specs.Plans.{has, own_at, first_own, schedule_at, IsPlan, IsScheduleOf};
 ghost use Rattle.class_plan.specs.Fields.{rows_in};
 ghost use Rattle.class_plan.specs.Parts.{told_row};
 ghost use Rattle.class_plan.specs.Calendar.{number_of_day, due_on};
@@ -82,6 +82,13 @@ impl Plan {
         ensures range { IsInRange result }
     {
         self.root
+    }
+
+    /// Whether the path is, octet for octet, a class of the plan, open or not.
+    pub fn contains(&self, path: &[u8]) -> bool
+        ensures { result ≡ has self.now.rows path.now }
+    {
+        class_at(&self.classes, path).is_some()
     }
 
     /// How many classes there are, `unfiled` among them: 1 to 4,096.
