@@ -104,7 +104,7 @@ open_lane() {
         (cd -- "$root" && tar -c --exclude="crates/$name/out" "crates/$name") | tar -x -C "$lane" || return
         if [[ $name != "$1" ]]; then
             mkdir -- "$lane/crates/$name/out" && {
-                cp -al -- "$root/crates/$name/out/rlib" "$lane/crates/$name/out/" 2> "$lanes/error" ||
+                cp -al -- "$root/crates/$name/out/rlib" "$lane/crates/$name/out/" 2> /dev/null ||
                     cp -a -- "$root/crates/$name/out/rlib" "$lane/crates/$name/out/"
             } || return
         fi
@@ -144,8 +144,8 @@ unlock_crates() {
 end_lanes() {
     local name
     for name in "${!builders[@]}"; do
-        kill "${builders[$name]}" 2> "$lanes/error"
-        wait "${builders[$name]}" 2> "$lanes/error"
+        kill "${builders[$name]}" 2> /dev/null
+        wait "${builders[$name]}" 2> /dev/null
     done
     builders=()
     for name in "$lanes"/*/; do

@@ -21,8 +21,10 @@ make_stage() {
 stage=$(dirname "$0")/../..
 name=${PWD##*/}
 echo "$* $name" >> "$stage/calls"
-echo $$ > "$stage/rt"
-[[ ! -f $stage/slow ]] || exec sleep 60
+if [[ -f $stage/slow-$1 ]]; then
+    echo $$ > "$stage/rt"
+    exec sleep 60
+fi
 if [[ $1 == run ]]; then
     [[ ! -f $stage/edits ]] || cp "$stage/edits" ../low/src/lib.rt
     printf '#!/bin/sh\necho told "$@"\n[ "$1" != wait ] || exec sleep 60\nexit 7\n' > "out/$name"
@@ -171,12 +173,13 @@ end_when() {
     wait "$script"
 }
 
-# Whether a start that is ended takes along what it started, and the next one builds.
+# Whether a start that is ended while rt does something takes rt along, and the next start builds.
 ends_what_it_started() {
     local status=0
-    touch "$stage/slow"
+    echo edited >> "$stage/tree/crates/low/src/lib.rt"
+    touch "$stage/slow-$1"
     end_when "$stage/rt" || status=$?
-    rm -- "$stage/slow"
+    rm -- "$stage/slow-$1"
     [[ $status -eq 143 && ! -e $stage/tree/.git/lanes ]] && ! kill -0 "$(< "$stage/rt")" 2> "$work/said" && builds
 }
 
@@ -212,7 +215,8 @@ scripts() {
     count "a start after one that was killed" goes_on_after_a_kill
     count "a start without memory" gives_up_without_memory
     count "a start beside another" gives_up_beside_another
-    count "a start that is ended by a signal" ends_what_it_started
+    count "a start that is ended while a library is built" ends_what_it_started lib
+    count "a start that is ended while the program is built" ends_what_it_started run
     count "a program that is ended by a signal" ends_the_program
     count "a start without a kit" serves_without_a_kit
     count "a folder that cannot be written" gives_up_where_nothing_can_be_written
