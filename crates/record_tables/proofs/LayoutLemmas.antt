@@ -1,0 +1,100 @@
+-- A schema of a version has the tables of that version alone.
+use Rattle.std.proofs.Common.{◌≡◌, ◌↔◌, Bool, true, false, not, IsTrue, ℕ, List, [], ◌∷◌, None, Some, codes, refl, subst, sym}
+use Rattle.sqlite.specs.Schema.{Schema}
+use Rattle.sqlite_tied.specs.Compute.{everything}
+use Rattle.record_tables.specs.Tables.{Foreign, none, dated, no_schema, first_schema, dated_schema, common_beside, archive_beside, IsArchiveSchema, schedule_table, due_table, message_table}
+use Rattle.record_tables.specs.Layouts.{TellsDues}
+use Rattle.record_tables.specs.Layout.{HasNone, HasCommon, HasTable, HasFirst, HasFirstWithDues, HasSecond, IsLayout, Lacks}
+use Rattle.record_tables.specs.declared.layout.Layout.{Layout}
+use Rattle.record_tables.specs.declared.layout.Layout.TheVariants.{Empty, First, FirstWithDues, Second, Other}
+
+has_common : (f : Foreign) → HasCommon (common_beside f)
+unfolding everything
+has_common f = record { messages = refl; records = refl; holds = refl; settings = refl; classes = refl }
+
+has_message : (f : Foreign) → Lacks (common_beside f) (codes "message") → ⊥
+unfolding everything
+has_message f h = cc
+
+has_second : (f : Foreign) → HasTable (archive_beside f) schedule_table × HasTable (archive_beside f) due_table
+unfolding everything
+has_second f = (refl, refl)
+
+has_schedule : (f : Foreign) → Lacks (archive_beside f) (codes "schedule") → ⊥
+unfolding everything
+has_schedule f h = cc
+
+first_lacks : Lacks first_schema (codes "schedule") × Lacks first_schema (codes "due_day")
+unfolding everything
+first_lacks = (refl, refl)
+
+dated_has : Lacks dated_schema (codes "schedule") × HasTable dated_schema due_table
+unfolding everything
+dated_has = (refl, refl)
+
+dated_due : Lacks dated_schema (codes "due_day") → ⊥
+unfolding everything
+dated_due h = cc
+
+first_due : HasTable first_schema due_table → ⊥
+unfolding everything
+first_due h = h
+
+first_schedule : HasTable first_schema schedule_table → ⊥
+unfolding everything
+first_schedule h = h
+
+dated_schedule : HasTable dated_schema schedule_table → ⊥
+unfolding everything
+dated_schedule h = h
+
+none_has : HasNone no_schema
+none_has = record { messages = refl; records = refl; holds = refl; settings = refl; classes = refl; schedules = refl; dues = refl }
+
+none_message : HasTable no_schema message_table → ⊥
+none_message h = h
+
+of_second : (f : Foreign) (r : Layout) → IsLayout (archive_beside f) r → r ≡ Second
+of_second f Empty h = absurd (has_schedule f h.schedules)
+of_second f First h = absurd (has_schedule f h.1)
+of_second f FirstWithDues h = absurd (has_schedule f h.1)
+of_second f Second h = refl
+of_second f Other h = let two = has_second f in absurd (h.3 (has_common _, two.0, two.1))
+
+of_first : (r : Layout) → IsLayout first_schema r → r ≡ First
+of_first Empty h = absurd (has_message none h.messages)
+of_first First h = refl
+of_first FirstWithDues h = absurd (first_due h.2)
+of_first Second h = absurd (first_schedule h.1)
+of_first Other h = absurd (h.1 (has_common none, first_lacks.0, first_lacks.1))
+
+of_dated : (r : Layout) → IsLayout dated_schema r → r ≡ FirstWithDues
+of_dated Empty h = absurd (has_message dated h.messages)
+of_dated First h = absurd (dated_due h.2)
+of_dated FirstWithDues h = refl
+of_dated Second h = absurd (dated_schedule h.1)
+of_dated Other h = absurd (h.2 (has_common dated, dated_has.0, dated_has.1))
+
+of_none : (r : Layout) → IsLayout no_schema r → r ≡ Empty
+of_none Empty h = refl
+of_none First h = absurd (none_message h.0.messages)
+of_none FirstWithDues h = absurd (none_message h.0.messages)
+of_none Second h = absurd (none_message h.0.messages)
+of_none Other h = absurd (h.0 none_has)
+
+pub is_empty : (schema : Schema) (r : Layout) → IsLayout schema r → schema ≡ no_schema → r ≡ Empty
+is_empty schema r h e = of_none r (subst (λ s. IsLayout s r) e h)
+
+pub is_first : (schema : Schema) (r : Layout) → IsLayout schema r → schema ≡ first_schema → r ≡ First
+is_first schema r h e = of_first r (subst (λ s. IsLayout s r) e h)
+
+pub is_dated : (schema : Schema) (r : Layout) → IsLayout schema r → schema ≡ dated_schema → r ≡ FirstWithDues
+is_dated schema r h e = of_dated r (subst (λ s. IsLayout s r) e h)
+
+pub is_second : (schema : Schema) (r : Layout) → IsLayout schema r → IsArchiveSchema schema → r ≡ Second
+is_second schema r h s = of_second s.foreign r (subst (λ x. IsLayout x r) s.is h)
+
+-- of version 1, whether `due_day` is lacking tells whether it has due days
+pub tells : (schema : Schema) (b : Bool) → (IsTrue b ↔ Lacks schema (codes "due_day")) → TellsDues schema (not b)
+tells schema true h = record { without = λ e. refl; with_them = λ e. absurd (dated_due (subst (λ s. Lacks s (codes "due_day")) e (h.0 refl))) }
+tells schema false h = record { without = λ e. absurd (let lacks = h.1 (subst (λ s. Lacks s (codes "due_day")) (sym e) first_lacks.1) in cc); with_them = λ e. refl }

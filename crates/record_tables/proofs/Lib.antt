@@ -1,0 +1,13 @@
+pub mod Texts
+pub mod Shapes
+pub mod WriteLemmas
+pub mod DeleteLemmas
+pub mod AnswerLemmas
+pub mod UpdateLemmas
+pub mod Statements
+pub mod Loops
+pub mod LayLemmas
+pub mod DropLemmas
+pub mod LayoutLemmas
+pub mod TypedLemmas
+pub mod ReadLemmas

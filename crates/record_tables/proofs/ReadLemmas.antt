@@ -1,0 +1,193 @@
+-- What each query shows of the tables.
+use Rattle.sqlite_sql.proofs.QueryLemmas.{output_cmp_total}
+use Rattle.std.proofs.Common.{◌≡◌, ℕ, ℤ, pos, List, [], ◌∷◌, map, map-id, filter, Bool, true, false, cond, ◌++◌, ◌+◌, ◌<◌, length, take, get_or, refl, sym, ap, subst, ◌∙◌, Less, int_cmp, Option, Some, None, IsPermutation, arith}
+use Rattle.std.proofs.lemmas.List.{take_more, map-append}
+use Rattle.std.proofs.lemmas.List.Sorted.{IsPermutation-map, IsPermutation-trans, IsPermutation-sym}
+use Rattle.std.specs.List.{AllByRecursion, list_all}
+use Rattle.std.specs.Ordering.{nat_cmp, is_gt}
+use Rattle.std.specs.declared.cmp.Ordering.{Ordering}
+use Rattle.std.specs.Cmp.Lexicographic.{slice_cmp}
+use Rattle.sqlite.specs.declared.types.Value.TheVariants.{Null, Int, Text}
+use Rattle.sqlite.specs.Order.{Row}
+use Rattle.sqlite.specs.Term.{Term, holds, eval_all}
+use Rattle.sqlite.specs.Tree.{Trees}
+use Rattle.sqlite.specs.Query.{Query, IsAnswer, Output, output, output_cmp}
+use Rattle.sqlite_sql.specs.Program.{overlay}
+use Rattle.std.proofs.Common.{◌⊎◌, inl, inr, IsTrue}
+use Rattle.sqlite.specs.declared.error.Error.{Error}
+use Rattle.sqlite_schema.specs.declared.command.Returning.{Returning}
+use Rattle.sqlite.specs.Clock.{timed}
+use Rattle.sqlite.specs.State.{State, Shown, ShowsRows, FailsToQuery, FailsToShow, IsNotRun, IsRolledBack, IsUnchanged, Survives, CommitsShowing}
+use Rattle.sqlite.proofs.Callers.{reads_as, IsPlain, never_commits}
+use Rattle.sqlite.proofs.StateLemmas.{survives_weaker}
+use Rattle.sqlite.specs.Listing.{understood}
+use Rattle.sqlite_value.proofs.OrderLemmas.{value_cmp-Int, value_cmp-Text}
+use Rattle.sqlite_trees.specs.Tree.{IsAscending}
+use Rattle.sqlite_keyed.specs.Keyed.{IsKeyedBy}
+use Rattle.sqlite_keyed.specs.Lists.{sort_by, insert_sorted}
+use Rattle.sqlite_keyed.proofs.ListLemmas.{ascending-map, ascending_weaker, map-map}
+use Rattle.sqlite_keyed.proofs.SortLemmas.{sorted_unique}
+use Rattle.sqlite_typed.proofs.AnswerLemmas.{Source, last_table, at_end, answer_by_keys, answer_sorted, unfiltered, no_tie, no_tie_after, matches_are}
+use Rattle.sqlite_typed.proofs.TestLemmas.{last_key, then_key, last_term, at_ints}
+use Rattle.sqlite_sql.specs.declared.ops.CompareOp.TheVariants.{Le}
+use Rattle.record_tables.specs.Tables.{Foreign, common_beside, archive_beside, scheduled, HasCommonTables, IsArchiveSchema}
+use Rattle.record_tables.specs.Rows.{Tables, Stores, StoresCommon, AreKeyed, Message, message_key, message_row, Record, record_key, record_row, Hold, hold_key, hold_row, Setting, setting_key, setting_row, Class, class_key, class_row, Schedule, schedule_key, schedule_row, Due, due_key, due_row, as_flag}
+use Rattle.record_tables.specs.Changes.{Listed, Rule}
+use Rattle.record_tables.specs.Reads.{shown_record, ReadsRecord, shown_number, ReadsNumber, numbers_of, shown_due, ReadsDue, FitsDue, is_by, due_cmp, dues_by, shown_class, ReadsClass, listed, AreListed, shown_rule, ReadsRule, rule, AreRules, Named, named, shown_hold, ReadsHold, named_cmp, AreNamed, Pair, paired, shown_pair, ReadsPair, ArePaired}
+use Rattle.record_tables.proofs.Texts
+use Rattle.record_tables.proofs.TypedLemmas.{fits_kept}
+
+pub shows_records : (old new : State) (rows : List Row) (t : Tables) → StoresCommon old.now t → AreKeyed t → Shown Texts.select_records [] old new rows → rows ≡ map shown_record t.records
+shows_records old new rows t s keyed h =
+    let f = s.schema.foreign in
+    let is = Texts.select_records_is f in
+    let read = reads_as Texts.select_records [] old new (common_beside f) s.schema.is _ is.is is.plain is.unlisted rows h in
+    let db = overlay old.now.trees [] in
+    let answer : IsAnswer Texts.records_query db [] rows = read.answer Null in
+    let source = last_table db 1 record_row record_key t.records s.records keyed.records (at_end db) in
+    let all = answer_by_keys Texts.records_query db [] source (λ _. true) (λ r. refl) (λ r. r) shown_record (λ r. refl) refl refl (λ x y. last_key (value_cmp-Int (record_key x) (record_key y))) rows answer in
+    sym (map-id rows) ∙ all ∙ ap (map shown_record) (unfiltered t.records refl)
+
+pub shows_numbers : (old new : State) (rows : List Row) (t : Tables) → StoresCommon old.now t → AreKeyed t → Shown Texts.select_numbers [] old new rows → rows ≡ map shown_number (numbers_of t)
+shows_numbers old new rows t s keyed h =
+    let f = s.schema.foreign in
+    let is = Texts.select_numbers_is f in
+    let read = reads_as Texts.select_numbers [] old new (common_beside f) s.schema.is _ is.is is.plain is.unlisted rows h in
+    let db = overlay old.now.trees [] in
+    let answer : IsAnswer Texts.numbers_query db [] rows = read.answer Null in
+    let source = last_table db 0 message_row message_key t.messages s.messages keyed.messages (at_end db) in
+    let all = answer_by_keys Texts.numbers_query db [] source (λ _. true) (λ r. refl) (λ r. r) (λ (m : Message). shown_number m.number) (λ r. refl) refl refl (λ x y. last_key (value_cmp-Int (message_key x) (message_key y))) rows answer in
+    sym (map-id rows) ∙ all ∙ ap (map (λ (m : Message). shown_number m.number)) (unfiltered t.messages refl) ∙ sym (map-map shown_number (λ (m : Message). m.number) t.messages)
+
+-- the due days are answered in the order of the days, and on a day in that of the records
+pub shows_dues : (old new : State) (rows : List Row) (day : ℕ) (t : Tables) → Stores old.now t → AreKeyed t → Shown Texts.select_dues (Int (pos day) ∷ []) old new rows → rows ≡ map shown_due (dues_by day t)
+shows_dues old new rows day t s keyed h =
+    let f = s.schema.foreign in
+    let is = Texts.select_dues_is f in
+    let params : Row = Int (pos day) ∷ [] in
+    let read = reads_as Texts.select_dues params old new (archive_beside f) s.schema.is _ is.is is.plain is.unlisted rows h in
+    let db = overlay old.now.trees [] in
+    let answer : IsAnswer Texts.dues_query db params rows = read.answer Null in
+    let source = last_table db 10 due_row due_key t.dues s.dues keyed.dues (at_end db) in
+    let all = answer_sorted Texts.dues_query db params source (is_by day) (λ d. last_term (at_ints false Le (pos d.day) (pos day))) (λ r. r) shown_due (λ d. refl) refl refl due_cmp
+    (λ x y less. no_tie_after (int_cmp (pos x.day) (pos y.day)) (no_tie less)) (λ x y. then_key (value_cmp-Int (pos x.day) (pos y.day)) (last_key (value_cmp-Int (due_key x) (due_key y)))) rows answer in
+    sym (map-id rows) ∙ all
+
+-- an answer in an order that leaves no tie among these values
+module _ {X Y : Type 0} (q : Query) (db : Trees) (params : Row) (key : X → ℤ) (to_row : X → Row) (tree : ℕ) (xs : List X) (stored : db tree ≡ map to_row xs) (in_order : IsKeyedBy key xs)
+    (from : q.from ≡ Rattle.sqlite.specs.Query.inner tree Rattle.sqlite.specs.Query.end) (free : q.filter ≡ []) (no_group : q.group ≡ None) (no_distinct : q.distinct ≡ false)
+    (view : X → Y) (out : Y → Output) (outs : (x : X) → output q (params ∷ to_row x ∷ []) ≡ out (view x)) where
+  pub ordered_is : (rows : List Row) (a : IsAnswer q db params rows) (ys : List Y) → IsPermutation (map view xs) ys → IsAscending (λ x y. output_cmp q (out x) (out y) ≡ Less) ys → a.ordered ≡ map out ys
+  ordered_is rows a ys same rises =
+      let source = last_table db tree to_row key xs stored in_order (at_end db) in
+      let covered = source.covers [] (params ∷ []) in
+      let all : Rattle.sqlite.specs.Query.matches db q.filter q.from (params ∷ []) ≡ map (λ x. params ∷ to_row x ∷ []) xs =
+      rw (from, free) (covered ∙ unfiltered (map (λ x. params ∷ to_row x ∷ []) xs) refl) in
+      let staged = subst (λ g. Rattle.sqlite_sql.specs.Group.IsGrouped g params (Rattle.sqlite.specs.Query.matches db q.filter q.from (params ∷ [])) a.staged) no_group a.grouped in
+      let kept = subst (λ d. Rattle.sqlite_sql.specs.Query.IsKept d q.collations (map (output q) a.staged) a.kept) no_distinct a.distinct in
+      let are : a.kept ≡ map out (map view xs) =
+      kept ∙ ap (map (output q)) (staged ∙ all) ∙ map-map (output q) _ xs ∙ Rattle.sqlite_keyed.proofs.ListLemmas.map_same _ _ outs xs ∙ sym (map-map out view xs) in
+      let permuted : IsPermutation (map out (map view xs)) a.ordered = subst (λ l. IsPermutation l a.ordered) are a.same in
+      let whole = IsPermutation-trans (map out ys) (map out (map view xs)) a.ordered (IsPermutation-sym _ _ (IsPermutation-map out _ _ same)) permuted in
+      sorted_unique (output_cmp q) (output_cmp_total q) (map out ys) a.ordered (ascending-map (λ x y. output_cmp q x y ≡ Less) out ys rises) whole a.sorted
+
+pub shows_classes : (old new : State) (rows : List Row) (t : Tables) (cs : List Listed) → StoresCommon old.now t → AreKeyed t → AreListed t cs → Shown Texts.select_classes [] old new rows → rows ≡ map shown_class cs
+shows_classes old new rows t cs s keyed are h =
+    let f = s.schema.foreign in
+    let is = Texts.select_classes_is f in
+    let read = reads_as Texts.select_classes [] old new (common_beside f) s.schema.is _ is.is is.plain is.unlisted rows h in
+    let db = overlay old.now.trees [] in
+    let answer : IsAnswer Texts.classes_query db [] rows = read.answer Null in
+    let out : Listed → Output = λ c. (Text c.path ∷ [], shown_class c) in
+    let rises = ascending_weaker _ (λ x y. output_cmp Texts.classes_query (out x) (out y) ≡ Less) (λ x y less. last_key (value_cmp-Text x.path y.path) ∙ less) cs are.in_order in
+    let ordered = ordered_is Texts.classes_query db [] class_key class_row 6 t.classes s.classes keyed.classes refl refl refl refl listed out (λ x. refl) rows answer cs are.same rises in
+    answer.shown ∙ ap (map (λ (o : Output). o.1)) ordered ∙ map-map (λ (o : Output). o.1) out cs
+
+pub shows_schedules : (old new : State) (rows : List Row) (t : Tables) (rs : List Rule) → Stores old.now t → AreKeyed t → AreRules t rs → Shown Texts.select_schedules [] old new rows → rows ≡ map shown_rule rs
+shows_schedules old new rows t rs s keyed are h =
+    let f = s.schema.foreign in
+    let is = Texts.select_schedules_is f in
+    let read = reads_as Texts.select_schedules [] old new (archive_beside f) s.schema.is _ is.is is.plain is.unlisted rows h in
+    let db = overlay old.now.trees [] in
+    let answer : IsAnswer Texts.schedules_query db [] rows = read.answer Null in
+    let out : Rule → Output = λ r. (Text r.path ∷ [], shown_rule r) in
+    let rises = ascending_weaker _ (λ x y. output_cmp Texts.schedules_query (out x) (out y) ≡ Less) (λ x y less. last_key (value_cmp-Text x.path y.path) ∙ less) rs are.in_order in
+    let ordered = ordered_is Texts.schedules_query db [] schedule_key schedule_row 8 t.schedules s.schedules keyed.schedules refl refl refl refl rule out (λ x. refl) rows answer rs are.same rises in
+    answer.shown ∙ ap (map (λ (o : Output). o.1)) ordered ∙ map-map (λ (o : Output). o.1) out rs
+
+pub shows_holds : (old new : State) (rows : List Row) (t : Tables) (hs : List Named) → StoresCommon old.now t → AreKeyed t → AreNamed t hs → Shown Texts.select_holds [] old new rows → rows ≡ map shown_hold hs
+shows_holds old new rows t hs s keyed are h =
+    let f = s.schema.foreign in
+    let is = Texts.select_holds_is f in
+    let read = reads_as Texts.select_holds [] old new (common_beside f) s.schema.is _ is.is is.plain is.unlisted rows h in
+    let db = overlay old.now.trees [] in
+    let answer : IsAnswer Texts.holds_query db [] rows = read.answer Null in
+    let out : Named → Output = λ x. (Int (pos x.number) ∷ Text x.name ∷ [], shown_hold x) in
+    let rises = ascending_weaker _ (λ x y. output_cmp Texts.holds_query (out x) (out y) ≡ Less) (λ x y less. then_key (value_cmp-Int (pos x.number) (pos y.number)) (last_key (value_cmp-Text x.name y.name)) ∙ less) hs are.in_order in
+    let ordered = ordered_is Texts.holds_query db [] hold_key hold_row 2 t.holds s.holds keyed.holds refl refl refl refl named out (λ x. refl) rows answer hs are.same rises in
+    answer.shown ∙ ap (map (λ (o : Output). o.1)) ordered ∙ map-map (λ (o : Output). o.1) out hs
+
+pub shows_settings : (old new : State) (rows : List Row) (t : Tables) (ps : List Pair) → StoresCommon old.now t → AreKeyed t → ArePaired t ps → Shown Texts.select_settings [] old new rows → rows ≡ map shown_pair ps
+shows_settings old new rows t ps s keyed are h =
+    let f = s.schema.foreign in
+    let is = Texts.select_settings_is f in
+    let read = reads_as Texts.select_settings [] old new (common_beside f) s.schema.is _ is.is is.plain is.unlisted rows h in
+    let db = overlay old.now.trees [] in
+    let answer : IsAnswer Texts.settings_query db [] rows = read.answer Null in
+    let out : Pair → Output = λ x. (Text x.key ∷ [], shown_pair x) in
+    let rises = ascending_weaker _ (λ x y. output_cmp Texts.settings_query (out x) (out y) ≡ Less) (λ x y less. last_key (value_cmp-Text x.key y.key) ∙ less) ps are.in_order in
+    let ordered = ordered_is Texts.settings_query db [] setting_key setting_row 4 t.settings s.settings keyed.settings refl refl refl refl paired out (λ x. refl) rows answer ps are.same rises in
+    answer.shown ∙ ap (map (λ (o : Output). o.1)) ordered ∙ map-map (λ (o : Output). o.1) out ps
+
+-- a query of the tables writes nothing
+pub reads_alone : (sql : List ℕ) (params : Row) (old new : State) → Survives old new (CommitsShowing sql params old) → Survives old new (λ _. IsPlain (understood old.now.schema sql) → ⊥)
+reads_alone sql params old new = survives_weaker old new _ _ (λ _ db commits plain. never_commits sql params old db plain commits)
+
+pub reads_nothing : (old new : State) (P Q : Type 0) → (Q → P) → Survives old new (λ _. P → ⊥) → Survives old new (λ _. Q → ⊥)
+reads_nothing old new P Q to = survives_weaker old new _ _ (λ _ db none q. none (to q))
+
+pub reads_only : (sql : List ℕ) (params : Row) (old new : State) (rows : List Row) → IsPlain (understood old.now.schema sql) → Shown sql params old new rows → IsUnchanged old new
+unfolding Shown
+reads_only sql params old new rows plain h =
+    let none = (subst IsPlain (h.1.is) plain).0 in
+    (subst (ShowsRows old new sql h.0 _ rows) none h.2).3
+
+-- ---- the state after a query
+
+pub shown_open : (sql : List ℕ) (params : Row) (old new : State) (rows : List Row) → Shown sql params old new rows → IsTrue old.is_open
+unfolding Shown
+shown_open sql params old new rows h = go h.0.returning h.2
+  where
+    go : (o : Option Returning) → ShowsRows old new sql h.0 (timed params h.0.formats h.1.now) rows o → IsTrue old.is_open
+    go None it = it.3.0.was_open
+    go (Some what) it = it.1.shown.was_open
+
+-- a query that fails changes nothing, or rolls back
+pub failed_still : (sql : List ℕ) (params : Row) (old new : State) (e : Error) → FailsToQuery sql params old new e → IsUnchanged old new ⊎ IsRolledBack old new
+unfolding FailsToQuery IsNotRun
+failed_still sql params old new e (inl (inl h)) = inl h.1
+failed_still sql params old new e (inl (inr h)) = inr h.3
+failed_still sql params old new e (inr h) = go h.0.returning h.2
+  where
+    go : (o : Option Returning) → FailsToShow old new sql h.0 (timed params h.0.formats h.1.now) e o → IsUnchanged old new ⊎ IsRolledBack old new
+    go None it = inl it.3
+    go (Some what) (inl it) = inl it.1
+    go (Some what) (inr it) = inr it.3
+
+-- outside a transaction, what is seen is then as before
+pub still_seen : (old new : State) → (IsTrue old.is_open → old.now ≡ old.committed) → IsUnchanged old new ⊎ IsRolledBack old new → IsTrue new.is_open → IsTrue old.is_open × (new.now ≡ old.now)
+still_seen old new settled (inl h) is_open = (h.0.was_open, h.0.now_is)
+still_seen old new settled (inr h) is_open = let was = h.was_open is_open in (was, (h.undone is_open).0 ∙ sym (settled was))
+
+all_inserted : {X : Type 0} (cmp : X → X → Ordering) (P : X → Type 0) (new : X) (xs : List X) → P new → AllByRecursion P xs → AllByRecursion P (insert_sorted cmp new xs)
+all_inserted cmp P new [] h all = (h, tt)
+all_inserted cmp P new (x ∷ xs) h all =
+    elim (is_gt (cmp new x)) as (λ b. AllByRecursion P (cond b (x ∷ insert_sorted cmp new xs) (new ∷ x ∷ xs))) [ true ↦ (all.0, all_inserted cmp P new xs h all.1) | false ↦ (h, all) ]
+
+all_sorted : {X : Type 0} (cmp : X → X → Ordering) (P : X → Type 0) (xs : List X) → AllByRecursion P xs → AllByRecursion P (sort_by cmp xs)
+all_sorted cmp P [] h = tt
+all_sorted cmp P (x ∷ xs) h = all_inserted cmp P x (sort_by cmp xs) h.0 (all_sorted cmp P xs h.1)
+
+-- the due days that a query shows fit, where all do
+pub fits_sorted : (day : ℕ) (t : Tables) → AllByRecursion FitsDue t.dues → AllByRecursion FitsDue (dues_by day t)
+fits_sorted day t h = all_sorted due_cmp FitsDue (filter (is_by day) t.dues) (fits_kept FitsDue (is_by day) t.dues h)

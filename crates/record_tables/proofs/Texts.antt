@@ -1,0 +1,259 @@
+-- What each text of SQL means under the tables.
+use Rattle.std.proofs.Common.{◌≡◌, ℕ, ℤ, pos, negsuc, List, [], ◌∷◌, codes, false, true, Some, None, Ok, refl}
+use Rattle.sqlite.specs.declared.types.Value.TheVariants.{Null, Int, Text}
+use Rattle.sqlite.specs.Schema.{Schema}
+use Rattle.sqlite.specs.Table.{Table}
+use Rattle.sqlite.specs.Term.{Term, lit, col, op2}
+use Rattle.sqlite.specs.Query.{Query, inner, end}
+use Rattle.sqlite.specs.Source.TheVariants.{Values}
+use Rattle.sqlite.specs.Command.{Command}
+use Rattle.sqlite.specs.Command.TheVariants.{Insert, Update, Delete, Select, CreateTable, CreateIndex}
+use Rattle.sqlite_value.specs.Keys.{ascending}
+use Rattle.sqlite.specs.Collation.TheVariants.{Binary}
+use Rattle.sqlite_sql.specs.declared.ops.BinaryOp.TheVariants.{Compare, And}
+use Rattle.sqlite_sql.specs.declared.ops.CompareOp.TheVariants.{Eq, Le}
+use Rattle.sqlite_schema.specs.declared.program.Program.{Program}
+use Rattle.sqlite.specs.Compile.{table_defined_by}
+use Rattle.sqlite_tied.specs.Compute.{everything}
+use Rattle.sqlite.specs.Listing.{understood, reads_listing}
+use Rattle.sqlite.proofs.Callers.{IsPlain, command_of, statement_of}
+use Rattle.record_tables.specs.Tables.{Foreign, common_beside, archive_beside, scheduled}
+
+-- a query on one table
+abbrev pub on_table : ℕ → List Term → List Term → Query
+on_table tree tests columns = record {
+  from = inner tree end;
+  filter = tests;
+  group = None;
+  project = columns;
+  distinct = false;
+  collations = [];
+  order = [];
+  limit = lit (Int (negsuc 0));
+  offset = lit (Int (pos 0));
+}
+
+abbrev pub alone : Query → Program
+alone q = record { lets = []; body = q }
+
+-- the text is this command
+pub record Means (schema : Schema) (text : List ℕ) (command : Command) : Type 0 where
+  pub is : command_of (understood schema text) ≡ command
+  pub plain : IsPlain (understood schema text)
+
+-- the text is this query
+pub record Asks (schema : Schema) (text : List ℕ) (command : Command) : Type 0 where
+  pub is : command_of (understood schema text) ≡ command
+  pub plain : IsPlain (understood schema text)
+  pub unlisted : reads_listing schema text ≡ false
+
+abbrev pub insert_message : List ℕ
+insert_message = codes "INSERT INTO message (number, body) VALUES (?1, ?2)"
+
+abbrev pub insert_record : List ℕ
+insert_record = codes "INSERT INTO record (number, message, path, day, destroyed) VALUES (?1, ?2, ?3, ?4, 0)"
+
+abbrev pub insert_hold : List ℕ
+insert_hold = codes "INSERT INTO hold (name, record) VALUES (?1, ?2)"
+
+abbrev pub insert_setting : List ℕ
+insert_setting = codes "INSERT INTO meta (key, value) VALUES (?1, ?2)"
+
+abbrev pub insert_class : List ℕ
+insert_class = codes "INSERT INTO class (path, is_open, schedule) VALUES (?1, ?2, ?3)"
+
+abbrev pub insert_schedule : List ℕ
+insert_schedule = codes "INSERT INTO schedule (path, count, unit, action, year_end) VALUES (?1, ?2, ?3, ?4, ?5)"
+
+abbrev pub insert_due : List ℕ
+insert_due = codes "INSERT INTO due_day (record, day) VALUES (?1, ?2)"
+
+abbrev pub message_terms : List Term
+message_terms = col 0 0 ∷ lit Null ∷ col 0 1 ∷ []
+
+abbrev pub record_terms : List Term
+record_terms = col 0 0 ∷ lit Null ∷ col 0 1 ∷ col 0 2 ∷ col 0 3 ∷ lit (Int (pos 0)) ∷ []
+
+abbrev pub two_terms : List Term
+two_terms = lit Null ∷ col 0 0 ∷ col 0 1 ∷ []
+
+abbrev pub three_terms : List Term
+three_terms = lit Null ∷ col 0 0 ∷ col 0 1 ∷ col 0 2 ∷ []
+
+abbrev pub five_terms : List Term
+five_terms = lit Null ∷ col 0 0 ∷ col 0 1 ∷ col 0 2 ∷ col 0 3 ∷ col 0 4 ∷ []
+
+pub insert_message_is : (foreign : Foreign) → Means (archive_beside foreign) insert_message (Insert 0 (Values message_terms 3))
+unfolding understood everything
+insert_message_is foreign = record { is = refl; plain = (refl, refl) }
+
+pub insert_record_is : (foreign : Foreign) → Means (archive_beside foreign) insert_record (Insert 1 (Values record_terms 6))
+unfolding understood everything
+insert_record_is foreign = record { is = refl; plain = (refl, refl) }
+
+pub insert_hold_is : (foreign : Foreign) → Means (archive_beside foreign) insert_hold (Insert 2 (Values two_terms 3))
+unfolding understood everything
+insert_hold_is foreign = record { is = refl; plain = (refl, refl) }
+
+pub insert_setting_is : (foreign : Foreign) → Means (archive_beside foreign) insert_setting (Insert 3 (Values two_terms 3))
+unfolding understood everything
+insert_setting_is foreign = record { is = refl; plain = (refl, refl) }
+
+pub insert_class_is : (foreign : Foreign) → Means (archive_beside foreign) insert_class (Insert 4 (Values three_terms 4))
+unfolding understood everything
+insert_class_is foreign = record { is = refl; plain = (refl, refl) }
+
+pub insert_schedule_is : (foreign : Foreign) → Means (archive_beside foreign) insert_schedule (Insert 5 (Values five_terms 6))
+unfolding understood everything
+insert_schedule_is foreign = record { is = refl; plain = (refl, refl) }
+
+pub insert_due_is : (foreign : Foreign) → Means (archive_beside foreign) insert_due (Insert 6 (Values message_terms 3))
+unfolding understood everything
+insert_due_is foreign = record { is = refl; plain = (refl, refl) }
+
+-- ---- deletes
+
+abbrev pub clear_dues : List ℕ
+clear_dues = codes "DELETE FROM due_day"
+
+abbrev pub clear_classes : List ℕ
+clear_classes = codes "DELETE FROM class"
+
+abbrev pub clear_schedules : List ℕ
+clear_schedules = codes "DELETE FROM schedule"
+
+abbrev pub clear_settings : List ℕ
+clear_settings = codes "DELETE FROM meta"
+
+abbrev pub delete_due : List ℕ
+delete_due = codes "DELETE FROM due_day WHERE record = ?1"
+
+abbrev pub delete_message : List ℕ
+delete_message = codes "DELETE FROM message WHERE number = ?1"
+
+abbrev pub delete_hold : List ℕ
+delete_hold = codes "DELETE FROM hold WHERE name = ?1 AND record = ?2"
+
+abbrev pub key_test : List Term
+key_test = op2 (Compare Eq Binary) (col 1 0) (col 0 0) ∷ []
+
+abbrev pub hold_test : List Term
+hold_test = op2 (Compare Eq Binary) (col 1 1) (col 0 0) ∷ op2 (Compare Eq Binary) (col 1 2) (col 0 1) ∷ []
+
+abbrev pub deleting : ℕ → List Term → Program
+deleting tree tests = alone (on_table tree tests (col 1 0 ∷ []))
+
+pub clear_dues_is : (foreign : Foreign) → Means (archive_beside foreign) clear_dues (Delete 6 (deleting 10 []))
+unfolding understood everything
+clear_dues_is foreign = record { is = refl; plain = (refl, refl) }
+
+pub clear_classes_is : (foreign : Foreign) → Means (archive_beside foreign) clear_classes (Delete 4 (deleting 6 []))
+unfolding understood everything
+clear_classes_is foreign = record { is = refl; plain = (refl, refl) }
+
+pub clear_schedules_is : (foreign : Foreign) → Means (archive_beside foreign) clear_schedules (Delete 5 (deleting 8 []))
+unfolding understood everything
+clear_schedules_is foreign = record { is = refl; plain = (refl, refl) }
+
+pub clear_settings_is : (foreign : Foreign) → Means (archive_beside foreign) clear_settings (Delete 3 (deleting 4 []))
+unfolding understood everything
+clear_settings_is foreign = record { is = refl; plain = (refl, refl) }
+
+pub delete_due_is : (foreign : Foreign) → Means (archive_beside foreign) delete_due (Delete 6 (deleting 10 key_test))
+unfolding understood everything
+delete_due_is foreign = record { is = refl; plain = (refl, refl) }
+
+pub delete_message_is : (foreign : Foreign) → Means (archive_beside foreign) delete_message (Delete 0 (deleting 0 key_test))
+unfolding understood everything
+delete_message_is foreign = record { is = refl; plain = (refl, refl) }
+
+pub delete_hold_is : (foreign : Foreign) → Means (archive_beside foreign) delete_hold (Delete 2 (deleting 2 hold_test))
+unfolding understood everything
+delete_hold_is foreign = record { is = refl; plain = (refl, refl) }
+
+-- ---- an update
+
+abbrev pub set_destroyed : List ℕ
+set_destroyed = codes "UPDATE record SET destroyed = 1 WHERE number = ?1"
+
+abbrev pub destroyed_query : Query
+destroyed_query = on_table 1 key_test (col 1 0 ∷ col 1 0 ∷ lit Null ∷ col 1 2 ∷ col 1 3 ∷ col 1 4 ∷ lit (Int (pos 1)) ∷ [])
+
+pub set_destroyed_is : (foreign : Foreign) → Means (archive_beside foreign) set_destroyed (Update 1 (alone destroyed_query))
+unfolding understood everything
+set_destroyed_is foreign = record { is = refl; plain = (refl, refl) }
+
+-- ---- queries
+
+abbrev pub select_records : List ℕ
+select_records = codes "SELECT number, message, path, day, destroyed FROM record ORDER BY number"
+
+abbrev pub records_query : Query
+records_query = record (on_table 1 [] (col 1 0 ∷ col 1 2 ∷ col 1 3 ∷ col 1 4 ∷ col 1 5 ∷ [])) { order = (col 1 0, ascending Binary) ∷ [] }
+
+pub select_records_is : (foreign : Foreign) → Asks (common_beside foreign) select_records (Select (alone records_query) (codes "number" ∷ codes "message" ∷ codes "path" ∷ codes "day" ∷ codes "destroyed" ∷ []))
+unfolding understood everything
+select_records_is foreign = record { is = refl; plain = (refl, refl); unlisted = refl }
+
+abbrev pub select_dues : List ℕ
+select_dues = codes "SELECT record, day FROM due_day WHERE day <= ?1 ORDER BY day, record"
+
+abbrev pub due_test : List Term
+due_test = op2 (Compare Le Binary) (col 1 2) (col 0 0) ∷ []
+
+abbrev pub dues_query : Query
+dues_query = record (on_table 10 due_test (col 1 0 ∷ col 1 2 ∷ [])) { order = (col 1 2, ascending Binary) ∷ (col 1 0, ascending Binary) ∷ [] }
+
+pub select_dues_is : (foreign : Foreign) → Asks (archive_beside foreign) select_dues (Select (alone dues_query) (codes "record" ∷ codes "day" ∷ []))
+unfolding understood everything
+select_dues_is foreign = record { is = refl; plain = (refl, refl); unlisted = refl }
+
+abbrev pub select_classes : List ℕ
+select_classes = codes "SELECT path, is_open, schedule FROM class ORDER BY path"
+
+abbrev pub classes_query : Query
+classes_query = record (on_table 6 [] (col 1 1 ∷ col 1 2 ∷ col 1 3 ∷ [])) { order = (col 1 1, ascending Binary) ∷ [] }
+
+pub select_classes_is : (foreign : Foreign) → Asks (common_beside foreign) select_classes (Select (alone classes_query) (codes "path" ∷ codes "is_open" ∷ codes "schedule" ∷ []))
+unfolding understood everything
+select_classes_is foreign = record { is = refl; plain = (refl, refl); unlisted = refl }
+
+abbrev pub select_settings : List ℕ
+select_settings = codes "SELECT key, value FROM meta ORDER BY key"
+
+abbrev pub settings_query : Query
+settings_query = record (on_table 4 [] (col 1 1 ∷ col 1 2 ∷ [])) { order = (col 1 1, ascending Binary) ∷ [] }
+
+pub select_settings_is : (foreign : Foreign) → Asks (common_beside foreign) select_settings (Select (alone settings_query) (codes "key" ∷ codes "value" ∷ []))
+unfolding understood everything
+select_settings_is foreign = record { is = refl; plain = (refl, refl); unlisted = refl }
+
+abbrev pub select_numbers : List ℕ
+select_numbers = codes "SELECT number FROM message ORDER BY number"
+
+abbrev pub numbers_query : Query
+numbers_query = record (on_table 0 [] (col 1 0 ∷ [])) { order = (col 1 0, ascending Binary) ∷ [] }
+
+pub select_numbers_is : (foreign : Foreign) → Asks (common_beside foreign) select_numbers (Select (alone numbers_query) (codes "number" ∷ []))
+unfolding understood everything
+select_numbers_is foreign = record { is = refl; plain = (refl, refl); unlisted = refl }
+
+abbrev pub select_holds : List ℕ
+select_holds = codes "SELECT name, record FROM hold ORDER BY record, name"
+
+abbrev pub holds_query : Query
+holds_query = record (on_table 2 [] (col 1 1 ∷ col 1 2 ∷ [])) { order = (col 1 2, ascending Binary) ∷ (col 1 1, ascending Binary) ∷ [] }
+
+pub select_holds_is : (foreign : Foreign) → Asks (common_beside foreign) select_holds (Select (alone holds_query) (codes "name" ∷ codes "record" ∷ []))
+unfolding understood everything
+select_holds_is foreign = record { is = refl; plain = (refl, refl); unlisted = refl }
+
+abbrev pub select_schedules : List ℕ
+select_schedules = codes "SELECT path, count, unit, action, year_end FROM schedule ORDER BY path"
+
+abbrev pub schedules_query : Query
+schedules_query = record (on_table 8 [] (col 1 1 ∷ col 1 2 ∷ col 1 3 ∷ col 1 4 ∷ col 1 5 ∷ [])) { order = (col 1 1, ascending Binary) ∷ [] }
+
+pub select_schedules_is : (foreign : Foreign) → Asks (archive_beside foreign) select_schedules (Select (alone schedules_query) (codes "path" ∷ codes "count" ∷ codes "unit" ∷ codes "action" ∷ codes "year_end" ∷ []))
+unfolding understood everything
+select_schedules_is foreign = record { is = refl; plain = (refl, refl); unlisted = refl }

@@ -1,0 +1,15 @@
+use Rattle.std.proofs.Common.{ℕ, ◌∙◌, sym}
+use Rattle.sqlite.specs.Held.{state}
+use Rattle.sqlite.specs.Schema.{Schema}
+use Rattle.sqlite.specs.Table.{Table}
+use Rattle.record_tables.proofs.LayLemmas.{lays_table}
+use Rattle.record_tables.proofs.lay.define_table.Goals as goal
+
+pub returns-clause-ok : goal.returns-clause-ok
+returns-clause-ok g c = λ (schema : Schema) (table : Table) d clean inside.
+    lays_table (state g.S.Store c.args.tx.now.conn.now) (state g.S.Store c.execute.new.self.conn.now) schema c.args.text.now table c.in_ok-execute.field-0 d inside (c.in_ok-execute.ensures.runs clean inside)
+
+pub returns-clause-goes_on : goal.returns-clause-goes_on
+returns-clause-goes_on g c clean inside =
+    let h = c.in_ok-execute.ensures.runs clean inside in
+    record { committed = h.1.committed_is; mode = h.1.mode ∙ sym inside; is_open = h.1.is_open ∙ sym h.1.was_open }

@@ -1,0 +1,21 @@
+use Rattle.std.proofs.Common.{arith, rules, ◌∙◌}
+use Rattle.sqlite.specs.Held.{state}
+use Rattle.sqlite.proofs.StateLemmas.{survives_then}
+use Rattle.record_tables.specs.Typed.{rule_of}
+use Rattle.record_tables.proofs.Loops.{schedules_next, none_yet_schedules}
+use Rattle.record_tables.proofs.renew.insert_schedules.Goals as goal
+
+pub loop-schedule-preserved : goal.loop-schedule-preserved
+loop-schedule-preserved g c =
+    let was = c.loop-schedule.invariant in
+    let old = state g.S.Store c.args.tx.now.conn.now in
+    let mid = state g.S.Store c.loop-schedule.tx.conn.now in
+    let new = state g.S.Store c.insert_schedule.new.tx.conn.now in
+    record {
+      same_reference = cc;
+      puts = λ clean inside.
+          let one = was.puts (omega (arith, c.insert_schedule.ensures.survives.clean)) inside in
+          let two = c.in_ok-insert_schedule.ensures.ok clean (one.mode ∙ inside) in
+          schedules_next rule_of old mid new c.args.schedules.now c.schedule-item.result c.loop-schedule.schedule-index c.loop-schedule-test.true c.schedule-item.is one two;
+      survives = search rules;
+    }

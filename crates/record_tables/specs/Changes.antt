@@ -1,0 +1,151 @@
+-- What statements make of the tables.
+use Rattle.std.specs.Prelude.{◌≡◌, ◌<◌, ◌++◌, ◌&&◌, ℕ, ◌+◌, ℤ, pos, Bool, true, false, List, [], ◌∷◌, Option, codes, ◌+ℤ◌}
+use Rattle.std.specs.List.{AllByRecursion}
+use Rattle.std.specs.Cmp.Lexicographic.{slice_cmp}
+use Rattle.std.specs.Ordering.{nat_cmp, is_eq, int_eq}
+use Rattle.sqlite_keyed.specs.Keyed.{IsKeyedBy, next_key}
+use Rattle.sqlite_keyed.specs.Lists.{delete_where, update_where}
+use Rattle.sqlite.specs.State.{State}
+use Rattle.sqlite.specs.Effect.{Database}
+use Rattle.sqlite_trees.specs.Tree.{IsAscending}
+use Rattle.record_tables.specs.Rows.{Tables, Message, Record, Hold, Setting, Class, Schedule, Due, Stores, StoresKeyed, AreKeyed, hold_key, setting_key, class_key, schedule_key}
+
+-- a statement in a transaction, which goes on
+pub record Puts (old new : State) (Allows : Tables → Type 0) (change : Tables → Tables) : Type 0 where
+  pub stored : (t : Tables) → Stores old.now t → AreKeyed t → Allows t → StoresKeyed new.now (change t)
+  pub committed : new.committed ≡ old.committed
+  pub mode : new.in_transaction ≡ old.in_transaction
+  pub is_open : new.is_open ≡ old.is_open
+
+abbrev pub Always : Tables → Type 0
+Always t = Unit {0}
+
+abbrev pub IsPastMessages : ℕ → Tables → Type 0
+IsPastMessages n t = AllByRecursion (λ (m : Message). m.number < n) t.messages
+
+abbrev pub IsPastRecords : ℕ → Tables → Type 0
+IsPastRecords n t = AllByRecursion (λ (r : Record). r.number < n) t.records
+
+abbrev pub IsPastDues : ℕ → Tables → Type 0
+IsPastDues n t = AllByRecursion (λ (d : Due). d.number < n) t.dues
+
+abbrev pub with_message : Message → Tables → Tables
+with_message m t = record t { messages = t.messages ++ m ∷ [] }
+
+abbrev pub with_record : Record → Tables → Tables
+with_record r t = record t { records = t.records ++ r ∷ [] }
+
+abbrev pub with_due : Due → Tables → Tables
+with_due d t = record t { dues = t.dues ++ d ∷ [] }
+
+abbrev pub without_dues : Tables → Tables
+without_dues t = record t { dues = [] }
+
+abbrev pub without_classes : Tables → Tables
+without_classes t = record t { classes = [] }
+
+abbrev pub without_settings : Tables → Tables
+without_settings t = record t { settings = [] }
+
+abbrev pub without_schedules : Tables → Tables
+without_schedules t = record t { schedules = [] }
+
+abbrev pub destroyed : Record → Record
+destroyed r = record r { destroyed = true }
+
+abbrev pub with_destroyed : ℕ → Tables → Tables
+with_destroyed n t = record t { records = update_where (λ (r : Record). int_eq (pos r.number) (pos n)) destroyed t.records }
+
+abbrev pub with_class : List ℕ → Bool → Option (List ℕ) → Tables → Tables
+with_class path is_open schedule t = record t { classes = t.classes ++ record { id = next_key class_key t.classes; path = path; is_open = is_open; schedule = schedule } ∷ [] }
+
+-- a schedule of a class or of the whole plan, without its rowid
+pub record Rule : Type 0 where
+  pub path : List ℕ
+  pub count : ℕ
+  pub unit : ℕ
+  pub action : ℕ
+  pub year_end : ℕ
+
+abbrev pub schedule_at : ℤ → Rule → Schedule
+schedule_at id r = record { id = id; path = r.path; count = r.count; unit = r.unit; action = r.action; year_end = r.year_end }
+
+abbrev pub with_schedule : Rule → Tables → Tables
+with_schedule r t = record t { schedules = t.schedules ++ schedule_at (next_key schedule_key t.schedules) r ∷ [] }
+
+abbrev pub with_setting : List ℕ → List ℕ → Tables → Tables
+with_setting key value t = record t { settings = t.settings ++ record { id = next_key setting_key t.settings; key = key; value = value } ∷ [] }
+
+abbrev pub with_hold : List ℕ → ℕ → Tables → Tables
+with_hold name n t = record t { holds = t.holds ++ record { id = next_key hold_key t.holds; name = name; number = n } ∷ [] }
+
+abbrev pub is_hold : List ℕ → ℕ → Hold → Bool
+is_hold name n h = is_eq (slice_cmp nat_cmp h.name name) && int_eq (pos h.number) (pos n)
+
+abbrev pub without_hold : List ℕ → ℕ → Tables → Tables
+without_hold name n t = record t { holds = delete_where (is_hold name n) t.holds }
+
+abbrev pub without_message : ℕ → Tables → Tables
+without_message n t = record t { messages = delete_where (λ (m : Message). int_eq (pos m.number) (pos n)) t.messages }
+
+abbrev pub without_due : ℕ → Tables → Tables
+without_due n t = record t { dues = delete_where (λ (d : Due). int_eq (pos d.number) (pos n)) t.dues }
+
+-- ---- whole transactions
+
+-- what a transaction makes of the database
+pub record Turns (old new : Database) (Allows : Tables → Type 0) (change : Tables → Tables) : Type 0 where
+  pub stored : (t : Tables) → Stores old t → AreKeyed t → Allows t → StoresKeyed new (change t)
+
+-- a class as it is listed, without its rowid
+pub record Listed : Type 0 where
+  pub path : List ℕ
+  pub is_open : Bool
+  pub schedule : Option (List ℕ)
+
+-- the classes in this order, from a rowid on
+abbrev pub numbered : ℤ → List Listed → List Class
+numbered id [] = []
+numbered id (c ∷ cs) = record { id = id; path = c.path; is_open = c.is_open; schedule = c.schedule } ∷ numbered (id +ℤ pos 1) cs
+
+abbrev pub with_dues : List Due → Tables → Tables
+with_dues ds t = record t { dues = ds }
+
+abbrev pub with_classes : List Listed → Tables → Tables
+with_classes cs t = record t { classes = numbered (pos 1) cs }
+
+-- the schedules in this order, from a rowid on
+abbrev pub numbered_schedules : ℤ → List Rule → List Schedule
+numbered_schedules id [] = []
+numbered_schedules id (r ∷ rs) = schedule_at id r ∷ numbered_schedules (id +ℤ pos 1) rs
+
+abbrev pub with_schedules : List Rule → Tables → Tables
+with_schedules rs t = record t { schedules = numbered_schedules (pos 1) rs }
+
+-- the one row of `meta` in version 2
+abbrev pub version_2 : List Setting
+version_2 = record { id = pos 1; key = codes "version"; value = codes "2" } ∷ []
+
+abbrev pub with_version : Tables → Tables
+with_version t = record t { settings = version_2 }
+
+-- the rows of a plan and the due days by it, in place of those that were there
+abbrev pub with_plan : List Rule → List Listed → List Due → Tables → Tables
+with_plan rs cs ds t = record t { classes = numbered (pos 1) cs; schedules = numbered_schedules (pos 1) rs; dues = ds }
+
+-- what replacing a plan makes of a database
+abbrev pub IsRevised : List Rule → List Listed → List Due → Database → Database → Type 0
+IsRevised rs cs ds old new = Turns old new Always (with_plan rs cs ds)
+
+abbrev pub HasNoClasses : Tables → Type 0
+HasNoClasses t = t.classes ≡ []
+
+abbrev pub HasNoSchedules : Tables → Type 0
+HasNoSchedules t = t.schedules ≡ []
+
+abbrev pub HasNoDues : Tables → Type 0
+HasNoDues t = t.dues ≡ []
+
+-- the records rise
+abbrev pub AreAscending : List Due → Type 0
+AreAscending = IsAscending (λ (a b : Due). a.number < b.number)

@@ -1,0 +1,91 @@
+-- Tables as they are laid.
+use Rattle.std.specs.Prelude.{◌≡◌, ℕ, Bool, true, false, List, [], ◌∷◌, IsTrue, Result, Ok, OnOk, Some, slice_get}
+use Rattle.std.specs.List.{AllByRecursion}
+use Rattle.sqlite.specs.Table.{Table}
+use Rattle.sqlite.specs.Command.TheVariants.{CreateTable, CreateIndex}
+use Rattle.sqlite.specs.Compile.{table_defined_by, index_defined_by}
+use Rattle.sqlite.specs.Change.{created}
+use Rattle.sqlite.specs.Does.{lacks_sequence}
+use Rattle.sqlite.specs.Listing.{understood}
+use Rattle.sqlite.proofs.Callers.{IsPlain, command_of, statement_of}
+use Rattle.sqlite_schema.specs.declared.schema.Index.{Index}
+use Rattle.sqlite.specs.Schema.{Schema}
+use Rattle.sqlite.specs.Tree.{Trees}
+use Rattle.sqlite.specs.Effect.{Database}
+use Rattle.sqlite.specs.Store.{Ghosts}
+use Rattle.sqlite.specs.State.{State, HasCleanDisk}
+use Rattle.sqlite.specs.Held.{Held, state}
+use Rattle.sqlite_catalog.specs.Change.{KeepsRows}
+use Rattle.record_tables.specs.Tables.{no_schema, first_schema, dated_schema}
+use Rattle.record_tables.specs.Rows.{Tables, Due, Stores, StoresFirst, StoresKeyed, AreKeyed}
+use Rattle.record_tables.specs.Changes.{Listed, Rule, with_version, with_plan}
+
+abbrev pub AreEmpty : List Table → Trees → Type 0
+AreEmpty tables trees = AllByRecursion (λ (t : Table). trees t.tree ≡ []) tables
+
+-- a transaction that goes on
+pub record GoesOn (old new : State) : Type 0 where
+  pub committed : new.committed ≡ old.committed
+  pub mode : new.in_transaction ≡ old.in_transaction
+  pub is_open : new.is_open ≡ old.is_open
+
+-- statements that lay these tables, empty, beside those that are there
+pub record Lays (old new : State) (before : Schema) (laid : List Table) (after : Schema) : Type 0 where
+  pub schema : old.now.schema ≡ before → new.now.schema ≡ after
+  pub empty : old.now.schema ≡ before → AreEmpty laid new.now.trees
+  pub kept : old.now.schema ≡ before → KeepsRows before.tables old.now.trees new.now.trees
+  pub committed : new.committed ≡ old.committed
+  pub mode : new.in_transaction ≡ old.in_transaction
+  pub is_open : new.is_open ≡ old.is_open
+
+abbrev pub no_rows : Tables
+no_rows = record { messages = []; records = []; holds = []; settings = []; classes = []; schedules = []; dues = [] }
+
+-- the same, said of a call in a transaction
+module _ {S : Type 0} (g : Ghosts S) (old new : Held S) where
+  abbrev pub LaysIn : Schema → List Table → Schema → Type 0
+  LaysIn before laid after = HasCleanDisk (state g new) → IsTrue (state g old).in_transaction → Lays (state g old) (state g new) before laid after
+
+  abbrev pub GoesOnIn : {T E : Type 0} → Result T E → Type 0
+  GoesOnIn result = HasCleanDisk (state g new) → IsTrue (state g old).in_transaction → OnOk result (GoesOn (state g old) (state g new))
+
+-- version 1's table of due days is dropped
+pub record Drops (old new : State) : Type 0 where
+  pub schema : old.now.schema ≡ dated_schema → new.now.schema ≡ first_schema
+  pub kept : old.now.schema ≡ dated_schema → KeepsRows first_schema.tables old.now.trees new.now.trees
+  pub committed : new.committed ≡ old.committed
+  pub mode : new.in_transaction ≡ old.in_transaction
+  pub is_open : new.is_open ≡ old.is_open
+
+-- whether version 1 has due days
+pub record TellsDues (schema : Schema) (has_dues : Bool) : Type 0 where
+  pub without : schema ≡ first_schema → has_dues ≡ false
+  pub with_them : schema ≡ dated_schema → has_dues ≡ true
+
+-- the tables are laid where there were none, and have this plan and no other row
+pub record IsLaid (schedules : List Rule) (classes : List Listed) (old new : Database) : Type 0 where
+  pub stored : old.schema ≡ no_schema → StoresKeyed new (with_version (with_plan schedules classes [] no_rows))
+
+-- the rows of version 1 stand in the tables of version 2, whose schedules and due days are none
+pub record IsWidened (old new : Database) : Type 0 where
+  pub stored : (t : Tables) → StoresFirst old t → Stores new t
+
+-- the rows of version 1 are those of version 2, with this plan and these due days in place of the plan that was there
+pub record IsMoved (schedules : List Rule) (classes : List Listed) (dues : List Due) (old new : Database) : Type 0 where
+  pub stored : (t : Tables) → StoresFirst old t → AreKeyed t → StoresKeyed new (with_version (with_plan schedules classes dues t))
+
+-- the text makes this table
+pub record Defines (schema : Schema) (text : List ℕ) (table : Table) : Type 0 where
+  pub creates : command_of (understood schema text) ≡ CreateTable
+  pub whole : statement_of text (understood schema text) ≡ text
+  pub plain : IsPlain (understood schema text)
+  pub defined : table_defined_by text ≡ Ok table
+  pub uncounted : lacks_sequence (created schema table) ≡ false
+
+-- the text makes this index of the table at a place
+pub record DefinesIndex (schema : Schema) (text : List ℕ) (at : ℕ) (table : Table) (index : Index) : Type 0 where
+  pub creates : command_of (understood schema text) ≡ CreateIndex at
+  pub whole : statement_of text (understood schema text) ≡ text
+  pub plain : IsPlain (understood schema text)
+  pub listed : slice_get schema.tables at ≡ Some table
+  pub defined : index_defined_by table text ≡ Ok index

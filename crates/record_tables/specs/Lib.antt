@@ -1,0 +1,10 @@
+pub mod Tables
+pub mod Rows
+pub mod Changes
+pub mod Steps
+pub mod Reads
+pub mod Typed
+pub mod Layouts
+pub mod Shapes
+pub mod Layout
+pub mod Faults

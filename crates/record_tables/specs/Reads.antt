@@ -1,0 +1,165 @@
+-- What queries show of the tables.
+use Rattle.std.specs.Prelude.{◌≡◌, ◌<◌, ◌^◌, map, filter, ℕ, ℤ, pos, List, [], ◌∷◌, Bool, IsPermutation, int_le}
+use Rattle.std.specs.Ordering.{int_cmp, nat_cmp, ordering_then}
+use Rattle.std.specs.declared.cmp.Ordering.{Ordering}
+use Rattle.std.specs.declared.cmp.Ordering.TheVariants.{Less}
+use Rattle.std.specs.Cmp.Lexicographic.{slice_cmp}
+use Rattle.sqlite.specs.declared.types.Value.TheVariants.{Int, Text as Words}
+use Rattle.sqlite.specs.Order.{Row, column}
+use Rattle.sqlite_typed.specs.Columns.{or_null}
+use Rattle.sqlite_keyed.specs.Lists.{sort_by}
+use Rattle.sqlite_trees.specs.Tree.{IsAscending}
+use Rattle.record_tables.specs.Rows.{Tables, Message, Record, Hold, Setting, Class, Schedule, Due, as_flag}
+use Rattle.record_tables.specs.Changes.{Listed, Rule}
+
+-- ---- records
+
+abbrev pub shown_record : Record → Row
+shown_record r = Int (pos r.number) ∷ Int (pos r.message) ∷ Words r.path ∷ Int (pos r.day) ∷ Int (as_flag r.destroyed) ∷ []
+
+-- the columns of the row are the record's
+pub record ReadsRecord (row : Row) (r : Record) : Type 0 where
+  pub number : column row 0 ≡ Int (pos r.number)
+  pub message : column row 1 ≡ Int (pos r.message)
+  pub path : column row 2 ≡ Words r.path
+  pub day : column row 3 ≡ Int (pos r.day)
+  pub destroyed : column row 4 ≡ Int (as_flag r.destroyed)
+
+-- the numbers have 32 bits
+pub record FitsRecord (r : Record) : Type 0 where
+  pub number : r.number < 2 ^ 32
+  pub message : r.message < 2 ^ 32
+  pub day : r.day < 2 ^ 32
+
+-- ---- numbers of messages
+
+abbrev pub shown_number : ℕ → Row
+shown_number n = Int (pos n) ∷ []
+
+abbrev pub ReadsNumber : Row → ℕ → Type 0
+ReadsNumber row n = column row 0 ≡ Int (pos n)
+
+abbrev pub FitsNumber : ℕ → Type 0
+FitsNumber n = n < 2 ^ 32
+
+abbrev pub numbers_of : Tables → List ℕ
+numbers_of t = map (λ (m : Message). m.number) t.messages
+
+-- ---- due days
+
+abbrev pub shown_due : Due → Row
+shown_due d = Int (pos d.number) ∷ Int (pos d.day) ∷ []
+
+pub record ReadsDue (row : Row) (d : Due) : Type 0 where
+  pub number : column row 0 ≡ Int (pos d.number)
+  pub day : column row 1 ≡ Int (pos d.day)
+
+pub record FitsDue (d : Due) : Type 0 where
+  pub number : d.number < 2 ^ 32
+  pub day : d.day < 2 ^ 32
+
+-- not later than the day
+abbrev pub is_by : ℕ → Due → Bool
+is_by day d = int_le (pos d.day) (pos day)
+
+-- by day, then by record
+abbrev pub due_cmp : Due → Due → Ordering
+due_cmp x y = ordering_then (int_cmp (pos x.day) (pos y.day)) (int_cmp (pos x.number) (pos y.number))
+
+-- the due days up to a day, in order
+abbrev pub dues_by : ℕ → Tables → List Due
+dues_by day t = sort_by due_cmp (filter (is_by day) t.dues)
+
+-- ---- classes
+
+abbrev pub shown_class : Listed → Row
+shown_class c = Words c.path ∷ Int (as_flag c.is_open) ∷ or_null Words c.schedule ∷ []
+
+pub record ReadsClass (row : Row) (c : Listed) : Type 0 where
+  pub path : column row 0 ≡ Words c.path
+  pub is_open : column row 1 ≡ Int (as_flag c.is_open)
+  pub schedule : column row 2 ≡ or_null Words c.schedule
+
+abbrev pub listed : Class → Listed
+listed c = record { path = c.path; is_open = c.is_open; schedule = c.schedule }
+
+-- the classes of the table are these, which are in byte order of their paths
+pub record AreListed (t : Tables) (cs : List Listed) : Type 0 where
+  pub same : IsPermutation (map listed t.classes) cs
+  pub in_order : IsAscending (λ (x y : Listed). slice_cmp nat_cmp x.path y.path ≡ Less) cs
+
+-- ---- schedules
+
+abbrev pub shown_rule : Rule → Row
+shown_rule r = Words r.path ∷ Int (pos r.count) ∷ Int (pos r.unit) ∷ Int (pos r.action) ∷ Int (pos r.year_end) ∷ []
+
+pub record ReadsRule (row : Row) (r : Rule) : Type 0 where
+  pub path : column row 0 ≡ Words r.path
+  pub count : column row 1 ≡ Int (pos r.count)
+  pub unit : column row 2 ≡ Int (pos r.unit)
+  pub action : column row 3 ≡ Int (pos r.action)
+  pub year_end : column row 4 ≡ Int (pos r.year_end)
+
+pub record FitsRule (r : Rule) : Type 0 where
+  pub count : r.count < 2 ^ 32
+  pub unit : r.unit < 2 ^ 32
+  pub action : r.action < 2 ^ 32
+  pub year_end : r.year_end < 2 ^ 32
+
+abbrev pub rule : Schedule → Rule
+rule s = record { path = s.path; count = s.count; unit = s.unit; action = s.action; year_end = s.year_end }
+
+-- the schedules of the table are these, which are in byte order of their paths
+pub record AreRules (t : Tables) (rs : List Rule) : Type 0 where
+  pub same : IsPermutation (map rule t.schedules) rs
+  pub in_order : IsAscending (λ (x y : Rule). slice_cmp nat_cmp x.path y.path ≡ Less) rs
+
+-- ---- holds
+
+-- a hold without its rowid
+pub record Named : Type 0 where
+  pub name : List ℕ
+  pub number : ℕ
+
+abbrev pub named : Hold → Named
+named h = record { name = h.name; number = h.number }
+
+abbrev pub shown_hold : Named → Row
+shown_hold h = Words h.name ∷ Int (pos h.number) ∷ []
+
+pub record ReadsHold (row : Row) (h : Named) : Type 0 where
+  pub name : column row 0 ≡ Words h.name
+  pub number : column row 1 ≡ Int (pos h.number)
+
+abbrev pub FitsHold : Named → Type 0
+FitsHold h = h.number < 2 ^ 32
+
+-- by record, then by name
+abbrev pub named_cmp : Named → Named → Ordering
+named_cmp x y = ordering_then (int_cmp (pos x.number) (pos y.number)) (slice_cmp nat_cmp x.name y.name)
+
+-- the holds of the table are these, which are in order
+pub record AreNamed (t : Tables) (hs : List Named) : Type 0 where
+  pub same : IsPermutation (map named t.holds) hs
+  pub in_order : IsAscending (λ (x y : Named). named_cmp x y ≡ Less) hs
+
+-- ---- settings
+
+-- a row of `meta` without its rowid
+pub record Pair : Type 0 where
+  pub key : List ℕ
+  pub value : List ℕ
+
+abbrev pub paired : Setting → Pair
+paired s = record { key = s.key; value = s.value }
+
+abbrev pub shown_pair : Pair → Row
+shown_pair p = Words p.key ∷ Words p.value ∷ []
+
+pub record ReadsPair (row : Row) (p : Pair) : Type 0 where
+  pub key : column row 0 ≡ Words p.key
+  pub value : column row 1 ≡ Words p.value
+
+pub record ArePaired (t : Tables) (ps : List Pair) : Type 0 where
+  pub same : IsPermutation (map paired t.settings) ps
+  pub in_order : IsAscending (λ (x y : Pair). slice_cmp nat_cmp x.key y.key ≡ Less) ps

@@ -1,0 +1,155 @@
+-- The tables of a store, and the schemas that have them.
+use Rattle.sqlite.specs.Collation.TheVariants.{Binary}
+use Rattle.std.specs.Prelude.{◌≡◌, ℕ, Bool, true, false, List, [], ◌∷◌, Some, None, codes}
+use Rattle.std.specs.List.{AllByRecursion}
+use Rattle.sqlite.specs.declared.types.Value.TheVariants.{Null}
+use Rattle.sqlite.specs.Table.{Table}
+use Rattle.sqlite.specs.Schema.{Schema}
+use Rattle.sqlite.specs.Kind.{Kind}
+use Rattle.sqlite.specs.Kind.TheVariants.{Integer, Text, Blob}
+use Rattle.sqlite.specs.Change.{created, indexed}
+use Rattle.sqlite_schema.specs.declared.schema.Column.{Column}
+use Rattle.sqlite_schema.specs.declared.schema.Index.{Index}
+use Rattle.sqlite_schema.specs.declared.schema.View.{View}
+use Rattle.sqlite_value.specs.Keys.{plain}
+
+abbrev pub strict_column : List ℕ → Kind → Bool → Column
+strict_column name kind not_null = record { name = name; kind = kind; is_strict = true; not_null = not_null; default = Null; collation = Binary }
+
+abbrev pub needed : List ℕ → Kind → Column
+needed name kind = strict_column name kind true
+
+abbrev pub optional : List ℕ → Kind → Column
+optional name kind = strict_column name kind false
+
+-- a table whose first column is its rowid
+abbrev pub keyed_table : List ℕ → ℕ → List Column → Table
+keyed_table name tree columns = record {
+  name = name;
+  tree = tree;
+  columns = columns;
+  key = Some 0;
+  primary = 0 ∷ [];
+  uniques = [];
+  orders = [];
+  checks = [];
+  references = [];
+  computed = [];
+  stamps = record { places = []; terms = []; formats = [] };
+  is_counted = false;
+}
+
+-- a table with another key, and a rowid that no column shows
+abbrev pub uniquely_keyed_table : List ℕ → ℕ → List ℕ → List Column → Table
+uniquely_keyed_table name tree key columns = record {
+  name = name;
+  tree = tree;
+  columns = columns;
+  key = None;
+  primary = key;
+  uniques = key ∷ [];
+  orders = plain ∷ [];
+  checks = [];
+  references = [];
+  computed = [];
+  stamps = record { places = []; terms = []; formats = [] };
+  is_counted = false;
+}
+
+abbrev pub message_table : Table
+message_table = keyed_table (codes "message") 0 (optional (codes "number") Integer ∷ needed (codes "body") Blob ∷ [])
+
+abbrev pub record_table : Table
+record_table = keyed_table (codes "record") 1
+    (optional (codes "number") Integer ∷ needed (codes "message") Integer ∷ needed (codes "path") Text ∷ needed (codes "day") Integer ∷ needed (codes "destroyed") Integer ∷ [])
+
+abbrev pub hold_table : Table
+hold_table = uniquely_keyed_table (codes "hold") 2 (1 ∷ 2 ∷ []) (needed (codes "name") Text ∷ needed (codes "record") Integer ∷ [])
+
+abbrev pub meta_table : Table
+meta_table = uniquely_keyed_table (codes "meta") 4 (1 ∷ []) (needed (codes "key") Text ∷ needed (codes "value") Text ∷ [])
+
+abbrev pub class_table : Table
+class_table = uniquely_keyed_table (codes "class") 6 (1 ∷ []) (needed (codes "path") Text ∷ needed (codes "is_open") Integer ∷ optional (codes "schedule") Text ∷ [])
+
+abbrev pub schedule_table : Table
+schedule_table = uniquely_keyed_table (codes "schedule") 8 (1 ∷ [])
+    (needed (codes "path") Text ∷ needed (codes "count") Integer ∷ needed (codes "unit") Integer ∷ needed (codes "action") Integer ∷ needed (codes "year_end") Integer ∷ [])
+
+-- its tree is 10 in version 2, and 8 in version 1
+abbrev pub due_table_at : ℕ → Table
+due_table_at tree = keyed_table (codes "due_day") tree (optional (codes "record") Integer ∷ needed (codes "day") Integer ∷ [])
+
+abbrev pub due_table : Table
+due_table = due_table_at 10
+
+-- the index of a key
+abbrev pub key_index : List ℕ → ℕ → ℕ → List ℕ → Index
+key_index name tree table columns = record { name = name; tree = tree; table = table; columns = columns; order = plain; is_unique = true }
+
+abbrev pub due_index_at : ℕ → ℕ → Index
+due_index_at tree table = record { name = codes "due_by_day"; tree = tree; table = table; columns = 2 ∷ 0 ∷ []; order = plain; is_unique = false }
+
+abbrev pub due_index : Index
+due_index = due_index_at 11 10
+
+-- what a schema has after the tables that are spoken of
+pub record Foreign : Type 0 where
+  pub tables : List Table
+  pub indexes : List Index
+  pub views : List View
+
+abbrev pub none : Foreign
+none = record { tables = []; indexes = []; views = [] }
+
+-- the five tables that versions 1 and 2 share, before others
+abbrev pub common_beside : Foreign → Schema
+common_beside f = record {
+  tables = message_table ∷ record_table ∷ hold_table ∷ meta_table ∷ class_table ∷ f.tables;
+  indexes = key_index (codes "sqlite_autoindex_hold_1") 3 2 (1 ∷ 2 ∷ []) ∷ key_index (codes "sqlite_autoindex_meta_1") 5 4 (1 ∷ []) ∷ key_index (codes "sqlite_autoindex_class_1") 7 6 (1 ∷ []) ∷ f.indexes;
+  views = f.views;
+}
+
+-- the schedules and the due days of version 2, before others
+abbrev pub scheduled : Foreign → Foreign
+scheduled f = record {
+  tables = schedule_table ∷ due_table ∷ f.tables;
+  indexes = key_index (codes "sqlite_autoindex_schedule_1") 9 8 (1 ∷ []) ∷ due_index ∷ f.indexes;
+  views = f.views;
+}
+
+-- the due days of version 1
+abbrev pub dated : Foreign
+dated = record { tables = due_table_at 8 ∷ []; indexes = due_index_at 9 8 ∷ []; views = [] }
+
+-- the tables of version 2, before others
+abbrev pub archive_beside : Foreign → Schema
+archive_beside f = common_beside (scheduled f)
+
+abbrev pub no_schema : Schema
+no_schema = record { tables = []; indexes = []; views = [] }
+
+abbrev pub archive_schema : Schema
+archive_schema = archive_beside none
+
+-- version 1, without due days and with them
+abbrev pub first_schema : Schema
+first_schema = common_beside none
+
+abbrev pub dated_schema : Schema
+dated_schema = common_beside dated
+
+-- no table of these has a foreign key
+abbrev pub HasNoReferences : Foreign → Type 0
+HasNoReferences f = AllByRecursion (λ (t : Table). t.references ≡ []) f.tables
+
+-- version 2, and after its tables any others that have no foreign key
+pub record IsArchiveSchema (schema : Schema) : Type 0 where
+  pub foreign : Foreign
+  pub is : schema ≡ archive_beside foreign
+  pub apart : HasNoReferences foreign
+
+-- the five tables of both versions, and after them any others
+pub record HasCommonTables (schema : Schema) : Type 0 where
+  pub foreign : Foreign
+  pub is : schema ≡ common_beside foreign

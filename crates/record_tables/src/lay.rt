@@ -1,0 +1,234 @@
+//! The tables, laid in a database that has none, and laid beside those of version 1.
+
+ghost use Rattle.std.specs.Prelude.{◌≡◌, ◌∷◌, [], OnOk, OnErr, false, true, map, ℕ, IsTrue, Bool, ◌↔◌};
+ghost use Rattle.sqlite.specs.Schema.{Schema};
+ghost use Rattle.sqlite.specs.Table.{Table};
+ghost use Rattle.sqlite.specs.Change.{created, indexed, next_tree};
+ghost use Rattle.sqlite.specs.Held.{state};
+ghost use Rattle.sqlite.specs.State.{HasCleanDisk};
+ghost use Rattle.record_tables.specs.Tables.{no_schema, first_schema, archive_schema, schedule_table, due_table};
+ghost use Rattle.record_tables.specs.Shapes.{schema_6, archive_tables};
+ghost use Rattle.record_tables.specs.Layouts.{Defines, DefinesIndex, LaysIn, GoesOnIn, Drops, TellsDues, IsLaid, IsWidened, IsMoved};
+ghost use Rattle.record_tables.specs.Steps.{Inside, PutsIn, KeepsIn, CommitsNothing, CommitsWhole, Makes, IsCommitted, IsUndone, WasOpen};
+ghost use Rattle.record_tables.specs.Changes.{Always, AreAscending, with_plan, with_version};
+ghost use Rattle.record_tables.specs.Typed.{due_of, listed_of, rule_of};
+
+use crate::layout::has_dues;
+use crate::renew::{put_plan, put_version};
+use crate::rows::{ClassRow, DueRow, ScheduleRow};
+use sqlite::{Alter, Connection, Error, Transaction};
+use sqlite_schema::schema::Index;
+
+fn define_table<S: Alter>(tx: &mut Transaction<'_, S>, text: &str) -> Result<(), Error>
+    ensures same_reference { tx.new.conn.ghost_name ≡ tx.old.conn.ghost_name }
+    ensures ok { OnOk result ((schema : Schema) (table : Table) → Defines schema text.now table
+        → LaysIn S.Store tx.old.conn.now tx.new.conn.now schema (record table { tree = next_tree schema } ∷ []) (created schema table)) }
+    ensures goes_on { GoesOnIn S.Store tx.old.conn.now tx.new.conn.now result }
+    ensures err { KeepsIn S.Store tx.old.conn.now tx.new.conn.now result }
+    ensures survives { CommitsNothing S.Store tx.old.conn.now tx.new.conn.now }
+{
+    tx.execute(text, &[])?;
+    Ok(())
+}
+
+fn define_index<S: Alter>(tx: &mut Transaction<'_, S>, text: &str) -> Result<(), Error>
+    ensures same_reference { tx.new.conn.ghost_name ≡ tx.old.conn.ghost_name }
+    ensures ok { OnOk result ((schema : Schema) (at : ℕ) (table : Table) (index : Index) → DefinesIndex schema text.now at table index
+        → LaysIn S.Store tx.old.conn.now tx.new.conn.now schema [] (indexed schema table index)) }
+    ensures goes_on { GoesOnIn S.Store tx.old.conn.now tx.new.conn.now result }
+    ensures err { KeepsIn S.Store tx.old.conn.now tx.new.conn.now result }
+    ensures survives { CommitsNothing S.Store tx.old.conn.now tx.new.conn.now }
+{
+    tx.execute(text, &[])?;
+    Ok(())
+}
+
+/// Lays the table of due days and its index.
+fn lay_dues<S: Alter>(tx: &mut Transaction<'_, S>) -> Result<(), Error>
+    ensures same_reference { tx.new.conn.ghost_name ≡ tx.old.conn.ghost_name }
+    ensures ok { OnOk result (LaysIn S.Store tx.old.conn.now tx.new.conn.now schema_6 (due_table ∷ []) archive_schema) }
+    ensures err { KeepsIn S.Store tx.old.conn.now tx.new.conn.now result }
+    ensures survives { CommitsNothing S.Store tx.old.conn.now tx.new.conn.now }
+{
+    define_table(
+        tx,
+        "CREATE TABLE due_day (record INTEGER PRIMARY KEY, day INTEGER NOT NULL) STRICT",
+    )?;
+    define_index(tx, "CREATE INDEX due_by_day ON due_day (day, record)")?;
+    Ok(())
+}
+
+/// Lays the tables that version 1 has not, or not in this place.
+fn lay_later<S: Alter>(tx: &mut Transaction<'_, S>) -> Result<(), Error>
+    ensures same_reference { tx.new.conn.ghost_name ≡ tx.old.conn.ghost_name }
+    ensures ok { OnOk result (LaysIn S.Store tx.old.conn.now tx.new.conn.now first_schema (schedule_table ∷ due_table ∷ []) archive_schema) }
+    ensures err { KeepsIn S.Store tx.old.conn.now tx.new.conn.now result }
+    ensures survives { CommitsNothing S.Store tx.old.conn.now tx.new.conn.now }
+{
+    define_table(
+        tx,
+        "CREATE TABLE schedule (path TEXT NOT NULL PRIMARY KEY, count INTEGER NOT NULL, unit INTEGER NOT NULL, action INTEGER NOT NULL, year_end INTEGER NOT NULL) STRICT",
+    )?;
+    lay_dues(tx)?;
+    Ok(())
+}
+
+/// Lays all tables in a database that has none.
+fn lay_tables<S: Alter>(tx: &mut Transaction<'_, S>) -> Result<(), Error>
+    ensures same_reference { tx.new.conn.ghost_name ≡ tx.old.conn.ghost_name }
+    ensures ok { OnOk result (LaysIn S.Store tx.old.conn.now tx.new.conn.now no_schema archive_tables archive_schema) }
+    ensures err { KeepsIn S.Store tx.old.conn.now tx.new.conn.now result }
+    ensures survives { CommitsNothing S.Store tx.old.conn.now tx.new.conn.now }
+{
+    define_table(
+        tx,
+        "CREATE TABLE message (number INTEGER PRIMARY KEY, body BLOB NOT NULL) STRICT",
+    )?;
+    define_table(
+        tx,
+        "CREATE TABLE record (number INTEGER PRIMARY KEY, message INTEGER NOT NULL, path TEXT NOT NULL, day INTEGER NOT NULL, destroyed INTEGER NOT NULL) STRICT",
+    )?;
+    define_table(
+        tx,
+        "CREATE TABLE hold (name TEXT NOT NULL, record INTEGER NOT NULL, PRIMARY KEY (name, record)) STRICT",
+    )?;
+    define_table(
+        tx,
+        "CREATE TABLE meta (key TEXT NOT NULL PRIMARY KEY, value TEXT NOT NULL) STRICT",
+    )?;
+    define_table(
+        tx,
+        "CREATE TABLE class (path TEXT NOT NULL PRIMARY KEY, is_open INTEGER NOT NULL, schedule TEXT) STRICT",
+    )?;
+    lay_later(tx)?;
+    Ok(())
+}
+
+/// Puts version 2's row of `meta` and the rows of a plan in tables that are there.
+fn fill<S: Alter>(
+    tx: &mut Transaction<'_, S>,
+    schedules: &[ScheduleRow],
+    classes: &[ClassRow],
+    dues: &[DueRow],
+) -> Result<(), Error>
+    requires { AreAscending (map due_of dues.now) }
+    ensures same_reference { tx.new.conn.ghost_name ≡ tx.old.conn.ghost_name }
+    ensures ok { OnOk result (PutsIn S.Store tx.old.conn.now tx.new.conn.now Always (λ t. with_version (with_plan (map rule_of schedules.now) (map listed_of classes.now) (map due_of dues.now) t))) }
+    ensures err { KeepsIn S.Store tx.old.conn.now tx.new.conn.now result }
+    ensures survives { CommitsNothing S.Store tx.old.conn.now tx.new.conn.now }
+{
+    put_plan(tx, schedules, classes, dues)?;
+    put_version(tx)?;
+    Ok(())
+}
+
+fn lay_all<S: Alter>(
+    tx: &mut Transaction<'_, S>,
+    schedules: &[ScheduleRow],
+    classes: &[ClassRow],
+) -> Result<(), Error>
+    ensures same_reference { tx.new.conn.ghost_name ≡ tx.old.conn.ghost_name }
+    ensures ok { OnOk result (Inside S.Store tx.old.conn.now tx.new.conn.now (IsLaid (map rule_of schedules.now) (map listed_of classes.now) (state S.Store tx.old.conn.now).now (state S.Store tx.new.conn.now).now)) }
+    ensures goes_on { GoesOnIn S.Store tx.old.conn.now tx.new.conn.now result }
+    ensures err { KeepsIn S.Store tx.old.conn.now tx.new.conn.now result }
+    ensures survives { CommitsNothing S.Store tx.old.conn.now tx.new.conn.now }
+{
+    lay_tables(tx)?;
+    fill(tx, schedules, classes, &[])?;
+    Ok(())
+}
+
+/// Lays the tables of version 2 with a plan in a database that has none: all or nothing, also over a crash.
+pub fn lay<S: Alter>(
+    conn: &mut Connection<S>,
+    schedules: &[ScheduleRow],
+    classes: &[ClassRow],
+) -> Result<(), Error>
+    requires { conn.old.in_transaction ≡ false }
+    ensures idle { conn.new.in_transaction ≡ false }
+    ensures ok { Makes S.Store conn.old conn.new result (IsLaid (map rule_of schedules.now) (map listed_of classes.now)) }
+    ensures committed { IsCommitted S.Store conn.old conn.new result }
+    ensures err { IsUndone S.Store conn.old conn.new result }
+    ensures was_open { WasOpen S.Store conn.old conn.new }
+    ensures crash { CommitsWhole S.Store conn.old conn.new (IsLaid (map rule_of schedules.now) (map listed_of classes.now)) }
+{
+    let _settled = conn.is_autocommit();
+    let mut tx = conn.transaction();
+    lay_all(&mut tx, schedules, classes)?;
+    tx.commit()?;
+    Ok(())
+}
+
+fn drop_dues<S: Alter>(tx: &mut Transaction<'_, S>) -> Result<(), Error>
+    ensures same_reference { tx.new.conn.ghost_name ≡ tx.old.conn.ghost_name }
+    ensures ok { OnOk result (Inside S.Store tx.old.conn.now tx.new.conn.now (Drops (state S.Store tx.old.conn.now) (state S.Store tx.new.conn.now))) }
+    ensures err { KeepsIn S.Store tx.old.conn.now tx.new.conn.now result }
+    ensures survives { CommitsNothing S.Store tx.old.conn.now tx.new.conn.now }
+{
+    tx.execute("DROP TABLE due_day", &[])?;
+    Ok(())
+}
+
+/// Lays the later tables beside those of version 1, whose due days, where it has them, go.
+fn lay_beside<S: Alter>(tx: &mut Transaction<'_, S>, has_dues: bool) -> Result<(), Error>
+    requires { TellsDues (state S.Store tx.old.conn.now).now.schema has_dues }
+    ensures same_reference { tx.new.conn.ghost_name ≡ tx.old.conn.ghost_name }
+    ensures ok { OnOk result (Inside S.Store tx.old.conn.now tx.new.conn.now (IsWidened (state S.Store tx.old.conn.now).now (state S.Store tx.new.conn.now).now)) }
+    ensures goes_on { GoesOnIn S.Store tx.old.conn.now tx.new.conn.now result }
+    ensures err { KeepsIn S.Store tx.old.conn.now tx.new.conn.now result }
+    ensures survives { CommitsNothing S.Store tx.old.conn.now tx.new.conn.now }
+{
+    if has_dues {
+        drop_dues(tx)?;
+        lay_later(tx)?;
+        Ok(())
+    } else {
+        lay_later(tx)?;
+        Ok(())
+    }
+}
+
+fn move_all<S: Alter>(
+    tx: &mut Transaction<'_, S>,
+    has_dues: bool,
+    schedules: &[ScheduleRow],
+    classes: &[ClassRow],
+    dues: &[DueRow],
+) -> Result<(), Error>
+    requires ascending { AreAscending (map due_of dues.now) }
+    requires dues { TellsDues (state S.Store tx.old.conn.now).now.schema has_dues }
+    ensures same_reference { tx.new.conn.ghost_name ≡ tx.old.conn.ghost_name }
+    ensures ok { OnOk result (Inside S.Store tx.old.conn.now tx.new.conn.now (IsMoved (map rule_of schedules.now) (map listed_of classes.now) (map due_of dues.now) (state S.Store tx.old.conn.now).now (state S.Store tx.new.conn.now).now)) }
+    ensures goes_on { GoesOnIn S.Store tx.old.conn.now tx.new.conn.now result }
+    ensures err { KeepsIn S.Store tx.old.conn.now tx.new.conn.now result }
+    ensures survives { CommitsNothing S.Store tx.old.conn.now tx.new.conn.now }
+{
+    lay_beside(tx, has_dues)?;
+    fill(tx, schedules, classes, dues)?;
+    Ok(())
+}
+
+/// Moves a database of version 1 over to version 2, with these rows of its plan and these due days: all or nothing, also
+/// over a crash.
+pub fn move_first<S: Alter>(
+    conn: &mut Connection<S>,
+    schedules: &[ScheduleRow],
+    classes: &[ClassRow],
+    dues: &[DueRow],
+) -> Result<(), Error>
+    requires idle { conn.old.in_transaction ≡ false }
+    requires ascending { AreAscending (map due_of dues.now) }
+    ensures idle { conn.new.in_transaction ≡ false }
+    ensures ok { Makes S.Store conn.old conn.new result (IsMoved (map rule_of schedules.now) (map listed_of classes.now) (map due_of dues.now)) }
+    ensures committed { IsCommitted S.Store conn.old conn.new result }
+    ensures err { IsUndone S.Store conn.old conn.new result }
+    ensures was_open { WasOpen S.Store conn.old conn.new }
+    ensures crash { CommitsWhole S.Store conn.old conn.new (IsMoved (map rule_of schedules.now) (map listed_of classes.now) (map due_of dues.now)) }
+{
+    let dated = has_dues(conn.schema());
+    let _settled = conn.is_autocommit();
+    let mut tx = conn.transaction();
+    move_all(&mut tx, dated, schedules, classes, dues)?;
+    tx.commit()?;
+    Ok(())
+}

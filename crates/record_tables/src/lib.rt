@@ -1,0 +1,13 @@
+//! The tables of an archive of messages and records, over SQL: their rows, and one function for each statement.
+#![tactic(auto)]
+
+mod cells;
+pub mod fault;
+pub mod lay;
+pub mod layout;
+mod query;
+pub mod read;
+pub mod renew;
+pub mod rows;
+mod typed;
+pub mod writes;

@@ -1,0 +1,152 @@
+//! Reads of the tables, as typed rows. A column of another kind, or a number of 2^32 or more, is refused as no archive.
+
+ghost use Rattle.std.specs.Prelude.{◌≡◌, List, map, IsTrue, Err, IfOk, OnOk};
+ghost use Rattle.std.specs.List.{AllByRecursion};
+ghost use Rattle.sqlite.specs.State.{HasCleanDisk};
+ghost use Rattle.sqlite.specs.Held.{state};
+ghost use Rattle.record_tables.specs.Tables.{HasCommonTables, IsArchiveSchema};
+ghost use Rattle.record_tables.specs.Rows.{Tables, Stores, StoresCommon, AreKeyed};
+ghost use Rattle.record_tables.specs.Changes.{Listed, Rule};
+ghost use Rattle.record_tables.specs.Reads.{Named, Pair, FitsRecord, FitsNumber, FitsHold, FitsRule, FitsDue, AreNamed, ArePaired, AreListed, AreRules, numbers_of, dues_by};
+ghost use Rattle.record_tables.specs.Typed.{record_of, named_of, pair_of, listed_of, rule_of, due_of};
+ghost use Rattle.record_tables.specs.Steps.{CommitsNothingOf, IsStill, Falls, IsIdle, ReadsAlone};
+
+use crate::fault::Fault;
+use crate::query::rows_of;
+use crate::rows::{ClassRow, DueRow, HoldRow, RecordRow, ScheduleRow, SettingRow};
+use crate::typed::rows_in;
+use sqlite::types::ToSql;
+use sqlite::{Alter, Connection};
+use std::alloc::Global;
+
+/// Every record, by its number.
+pub fn records<S: Alter>(alloc: Global, conn: &mut Connection<S>) -> Result<Vec<RecordRow>, Fault>
+    ensures all { HasCleanDisk (state S.Store conn.new) → IfOk result (λ all. (t : Tables) → StoresCommon (state S.Store conn.old).now t → AreKeyed t → map record_of all.items ≡ t.records) }
+    ensures none { HasCleanDisk (state S.Store conn.new) → result ≡ Err Fault.NoArchive → (t : Tables) → StoresCommon (state S.Store conn.old).now t → AreKeyed t → AllByRecursion FitsRecord t.records → ⊥ }
+    ensures same { ReadsAlone S.Store conn.old conn.new result (HasCommonTables (state S.Store conn.old).now.schema) }
+    ensures still { IsStill S.Store conn.old conn.new (HasCommonTables (state S.Store conn.old).now.schema) }
+    ensures was_open { HasCleanDisk (state S.Store conn.new) → OnOk result (IsTrue (state S.Store conn.old).is_open) }
+    ensures falls { Falls S.Store conn.old conn.new }
+    ensures idle { IsIdle S.Store conn.old conn.new }
+    ensures survives { CommitsNothingOf S.Store conn.old conn.new (HasCommonTables (state S.Store conn.old).now.schema) }
+{
+    let rows = rows_of(
+        conn,
+        "SELECT number, message, path, day, destroyed FROM record ORDER BY number",
+        &[],
+    )?;
+    rows_in(alloc, rows.as_slice())
+}
+
+/// The number of every message, in order.
+pub fn message_numbers<S: Alter>(alloc: Global, conn: &mut Connection<S>) -> Result<Vec<u32>, Fault>
+    ensures all { HasCleanDisk (state S.Store conn.new) → IfOk result (λ all. (t : Tables) → StoresCommon (state S.Store conn.old).now t → AreKeyed t → all.items ≡ numbers_of t) }
+    ensures none { HasCleanDisk (state S.Store conn.new) → result ≡ Err Fault.NoArchive → (t : Tables) → StoresCommon (state S.Store conn.old).now t → AreKeyed t → AllByRecursion FitsNumber (numbers_of t) → ⊥ }
+    ensures same { ReadsAlone S.Store conn.old conn.new result (HasCommonTables (state S.Store conn.old).now.schema) }
+    ensures still { IsStill S.Store conn.old conn.new (HasCommonTables (state S.Store conn.old).now.schema) }
+    ensures was_open { HasCleanDisk (state S.Store conn.new) → OnOk result (IsTrue (state S.Store conn.old).is_open) }
+    ensures falls { Falls S.Store conn.old conn.new }
+    ensures idle { IsIdle S.Store conn.old conn.new }
+    ensures survives { CommitsNothingOf S.Store conn.old conn.new (HasCommonTables (state S.Store conn.old).now.schema) }
+{
+    let rows = rows_of(conn, "SELECT number FROM message ORDER BY number", &[])?;
+    rows_in(alloc, rows.as_slice())
+}
+
+/// Every hold, by its record and then by its name.
+pub fn holds<S: Alter>(alloc: Global, conn: &mut Connection<S>) -> Result<Vec<HoldRow>, Fault>
+    ensures all { HasCleanDisk (state S.Store conn.new) → IfOk result (λ all. (t : Tables) → (hs : List Named) → AreNamed t hs → StoresCommon (state S.Store conn.old).now t → AreKeyed t → map named_of all.items ≡ hs) }
+    ensures none { HasCleanDisk (state S.Store conn.new) → result ≡ Err Fault.NoArchive → (t : Tables) → (hs : List Named) → AreNamed t hs → StoresCommon (state S.Store conn.old).now t → AreKeyed t → AllByRecursion FitsHold hs → ⊥ }
+    ensures same { ReadsAlone S.Store conn.old conn.new result (HasCommonTables (state S.Store conn.old).now.schema) }
+    ensures still { IsStill S.Store conn.old conn.new (HasCommonTables (state S.Store conn.old).now.schema) }
+    ensures was_open { HasCleanDisk (state S.Store conn.new) → OnOk result (IsTrue (state S.Store conn.old).is_open) }
+    ensures falls { Falls S.Store conn.old conn.new }
+    ensures idle { IsIdle S.Store conn.old conn.new }
+    ensures survives { CommitsNothingOf S.Store conn.old conn.new (HasCommonTables (state S.Store conn.old).now.schema) }
+{
+    let rows = rows_of(
+        conn,
+        "SELECT name, record FROM hold ORDER BY record, name",
+        &[],
+    )?;
+    rows_in(alloc, rows.as_slice())
+}
+
+/// Every setting, by its key.
+pub fn settings<S: Alter>(alloc: Global, conn: &mut Connection<S>) -> Result<Vec<SettingRow>, Fault>
+    ensures all { HasCleanDisk (state S.Store conn.new) → IfOk result (λ all. (t : Tables) → (ps : List Pair) → ArePaired t ps → StoresCommon (state S.Store conn.old).now t → AreKeyed t → map pair_of all.items ≡ ps) }
+    ensures none { HasCleanDisk (state S.Store conn.new) → result ≡ Err Fault.NoArchive → (t : Tables) → (ps : List Pair) → ArePaired t ps → StoresCommon (state S.Store conn.old).now t → AreKeyed t → ⊥ }
+    ensures same { ReadsAlone S.Store conn.old conn.new result (HasCommonTables (state S.Store conn.old).now.schema) }
+    ensures still { IsStill S.Store conn.old conn.new (HasCommonTables (state S.Store conn.old).now.schema) }
+    ensures was_open { HasCleanDisk (state S.Store conn.new) → OnOk result (IsTrue (state S.Store conn.old).is_open) }
+    ensures falls { Falls S.Store conn.old conn.new }
+    ensures idle { IsIdle S.Store conn.old conn.new }
+    ensures survives { CommitsNothingOf S.Store conn.old conn.new (HasCommonTables (state S.Store conn.old).now.schema) }
+{
+    let rows = rows_of(conn, "SELECT key, value FROM meta ORDER BY key", &[])?;
+    rows_in(alloc, rows.as_slice())
+}
+
+/// Every class, by its path.
+pub fn classes<S: Alter>(alloc: Global, conn: &mut Connection<S>) -> Result<Vec<ClassRow>, Fault>
+    ensures all { HasCleanDisk (state S.Store conn.new) → IfOk result (λ all. (t : Tables) → (cs : List Listed) → AreListed t cs → StoresCommon (state S.Store conn.old).now t → AreKeyed t → map listed_of all.items ≡ cs) }
+    ensures none { HasCleanDisk (state S.Store conn.new) → result ≡ Err Fault.NoArchive → (t : Tables) → (cs : List Listed) → AreListed t cs → StoresCommon (state S.Store conn.old).now t → AreKeyed t → ⊥ }
+    ensures same { ReadsAlone S.Store conn.old conn.new result (HasCommonTables (state S.Store conn.old).now.schema) }
+    ensures still { IsStill S.Store conn.old conn.new (HasCommonTables (state S.Store conn.old).now.schema) }
+    ensures was_open { HasCleanDisk (state S.Store conn.new) → OnOk result (IsTrue (state S.Store conn.old).is_open) }
+    ensures falls { Falls S.Store conn.old conn.new }
+    ensures idle { IsIdle S.Store conn.old conn.new }
+    ensures survives { CommitsNothingOf S.Store conn.old conn.new (HasCommonTables (state S.Store conn.old).now.schema) }
+{
+    let rows = rows_of(
+        conn,
+        "SELECT path, is_open, schedule FROM class ORDER BY path",
+        &[],
+    )?;
+    rows_in(alloc, rows.as_slice())
+}
+
+/// Every schedule, by its path.
+pub fn schedules<S: Alter>(
+    alloc: Global,
+    conn: &mut Connection<S>,
+) -> Result<Vec<ScheduleRow>, Fault>
+    ensures all { HasCleanDisk (state S.Store conn.new) → IfOk result (λ all. (t : Tables) → (rs : List Rule) → AreRules t rs → Stores (state S.Store conn.old).now t → AreKeyed t → map rule_of all.items ≡ rs) }
+    ensures none { HasCleanDisk (state S.Store conn.new) → result ≡ Err Fault.NoArchive → (t : Tables) → (rs : List Rule) → AreRules t rs → Stores (state S.Store conn.old).now t → AreKeyed t → AllByRecursion FitsRule rs → ⊥ }
+    ensures same { ReadsAlone S.Store conn.old conn.new result (IsArchiveSchema (state S.Store conn.old).now.schema) }
+    ensures still { IsStill S.Store conn.old conn.new (IsArchiveSchema (state S.Store conn.old).now.schema) }
+    ensures was_open { HasCleanDisk (state S.Store conn.new) → OnOk result (IsTrue (state S.Store conn.old).is_open) }
+    ensures falls { Falls S.Store conn.old conn.new }
+    ensures idle { IsIdle S.Store conn.old conn.new }
+    ensures survives { CommitsNothingOf S.Store conn.old conn.new (IsArchiveSchema (state S.Store conn.old).now.schema) }
+{
+    let rows = rows_of(
+        conn,
+        "SELECT path, count, unit, action, year_end FROM schedule ORDER BY path",
+        &[],
+    )?;
+    rows_in(alloc, rows.as_slice())
+}
+
+/// The due days up to a day, by day and then by record.
+pub fn dues_by<S: Alter>(
+    alloc: Global,
+    conn: &mut Connection<S>,
+    day: u32,
+) -> Result<Vec<DueRow>, Fault>
+    ensures all { HasCleanDisk (state S.Store conn.new) → IfOk result (λ all. (t : Tables) → Stores (state S.Store conn.old).now t → AreKeyed t → map due_of all.items ≡ dues_by day t) }
+    ensures none { HasCleanDisk (state S.Store conn.new) → result ≡ Err Fault.NoArchive → (t : Tables) → Stores (state S.Store conn.old).now t → AreKeyed t → AllByRecursion FitsDue t.dues → ⊥ }
+    ensures same { ReadsAlone S.Store conn.old conn.new result (IsArchiveSchema (state S.Store conn.old).now.schema) }
+    ensures still { IsStill S.Store conn.old conn.new (IsArchiveSchema (state S.Store conn.old).now.schema) }
+    ensures was_open { HasCleanDisk (state S.Store conn.new) → OnOk result (IsTrue (state S.Store conn.old).is_open) }
+    ensures falls { Falls S.Store conn.old conn.new }
+    ensures idle { IsIdle S.Store conn.old conn.new }
+    ensures survives { CommitsNothingOf S.Store conn.old conn.new (IsArchiveSchema (state S.Store conn.old).now.schema) }
+{
+    let rows = rows_of(
+        conn,
+        "SELECT record, day FROM due_day WHERE day <= ?1 ORDER BY day, record",
+        &[day.to_sql()],
+    )?;
+    rows_in(alloc, rows.as_slice())
+}

@@ -1,0 +1,176 @@
+//! A plan and the due days by it, put in place of those that are there.
+
+ghost use Rattle.std.specs.Prelude.{◌≡◌, OnOk, false, map};
+ghost use Rattle.record_tables.specs.Changes.{Always, HasNoClasses, HasNoSchedules, HasNoDues, IsPastDues, AreAscending, with_due, with_dues, with_class, with_classes, with_schedules, with_version, with_plan, IsRevised};
+ghost use Rattle.record_tables.specs.Typed.{due_of, listed_of, rule_of};
+ghost use Rattle.record_tables.specs.Steps.{PutsIn, KeepsIn, CommitsNothing, CommitsWhole, Makes, IsCommitted, IsUndone, WasOpen};
+
+use crate::rows::{ClassRow, DueRow, ScheduleRow};
+use crate::writes::{
+    clear_classes, clear_dues, clear_schedules, clear_settings, insert_class, insert_due,
+    insert_schedule, insert_setting,
+};
+use sqlite::{Alter, Connection, Error, Transaction};
+
+fn insert_due_row<S: Alter>(tx: &mut Transaction<'_, S>, due: &DueRow) -> Result<(), Error>
+    ensures same_reference { tx.new.conn.ghost_name ≡ tx.old.conn.ghost_name }
+    ensures ok { OnOk result (PutsIn S.Store tx.old.conn.now tx.new.conn.now (IsPastDues (due_of due.now).number) (with_due (due_of due.now))) }
+    ensures err { KeepsIn S.Store tx.old.conn.now tx.new.conn.now result }
+    ensures survives { CommitsNothing S.Store tx.old.conn.now tx.new.conn.now }
+{
+    insert_due(tx, due.record, due.day)?;
+    Ok(())
+}
+
+/// Adds the due days to a table that has none.
+fn insert_dues<S: Alter>(tx: &mut Transaction<'_, S>, dues: &[DueRow]) -> Result<(), Error>
+    requires { AreAscending (map due_of dues.now) }
+    ensures same_reference { tx.new.conn.ghost_name ≡ tx.old.conn.ghost_name }
+    ensures ok { OnOk result (PutsIn S.Store tx.old.conn.now tx.new.conn.now HasNoDues (with_dues (map due_of dues.now))) }
+    ensures err { KeepsIn S.Store tx.old.conn.now tx.new.conn.now result }
+    ensures survives { CommitsNothing S.Store tx.old.conn.now tx.new.conn.now }
+{
+    for due in dues {
+        insert_due_row(tx, due)?;
+    }
+    Ok(())
+}
+
+/// Puts these due days in place of those that are there.
+pub fn renew_dues<S: Alter>(tx: &mut Transaction<'_, S>, dues: &[DueRow]) -> Result<(), Error>
+    requires { AreAscending (map due_of dues.now) }
+    ensures same_reference { tx.new.conn.ghost_name ≡ tx.old.conn.ghost_name }
+    ensures ok { OnOk result (PutsIn S.Store tx.old.conn.now tx.new.conn.now Always (with_dues (map due_of dues.now))) }
+    ensures err { KeepsIn S.Store tx.old.conn.now tx.new.conn.now result }
+    ensures survives { CommitsNothing S.Store tx.old.conn.now tx.new.conn.now }
+{
+    clear_dues(tx)?;
+    insert_dues(tx, dues)?;
+    Ok(())
+}
+
+fn insert_class_row<S: Alter>(tx: &mut Transaction<'_, S>, class: &ClassRow) -> Result<(), Error>
+    ensures same_reference { tx.new.conn.ghost_name ≡ tx.old.conn.ghost_name }
+    ensures ok { OnOk result (PutsIn S.Store tx.old.conn.now tx.new.conn.now Always (with_class (listed_of class.now).path (listed_of class.now).is_open (listed_of class.now).schedule)) }
+    ensures err { KeepsIn S.Store tx.old.conn.now tx.new.conn.now result }
+    ensures survives { CommitsNothing S.Store tx.old.conn.now tx.new.conn.now }
+{
+    match &class.schedule {
+        Some(text) => insert_class(
+            tx,
+            class.path.as_slice(),
+            class.is_open,
+            Some(text.as_slice()),
+        )?,
+        None => insert_class(tx, class.path.as_slice(), class.is_open, None)?,
+    }
+    Ok(())
+}
+
+/// Adds the classes to a table that has none.
+fn insert_classes<S: Alter>(tx: &mut Transaction<'_, S>, classes: &[ClassRow]) -> Result<(), Error>
+    ensures same_reference { tx.new.conn.ghost_name ≡ tx.old.conn.ghost_name }
+    ensures ok { OnOk result (PutsIn S.Store tx.old.conn.now tx.new.conn.now HasNoClasses (with_classes (map listed_of classes.now))) }
+    ensures err { KeepsIn S.Store tx.old.conn.now tx.new.conn.now result }
+    ensures survives { CommitsNothing S.Store tx.old.conn.now tx.new.conn.now }
+{
+    for class in classes {
+        insert_class_row(tx, class)?;
+    }
+    Ok(())
+}
+
+fn renew_classes<S: Alter>(tx: &mut Transaction<'_, S>, classes: &[ClassRow]) -> Result<(), Error>
+    ensures same_reference { tx.new.conn.ghost_name ≡ tx.old.conn.ghost_name }
+    ensures ok { OnOk result (PutsIn S.Store tx.old.conn.now tx.new.conn.now Always (with_classes (map listed_of classes.now))) }
+    ensures err { KeepsIn S.Store tx.old.conn.now tx.new.conn.now result }
+    ensures survives { CommitsNothing S.Store tx.old.conn.now tx.new.conn.now }
+{
+    clear_classes(tx)?;
+    insert_classes(tx, classes)?;
+    Ok(())
+}
+
+/// Adds the schedules to a table that has none.
+fn insert_schedules<S: Alter>(
+    tx: &mut Transaction<'_, S>,
+    schedules: &[ScheduleRow],
+) -> Result<(), Error>
+    ensures same_reference { tx.new.conn.ghost_name ≡ tx.old.conn.ghost_name }
+    ensures ok { OnOk result (PutsIn S.Store tx.old.conn.now tx.new.conn.now HasNoSchedules (with_schedules (map rule_of schedules.now))) }
+    ensures err { KeepsIn S.Store tx.old.conn.now tx.new.conn.now result }
+    ensures survives { CommitsNothing S.Store tx.old.conn.now tx.new.conn.now }
+{
+    for schedule in schedules {
+        insert_schedule(tx, schedule)?;
+    }
+    Ok(())
+}
+
+fn renew_schedules<S: Alter>(
+    tx: &mut Transaction<'_, S>,
+    schedules: &[ScheduleRow],
+) -> Result<(), Error>
+    ensures same_reference { tx.new.conn.ghost_name ≡ tx.old.conn.ghost_name }
+    ensures ok { OnOk result (PutsIn S.Store tx.old.conn.now tx.new.conn.now Always (with_schedules (map rule_of schedules.now))) }
+    ensures err { KeepsIn S.Store tx.old.conn.now tx.new.conn.now result }
+    ensures survives { CommitsNothing S.Store tx.old.conn.now tx.new.conn.now }
+{
+    clear_schedules(tx)?;
+    insert_schedules(tx, schedules)?;
+    Ok(())
+}
+
+/// Puts version 2's row of `meta` in place of the rows that are there.
+pub(crate) fn put_version<S: Alter>(tx: &mut Transaction<'_, S>) -> Result<(), Error>
+    ensures same_reference { tx.new.conn.ghost_name ≡ tx.old.conn.ghost_name }
+    ensures ok { OnOk result (PutsIn S.Store tx.old.conn.now tx.new.conn.now Always with_version) }
+    ensures err { KeepsIn S.Store tx.old.conn.now tx.new.conn.now result }
+    ensures survives { CommitsNothing S.Store tx.old.conn.now tx.new.conn.now }
+{
+    clear_settings(tx)?;
+    insert_setting(tx, b"version", b"2")?;
+    Ok(())
+}
+
+pub(crate) fn put_plan<S: Alter>(
+    tx: &mut Transaction<'_, S>,
+    schedules: &[ScheduleRow],
+    classes: &[ClassRow],
+    dues: &[DueRow],
+) -> Result<(), Error>
+    requires { AreAscending (map due_of dues.now) }
+    ensures same_reference { tx.new.conn.ghost_name ≡ tx.old.conn.ghost_name }
+    ensures ok { OnOk result (PutsIn S.Store tx.old.conn.now tx.new.conn.now Always (with_plan (map rule_of schedules.now) (map listed_of classes.now) (map due_of dues.now))) }
+    ensures err { KeepsIn S.Store tx.old.conn.now tx.new.conn.now result }
+    ensures survives { CommitsNothing S.Store tx.old.conn.now tx.new.conn.now }
+{
+    renew_classes(tx, classes)?;
+    renew_schedules(tx, schedules)?;
+    renew_dues(tx, dues)?;
+    Ok(())
+}
+
+/// Puts the rows of a plan in place of those that are there, and the due days by it: all or nothing, also over
+/// a crash. The schedules and the classes come in any order, the due days in the order of their records.
+pub fn replace_plan<S: Alter>(
+    conn: &mut Connection<S>,
+    schedules: &[ScheduleRow],
+    classes: &[ClassRow],
+    dues: &[DueRow],
+) -> Result<(), Error>
+    requires idle { conn.old.in_transaction ≡ false }
+    requires ascending { AreAscending (map due_of dues.now) }
+    ensures idle { conn.new.in_transaction ≡ false }
+    ensures ok { Makes S.Store conn.old conn.new result (IsRevised (map rule_of schedules.now) (map listed_of classes.now) (map due_of dues.now)) }
+    ensures committed { IsCommitted S.Store conn.old conn.new result }
+    ensures err { IsUndone S.Store conn.old conn.new result }
+    ensures was_open { WasOpen S.Store conn.old conn.new }
+    ensures crash { CommitsWhole S.Store conn.old conn.new (IsRevised (map rule_of schedules.now) (map listed_of classes.now) (map due_of dues.now)) }
+{
+    let _settled = conn.is_autocommit();
+    let mut tx = conn.transaction();
+    put_plan(&mut tx, schedules, classes, dues)?;
+    tx.commit()?;
+    Ok(())
+}

@@ -1,0 +1,260 @@
+//! One statement at a time, in a transaction.
+
+ghost use Rattle.std.specs.Prelude.{◌≡◌, option_map, OnOk, false};
+ghost use Rattle.sqlite.specs.Values.{bound_value};
+ghost use Rattle.sqlite_value.specs.Value.{owned};
+ghost use Rattle.sqlite.specs.declared.types.Value.TheVariants.{Text as Words};
+ghost use Rattle.sqlite_typed.specs.Columns.{or_null};
+ghost use Rattle.record_tables.specs.Steps.{PutsIn, KeepsIn, CommitsNothing};
+ghost use Rattle.record_tables.specs.Typed.{rule_of};
+ghost use Rattle.record_tables.specs.Changes.{Always, IsPastMessages, IsPastRecords, IsPastDues, with_message, with_record, with_due, with_hold, with_setting, with_class, with_schedule, without_dues, without_classes, without_schedules, without_settings, without_due, without_message, without_hold, with_destroyed};
+
+use crate::rows::ScheduleRow;
+use sqlite::types::{ToSql, ValueRef};
+use sqlite::{Alter, Error, Transaction};
+
+fn text_or_null<'a>(text: Option<&'a [u8]>) -> ValueRef<'a>
+    ensures { bound_value (owned result) ≡ or_null Words (option_map (λ t. t.now) text.entry) }
+{
+    match text {
+        Some(octets) => ValueRef::Text(octets),
+        None => ValueRef::Null,
+    }
+}
+
+/// Adds a message.
+pub fn insert_message<S: Alter>(
+    tx: &mut Transaction<'_, S>,
+    number: u32,
+    body: &[u8],
+) -> Result<(), Error>
+    ensures same_reference { tx.new.conn.ghost_name ≡ tx.old.conn.ghost_name }
+    ensures ok { OnOk result (PutsIn S.Store tx.old.conn.now tx.new.conn.now (IsPastMessages number) (with_message (record { number = number; body = body.now }))) }
+    ensures err { KeepsIn S.Store tx.old.conn.now tx.new.conn.now result }
+    ensures survives { CommitsNothing S.Store tx.old.conn.now tx.new.conn.now }
+{
+    tx.execute(
+        "INSERT INTO message (number, body) VALUES (?1, ?2)",
+        &[number.to_sql(), ValueRef::Blob(body)],
+    )?;
+    Ok(())
+}
+
+/// Adds a live record.
+pub fn insert_record<S: Alter>(
+    tx: &mut Transaction<'_, S>,
+    number: u32,
+    message: u32,
+    path: &[u8],
+    day: u32,
+) -> Result<(), Error>
+    ensures same_reference { tx.new.conn.ghost_name ≡ tx.old.conn.ghost_name }
+    ensures ok { OnOk result (PutsIn S.Store tx.old.conn.now tx.new.conn.now (IsPastRecords number) (with_record (record { number = number; message = message; path = path.now; day = day; destroyed = false }))) }
+    ensures err { KeepsIn S.Store tx.old.conn.now tx.new.conn.now result }
+    ensures survives { CommitsNothing S.Store tx.old.conn.now tx.new.conn.now }
+{
+    tx.execute(
+        "INSERT INTO record (number, message, path, day, destroyed) VALUES (?1, ?2, ?3, ?4, 0)",
+        &[
+            number.to_sql(),
+            message.to_sql(),
+            ValueRef::Text(path),
+            day.to_sql(),
+        ],
+    )?;
+    Ok(())
+}
+
+/// Adds a due day.
+pub fn insert_due<S: Alter>(tx: &mut Transaction<'_, S>, number: u32, day: u32) -> Result<(), Error>
+    ensures same_reference { tx.new.conn.ghost_name ≡ tx.old.conn.ghost_name }
+    ensures ok { OnOk result (PutsIn S.Store tx.old.conn.now tx.new.conn.now (IsPastDues number) (with_due (record { number = number; day = day }))) }
+    ensures err { KeepsIn S.Store tx.old.conn.now tx.new.conn.now result }
+    ensures survives { CommitsNothing S.Store tx.old.conn.now tx.new.conn.now }
+{
+    tx.execute(
+        "INSERT INTO due_day (record, day) VALUES (?1, ?2)",
+        &[number.to_sql(), day.to_sql()],
+    )?;
+    Ok(())
+}
+
+/// Adds a hold.
+pub fn insert_hold<S: Alter>(
+    tx: &mut Transaction<'_, S>,
+    name: &[u8],
+    number: u32,
+) -> Result<(), Error>
+    ensures same_reference { tx.new.conn.ghost_name ≡ tx.old.conn.ghost_name }
+    ensures ok { OnOk result (PutsIn S.Store tx.old.conn.now tx.new.conn.now Always (with_hold name.now number)) }
+    ensures err { KeepsIn S.Store tx.old.conn.now tx.new.conn.now result }
+    ensures survives { CommitsNothing S.Store tx.old.conn.now tx.new.conn.now }
+{
+    tx.execute(
+        "INSERT INTO hold (name, record) VALUES (?1, ?2)",
+        &[ValueRef::Text(name), number.to_sql()],
+    )?;
+    Ok(())
+}
+
+/// Adds a setting.
+pub fn insert_setting<S: Alter>(
+    tx: &mut Transaction<'_, S>,
+    key: &[u8],
+    value: &[u8],
+) -> Result<(), Error>
+    ensures same_reference { tx.new.conn.ghost_name ≡ tx.old.conn.ghost_name }
+    ensures ok { OnOk result (PutsIn S.Store tx.old.conn.now tx.new.conn.now Always (with_setting key.now value.now)) }
+    ensures err { KeepsIn S.Store tx.old.conn.now tx.new.conn.now result }
+    ensures survives { CommitsNothing S.Store tx.old.conn.now tx.new.conn.now }
+{
+    tx.execute(
+        "INSERT INTO meta (key, value) VALUES (?1, ?2)",
+        &[ValueRef::Text(key), ValueRef::Text(value)],
+    )?;
+    Ok(())
+}
+
+/// Adds a class.
+pub fn insert_class<S: Alter>(
+    tx: &mut Transaction<'_, S>,
+    path: &[u8],
+    is_open: bool,
+    schedule: Option<&[u8]>,
+) -> Result<(), Error>
+    ensures same_reference { tx.new.conn.ghost_name ≡ tx.old.conn.ghost_name }
+    ensures ok { OnOk result (PutsIn S.Store tx.old.conn.now tx.new.conn.now Always (with_class path.now is_open (option_map (λ t. t.now) schedule.entry))) }
+    ensures err { KeepsIn S.Store tx.old.conn.now tx.new.conn.now result }
+    ensures survives { CommitsNothing S.Store tx.old.conn.now tx.new.conn.now }
+{
+    tx.execute(
+        "INSERT INTO class (path, is_open, schedule) VALUES (?1, ?2, ?3)",
+        &[
+            ValueRef::Text(path),
+            is_open.to_sql(),
+            text_or_null(schedule),
+        ],
+    )?;
+    Ok(())
+}
+
+/// Adds a schedule.
+pub fn insert_schedule<S: Alter>(
+    tx: &mut Transaction<'_, S>,
+    schedule: &ScheduleRow,
+) -> Result<(), Error>
+    ensures same_reference { tx.new.conn.ghost_name ≡ tx.old.conn.ghost_name }
+    ensures ok { OnOk result (PutsIn S.Store tx.old.conn.now tx.new.conn.now Always (with_schedule (rule_of schedule.now))) }
+    ensures err { KeepsIn S.Store tx.old.conn.now tx.new.conn.now result }
+    ensures survives { CommitsNothing S.Store tx.old.conn.now tx.new.conn.now }
+{
+    tx.execute(
+        "INSERT INTO schedule (path, count, unit, action, year_end) VALUES (?1, ?2, ?3, ?4, ?5)",
+        &[
+            ValueRef::Text(schedule.path.as_slice()),
+            schedule.count.to_sql(),
+            schedule.unit.to_sql(),
+            schedule.action.to_sql(),
+            schedule.year_end.to_sql(),
+        ],
+    )?;
+    Ok(())
+}
+
+/// Takes all due days out.
+pub fn clear_dues<S: Alter>(tx: &mut Transaction<'_, S>) -> Result<(), Error>
+    ensures same_reference { tx.new.conn.ghost_name ≡ tx.old.conn.ghost_name }
+    ensures ok { OnOk result (PutsIn S.Store tx.old.conn.now tx.new.conn.now Always without_dues) }
+    ensures err { KeepsIn S.Store tx.old.conn.now tx.new.conn.now result }
+    ensures survives { CommitsNothing S.Store tx.old.conn.now tx.new.conn.now }
+{
+    tx.execute("DELETE FROM due_day", &[])?;
+    Ok(())
+}
+
+/// Takes all classes out.
+pub fn clear_classes<S: Alter>(tx: &mut Transaction<'_, S>) -> Result<(), Error>
+    ensures same_reference { tx.new.conn.ghost_name ≡ tx.old.conn.ghost_name }
+    ensures ok { OnOk result (PutsIn S.Store tx.old.conn.now tx.new.conn.now Always without_classes) }
+    ensures err { KeepsIn S.Store tx.old.conn.now tx.new.conn.now result }
+    ensures survives { CommitsNothing S.Store tx.old.conn.now tx.new.conn.now }
+{
+    tx.execute("DELETE FROM class", &[])?;
+    Ok(())
+}
+
+/// Takes all schedules out.
+pub fn clear_schedules<S: Alter>(tx: &mut Transaction<'_, S>) -> Result<(), Error>
+    ensures same_reference { tx.new.conn.ghost_name ≡ tx.old.conn.ghost_name }
+    ensures ok { OnOk result (PutsIn S.Store tx.old.conn.now tx.new.conn.now Always without_schedules) }
+    ensures err { KeepsIn S.Store tx.old.conn.now tx.new.conn.now result }
+    ensures survives { CommitsNothing S.Store tx.old.conn.now tx.new.conn.now }
+{
+    tx.execute("DELETE FROM schedule", &[])?;
+    Ok(())
+}
+
+/// Takes all settings out.
+pub fn clear_settings<S: Alter>(tx: &mut Transaction<'_, S>) -> Result<(), Error>
+    ensures same_reference { tx.new.conn.ghost_name ≡ tx.old.conn.ghost_name }
+    ensures ok { OnOk result (PutsIn S.Store tx.old.conn.now tx.new.conn.now Always without_settings) }
+    ensures err { KeepsIn S.Store tx.old.conn.now tx.new.conn.now result }
+    ensures survives { CommitsNothing S.Store tx.old.conn.now tx.new.conn.now }
+{
+    tx.execute("DELETE FROM meta", &[])?;
+    Ok(())
+}
+
+/// Takes the due day of a record out.
+pub fn delete_due<S: Alter>(tx: &mut Transaction<'_, S>, number: u32) -> Result<(), Error>
+    ensures same_reference { tx.new.conn.ghost_name ≡ tx.old.conn.ghost_name }
+    ensures ok { OnOk result (PutsIn S.Store tx.old.conn.now tx.new.conn.now Always (without_due number)) }
+    ensures err { KeepsIn S.Store tx.old.conn.now tx.new.conn.now result }
+    ensures survives { CommitsNothing S.Store tx.old.conn.now tx.new.conn.now }
+{
+    tx.execute("DELETE FROM due_day WHERE record = ?1", &[number.to_sql()])?;
+    Ok(())
+}
+
+/// Takes a message out.
+pub fn delete_message<S: Alter>(tx: &mut Transaction<'_, S>, number: u32) -> Result<(), Error>
+    ensures same_reference { tx.new.conn.ghost_name ≡ tx.old.conn.ghost_name }
+    ensures ok { OnOk result (PutsIn S.Store tx.old.conn.now tx.new.conn.now Always (without_message number)) }
+    ensures err { KeepsIn S.Store tx.old.conn.now tx.new.conn.now result }
+    ensures survives { CommitsNothing S.Store tx.old.conn.now tx.new.conn.now }
+{
+    tx.execute("DELETE FROM message WHERE number = ?1", &[number.to_sql()])?;
+    Ok(())
+}
+
+/// Takes a hold out.
+pub fn delete_hold<S: Alter>(
+    tx: &mut Transaction<'_, S>,
+    name: &[u8],
+    number: u32,
+) -> Result<(), Error>
+    ensures same_reference { tx.new.conn.ghost_name ≡ tx.old.conn.ghost_name }
+    ensures ok { OnOk result (PutsIn S.Store tx.old.conn.now tx.new.conn.now Always (without_hold name.now number)) }
+    ensures err { KeepsIn S.Store tx.old.conn.now tx.new.conn.now result }
+    ensures survives { CommitsNothing S.Store tx.old.conn.now tx.new.conn.now }
+{
+    tx.execute(
+        "DELETE FROM hold WHERE name = ?1 AND record = ?2",
+        &[ValueRef::Text(name), number.to_sql()],
+    )?;
+    Ok(())
+}
+
+/// Notes that a record is destroyed.
+pub fn set_destroyed<S: Alter>(tx: &mut Transaction<'_, S>, number: u32) -> Result<(), Error>
+    ensures same_reference { tx.new.conn.ghost_name ≡ tx.old.conn.ghost_name }
+    ensures ok { OnOk result (PutsIn S.Store tx.old.conn.now tx.new.conn.now Always (with_destroyed number)) }
+    ensures err { KeepsIn S.Store tx.old.conn.now tx.new.conn.now result }
+    ensures survives { CommitsNothing S.Store tx.old.conn.now tx.new.conn.now }
+{
+    tx.execute(
+        "UPDATE record SET destroyed = 1 WHERE number = ?1",
+        &[number.to_sql()],
+    )?;
+    Ok(())
+}
