@@ -1,0 +1,9 @@
+pub mod Merged
+pub mod Pairs
+pub mod Loops
+pub mod Collected
+pub mod Sorted
+pub mod Rebuilt
+pub mod Judging
+pub mod FirstRows
+pub mod Rows
