@@ -7,9 +7,8 @@ use Rattle.filing_table.specs.Ends.{HasOutcome}
 use Rattle.filing_table.proofs.Once.{first_end}
 use Rattle.filing_flow.specs.Structure.{size}
 use Rattle.filing_flow.specs.Effect.{Filing, Exit, effect}
-use Rattle.filing_flow.specs.Whole.{first, whole, nothing_done, outcome_from, RunsAsItsCode}
+use Rattle.filing_flow.specs.Whole.{whole, nothing_done, outcome_from, RunsAsItsCode}
 use Rattle.filing_flow.proofs.Follow.{steps, on, OverAt, Arrives, flow_runs}
-use Rattle.filing_flow.proofs.Well.{holds_all}
 
 steps_last : (p : Program) (c : Facts) (n : ℕ) (x : Run) → steps p c n (step p c x) ≡ step p c (steps p c n x)
 unfolding steps
@@ -29,5 +28,5 @@ outcome_at_end p c fault f over =
 
 pub program_ends : RunsAsItsCode
 program_ends p c a fault f is ok means =
-    let runs : Arrives p c (effect c (whole a) nothing_done []) (0 + size (whole a)) [] (At (on nothing_done 0 [])) = flow_runs p c (whole a) [] first nothing_done [] (ok, tt) (holds_all p a is) in
+    let runs : Arrives p c (effect c (whole a) nothing_done []) (0 + size (whole a)) [] (At (on nothing_done 0 [])) = flow_runs p c (whole a) [] 0 nothing_done [] (ok, tt) is.stands in
     outcome_at_end p c fault f (subst (λ (x : Exit). Arrives p c x (0 + size (whole a)) [] (At (on nothing_done 0 []))) means runs)

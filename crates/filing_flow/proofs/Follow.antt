@@ -11,9 +11,8 @@ use Rattle.sieve_meaning.specs.Paths.{insert_path}
 use Rattle.filing_table.specs.Machine.{values_of, Entry, T, L, N, State, Run, At, Over, Trap, with_named, compared, on_stack, act, at_place, step}
 use Rattle.filing_table.specs.Machine as table
 use Rattle.filing_flow.specs.Structure.{Action, Push, Negate, ValuesOf, JoinTwo, MatchKey, Drop, HasField, PushSize, PushNumber, IsLess, IsMarked, SetMark, FileInto, SetKept, SetCancelled, End, Fail, Flow, nothing, action, sequence, block, leave, leave_if, size, IsSoundAction, IsSound}
-use Rattle.filing_flow.specs.Code.{Start, after, action_piece, piece, end_at, jump_when}
+use Rattle.filing_flow.specs.Code.{places_in, IsWritten, Stands, end_at, jump_when}
 use Rattle.filing_flow.specs.Effect.{Filing, Exit, FallsThrough, Leaves, EndsRun, Stuck, with_stack, filing, action_effect, and_then, caught, leaving, effect}
-use Rattle.filing_flow.proofs.Stands.{Holds, holds_front, holds_back, long}
 
 unfoldable pub steps : Program → Facts → ℕ → Run → Run
 steps p c zero x = x
@@ -109,53 +108,49 @@ module _ (p : Program) (c : Facts) where
   named : {A : Type 0} (o : Exit) (next : ℕ) (x : Option A) (y : A) (go : A → Run) → x ≡ Some y → Gives o next (go y) → Gives o next (with_named x go)
   named {A} o next x y go e g = subst (λ (z : Option A). Gives o next (with_named z go)) (sym e) g
 
-  action_gives : (o : Action) (f : Filing) (s : Start) (es : List Entry) → IsSoundAction p.slots o → Holds p s (action_piece o s) → Gives (action_effect c o f es) (s.place + 1) (step p c (At (on f s.place es)))
-  action_gives (Push true) f s es ok h = rw (stepped f s.place es PushTrue h.code.0) (stacked f s.place es (T true ∷ es))
-  action_gives (Push false) f s es ok h = rw (stepped f s.place es PushFalse h.code.0) (stacked f s.place es (T false ∷ es))
-  action_gives Negate f s [] ok h = tt
-  action_gives Negate f s (T b ∷ es) ok h = rw (stepped f s.place (T b ∷ es) Not h.code.0) (stacked f s.place (T b ∷ es) (T (not b) ∷ es))
-  action_gives Negate f s (L b ∷ es) ok h = tt
-  action_gives Negate f s (N b ∷ es) ok h = tt
-  action_gives (ValuesOf name) f s es ok h = rw (stepped f s.place es (Values s.text) h.code.0) (named (with_stack f (L (values_of c name) ∷ es)) (s.place + 1) _ name _ h.texts.0 (stacked f s.place es (L (values_of c name) ∷ es)))
-  action_gives JoinTwo f s (L ys ∷ L xs ∷ es) ok h = rw (stepped f s.place (L ys ∷ L xs ∷ es) Join h.code.0) (stacked f s.place (L ys ∷ L xs ∷ es) (L (xs ++ ys) ∷ es))
-  action_gives JoinTwo f s _ ok h = tt
-  action_gives (MatchKey a key) f s (L xs ∷ es) ok h = rw (stepped f s.place (L xs ∷ es) (Match a s.text) h.code.0) (rw (le_is a 5 ok) (named (with_stack f (T (list_any (compared a key) xs) ∷ L xs ∷ es)) (s.place + 1) _ key _ h.texts.0 (stacked f s.place (L xs ∷ es) (T (list_any (compared a key) xs) ∷ L xs ∷ es))))
-  action_gives (MatchKey a key) f s _ ok h = tt
-  action_gives Drop f s [] ok h = tt
-  action_gives Drop f s (e ∷ es) ok h = rw (stepped f s.place (e ∷ es) Pop h.code.0) (stacked f s.place (e ∷ es) es)
-  action_gives (HasField name) f s es ok h = rw (stepped f s.place es (Exists s.text) h.code.0) (named (with_stack f (T (has_field c name) ∷ es)) (s.place + 1) _ name _ h.texts.0 (stacked f s.place es (T (has_field c name) ∷ es)))
-  action_gives PushSize f s es ok h = rw (stepped f s.place es Size h.code.0) (stacked f s.place es (N c.size ∷ es))
-  action_gives (PushNumber n) f s es ok h = rw (stepped f s.place es (Number s.number) h.code.0) (named (with_stack f (N n ∷ es)) (s.place + 1) _ n _ h.numbers.0 (stacked f s.place es (N n ∷ es)))
-  action_gives IsLess f s (N y ∷ N x ∷ es) ok h = rw (stepped f s.place (N y ∷ N x ∷ es) Less h.code.0) (stacked f s.place (N y ∷ N x ∷ es) (T (nat_lt x y) ∷ es))
-  action_gives IsLess f s _ ok h = tt
-  action_gives (IsMarked b) f s es ok h = rw (stepped f s.place es (Marked b) h.code.0) (rw (lt_is b p.slots ok) (stacked f s.place es (T (slice_index_or f.marks b false) ∷ es)))
-  action_gives (SetMark b) f s es ok h = rw (stepped f s.place es (Mark b) h.code.0) (rw (lt_is b p.slots ok) refl)
-  action_gives (FileInto a path) f s es ok h = rw (stepped f s.place es (File a s.text) h.code.0) (rw (le_is a 1 ok) (named (filing c f es a path) (s.place + 1) _ path _ h.texts.0 (filed f s.place es a path)))
-  action_gives SetKept f s es ok h = rw (stepped f s.place es Keep h.code.0) refl
-  action_gives SetCancelled f s es ok h = rw (stepped f s.place es Discard h.code.0) refl
-  action_gives End f s es ok h = (s.place, es, stepped f s.place es Stop h.code.0)
-  action_gives (Fail n) f s es ok h = (s.place, es, stepped f s.place es (Fault n) h.code.0 ∙ (rw (le_is 2 n ok.0, le_is n 5 ok.1) refl))
+  action_gives : (x : Action) (f : Filing) (pc : ℕ) (es : List Entry) (o : Operation) → IsSoundAction p.slots x → IsWritten (places_in p.texts p.numbers) x o → Gives (action_effect c x f es) (pc + 1) (on_stack p c o (on f pc es) es)
+  action_gives (Push true) f pc es o ok w = rw w (stacked f pc es (T true ∷ es))
+  action_gives (Push false) f pc es o ok w = rw w (stacked f pc es (T false ∷ es))
+  action_gives Negate f pc [] o ok w = tt
+  action_gives Negate f pc (T b ∷ es) o ok w = rw w (stacked f pc (T b ∷ es) (T (not b) ∷ es))
+  action_gives Negate f pc (L b ∷ es) o ok w = tt
+  action_gives Negate f pc (N b ∷ es) o ok w = tt
+  action_gives (ValuesOf name) f pc es o ok (b, is, t) = rw is (named (with_stack f (L (values_of c name) ∷ es)) (pc + 1) _ name _ t (stacked f pc es (L (values_of c name) ∷ es)))
+  action_gives JoinTwo f pc (L ys ∷ L xs ∷ es) o ok w = rw w (stacked f pc (L ys ∷ L xs ∷ es) (L (xs ++ ys) ∷ es))
+  action_gives JoinTwo f pc _ o ok w = tt
+  action_gives (MatchKey a key) f pc (L xs ∷ es) o ok (b, is, t) = rw is (rw (le_is a 5 ok) (named (with_stack f (T (list_any (compared a key) xs) ∷ L xs ∷ es)) (pc + 1) _ key _ t (stacked f pc (L xs ∷ es) (T (list_any (compared a key) xs) ∷ L xs ∷ es))))
+  action_gives (MatchKey a key) f pc _ o ok w = tt
+  action_gives Drop f pc [] o ok w = tt
+  action_gives Drop f pc (e ∷ es) o ok w = rw w (stacked f pc (e ∷ es) es)
+  action_gives (HasField name) f pc es o ok (b, is, t) = rw is (named (with_stack f (T (has_field c name) ∷ es)) (pc + 1) _ name _ t (stacked f pc es (T (has_field c name) ∷ es)))
+  action_gives PushSize f pc es o ok w = rw w (stacked f pc es (N c.size ∷ es))
+  action_gives (PushNumber n) f pc es o ok (b, is, t) = rw is (named (with_stack f (N n ∷ es)) (pc + 1) _ n _ t (stacked f pc es (N n ∷ es)))
+  action_gives IsLess f pc (N y ∷ N x ∷ es) o ok w = rw w (stacked f pc (N y ∷ N x ∷ es) (T (nat_lt x y) ∷ es))
+  action_gives IsLess f pc _ o ok w = tt
+  action_gives (IsMarked b) f pc es o ok w = rw w (rw (lt_is b p.slots ok) (stacked f pc es (T (slice_index_or f.marks b false) ∷ es)))
+  action_gives (SetMark b) f pc es o ok w = rw w (rw (lt_is b p.slots ok) refl)
+  action_gives (FileInto a path) f pc es o ok (b, is, t) = rw is (rw (le_is a 1 ok) (named (filing c f es a path) (pc + 1) _ path _ t (filed f pc es a path)))
+  action_gives SetKept f pc es o ok w = rw w refl
+  action_gives SetCancelled f pc es o ok w = rw w refl
+  action_gives End f pc es o ok w = (pc, es, rw w refl)
+  action_gives (Fail n) f pc es o ok w = (pc, es, rw w (rw (le_is 2 n ok.0, le_is n 5 ok.1) refl))
 
-  leaves_if : (t : Bool) (n : ℕ) (ends : List ℕ) (s : Start) (f : Filing) (es : List Entry) → slice_get p.code s.place ≡ Some (jump_when t (end_at ends n)) → Arrives (leaving t n f es) (s.place + 1) ends (At (on f s.place es))
-  leaves_if true n ends s f (T true ∷ es) h = by_one (stepped f s.place (T true ∷ es) (JumpIf (end_at ends n)) h)
-  leaves_if true n ends s f (T false ∷ es) h = by_one (stepped f s.place (T false ∷ es) (JumpIf (end_at ends n)) h)
-  leaves_if true n ends s f _ h = tt
-  leaves_if false n ends s f (T true ∷ es) h = by_one (stepped f s.place (T true ∷ es) (JumpUnless (end_at ends n)) h)
-  leaves_if false n ends s f (T false ∷ es) h = by_one (stepped f s.place (T false ∷ es) (JumpUnless (end_at ends n)) h)
-  leaves_if false n ends s f _ h = tt
+  leaves_if : (t : Bool) (n : ℕ) (ends : List ℕ) (pc : ℕ) (f : Filing) (es : List Entry) → slice_get p.code pc ≡ Some (jump_when t (end_at ends n)) → Arrives (leaving t n f es) (pc + 1) ends (At (on f pc es))
+  leaves_if true n ends pc f (T true ∷ es) h = by_one (stepped f pc (T true ∷ es) (JumpIf (end_at ends n)) h)
+  leaves_if true n ends pc f (T false ∷ es) h = by_one (stepped f pc (T false ∷ es) (JumpIf (end_at ends n)) h)
+  leaves_if true n ends pc f _ h = tt
+  leaves_if false n ends pc f (T true ∷ es) h = by_one (stepped f pc (T true ∷ es) (JumpUnless (end_at ends n)) h)
+  leaves_if false n ends pc f (T false ∷ es) h = by_one (stepped f pc (T false ∷ es) (JumpUnless (end_at ends n)) h)
+  leaves_if false n ends pc f _ h = tt
 
-  -- From the start of the piece the run comes to where the code's effect says.
-  pub flow_runs : (a : Flow) (ends : List ℕ) (s : Start) (f : Filing) (es : List Entry) → IsSound p.slots a → Holds p s (piece a ends s) → Arrives (effect c a f es) (s.place + size a) ends (At (on f s.place es))
-  flow_runs nothing ends s f es ok h = let e : s.place ≡ s.place + 0 = omega arith in subst (λ (n : ℕ). Comes (At (on f s.place es)) (At (on f n es))) e (stays (At (on f s.place es)))
-  flow_runs (action o) ends s f es ok h = arrives_one (action_effect c o f es) (s.place + 1) ends (At (on f s.place es)) _ refl (action_gives o f s es ok h)
-  flow_runs (sequence a b) ends s f es ok h =
-      let x = piece a ends s in
-      let y = piece b ends (after s x) in
-      let mid : s.place + size a ≡ s.place + length x.code = omega (arith, long a ends s) in
-      let end : s.place + length x.code + size b ≡ s.place + (size a + size b) = omega (arith, long a ends s) in
-      let first : Arrives (effect c a f es) (s.place + length x.code) ends (At (on f s.place es)) = subst (λ (n : ℕ). Arrives (effect c a f es) n ends (At (on f s.place es))) mid (flow_runs a ends s f es ok.0 (holds_front p s x y h)) in
-      arrives_both (effect c a f es) (effect c b) (s.place + length x.code) (s.place + (size a + size b)) ends (At (on f s.place es)) first
-      (λ g fs. subst (λ (n : ℕ). Arrives (effect c b g fs) n ends (At (on g (s.place + length x.code) fs))) end (flow_runs b ends (after s x) g fs ok.1 (holds_back p s x y h)))
-  flow_runs (block a) ends s f es ok h = arrives_caught (effect c a f es) (s.place + size a) ends (At (on f s.place es)) (flow_runs a ((s.place + size a) ∷ ends) s f es ok h)
-  flow_runs (leave n) ends s f es ok h = by_one (stepped f s.place es (Jump (end_at ends n)) h.code.0)
-  flow_runs (leave_if t n) ends s f es ok h = leaves_if t n ends s f es h.code.0
+  -- From its first place the run comes to where the code's effect says.
+  pub flow_runs : (a : Flow) (ends : List ℕ) (pc : ℕ) (f : Filing) (es : List Entry) → IsSound p.slots a → Stands (places_in p.texts p.numbers) p.code a ends pc → Arrives (effect c a f es) (pc + size a) ends (At (on f pc es))
+  flow_runs nothing ends pc f es ok h = let e : pc ≡ pc + 0 = omega arith in subst (λ (n : ℕ). Comes (At (on f pc es)) (At (on f n es))) e (stays (At (on f pc es)))
+  flow_runs (action x) ends pc f es ok (o, at, w) = arrives_one (action_effect c x f es) (pc + 1) ends (At (on f pc es)) _ (stepped f pc es o at) (action_gives x f pc es o ok w)
+  flow_runs (sequence a b) ends pc f es ok h =
+      let end : pc + size a + size b ≡ pc + (size a + size b) = omega arith in
+      arrives_both (effect c a f es) (effect c b) (pc + size a) (pc + (size a + size b)) ends (At (on f pc es)) (flow_runs a ends pc f es ok.0 h.0)
+      (λ g fs. subst (λ (n : ℕ). Arrives (effect c b g fs) n ends (At (on g (pc + size a) fs))) end (flow_runs b ends (pc + size a) g fs ok.1 h.1))
+  flow_runs (block a) ends pc f es ok h = arrives_caught (effect c a f es) (pc + size a) ends (At (on f pc es)) (flow_runs a ((pc + size a) ∷ ends) pc f es ok h)
+  flow_runs (leave n) ends pc f es ok h = by_one (stepped f pc es (Jump (end_at ends n)) h)
+  flow_runs (leave_if t n) ends pc f es ok h = leaves_if t n ends pc f es h

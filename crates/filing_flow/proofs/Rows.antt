@@ -1,7 +1,9 @@
 -- Small code in blocks, whose operations and whose doings are known: each line computes.
-use Rattle.std.proofs.Common.{◌≡◌, ◌≤◌, [], ◌∷◌, true, false, Some, None, codes, refl, arith}
+use Rattle.std.proofs.Common.{◌≡◌, ℕ, ◌≤◌, List, [], ◌∷◌, true, false, Some, None, codes, refl, subst, arith}
+use Rattle.std.specs.Prelude.{slice_get}
 use Rattle.std.specs.Str.{bytes_eq}
-use Rattle.filing_image.specs.declared.instruction.Operation.TheVariants.{PushTrue, PushFalse, Jump, JumpIf, JumpUnless, Exists, Number, Keep, Stop}
+use Rattle.filing_image.specs.declared.instruction.Operation.{Operation}
+use Rattle.filing_image.specs.declared.instruction.Operation.TheVariants.{PushTrue, PushFalse, Pop, Jump, JumpIf, JumpUnless, Exists, Number, File, Keep, Stop}
 use Rattle.filing_image.specs.Program.{Program}
 use Rattle.filing_verify.specs.declared.kind.Kind.TheVariants.{Truth}
 use Rattle.sieve_meaning.specs.Case.{Facts}
@@ -9,10 +11,10 @@ use Rattle.sieve_meaning.specs.Outcome.{Outcome, unfiled}
 use Rattle.filing_table.specs.Machine.{T, Run, Over, after_steps}
 use Rattle.filing_table.specs.Ends.{outcome_left}
 use Rattle.filing_flow.specs.Structure.{Flow, Push, Drop, HasField, PushNumber, FileInto, SetKept, SetCancelled, End, action, sequence, block, leave, leave_if, size}
-use Rattle.filing_flow.specs.Code.{piece}
+use Rattle.filing_flow.specs.Code.{places_in, Stands}
 use Rattle.filing_flow.specs.Effect.{FallsThrough, Leaves, EndsRun, Stuck, effect}
 use Rattle.filing_flow.specs.Types.{HasType}
-use Rattle.filing_flow.specs.Whole.{first, whole, nothing_done}
+use Rattle.filing_flow.specs.Whole.{whole, nothing_done}
 
 -- `exists` of two names: out to the false one where a field is missing
 abbrev both_there : Flow
@@ -21,31 +23,52 @@ both_there =
     (block (sequence (action (HasField (codes "to"))) (sequence (leave_if false 0) (sequence (action (HasField (codes "cc"))) (sequence (leave_if false 0) (sequence (action (Push true)) (leave 1)))))))
     (action (Push false)))
 
-both_there_code : (piece both_there [] first).code ≡ Exists 0 ∷ JumpUnless 6 ∷ Exists 1 ∷ JumpUnless 6 ∷ PushTrue ∷ Jump 7 ∷ PushFalse ∷ []
-both_there_code = refl
+-- both names once
+abbrev names : List (List ℕ)
+names = codes "to" ∷ codes "cc" ∷ []
 
-both_there_texts : (piece both_there [] first).texts ≡ codes "to" ∷ codes "cc" ∷ []
-both_there_texts = refl
+abbrev both_there_code : List Operation
+both_there_code = Exists 0 ∷ JumpUnless 6 ∷ Exists 1 ∷ JumpUnless 6 ∷ PushTrue ∷ Jump 7 ∷ PushFalse ∷ []
+
+both_there_stands : Stands (places_in names []) both_there_code both_there [] 0
+both_there_stands = (((Exists 0, refl, (0, refl, refl)), (refl, ((Exists 1, refl, (1, refl, refl)), (refl, ((PushTrue, refl, refl), refl))))), (PushFalse, refl, refl))
 
 both_there_size : size both_there ≡ 7
 both_there_size = refl
 
--- behind other code, with its texts
-later_code : (piece both_there [] (record { place = 10; text = 3; number = 1 })).code ≡ Exists 3 ∷ JumpUnless 16 ∷ Exists 4 ∷ JumpUnless 16 ∷ PushTrue ∷ Jump 17 ∷ PushFalse ∷ []
-later_code = refl
+-- after other code, and with other texts
+later_stands : Stands (places_in (codes "x" ∷ codes "cc" ∷ codes "to" ∷ []) []) (Keep ∷ Stop ∷ Exists 2 ∷ JumpUnless 8 ∷ Exists 1 ∷ JumpUnless 8 ∷ PushTrue ∷ Jump 9 ∷ PushFalse ∷ []) both_there [] 2
+later_stands = (((Exists 2, refl, (2, refl, refl)), (refl, ((Exists 1, refl, (1, refl, refl)), (refl, ((PushTrue, refl, refl), refl))))), (PushFalse, refl, refl))
 
-numbered : (piece (sequence (action (PushNumber 7)) (action (PushNumber 9))) [] first) ≡ record { texts = []; numbers = 7 ∷ 9 ∷ []; code = Number 0 ∷ Number 1 ∷ [] }
-numbered = refl
+-- another text is named
+not_another_text : Stands (places_in ([] ∷ (0 ∷ []) ∷ []) []) (Exists 1 ∷ []) (action (HasField [])) [] 0 → ⊥
+not_another_text (o, at, (b, is, text)) =
+    let found : Exists 1 ≡ Exists b = cc (at, is) in
+    let one : b ≡ 1 = cc found in
+    let texts : List (List ℕ) = [] ∷ (0 ∷ []) ∷ [] in
+    let named : slice_get texts 1 ≡ Some [] = subst (λ (n : ℕ). slice_get texts n ≡ Some []) one text in
+    absurd (cc named)
+
+-- equal texts share a place
+shared : Stands (places_in (codes "to" ∷ []) []) (Exists 0 ∷ Exists 0 ∷ []) (sequence (action (HasField (codes "to"))) (action (HasField (codes "to")))) [] 0
+shared = ((Exists 0, refl, (0, refl, refl)), (Exists 0, refl, (0, refl, refl)))
+
+numbered : Stands (places_in [] (9 ∷ 7 ∷ [])) (Number 1 ∷ Number 0 ∷ Number 1 ∷ []) (sequence (action (PushNumber 7)) (sequence (action (PushNumber 9)) (action (PushNumber 7)))) [] 0
+numbered = ((Number 1, refl, (1, refl, refl)), ((Number 0, refl, (0, refl, refl)), (Number 1, refl, (1, refl, refl))))
 
 -- the innermost block stands first
-ends_around : (piece (sequence (leave 0) (sequence (leave_if true 1) (leave_if false 2))) (5 ∷ 6 ∷ 7 ∷ []) first).code ≡ Jump 5 ∷ JumpIf 6 ∷ JumpUnless 7 ∷ []
-ends_around = refl
+ends_around : Stands (places_in [] []) (Jump 5 ∷ JumpIf 6 ∷ JumpUnless 7 ∷ []) (sequence (leave 0) (sequence (leave_if true 1) (leave_if false 2))) (5 ∷ 6 ∷ 7 ∷ []) 0
+ends_around = (refl, (refl, refl))
 
 -- a jump out of a whole program's code goes to its end
-whole_code : (piece (whole (sequence (leave 0) (action SetKept))) [] first).code ≡ Jump 2 ∷ Keep ∷ Stop ∷ []
-whole_code = refl
+whole_code : Stands (places_in [] []) (Jump 2 ∷ Keep ∷ Stop ∷ []) (whole (sequence (leave 0) (action SetKept))) [] 0
+whole_code = ((refl, (Keep, refl, refl)), (Stop, refl, refl))
 
--- DOINGS
+-- a jump to the start of its block
+not_to_its_start : Stands (places_in [] []) (Jump 0 ∷ Keep ∷ []) (block (sequence (leave 0) (action SetKept))) [] 0 → ⊥
+not_to_its_start (jumps, keeps) = absurd (cc jumps)
+
+-- EFFECTS
 
 abbrev facts : Facts
 facts = record { size = 10; fields = record { name = codes "TO"; value = codes "x" } ∷ record { name = codes "Cc"; value = [] } ∷ []; is_open = bytes_eq (codes "a") }
@@ -106,11 +129,20 @@ captured _ = record { classes = []; fault = Some 99 }
 abbrev filed_if_both : Flow
 filed_if_both = block (sequence both_there (sequence (leave_if false 0) (action (FileInto 0 (codes "a")))))
 
-abbrev program : Flow → Program
-program a = let x = piece (whole a) [] first in record { budget = 100; texts = x.texts; numbers = x.numbers; slots = 0; code = x.code }
+abbrev program : Program
+program = record { budget = 100; texts = codes "to" ∷ codes "cc" ∷ codes "a" ∷ []; numbers = []; slots = 0; code = Exists 0 ∷ JumpUnless 6 ∷ Exists 1 ∷ JumpUnless 6 ∷ PushTrue ∷ Jump 7 ∷ PushFalse ∷ JumpUnless 9 ∷ File 0 2 ∷ Stop ∷ [] }
 
-run_of_both : captured (after_steps (program filed_if_both) facts 9) ≡ record { classes = codes "a" ∷ []; fault = None }
+program_stands : Stands (places_in program.texts program.numbers) program.code (whole filed_if_both) [] 0
+program_stands = (
+  (
+    (((Exists 0, refl, (0, refl, refl)), (refl, ((Exists 1, refl, (1, refl, refl)), (refl, ((PushTrue, refl, refl), refl))))), (PushFalse, refl, refl)),
+    (refl, (File 0 2, refl, (2, refl, refl))),
+  ),
+  (Stop, refl, refl),
+)
+
+run_of_both : captured (after_steps program facts 9) ≡ record { classes = codes "a" ∷ []; fault = None }
 run_of_both = refl
 
-run_of_one : captured (after_steps (program filed_if_both) without_cc 7) ≡ record { classes = unfiled ∷ []; fault = None }
+run_of_one : captured (after_steps program without_cc 7) ≡ record { classes = unfiled ∷ []; fault = None }
 run_of_one = refl

@@ -1,119 +1,51 @@
--- Pieces that stand in a program.
-use Rattle.std.proofs.Common.{◌≡◌, ℕ, ◌+◌, ◌≤◌, List, [], ◌∷◌, ◌++◌, length, true, false, Some, refl, subst, arith, length-append}
+-- Code that stands among operations stands among others that have the same there.
+use Rattle.std.proofs.Common.{◌≡◌, ℕ, ◌+◌, ◌≤◌, List, ◌∷◌, true, false, Some, arith}
 use Rattle.std.specs.Prelude.{slice_get}
-use Rattle.filing_image.specs.Program.{Program}
+use Rattle.filing_image.specs.declared.instruction.Operation.{Operation}
 use Rattle.filing_flow.specs.Structure.{Action, Push, Negate, ValuesOf, JoinTwo, MatchKey, Drop, HasField, PushSize, PushNumber, IsLess, IsMarked, SetMark, FileInto, SetKept, SetCancelled, End, Fail, Flow, nothing, action, sequence, block, leave, leave_if, size}
-use Rattle.filing_flow.specs.Code.{Start, Piece, after, joined, action_piece, piece}
+use Rattle.filing_flow.specs.Code.{Operands, IsWritten, Stands}
 
-abbrev pub HasAt : {A : Type 0} → List A → ℕ → List A → Type 0
-HasAt xs pc [] = Unit {0}
-HasAt xs pc (i ∷ is) = (slice_get xs pc ≡ Some i) × HasAt xs (pc + 1) is
+-- what an operand names, it names there too
+pub record Named (n m : Operands) : Type 0 where
+  pub text : (b : ℕ) (t : List ℕ) → n.text b t → m.text b t
+  pub number : (b k : ℕ) → n.number b k → m.number b k
 
-pub has_front : {A : Type 0} (xs : List A) (pc : ℕ) (a b : List A) → HasAt xs pc (a ++ b) → HasAt xs pc a
-has_front xs pc [] b h = tt
-has_front xs pc (i ∷ a) b h = (h.0, has_front xs (pc + 1) a b h.1)
+pub named_same : (n : Operands) → Named n n
+named_same n = record { text = λ b t h. h; number = λ b k h. h }
 
-pub has_back : {A : Type 0} (xs : List A) (pc : ℕ) (a b : List A) → HasAt xs pc (a ++ b) → HasAt xs (pc + length a) b
-has_back xs pc [] b h = let e : pc ≡ pc + 0 = omega arith in subst (λ n. HasAt xs n b) e h
-has_back xs pc (i ∷ a) b h =
-    let e : pc + 1 + length a ≡ pc + length (i ∷ a) = omega arith in
-    subst (λ n. HasAt xs n b) e (has_back xs (pc + 1) a b h.1)
+pub named_then : (n m o : Operands) → Named n m → Named m o → Named n o
+named_then n m o a b = record { text = λ p t h. b.text p t (a.text p t h); number = λ p k h. b.number p k (a.number p k h) }
 
-action_long : (o : Action) (s : Start) → length (action_piece o s).code ≡ 1
-action_long (Push true) s = refl
-action_long (Push false) s = refl
-action_long Negate s = refl
-action_long (ValuesOf name) s = refl
-action_long JoinTwo s = refl
-action_long (MatchKey a key) s = refl
-action_long Drop s = refl
-action_long (HasField name) s = refl
-action_long PushSize s = refl
-action_long (PushNumber n) s = refl
-action_long IsLess s = refl
-action_long (IsMarked b) s = refl
-action_long (SetMark b) s = refl
-action_long (FileInto a path) s = refl
-action_long SetKept s = refl
-action_long SetCancelled s = refl
-action_long End s = refl
-action_long (Fail n) s = refl
+-- the operations from a place on are there too
+abbrev pub SameFrom : ℕ → List Operation → List Operation → Type 0
+SameFrom low os ps = (i : ℕ) (o : Operation) → low ≤ i → slice_get os i ≡ Some o → slice_get ps i ≡ Some o
 
-pub long : (a : Flow) (ends : List ℕ) (s : Start) → length (piece a ends s).code ≡ size a
-long nothing ends s = refl
-long (action o) ends s = action_long o s
-long (sequence a b) ends s =
-    let x = piece a ends s in
-    omega (arith, length-append x.code (piece b ends (after s x)).code, long a ends s, long b ends (after s x))
-long (block a) ends s = long a ((s.place + size a) ∷ ends) s
-long (leave n) ends s = refl
-long (leave_if t n) ends s = refl
+module _ (n m : Operands) (named : Named n m) where
+  pub written_there : (x : Action) (o : Operation) → IsWritten n x o → IsWritten m x o
+  written_there (Push true) o w = w
+  written_there (Push false) o w = w
+  written_there Negate o w = w
+  written_there (ValuesOf name) o (b, is, t) = (b, is, named.text b name t)
+  written_there JoinTwo o w = w
+  written_there (MatchKey a key) o (b, is, t) = (b, is, named.text b key t)
+  written_there Drop o w = w
+  written_there (HasField name) o (b, is, t) = (b, is, named.text b name t)
+  written_there PushSize o w = w
+  written_there (PushNumber k) o (b, is, t) = (b, is, named.number b k t)
+  written_there IsLess o w = w
+  written_there (IsMarked b) o w = w
+  written_there (SetMark b) o w = w
+  written_there (FileInto a path) o (b, is, t) = (b, is, named.text b path t)
+  written_there SetKept o w = w
+  written_there SetCancelled o w = w
+  written_there End o w = w
+  written_there (Fail k) o w = w
 
-module _ (p : Program) where
-  -- the piece stands in the program from here on
-  pub record Holds (s : Start) (q : Piece) : Type 0 where
-    pub texts : HasAt p.texts s.text q.texts
-    pub numbers : HasAt p.numbers s.number q.numbers
-    pub code : HasAt p.code s.place q.code
-
-  pub holds_front : (s : Start) (a b : Piece) → Holds s (joined a b) → Holds s a
-  holds_front s a b h = record { texts = has_front _ _ a.texts b.texts h.texts; numbers = has_front _ _ a.numbers b.numbers h.numbers; code = has_front _ _ a.code b.code h.code }
-
-  pub holds_back : (s : Start) (a b : Piece) → Holds s (joined a b) → Holds (after s a) b
-  holds_back s a b h = record { texts = has_back _ _ a.texts b.texts h.texts; numbers = has_back _ _ a.numbers b.numbers h.numbers; code = has_back _ _ a.code b.code h.code }
-
-action_texts : (o : Action) (s : Start) → length (action_piece o s).texts ≤ 1
-action_texts (Push true) s = omega arith
-action_texts (Push false) s = omega arith
-action_texts Negate s = omega arith
-action_texts (ValuesOf name) s = omega arith
-action_texts JoinTwo s = omega arith
-action_texts (MatchKey a key) s = omega arith
-action_texts Drop s = omega arith
-action_texts (HasField name) s = omega arith
-action_texts PushSize s = omega arith
-action_texts (PushNumber n) s = omega arith
-action_texts IsLess s = omega arith
-action_texts (IsMarked b) s = omega arith
-action_texts (SetMark b) s = omega arith
-action_texts (FileInto a path) s = omega arith
-action_texts SetKept s = omega arith
-action_texts SetCancelled s = omega arith
-action_texts End s = omega arith
-action_texts (Fail n) s = omega arith
-
-action_numbers : (o : Action) (s : Start) → length (action_piece o s).numbers ≤ 1
-action_numbers (Push true) s = omega arith
-action_numbers (Push false) s = omega arith
-action_numbers Negate s = omega arith
-action_numbers (ValuesOf name) s = omega arith
-action_numbers JoinTwo s = omega arith
-action_numbers (MatchKey a key) s = omega arith
-action_numbers Drop s = omega arith
-action_numbers (HasField name) s = omega arith
-action_numbers PushSize s = omega arith
-action_numbers (PushNumber n) s = omega arith
-action_numbers IsLess s = omega arith
-action_numbers (IsMarked b) s = omega arith
-action_numbers (SetMark b) s = omega arith
-action_numbers (FileInto a path) s = omega arith
-action_numbers SetKept s = omega arith
-action_numbers SetCancelled s = omega arith
-action_numbers End s = omega arith
-action_numbers (Fail n) s = omega arith
-
-pub few_texts : (a : Flow) (ends : List ℕ) (s : Start) → length (piece a ends s).texts ≤ size a
-few_texts nothing ends s = omega arith
-few_texts (action o) ends s = action_texts o s
-few_texts (sequence a b) ends s = let x = piece a ends s in omega (arith, length-append x.texts (piece b ends (after s x)).texts, few_texts a ends s, few_texts b ends (after s x))
-few_texts (block a) ends s = few_texts a ((s.place + size a) ∷ ends) s
-few_texts (leave n) ends s = omega arith
-few_texts (leave_if t n) ends s = omega arith
-
-pub few_numbers : (a : Flow) (ends : List ℕ) (s : Start) → length (piece a ends s).numbers ≤ size a
-few_numbers nothing ends s = omega arith
-few_numbers (action o) ends s = action_numbers o s
-few_numbers (sequence a b) ends s = let x = piece a ends s in omega (arith, length-append x.numbers (piece b ends (after s x)).numbers, few_numbers a ends s, few_numbers b ends (after s x))
-few_numbers (block a) ends s = few_numbers a ((s.place + size a) ∷ ends) s
-few_numbers (leave n) ends s = omega arith
-few_numbers (leave_if t n) ends s = omega arith
+  pub stands_there : (os ps : List Operation) (low : ℕ) → SameFrom low os ps → (a : Flow) (ends : List ℕ) (place : ℕ) → low ≤ place → Stands n os a ends place → Stands m ps a ends place
+  stands_there os ps low same nothing ends place le h = tt
+  stands_there os ps low same (action x) ends place le (o, at, w) = (o, same place o le at, written_there x o w)
+  stands_there os ps low same (sequence a b) ends place le h =
+      (stands_there os ps low same a ends place le h.0, stands_there os ps low same b ends (place + size a) (omega (arith, le)) h.1)
+  stands_there os ps low same (block a) ends place le h = stands_there os ps low same a ((place + size a) ∷ ends) place le h
+  stands_there os ps low same (leave k) ends place le h = same place _ le h
+  stands_there os ps low same (leave_if t k) ends place le h = same place _ le h

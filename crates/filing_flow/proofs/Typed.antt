@@ -1,5 +1,7 @@
 -- Structured code that has a type has shapes, and goes forward.
 use Rattle.std.proofs.Common.{◌≡◌, ℕ, zero, suc, ◌+◌, ◌<◌, ◌≤◌, List, [], ◌∷◌, ◌++◌, length, Bool, true, false, Some, None, refl, sym, ap, ◌∙◌, subst, arith, inl, inr, length-append}
+use Rattle.std.specs.Prelude.{slice_get}
+use Rattle.std.proofs.lemmas.Bool.{cases_lt}
 use Rattle.filing_image.specs.declared.instruction.Operation.{Operation}
 use Rattle.filing_image.specs.declared.instruction.Operation.TheVariants.{PushTrue, PushFalse, Not, Values, Join, Match, Pop, Exists, Size, Number, Less, Jump, JumpIf, JumpUnless, Marked, Mark, File, Keep, Discard, Stop, Fault}
 use Rattle.filing_verify.specs.declared.kind.Kind.TheVariants.{Truth, Texts, Count}
@@ -7,9 +9,8 @@ use Rattle.filing_image.specs.Program.{Program}
 use Rattle.filing_verify.specs.Flow.{target, Follows}
 use Rattle.filing_verify.specs.Shapes as shapes
 use Rattle.filing_flow.specs.Structure.{Action, Push, Negate, ValuesOf, JoinTwo, MatchKey, Drop, HasField, PushSize, PushNumber, IsLess, IsMarked, SetMark, FileInto, SetKept, SetCancelled, End, Fail, Flow, nothing, action, sequence, block, leave, leave_if, size}
-use Rattle.filing_flow.specs.Code.{Start, after, action_piece, piece, end_at, jump_when}
+use Rattle.filing_flow.specs.Code.{places_in, IsWritten, Stands, end_at, jump_when}
 use Rattle.filing_flow.specs.Types.{Shape, action_after, shape_at, HasType}
-use Rattle.filing_flow.proofs.Stands.{long}
 
 -- the shapes before each operation
 abbrev pub shapes_of : (a : Flow) (es : List Shape) (i o : Shape) → HasType a es i o → List Shape
@@ -41,10 +42,6 @@ pub record FineAt (p : Program) (σ : ℕ → Shape) (pc : ℕ) (o : Operation) 
   pub shallow_after : length result ≤ 32
   pub goes : (q : ℕ) → Follows p o pc q → (pc < q) × (σ q ≡ result)
 
-abbrev pub AllFine : Program → (ℕ → Shape) → ℕ → List Operation → Type 0
-AllFine p σ pc [] = Unit {0}
-AllFine p σ pc (o ∷ os) = FineAt p σ pc o × AllFine p σ (pc + 1) os
-
 pub shaped_front : (σ : ℕ → Shape) (pc : ℕ) (a b : List Shape) → ShapedAt σ pc (a ++ b) → ShapedAt σ pc a
 shaped_front σ pc [] b h = tt
 shaped_front σ pc (k ∷ a) b h = (h.0, shaped_front σ (pc + 1) a b h.1)
@@ -52,10 +49,6 @@ shaped_front σ pc (k ∷ a) b h = (h.0, shaped_front σ (pc + 1) a b h.1)
 pub shaped_back : (σ : ℕ → Shape) (pc : ℕ) (a b : List Shape) → ShapedAt σ pc (a ++ b) → ShapedAt σ (pc + length a) b
 shaped_back σ pc [] b h = let e : pc ≡ pc + 0 = omega arith in subst (λ n. ShapedAt σ n b) e h
 shaped_back σ pc (k ∷ a) b h = let e : pc + 1 + length a ≡ pc + length (k ∷ a) = omega arith in subst (λ n. ShapedAt σ n b) e (shaped_back σ (pc + 1) a b h.1)
-
-pub fine_both : (p : Program) (σ : ℕ → Shape) (pc : ℕ) (a b : List Operation) → AllFine p σ pc a → AllFine p σ (pc + length a) b → AllFine p σ pc (a ++ b)
-fine_both p σ pc [] b f g = let e : pc + 0 ≡ pc = omega arith in subst (λ n. AllFine p σ n b) e g
-fine_both p σ pc (o ∷ a) b f g = let e : pc + length (o ∷ a) ≡ pc + 1 + length a = omega arith in (f.0, fine_both p σ (pc + 1) a b f.1 (subst (λ n. AllFine p σ n b) e g))
 
 module _ (p : Program) (σ : ℕ → Shape) where
   -- an operation that goes on only
@@ -68,32 +61,32 @@ module _ (p : Program) (σ : ℕ → Shape) where
     goes = λ q f. elim f [ inl (g, at) ↦ (omega arith, rw at next) | inr to ↦ absurd (cc (to, none)) ];
   }
 
-  action_fine : (x : Action) (s : Start) (i o : Shape) → σ s.place ≡ i → σ (s.place + 1) ≡ o → action_after x i ≡ Some o → length i ≤ 32 → length o ≤ 32 → AllFine p σ s.place (action_piece x s).code
-  action_fine (Push true) s i o here next e di dr = (steady s.place PushTrue i o here next refl e di dr, tt)
-  action_fine (Push false) s i o here next e di dr = (steady s.place PushFalse i o here next refl e di dr, tt)
-  action_fine Negate s [] o here next e di dr = absurd (cc e)
-  action_fine Negate s (Truth ∷ i) o here next e di dr = (steady s.place Not (Truth ∷ i) o here next refl e di dr, tt)
-  action_fine Negate s (Texts ∷ i) o here next e di dr = absurd (cc e)
-  action_fine Negate s (Count ∷ i) o here next e di dr = absurd (cc e)
-  action_fine (ValuesOf name) s i o here next e di dr = (steady s.place (Values s.text) i o here next refl e di dr, tt)
-  action_fine JoinTwo s (Texts ∷ Texts ∷ i) o here next e di dr = (steady s.place Join (Texts ∷ Texts ∷ i) o here next refl e di dr, tt)
-  action_fine JoinTwo s _ o here next e di dr = absurd (cc e)
-  action_fine (MatchKey a key) s (Texts ∷ i) o here next e di dr = (steady s.place (Match a s.text) (Texts ∷ i) o here next refl e di dr, tt)
-  action_fine (MatchKey a key) s _ o here next e di dr = absurd (cc e)
-  action_fine Drop s [] o here next e di dr = absurd (cc e)
-  action_fine Drop s (k ∷ i) o here next e di dr = (steady s.place Pop (k ∷ i) o here next refl e di dr, tt)
-  action_fine (HasField name) s i o here next e di dr = (steady s.place (Exists s.text) i o here next refl e di dr, tt)
-  action_fine PushSize s i o here next e di dr = (steady s.place Size i o here next refl e di dr, tt)
-  action_fine (PushNumber n) s i o here next e di dr = (steady s.place (Number s.number) i o here next refl e di dr, tt)
-  action_fine IsLess s (Count ∷ Count ∷ i) o here next e di dr = (steady s.place Less (Count ∷ Count ∷ i) o here next refl e di dr, tt)
-  action_fine IsLess s _ o here next e di dr = absurd (cc e)
-  action_fine (IsMarked b) s i o here next e di dr = (steady s.place (Marked b) i o here next refl e di dr, tt)
-  action_fine (SetMark b) s i o here next e di dr = (steady s.place (Mark b) i o here next refl e di dr, tt)
-  action_fine (FileInto a path) s i o here next e di dr = (steady s.place (File a s.text) i o here next refl e di dr, tt)
-  action_fine SetKept s i o here next e di dr = (steady s.place Keep i o here next refl e di dr, tt)
-  action_fine SetCancelled s i o here next e di dr = (steady s.place Discard i o here next refl e di dr, tt)
-  action_fine End s i o here next e di dr = (steady s.place Stop i o here next refl e di dr, tt)
-  action_fine (Fail n) s i o here next e di dr = (steady s.place (Fault n) i o here next refl e di dr, tt)
+  action_fine : (x : Action) (pc : ℕ) (op : Operation) (i o : Shape) → IsWritten (places_in p.texts p.numbers) x op → σ pc ≡ i → σ (pc + 1) ≡ o → action_after x i ≡ Some o → length i ≤ 32 → length o ≤ 32 → FineAt p σ pc op
+  action_fine (Push true) pc op i o w here next e di dr = rw w (steady pc PushTrue i o here next refl e di dr)
+  action_fine (Push false) pc op i o w here next e di dr = rw w (steady pc PushFalse i o here next refl e di dr)
+  action_fine Negate pc op [] o w here next e di dr = absurd (cc e)
+  action_fine Negate pc op (Truth ∷ i) o w here next e di dr = rw w (steady pc Not (Truth ∷ i) o here next refl e di dr)
+  action_fine Negate pc op (Texts ∷ i) o w here next e di dr = absurd (cc e)
+  action_fine Negate pc op (Count ∷ i) o w here next e di dr = absurd (cc e)
+  action_fine (ValuesOf name) pc op i o (b, is, t) here next e di dr = rw is (steady pc (Values b) i o here next refl e di dr)
+  action_fine JoinTwo pc op (Texts ∷ Texts ∷ i) o w here next e di dr = rw w (steady pc Join (Texts ∷ Texts ∷ i) o here next refl e di dr)
+  action_fine JoinTwo pc op _ o w here next e di dr = absurd (cc e)
+  action_fine (MatchKey a key) pc op (Texts ∷ i) o (b, is, t) here next e di dr = rw is (steady pc (Match a b) (Texts ∷ i) o here next refl e di dr)
+  action_fine (MatchKey a key) pc op _ o w here next e di dr = absurd (cc e)
+  action_fine Drop pc op [] o w here next e di dr = absurd (cc e)
+  action_fine Drop pc op (k ∷ i) o w here next e di dr = rw w (steady pc Pop (k ∷ i) o here next refl e di dr)
+  action_fine (HasField name) pc op i o (b, is, t) here next e di dr = rw is (steady pc (Exists b) i o here next refl e di dr)
+  action_fine PushSize pc op i o w here next e di dr = rw w (steady pc Size i o here next refl e di dr)
+  action_fine (PushNumber n) pc op i o (b, is, t) here next e di dr = rw is (steady pc (Number b) i o here next refl e di dr)
+  action_fine IsLess pc op (Count ∷ Count ∷ i) o w here next e di dr = rw w (steady pc Less (Count ∷ Count ∷ i) o here next refl e di dr)
+  action_fine IsLess pc op _ o w here next e di dr = absurd (cc e)
+  action_fine (IsMarked b) pc op i o w here next e di dr = rw w (steady pc (Marked b) i o here next refl e di dr)
+  action_fine (SetMark b) pc op i o w here next e di dr = rw w (steady pc (Mark b) i o here next refl e di dr)
+  action_fine (FileInto a path) pc op i o (b, is, t) here next e di dr = rw is (steady pc (File a b) i o here next refl e di dr)
+  action_fine SetKept pc op i o w here next e di dr = rw w (steady pc Keep i o here next refl e di dr)
+  action_fine SetCancelled pc op i o w here next e di dr = rw w (steady pc Discard i o here next refl e di dr)
+  action_fine End pc op i o w here next e di dr = rw w (steady pc Stop i o here next refl e di dr)
+  action_fine (Fail n) pc op i o w here next e di dr = rw w (steady pc (Fault n) i o here next refl e di dr)
 
   leave_if_fine : (t : Bool) (pc b : ℕ) (k : Shape) → σ pc ≡ Truth ∷ k → σ (pc + 1) ≡ k → σ b ≡ k → pc < b → length k ≤ 31 → FineAt p σ pc (jump_when t b)
   leave_if_fine true pc b k here next there lt d = record {
@@ -149,27 +142,34 @@ module _ (p : Program) (σ : ℕ → Shape) where
   starts (leave n) es i o d pc h end = h.0
   starts (leave_if t n) es i o d pc h end = h.0
 
-  pub flow_fine : (a : Flow) (ends : List ℕ) (s : Start) (es : List Shape) (i o : Shape) (d : HasType a es i o) → ShapedAt σ s.place (shapes_of a es i o d) → σ (s.place + size a) ≡ o → Around (s.place + size a) ends es → AllFine p σ s.place (piece a ends s).code
-  flow_fine nothing ends s es i o d h end around = tt
-  flow_fine (action x) ends s es i o d h end around = action_fine x s i o h.0 end d.0 d.1 d.2
-  flow_fine (sequence a b) ends s es i o d h end around =
+  -- each operation from here to there is fine
+  abbrev pub AllFine : (from to : ℕ) → Type 0
+  AllFine from to = (q : ℕ) (op : Operation) → from ≤ q → q < to → slice_get p.code q ≡ Some op → FineAt p σ q op
+
+  one_fine : (pc : ℕ) (op : Operation) → slice_get p.code pc ≡ Some op → FineAt p σ pc op → AllFine pc (pc + 1)
+  one_fine pc op at fine q o low high found =
+      let here : pc ≡ q = omega (arith, low, high) in
+      let same : op ≡ o = cc (at, found, here) in
+      subst (λ (n : ℕ). FineAt p σ n o) here (subst (λ (x : Operation). FineAt p σ pc x) same fine)
+
+  pub flow_fine : (a : Flow) (ends : List ℕ) (pc : ℕ) (es : List Shape) (i o : Shape) (d : HasType a es i o) → Stands (places_in p.texts p.numbers) p.code a ends pc → ShapedAt σ pc (shapes_of a es i o d) → σ (pc + size a) ≡ o → Around (pc + size a) ends es → AllFine pc (pc + size a)
+  flow_fine nothing ends pc es i o d at h end around = λ q op low high found. absurd (omega (arith, low, high))
+  flow_fine (action x) ends pc es i o d (op, at, w) h end around = one_fine pc op at (action_fine x pc op i o w h.0 end d.0 d.1 d.2)
+  flow_fine (sequence a b) ends pc es i o d at h end around =
       let sa = shapes_of a es i d.0 d.1 in
       let sb = shapes_of b es d.0 o d.2 in
-      let x = piece a ends s in
-      let lx = long a ends s in
-      let e1 : s.place + length sa ≡ s.place + length x.code = omega (arith, shapes_long a es i d.0 d.1) in
-      let e2 : s.place + (size a + size b) ≡ s.place + length x.code + size b = omega arith in
-      let e3 : s.place + length x.code ≡ s.place + size a = omega arith in
-      let hb : ShapedAt σ (s.place + length x.code) sb = subst (λ (n : ℕ). ShapedAt σ n sb) e1 (shaped_back σ s.place sa sb h) in
-      let end' : σ (s.place + length x.code + size b) ≡ o = subst (λ (n : ℕ). σ n ≡ o) e2 end in
-      let mid : σ (s.place + length x.code) ≡ d.0 = starts b es d.0 o d.2 (s.place + length x.code) hb end' in
-      fine_both p σ s.place x.code (piece b ends (after s x)).code
-      (flow_fine a ends s es i d.0 d.1 (shaped_front σ s.place sa sb h) (subst (λ (n : ℕ). σ n ≡ d.0) e3 mid) (around_sooner (s.place + (size a + size b)) (s.place + size a) ends es (omega arith) around))
-      (flow_fine b ends (after s x) es d.0 o d.2 hb end' (around_sooner (s.place + (size a + size b)) (s.place + length x.code + size b) ends es (omega arith) around))
-  flow_fine (block a) ends s es i o d h end around = flow_fine a ((s.place + size a) ∷ ends) s (o ∷ es) i o d h end (around_block (s.place + size a) ends es o end around)
-  flow_fine (leave n) ends s es i o d h end around =
+      let e1 : pc + length sa ≡ pc + size a = omega (arith, shapes_long a es i d.0 d.1) in
+      let e2 : pc + (size a + size b) ≡ pc + size a + size b = omega arith in
+      let hb : ShapedAt σ (pc + size a) sb = subst (λ (n : ℕ). ShapedAt σ n sb) e1 (shaped_back σ pc sa sb h) in
+      let end' : σ (pc + size a + size b) ≡ o = subst (λ (n : ℕ). σ n ≡ o) e2 end in
+      let mid : σ (pc + size a) ≡ d.0 = starts b es d.0 o d.2 (pc + size a) hb end' in
+      let front = flow_fine a ends pc es i d.0 d.1 at.0 (shaped_front σ pc sa sb h) mid (around_sooner (pc + (size a + size b)) (pc + size a) ends es (omega arith) around) in
+      let back = flow_fine b ends (pc + size a) es d.0 o d.2 at.1 hb end' (around_sooner (pc + (size a + size b)) (pc + size a + size b) ends es (omega arith) around) in
+      λ q op low high found. elim (cases_lt q (pc + size a)) [ inl lt ↦ front q op low lt found | inr le ↦ back q op le (omega (arith, high)) found ]
+  flow_fine (block a) ends pc es i o d at h end around = flow_fine a ((pc + size a) ∷ ends) pc (o ∷ es) i o d at h end (around_block (pc + size a) ends es o end around)
+  flow_fine (leave n) ends pc es i o d at h end around =
       let to = around n i d.1 in
-      (leave_fine s.place (end_at ends n) i h.0 to.shaped (omega (arith, to.later)) d.0, tt)
-  flow_fine (leave_if t n) ends s es i o d h end around =
+      one_fine pc _ at (leave_fine pc (end_at ends n) i h.0 to.shaped (omega (arith, to.later)) d.0)
+  flow_fine (leave_if t n) ends pc es i o d at h end around =
       let to = around n o d.2 in
-      (leave_if_fine t s.place (end_at ends n) o (h.0 ∙ d.0) end to.shaped (omega (arith, to.later)) d.1, tt)
+      one_fine pc _ at (leave_if_fine t pc (end_at ends n) o (h.0 ∙ d.0) end to.shaped (omega (arith, to.later)) d.1)

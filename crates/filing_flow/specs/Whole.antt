@@ -1,28 +1,23 @@
 -- Programs of code in blocks: the code, and the end of the run.
-use Rattle.std.specs.Prelude.{◌≡◌, ℕ, ◌+◌, ◌<◌, ◌≤◌, ◌^◌, [], Option, replicate, false}
+use Rattle.std.specs.Prelude.{◌≡◌, ℕ, ◌+◌, ◌<◌, ◌≤◌, ◌^◌, [], Option, replicate, false, length}
 use Rattle.filing_image.specs.Program.{Program}
 use Rattle.filing_verify.specs.Well.{IsWell}
 use Rattle.sieve_meaning.specs.Case.{Facts}
 use Rattle.sieve_meaning.specs.Outcome.{Outcome, outcome_at}
 use Rattle.filing_table.specs.Ends.{HasOutcome}
 use Rattle.filing_flow.specs.Structure.{Flow, sequence, block, action, End, size, IsSound}
-use Rattle.filing_flow.specs.Code.{Start, piece}
+use Rattle.filing_flow.specs.Code.{places_in, Stands}
 use Rattle.filing_flow.specs.Effect.{Filing, EndsRun, effect}
 use Rattle.filing_flow.specs.Types.{HasType}
-
--- the start of a program
-abbrev pub first : Start
-first = record { place = 0; text = 0; number = 0 }
 
 -- the code in a block of its own, and the end behind it, to which a jump out of the code goes
 abbrev pub whole : Flow → Flow
 whole a = sequence (block a) (action End)
 
--- The program is this code and the end, and names no other texts and numbers.
+-- The program is this code and the end.
 pub record IsCodeOf (p : Program) (a : Flow) : Type 0 where
-  pub texts : p.texts ≡ (piece (whole a) [] first).texts
-  pub numbers : p.numbers ≡ (piece (whole a) [] first).numbers
-  pub code : p.code ≡ (piece (whole a) [] first).code
+  pub stands : Stands (places_in p.texts p.numbers) p.code (whole a) [] 0
+  pub long : length p.code ≡ size (whole a)
 
 -- before a run: nothing is filed, and no flag and no slot is set
 abbrev pub nothing_done : Filing

@@ -20,13 +20,13 @@ use Rattle.sieve_meaning.specs.Branching.{part_of, is_branch}
 use Rattle.sieve_meaning.specs.declared.branches.Part.{Part}
 use Rattle.sieve_meaning.specs.declared.branches.Part.TheVariants.{Branch, Otherwise, Plain}
 use Rattle.filing_flow.specs.Structure.{Flow, leave_if, size}
-use Rattle.filing_flow.specs.Code.{only, end_at}
+use Rattle.filing_flow.specs.Code.{end_at}
 use Rattle.filing_gen.specs.declared.output.Output.{Output}
 use Rattle.filing_gen.specs.Structured.{test_flow, flow, branch_flow}
-use Rattle.filing_gen.specs.Adds.{Adds, Emits, HasRoom}
+use Rattle.filing_gen.specs.Adds.{Puts, Emits, HasRoom}
 use Rattle.filing_gen.specs.Ends.{no_place, with_operation, with_jumps}
 use Rattle.filing_gen.specs.Emission.{commands_long, part_long, long_from, plain_flow, part_flow, part_ends, is_apart, EmitsPart, EmitsOpen}
-use Rattle.filing_gen.proofs.Emitted.{grows, turn, no_turn}
+use Rattle.filing_gen.proofs.Emitted.{grows, put_grows, turn, no_turn}
 use Rattle.filing_gen.proofs.Jumps.{placed, emits_under, jumps_length, jumps_texts, jumps_numbers, jumps_last, emits_jumps}
 use Rattle.filing_gen.proofs.Turns.{flow_long, turn_long, part_grows, branch_emitted, open_long, open_then, Remains, remains_turn, remains_last}
 
@@ -53,24 +53,24 @@ module _ (g : Include → Flow) (back : ℕ) (c : TreeCommand) (x y : Output) (j
 
   -- a test, a jump past the block where it is false, the block, and a jump to the end of all branches
   pub branch_open : (o1 o2 o3 p3 : Output) (past last : ℕ) (kept : List ℕ) → past ≡ length o1.code.items → last ≡ length o3.code.items → p3 ≡ with_operation o3 past (JumpUnless (last + 1)) → kept ≡ jumps ++ last ∷ []
-      → ((ends : List ℕ) → Emits x o1 (test_flow (only_in (inner_of (out-Command c).tests))) ends) → Adds o1 o2 (only (JumpUnless no_place ∷ [])) → ((n : ℕ) (ends : List ℕ) → end_at ends n ≡ back → Emits o2 o3 (flow g n (block_in (ending_of (out-Command c).ending))) ends)
-      → Adds p3 y (only (Jump no_place ∷ [])) → EmitsOpen g back Branch (command_of c) x jumps y kept
+      → ((ends : List ℕ) → Emits x o1 (test_flow (only_in (inner_of (out-Command c).tests))) ends) → Puts o1 o2 (JumpUnless no_place) → ((n : ℕ) (ends : List ℕ) → end_at ends n ≡ back → Emits o2 o3 (flow g n (block_in (ending_of (out-Command c).ending))) ends)
+      → Puts p3 y (Jump no_place) → EmitsOpen g back Branch (command_of c) x jumps y kept
   branch_open o1 o2 o3 p3 past last kept at here is are e1 e2 e3 e4 end n ends eq =
       let t = only_in (inner_of (out-Command c).tests) in
       let xs = block_in (ending_of (out-Command c).ending) in
       let next = last + 1 in
       let long1 = grows x o1 (test_flow t) [] (e1 []) in
-      let long2 = grows o1 o2 (leave_if false 0) (no_place ∷ []) e2 in
+      let long2 = put_grows o1 o2 (JumpUnless no_place) e2 in
       let long3 = grows o2 o3 (flow g 0 xs) (back ∷ []) (e3 0 (back ∷ []) refl) in
       let same : length p3.code.items ≡ length o3.code.items = ap (λ (o : Output). length o.code.items) is ∙ length-set o3.code.items past (JumpUnless next) in
       let p2 = with_operation o2 past (JumpUnless next) in
       let out = with_operation y last (Jump end) in
-      let jump : Adds o1 p2 (only (JumpUnless next ∷ [])) =
-      subst (λ (k : ℕ). Adds o1 (with_operation o2 k (JumpUnless next)) (only (JumpUnless next ∷ []))) (sym at) (placed o1 o2 (JumpUnless no_place) (JumpUnless next) e2) in
+      let jump : Puts o1 p2 (JumpUnless next) =
+      subst (λ (k : ℕ). Puts o1 (with_operation o2 k (JumpUnless next)) (JumpUnless next)) (sym at) (placed o1 o2 (JumpUnless no_place) (JumpUnless next) e2) in
       let body : (m : ℕ) (es : List ℕ) → end_at es m ≡ back → Emits p2 p3 (flow g m xs) es =
       λ m es known. subst (λ (o : Output). Emits p2 o (flow g m xs) es) (sym is) (emits_under o2 o3 (flow g m xs) es past (JumpUnless next) (omega (arith, at, long2.code)) (e3 m es known)) in
-      let leaves : Adds p3 out (only (Jump end ∷ [])) =
-      subst (λ (k : ℕ). Adds p3 (with_operation y k (Jump end)) (only (Jump end ∷ []))) (same ∙ sym here) (placed p3 y (Jump no_place) (Jump end) e4) in
+      let leaves : Puts p3 out (Jump end) =
+      subst (λ (k : ℕ). Puts p3 (with_operation y k (Jump end)) (Jump end)) (same ∙ sym here) (placed p3 y (Jump no_place) (Jump end) e4) in
       let whole : Emits x out (branch_flow g (suc n) t xs) (end ∷ ends) =
       branch_emitted g x o1 p2 p3 out t xs next end back (omega (arith, here, long1.code, long2.code, long3.code, flow_long g 0 xs)) e1 jump body leaves n ends eq in
       subst (λ (k : CommandTree). Emits (with_jumps end jumps x) (with_jumps end kept y) (part_flow g n Branch k) (end ∷ ends)) (sym (command_of-fields c))
@@ -95,8 +95,8 @@ stands_room g back old now jumps is_open rest whole h room =
     let r = h.remains in
     let e = chain_end g now is_open rest in (
       omega (arith, room.0, r.code, jumps_length e jumps now),
-      omega (arith, room.1, r.texts, ap (λ (t : Vec (Vec ℕ Global) Global). length t.items) (jumps_texts e jumps now)),
-      omega (arith, room.2, r.numbers, ap (λ (t : Vec ℕ Global). length t.items) (jumps_numbers e jumps now)),
+      omega (arith, room.1, r.texts, ap (λ (t : List (List ℕ × ℕ)). length t) (jumps_texts e jumps now)),
+      omega (arith, room.2, r.numbers, ap (λ (t : List (ℕ × ℕ)). length t) (jumps_numbers e jumps now)),
     )
 
 module _ (g : Include → Flow) (back : ℕ) (old : Output) (whole : Commands) (word : CommandWord) (is_open : Bool) (x : TreeCommand) (more : CommandTrees) (named : command_word (out-Command x).name ≡ word) where

@@ -1,5 +1,5 @@
 -- The program of a script's code may run, and has the script's outcome in every case.
-use Rattle.std.proofs.Common.{◌≡◌, ℕ, ◌+◌, ◌<◌, ◌≤◌, ◌^◌, List, [], ◌∷◌, Option, Some, None, false, refl, sym, ap, ◌∙◌, subst, arith}
+use Rattle.std.proofs.Common.{◌≡◌, ℕ, ◌+◌, ◌<◌, ◌≤◌, ◌^◌, List, [], ◌∷◌, Option, Some, None, false, length, refl, sym, ap, ◌∙◌, subst, arith}
 use Rattle.std.proofs.lemmas.List.{length-replicate, get_or-replicate}
 use Rattle.filing_image.specs.Program.{Program}
 use Rattle.filing_verify.specs.Well.{IsWell}
@@ -18,7 +18,11 @@ use Rattle.sieve_meaning.specs.Weight.{linked_weight, included_weight}
 use Rattle.filing_gen.specs.Structured.{script_flow}
 use Rattle.filing_gen.specs.Linked.{Slots, linked_flow, HasSlots, Marked}
 use Rattle.filing_gen.specs.Alike.{Marking, Related, filing_at, exit_of, Alike}
-use Rattle.filing_gen.specs.Adds.{IsCode, IsImageOf}
+use Rattle.std.specs.Prelude.{slice_get}
+use Rattle.filing_image.specs.declared.instruction.Operation.{Operation}
+use Rattle.filing_flow.specs.Code.{places_in}
+use Rattle.filing_flow.proofs.Stands.{Named, stands_there}
+use Rattle.filing_gen.specs.Adds.{operands_of, IsCode, IsImageOf}
 use Rattle.filing_gen.specs.Emission.{commands_long}
 use Rattle.filing_gen.specs.declared.output.Output.{Output}
 use Rattle.filing_gen.specs.Correct.{IsCompiled}
@@ -83,7 +87,12 @@ module _ (lib : Library) (slot : Slots) (count : ℕ) (has : HasSlots lib slot c
 
   -- what was written is the program
   code_of : (o : Output) (p : Program) (a : Flow) (b : ℕ) → IsCode o a → IsImageOf b count o p → IsCodeOf p a
-  code_of o p a b is made = record { texts = made.texts ∙ is.texts; numbers = made.numbers ∙ is.numbers; code = made.code ∙ is.code }
+  code_of o p a b is made =
+      let named : Named (operands_of o) (places_in p.texts p.numbers) = record { text = made.text; number = made.number } in
+      record {
+        stands = stands_there (operands_of o) (places_in p.texts p.numbers) named o.code.items p.code 0 (λ i x low at. subst (λ (l : List Operation). slice_get l i ≡ Some x) (sym made.code) at) (whole a) [] 0 (omega arith) is.stands;
+        long = ap length made.code ∙ is.long;
+      }
 
   pub built_well : (o : Output) (p : Program) (b : ℕ) → IsCode o (main_flow lib slot known_as main) → IsImageOf b count o p → b ≡ linked_weight lib known_as main → b ≤ 60000 → IsWell p
   built_well o p b is made weight small =

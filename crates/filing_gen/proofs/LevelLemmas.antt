@@ -2,22 +2,22 @@
 use Rattle.std.proofs.Common.{◌≡◌, ℕ, zero, suc, ◌+◌, ◌<◌, ◌^◌, List, [], ◌∷◌, Bool, true, false, Option, Some, None, length, ◌⊎◌, inl, inr, refl, sym, ap, ◌∙◌, arith}
 use Rattle.filing_image.specs.declared.instruction.Operation.TheVariants.{Marked, Mark, JumpIf}
 use Rattle.filing_flow.specs.Structure.{IsMarked, SetMark, Fail, Flow, action, sequence, block, leave_if, size}
-use Rattle.filing_flow.specs.Code.{only, end_at}
+use Rattle.filing_flow.specs.Code.{end_at}
 use Rattle.filing_flow.specs.Types.{Shape, HasType}
 use Rattle.sieve_meaning.specs.Program.{Include, Commands}
 use Rattle.sieve_meaning.specs.Meaning.{ScriptName, script_named, is_among, Library}
 use Rattle.sieve_meaning.specs.Weight.{weight, included_weight, unless_missing, unless_active}
 use Rattle.filing_gen.specs.declared.output.Output.{Output}
 use Rattle.filing_gen.specs.Structured.{flow}
-use Rattle.filing_gen.specs.Adds.{Adds, Emits}
+use Rattle.filing_gen.specs.Adds.{Puts, Emits}
 use Rattle.filing_gen.specs.declared.finding.Finding.{Finding}
 use Rattle.filing_gen.specs.declared.finding.Finding.TheVariants.{Pass, Fault}
 use Rattle.filing_gen.specs.Scopes.{told}
 use Rattle.filing_gen.specs.Linked.{Slots, is_passed, once_flow, active_flow, found_flow, included_flow}
 use Rattle.filing_gen.specs.Levels.{Judgement, Passes, Fails, Enters, judged, judgement, judged_flow, judged_weight, entered_flow, entered_weight}
-use Rattle.filing_gen.specs.Ends.{no_place}
-use Rattle.filing_gen.proofs.Emitted.{emits_sequence}
-use Rattle.filing_gen.proofs.EndedBlocks.{IsEnded, block_ended}
+use Rattle.filing_gen.specs.Ends.{no_place, IsEnded}
+use Rattle.filing_gen.proofs.Emitted.{emits_sequence, action_emitted, leave_if_emitted}
+use Rattle.filing_gen.proofs.EndedBlocks.{block_ended}
 use Rattle.filing_gen.proofs.Types.{IncludesTyped, flow_typed}
 use Rattle.filing_gen.proofs.IncludesTypes.{once_typed}
 
@@ -94,15 +94,16 @@ module _ (lib : Library) (slots : Slots) (main : List ScriptName) (left : ℕ) (
 -- EMISSION
 
 -- the entry of a script under `:once`, behind a jump past it where it is marked
-pub once_emitted : (x y z w u : Output) (slot : ℕ) (a : Flow) → ((es : List Shape) → HasType a es [] []) → Adds x y (only (Marked slot ∷ [])) → Adds y z (only (JumpIf no_place ∷ [])) → Emits z w a (no_place ∷ []) → length w.code.items < 2 ^ 16 → IsEnded (length x.code.items) w u
+pub once_emitted : (x y z w u : Output) (slot : ℕ) (a : Flow) → ((es : List Shape) → HasType a es [] []) → Puts x y (Marked slot) → Puts y z (JumpIf no_place) → Emits z w a (no_place ∷ []) → length w.code.items < 2 ^ 16 → IsEnded (length x.code.items) (length w.code.items) w u
     → (ends : List ℕ) → Emits x u (once_flow true slot a) ends
 once_emitted x y z w u slot a typed test jump h few is ends =
     block_ended x w u (sequence (action (IsMarked slot)) (sequence (leave_if true 0) a)) ends [] (once_typed true slot a [] typed)
-    (emits_sequence x y w (action (IsMarked slot)) (sequence (leave_if true 0) a) (no_place ∷ []) test (emits_sequence y z w (leave_if true 0) a (no_place ∷ []) jump h)) few is
+    (emits_sequence x y w (action (IsMarked slot)) (sequence (leave_if true 0) a) (no_place ∷ []) (action_emitted x y (Marked slot) (IsMarked slot) test refl (no_place ∷ []))
+    (emits_sequence y z w (leave_if true 0) a (no_place ∷ []) (leave_if_emitted y z true no_place 0 (no_place ∷ []) jump refl) h)) few is
 
 -- a script that is marked and run, where its `return` goes to its end
-pub entry_emitted : (x y z u : Output) (slot : ℕ) (g : Include → Flow) → IncludesTyped g → (script : Commands) → Adds x y (only (Mark slot ∷ [])) → ((n : ℕ) (ends : List ℕ) → end_at ends n ≡ no_place → Emits y z (flow g n script) ends) → length z.code.items < 2 ^ 16 → IsEnded (length x.code.items) z u
+pub entry_emitted : (x y z u : Output) (slot : ℕ) (g : Include → Flow) → IncludesTyped g → (script : Commands) → Puts x y (Mark slot) → ((n : ℕ) (ends : List ℕ) → end_at ends n ≡ no_place → Emits y z (flow g n script) ends) → length z.code.items < 2 ^ 16 → IsEnded (length x.code.items) (length z.code.items) z u
     → (ends : List ℕ) → Emits x u (block (sequence (action (SetMark slot)) (flow g 0 script))) ends
 entry_emitted x y z u slot g typed script mark h few is ends =
     block_ended x z u (sequence (action (SetMark slot)) (flow g 0 script)) ends [] ([], (refl, omega arith, omega arith), flow_typed g typed zero script ([] ∷ []) refl)
-    (emits_sequence x y z (action (SetMark slot)) (flow g 0 script) (no_place ∷ []) mark (h 0 (no_place ∷ []) refl)) few is
+    (emits_sequence x y z (action (SetMark slot)) (flow g 0 script) (no_place ∷ []) (action_emitted x y (Mark slot) (SetMark slot) mark refl (no_place ∷ [])) (h 0 (no_place ∷ []) refl)) few is

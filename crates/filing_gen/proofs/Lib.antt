@@ -1,3 +1,5 @@
+mod Pools
+mod Names
 mod Truths
 mod Means
 mod Types

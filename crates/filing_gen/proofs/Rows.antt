@@ -5,6 +5,7 @@ use Rattle.sieve_syntax.specs.View.{tree_of}
 use Rattle.sieve_meaning.specs.Reading.{program_of}
 use Rattle.filing_gen.specs.Correct.{library_of}
 use Rattle.filing_gen.specs.Libraries.{NamedScript, Scripts, named, put, slots_of}
+use Rattle.filing_gen.specs.Names.{each_once}
 
 abbrev entry : List ℕ → Script → NamedScript
 entry name s = record { name = name; script = s }
@@ -47,3 +48,10 @@ slot_personal a b c = refl
 
 slot_global : (a b c : Script) → slots_of (three a b c) (record { global = true; name = lists }) ≡ 32
 slot_global a b c = refl
+
+-- a name that is equal without case is asked for once
+once_without_case : each_once (codes "To" ∷ codes "cc" ∷ codes "TO" ∷ codes "to" ∷ []) ≡ codes "To" ∷ codes "cc" ∷ []
+once_without_case = refl
+
+not_a_beginning : each_once (codes "cc" ∷ codes "c" ∷ []) ≡ codes "cc" ∷ codes "c" ∷ []
+not_a_beginning = refl

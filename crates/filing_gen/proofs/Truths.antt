@@ -14,6 +14,8 @@ use Rattle.filing_table.specs.Machine.{Entry, T, L, compared, values_of}
 use Rattle.filing_flow.specs.Structure.{Push, Drop, Flow, action, sequence, leave}
 use Rattle.filing_flow.specs.Effect.{Filing, Exit, FallsThrough, Leaves, effect, caught}
 use Rattle.filing_flow.specs.Effect as effects
+use Rattle.filing_gen.specs.Names.{each_once, others_once}
+use Rattle.filing_gen.proofs.Names.{some_once, every_once, same_named}
 use Rattle.filing_gen.specs.Structured.{comparison, either, values_flow, keys_flow, names_flow, header_flow, test_flow, tests_flow}
 
 -- LISTS: a test of some values of some fields
@@ -125,9 +127,9 @@ module _ (c : Facts) where
   choose_not true = refl
   choose_not false = refl
 
-  header_means : (m : MatchType) (o : Comparator) (n : List ℕ) (ns : List (List ℕ)) (k : List ℕ) (ks : List (List ℕ)) (f : Filing)
+  only_header_means : (m : MatchType) (o : Comparator) (n : List ℕ) (ns : List (List ℕ)) (k : List ℕ) (ks : List (List ℕ)) (f : Filing)
       → effect c (header_flow (comparison m o) n ns k ks) f [] ≡ FallsThrough f (T (header_truth c m o (n ∷ ns) (k ∷ ks)) ∷ [])
-  header_means m o n ns k ks f =
+  only_header_means m o n ns k ks f =
       let xs = values_of c n ++ flat_map (values_of c) ns in
       let a = comparison m o in
       let names = values_means ns f (values_of c n) in
@@ -135,13 +137,25 @@ module _ (c : Facts) where
       let keys : effect c (keys_flow a (k ∷ ks)) f (L xs ∷ []) ≡ exit_if found f (L xs ∷ []) = keys_means a (k ∷ ks) f xs in
       rw (names, keys) (header_ends f xs found) ∙ ap (λ (b : Bool). FallsThrough f (T b ∷ [])) (header_is m o (n ∷ ns) (k ∷ ks))
 
+  -- names that were asked for before make no difference
+  header_means : (m : MatchType) (o : Comparator) (n : List ℕ) (ns : List (List ℕ)) (k : List ℕ) (ks : List (List ℕ)) (f : Filing)
+      → effect c (header_flow (comparison m o) n (others_once n ns) k ks) f [] ≡ FallsThrough f (T (header_truth c m o (n ∷ ns) (k ∷ ks)) ∷ [])
+  header_means m o n ns k ks f =
+      only_header_means m o n (others_once n ns) k ks f
+      ∙ ap (λ (b : Bool). FallsThrough f (T b ∷ []))
+      (any_same (λ f. list_any (λ name. is_named name f) (n ∷ others_once n ns) && list_any (λ key. key_matches m o key f.value) (k ∷ ks)) (λ f. list_any (λ name. is_named name f) (n ∷ ns) && list_any (λ key. key_matches m o key f.value) (k ∷ ks)) c.fields
+      (λ f. ap (λ b. b && list_any (λ key. key_matches m o key f.value) (k ∷ ks)) (some_once (λ name. is_named name f) (λ a b same. same_named f a b same) (n ∷ ns))))
+
+  all_once : (ns : List (List ℕ)) → list_all (has_field c) (each_once ns) ≡ list_all (has_field c) ns
+  all_once ns = every_once (has_field c) (λ a b same. any_same (is_named a) (is_named b) c.fields (λ f. same_named f a b same)) ns
+
   mutual
     pub test_means : (t : Test) (f : Filing) → effect c (test_flow t) f [] ≡ FallsThrough f (T (truth c t) ∷ [])
     test_means (always b) f = refl
     test_means (negated t) f = rw (test_means t f) refl
     test_means (all_of ts) f = either_means true false (not (all_true c ts)) (tests_flow false ts) f (all_means ts f) ∙ ap (λ (b : Bool). FallsThrough f (T b ∷ [])) (choose_not (all_true c ts))
     test_means (any_of ts) f = either_means false true (some_true c ts) (tests_flow true ts) f (some_means ts f) ∙ ap (λ (b : Bool). FallsThrough f (T b ∷ [])) (choose (some_true c ts))
-    test_means (has_all ns) f = either_means true false (not (list_all (has_field c) ns)) (names_flow ns) f (names_means ns f) ∙ ap (λ (b : Bool). FallsThrough f (T b ∷ [])) (choose_not (list_all (has_field c) ns))
+    test_means (has_all ns) f = either_means true false (not (list_all (has_field c) (each_once ns))) (names_flow (each_once ns)) f (names_means (each_once ns) f) ∙ ap (λ (b : Bool). FallsThrough f (T b ∷ [])) (choose_not (list_all (has_field c) (each_once ns)) ∙ all_once ns)
     test_means (over n) f = refl
     test_means (under n) f = refl
     test_means (header m o n ns k ks) f = header_means m o n ns k ks f

@@ -17,16 +17,16 @@ use Rattle.sieve_meaning.specs.Program as program
 use Rattle.sieve_meaning.specs.Program.{Test, Include, Commands, Branches}
 use Rattle.sieve_meaning.specs.Reading.{only_in, block_in, program_of, branches_of}
 use Rattle.filing_flow.specs.Structure.{Flow, nothing, sequence, block, leave, leave_if, size}
-use Rattle.filing_flow.specs.Code.{Start, Piece, piece, joined, after, only, end_at}
+use Rattle.filing_flow.specs.Code.{Stands, end_at}
 use Rattle.filing_gen.specs.Structured.{test_flow, flow, flow_one, branches_flow, branch_flow}
-use Rattle.filing_flow.specs.Whole.{first, whole}
-use Rattle.filing_gen.specs.Adds.{Adds, Emits, IsCode, end_of}
+use Rattle.filing_flow.specs.Whole.{whole}
+use Rattle.filing_gen.specs.Adds.{operands_of, Puts, Emits, IsCode}
 use Rattle.sieve_meaning.specs.Branching.{part_of, is_branch}
 use Rattle.filing_gen.specs.Emission.{commands_long, one_long, branches_long, plain_long, part_long, long_from, plain_flow, part_flow, part_ends, rest_flow, is_apart, EmitsPart}
 use Rattle.filing_gen.specs.declared.output.Output.{Output}
 use Rattle.sieve_meaning.specs.declared.branches.Part.{Part}
 use Rattle.sieve_meaning.specs.declared.branches.Part.TheVariants.{Branch, Otherwise, Plain}
-use Rattle.filing_gen.proofs.Emitted.{adds_then, same_start, after_joined, joined_assoc, emits_sequence, emits_block, emits_nothing, end_is, Grows, grows, turn}
+use Rattle.filing_gen.proofs.Emitted.{emits_sequence, emits_block, emits_nothing, after_nothing, first_of_block, leave_emitted, leave_if_emitted, Grows, grows, turn}
 
 -- how many operations commands take, wherever `return` goes
 module _ (g : Include → Flow) where
@@ -106,41 +106,9 @@ open_then w words.Include false name args inner finish more is = refl
 open_then w words.Other true name args inner finish more is = rw is refl
 open_then w words.Other false name args inner finish more is = refl
 
--- nothing was written
-after_nothing : (x y z : Output) (a : Flow) (ends : List ℕ) → Emits x y nothing ends → Emits y z a ends → Emits x z a ends
-after_nothing x y z a ends e f =
-    let code : y.code.items ≡ x.code.items = e.code ∙ append-nil x.code.items in
-    let numbers : y.numbers.items ≡ x.numbers.items = e.numbers ∙ append-nil x.numbers.items in
-    let texts : map (λ t. t.items) y.texts.items ≡ map (λ t. t.items) x.texts.items = e.texts ∙ append-nil (map (λ t. t.items) x.texts.items) in
-    let start : end_of y ≡ end_of x = end_is x y (only []) e ∙ same_start _ _ (omega arith) (omega arith) (omega arith) in
-    let g : Adds y z (piece a ends (end_of x)) = subst (λ (s : Start). Adds y z (piece a ends s)) start f in
-    let p = piece a ends (end_of x) in
-    record {
-      texts = g.texts ∙ ap (λ (l : List (List ℕ)). l ++ p.texts) texts;
-      numbers = g.numbers ∙ ap (λ (l : List ℕ). l ++ p.numbers) numbers;
-      code = g.code ∙ ap (λ (l : List Operation). l ++ p.code) code;
-    }
-
--- the first part of a block was written, and the rest stands in a block of its own that ends at the same place
-first_of_block : (x y z : Output) (a r f : Flow) (e : ℕ) (ends : List ℕ) → e ≡ length x.code.items + (size a + size r) → Emits x y a (e ∷ ends) → Emits y z (sequence (block r) f) ends → Emits x z (sequence (block (sequence a r)) f) ends
-first_of_block x y z a r f e ends is h k =
-    let s = end_of x in
-    let p = piece a (e ∷ ends) s in
-    let q = piece r (e ∷ ends) (after s p) in
-    let grown = grows x y a (e ∷ ends) h in
-    let same : length y.code.items + size r ≡ e = omega (arith, grown.code, is) in
-    let k1 : Adds y z (joined (piece r (e ∷ ends) (end_of y)) (piece f ends (after (end_of y) (piece r (e ∷ ends) (end_of y))))) =
-    subst (λ (n : ℕ). Adds y z (joined (piece r (n ∷ ends) (end_of y)) (piece f ends (after (end_of y) (piece r (n ∷ ends) (end_of y)))))) same k in
-    let k2 : Adds y z (joined q (piece f ends (after (after s p) q))) =
-    subst (λ (v : Start). Adds y z (joined (piece r (e ∷ ends) v) (piece f ends (after v (piece r (e ∷ ends) v))))) (end_is x y p h) k1 in
-    let k3 : Adds x z (joined p (joined q (piece f ends (after (after s p) q)))) = adds_then x y z p (joined q (piece f ends (after (after s p) q))) h k2 in
-    let k4 : Adds x z (joined (joined p q) (piece f ends (after s (joined p q)))) =
-    subst (λ (w : Piece). Adds x z w) (sym (ap (λ (t : Start). joined (joined p q) (piece f ends t)) (after_joined s p q) ∙ joined_assoc p q (piece f ends (after (after s p) q)))) k3 in
-    subst (λ (n : ℕ). Adds x z (joined (piece (sequence a r) (n ∷ ends) s) (piece f ends (after s (piece (sequence a r) (n ∷ ends) s))))) is k4
-
 -- no branches were open
 none_open : (x z : Output) (f : Flow) (ends : List ℕ) → Emits x z f ends → Emits x z (sequence (block nothing) f) ends
-none_open x z f ends h = emits_sequence x x z (block nothing) f ends (emits_nothing x (length x.code.items ∷ ends)) h
+none_open x z f ends h = emits_sequence x x z (block nothing) f ends (emits_block x x nothing ends (length x.code.items + 0) refl (emits_nothing x ((length x.code.items + 0) ∷ ends))) h
 
 plain_is_long : (g : Include → Flow) (n : ℕ) (word : CommandWord) (args : List Argument) → size (plain_flow g n word args) ≡ plain_long (λ i. size (g i)) word args
 plain_is_long g n words.If args = refl
@@ -196,8 +164,8 @@ module _ (g : Include → Flow) (back : ℕ) (x y : Output) where
 pub record Remains (g : Include → Flow) (back : ℕ) (old now : Output) (is_open : Bool) (rest : CommandTrees) (whole : Commands) : Type 0 where
   pub emits : (n : ℕ) (ends : List ℕ) (z : Output) → end_at ends n ≡ back → Emits now z (rest_flow g n is_open rest) ends → Emits old z (flow g n whole) ends
   pub code : length now.code.items + long_from (λ i. size (g i)) is_open rest ≡ length old.code.items + commands_long (λ i. size (g i)) whole
-  pub texts : length now.texts.items + long_from (λ i. size (g i)) is_open rest ≤ length old.texts.items + commands_long (λ i. size (g i)) whole
-  pub numbers : length now.numbers.items + long_from (λ i. size (g i)) is_open rest ≤ length old.numbers.items + commands_long (λ i. size (g i)) whole
+  pub texts : length now.texts + long_from (λ i. size (g i)) is_open rest ≤ length old.texts + commands_long (λ i. size (g i)) whole
+  pub numbers : length now.numbers + long_from (λ i. size (g i)) is_open rest ≤ length old.numbers + commands_long (λ i. size (g i)) whole
 
 -- one more command; branches end behind those that are still open
 pub remains_turn : (g : Include → Flow) (back : ℕ) (old now new : Output) (word : CommandWord) (is_open : Bool) (name : List ℕ) (args : List Argument) (inner : InnerTests) (finish : EndingTree) (more : CommandTrees) (whole : Commands)
@@ -222,12 +190,12 @@ remains_last g back old now false whole h n ends eq = h.emits n ends now eq (emi
 
 -- a test, a jump past the block where it is false, the block, and a jump to the end of all branches
 pub branch_emitted : (g : Include → Flow) (o0 o1 o2 o3 o4 : Output) (t : Test) (xs : Commands) (next end back : ℕ) → next ≡ length o0.code.items + (size (test_flow t) + commands_long (λ i. size (g i)) xs + 2)
-    → ((ends : List ℕ) → Emits o0 o1 (test_flow t) ends) → Adds o1 o2 (only (JumpUnless next ∷ [])) → ((n : ℕ) (ends : List ℕ) → end_at ends n ≡ back → Emits o2 o3 (flow g n xs) ends) → Adds o3 o4 (only (Jump end ∷ []))
+    → ((ends : List ℕ) → Emits o0 o1 (test_flow t) ends) → Puts o1 o2 (JumpUnless next) → ((n : ℕ) (ends : List ℕ) → end_at ends n ≡ back → Emits o2 o3 (flow g n xs) ends) → Puts o3 o4 (Jump end)
     → (n : ℕ) (ends : List ℕ) → end_at ends n ≡ back → Emits o0 o4 (branch_flow g (suc n) t xs) (end ∷ ends)
 branch_emitted g o0 o1 o2 o3 o4 t xs next end back is e1 e2 e3 e4 n ends eq =
     let es = next ∷ end ∷ ends in
     let body = flow g (suc (suc n)) xs in
-    let tail = emits_sequence o1 o2 o4 (leave_if false 0) (sequence body (leave 1)) es e2 (emits_sequence o2 o3 o4 body (leave 1) es (e3 (suc (suc n)) es eq) e4) in
+    let tail = emits_sequence o1 o2 o4 (leave_if false 0) (sequence body (leave 1)) es (leave_if_emitted o1 o2 false next 0 es e2 refl) (emits_sequence o2 o3 o4 body (leave 1) es (e3 (suc (suc n)) es eq) (leave_emitted o3 o4 end 1 es e4 refl)) in
     emits_block o0 o4 (sequence (test_flow t) (sequence (leave_if false 0) (sequence body (leave 1)))) (end ∷ ends) next (omega (arith, is, flow_long g (suc (suc n)) xs)) (emits_sequence o0 o1 o4 (test_flow t) (sequence (leave_if false 0) (sequence body (leave 1))) es (e1 es) tail)
 
 -- the command at a place, before those behind it
@@ -237,13 +205,10 @@ turn_long w word is_open xs i x is lt named =
     rw (turn xs i x is lt, command_of-fields x) (long_then w word is_open (out-Command x).name (out-Command x).arguments (inner_of (out-Command x).tests) (ending_of (out-Command x).ending) (commands_of (map command_of (drop (i + 1) xs))) named)
 
 -- a script and the end of the run, written from nothing
-pub code_of_empty : (x y : Output) (a : Flow) → x.texts.items ≡ [] → x.numbers.items ≡ [] → x.code.items ≡ [] → Emits x y (whole a) [] → IsCode y a
-code_of_empty x y a t n c e =
-    let s : end_of x ≡ first = same_start (end_of x) first (ap length c) (ap length t) (ap length n) in
-    let f : Adds x y (piece (whole a) [] first) = subst (λ (z : Start). Adds x y (piece (whole a) [] z)) s e in
-    let p = piece (whole a) [] first in
+pub code_of_empty : (x y : Output) (a : Flow) → x.code.items ≡ [] → Emits x y (whole a) [] → IsCode y a
+code_of_empty x y a none e =
+    let first : length x.code.items ≡ 0 = ap length none in
     record {
-      texts = f.texts ∙ ap (λ (l : List (Vec ℕ Global)). map (λ t. t.items) l ++ p.texts) t;
-      numbers = f.numbers ∙ ap (λ (l : List ℕ). l ++ p.numbers) n;
-      code = f.code ∙ ap (λ (l : List Operation). l ++ p.code) c;
+      stands = subst (λ (n : ℕ). Stands (operands_of y) y.code.items (whole a) [] n) first e.stands;
+      long = omega (arith, first, (grows x y (whole a) [] e).code);
     }

@@ -9,6 +9,8 @@ use Rattle.sieve_meaning.specs.declared.matching.MatchType.{MatchType}
 use Rattle.sieve_meaning.specs.declared.matching.MatchType.TheVariants as match_types
 use Rattle.sieve_meaning.specs.Program.{Test, always, negated, all_of, any_of, has_all, over, under, header, Tests, no_test, test_then, Include, Command, require, keep, discard, stop, return, file_into, branch, include, Commands, no_command, command_then, Branches, no_branch, otherwise, if_then}
 use Rattle.sieve_meaning.specs.Weight.{test_weight, tests_weight, weight, weight_one, branches_weight}
+use Rattle.filing_gen.specs.Names.{each_once, others_once}
+use Rattle.filing_gen.proofs.Names.{once_fewer, others_fewer}
 use Rattle.filing_gen.specs.Structured.{comparison, either, values_flow, keys_flow, names_flow, test_flow, tests_flow, copy_number, flow, flow_one, branches_flow}
 
 -- TYPES
@@ -17,11 +19,11 @@ values_typed : (ns : List (List ℕ)) (es : List Shape) → HasType (values_flow
 values_typed [] es = refl
 values_typed (n ∷ ns) es = (Texts ∷ Texts ∷ [], (refl, omega arith, omega arith), (Texts ∷ [], (refl, omega arith, omega arith), values_typed ns es))
 
-keys_typed : (a : ℕ) (ks : List (List ℕ)) (es : List Shape) → HasType (keys_flow a ks) ((Texts ∷ []) ∷ es) (Texts ∷ []) (Texts ∷ [])
+pub keys_typed : (a : ℕ) (ks : List (List ℕ)) (es : List Shape) → HasType (keys_flow a ks) ((Texts ∷ []) ∷ es) (Texts ∷ []) (Texts ∷ [])
 keys_typed a [] es = refl
 keys_typed a (k ∷ ks) es = (Truth ∷ Texts ∷ [], (refl, omega arith, omega arith), (Texts ∷ [], (refl, omega arith, refl), keys_typed a ks es))
 
-names_typed : (ns : List (List ℕ)) (es : List Shape) → HasType (names_flow ns) ([] ∷ es) [] []
+pub names_typed : (ns : List (List ℕ)) (es : List Shape) → HasType (names_flow ns) ([] ∷ es) [] []
 names_typed [] es = refl
 names_typed (n ∷ ns) es = (Truth ∷ [], (refl, omega arith, omega arith), ([], (refl, omega arith, refl), names_typed ns es))
 
@@ -50,12 +52,12 @@ mutual
   test_typed (negated t) es = (Truth ∷ [], test_typed t es, (refl, omega arith, omega arith))
   test_typed (all_of ts) es = either_typed true false (tests_flow false ts) es (tests_typed false ts ((Truth ∷ []) ∷ es))
   test_typed (any_of ts) es = either_typed false true (tests_flow true ts) es (tests_typed true ts ((Truth ∷ []) ∷ es))
-  test_typed (has_all ns) es = either_typed true false (names_flow ns) es (names_typed ns ((Truth ∷ []) ∷ es))
+  test_typed (has_all ns) es = either_typed true false (names_flow (each_once ns)) es (names_typed (each_once ns) ((Truth ∷ []) ∷ es))
   test_typed (over n) es = (Count ∷ [], (refl, omega arith, omega arith), (Count ∷ Count ∷ [], (refl, omega arith, omega arith), (refl, omega arith, omega arith)))
   test_typed (under n) es = (Count ∷ [], (refl, omega arith, omega arith), (Count ∷ Count ∷ [], (refl, omega arith, omega arith), (refl, omega arith, omega arith)))
-  test_typed (header m c n ns k ks) es = header_typed (comparison m c) n ns (k ∷ ks) es
+  test_typed (header m c n ns k ks) es = header_typed (comparison m c) n (others_once n ns) (k ∷ ks) es
 
-  tests_typed : (b : Bool) (ts : Tests) (es : List Shape) → HasType (tests_flow b ts) ([] ∷ es) [] []
+  pub tests_typed : (b : Bool) (ts : Tests) (es : List Shape) → HasType (tests_flow b ts) ([] ∷ es) [] []
   tests_typed b no_test es = refl
   tests_typed b (test_then t ts) es = (Truth ∷ [], test_typed t ([] ∷ es), ([], (refl, omega arith, refl), tests_typed b ts es))
 
@@ -104,10 +106,10 @@ mutual
   test_small (negated t) = omega (arith, test_small t)
   test_small (all_of ts) = omega (arith, tests_small false ts)
   test_small (any_of ts) = omega (arith, tests_small true ts)
-  test_small (has_all ns) = omega (arith, names_small ns)
+  test_small (has_all ns) = omega (arith, names_small (each_once ns), once_fewer ns)
   test_small (over n) = omega arith
   test_small (under n) = omega arith
-  test_small (header m c n ns k ks) = omega (arith, values_small ns, keys_small (comparison m c) ks)
+  test_small (header m c n ns k ks) = omega (arith, values_small (others_once n ns), others_fewer n ns, keys_small (comparison m c) ks)
 
   tests_small : (b : Bool) (ts : Tests) → size (tests_flow b ts) ≤ tests_weight ts
   tests_small b no_test = omega arith
@@ -170,10 +172,10 @@ module _ (slots : ℕ) where
     test_sound (negated t) = (test_sound t, tt)
     test_sound (all_of ts) = ((tests_sound false ts, (tt, tt)), tt)
     test_sound (any_of ts) = ((tests_sound true ts, (tt, tt)), tt)
-    test_sound (has_all ns) = ((names_sound ns, (tt, tt)), tt)
+    test_sound (has_all ns) = ((names_sound (each_once ns), (tt, tt)), tt)
     test_sound (over n) = (tt, (tt, tt))
     test_sound (under n) = (tt, (tt, tt))
-    test_sound (header m c n ns k ks) = (((tt, values_sound ns), (keys_sound (comparison m c) (comparison_sound m c) (k ∷ ks), (tt, (tt, tt)))), (tt, tt))
+    test_sound (header m c n ns k ks) = (((tt, values_sound (others_once n ns)), (keys_sound (comparison m c) (comparison_sound m c) (k ∷ ks), (tt, (tt, tt)))), (tt, tt))
 
     tests_sound : (b : Bool) (ts : Tests) → IsSound slots (tests_flow b ts)
     tests_sound b no_test = tt

@@ -9,6 +9,7 @@ use Rattle.sieve_meaning.specs.Program.{Commands}
 use Rattle.sieve_meaning.specs.Meaning.{Library, meaning}
 use Rattle.sieve_meaning.specs.Reading.{program_of}
 use Rattle.filing_gen.specs.Libraries.{Scripts, named, location_of}
+use Rattle.filing_gen.specs.Pools.{IsOnce}
 use Rattle.sieve_meaning.specs.Outcome.{outcome_of}
 use Rattle.sieve_meaning.specs.Weight.{linked_weight}
 use Rattle.filing_gen.specs.declared.fault.GenFault.{GenFault}
@@ -24,6 +25,11 @@ pub record IsCompiled (lib : Library) (known_as : Option (List ℕ)) (main : Com
   pub budget : p.budget ≡ linked_weight lib known_as main
   pub well : IsWell p
   pub outcomes : (facts : Facts) → (n : ℕ) × HasOutcome p facts n (outcome_of (meaning facts lib known_as main))
+
+-- A program that names each text and each number by one place.
+pub record NamesOnce (p : Program) : Type 0 where
+  pub texts : IsOnce p.texts
+  pub numbers : IsOnce p.numbers
 
 -- the numbers by which faults are told
 abbrev pub gen_number : GenFault → ℕ

@@ -1,5 +1,5 @@
 -- Jumps to the end of a block, as long as it is not known.
-use Rattle.std.specs.Prelude.{ℕ, List, [], ◌∷◌, nat_eq, if◌then◌else◌}
+use Rattle.std.specs.Prelude.{◌≡◌, ℕ, List, [], ◌∷◌, ◌++◌, map, take, drop, nat_eq, if◌then◌else◌}
 use Rattle.std.specs.Vec.{with_item}
 use Rattle.filing_image.specs.declared.instruction.Operation.{Operation}
 use Rattle.filing_image.specs.declared.instruction.Operation.TheVariants.{Jump, JumpIf, JumpUnless}
@@ -28,3 +28,9 @@ with_operation o place operation = record o { code = with_item o.code place oper
 abbrev pub with_jumps : (end : ℕ) → (places : List ℕ) → Output → Output
 with_jumps end [] o = o
 with_jumps end (p ∷ ps) o = with_operation (with_jumps end ps o) p (Jump end)
+
+-- The jumps to places that were not known, of what was written from a place on, go to this end.
+pub record IsEnded (start end : ℕ) (old new : Output) : Type 0 where
+  pub code : new.code.items ≡ take start old.code.items ++ map (with_end end) (drop start old.code.items)
+  pub texts : new.texts ≡ old.texts
+  pub numbers : new.numbers ≡ old.numbers

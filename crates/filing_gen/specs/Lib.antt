@@ -1,4 +1,6 @@
 pub mod Structured
+pub mod Pools
+pub mod Names
 pub mod Adds
 pub mod Alike
 pub mod Emission

@@ -6,6 +6,7 @@ use Rattle.sieve_meaning.specs.declared.matching.Comparator.TheVariants as compa
 use Rattle.sieve_meaning.specs.declared.matching.MatchType.{MatchType}
 use Rattle.sieve_meaning.specs.declared.matching.MatchType.TheVariants as match_types
 use Rattle.sieve_meaning.specs.Program.{Test, always, negated, all_of, any_of, has_all, over, under, header, Tests, no_test, test_then, Include, Command, require, keep, discard, stop, return, file_into, branch, include, Commands, no_command, command_then, Branches, no_branch, otherwise, if_then}
+use Rattle.filing_gen.specs.Names.{each_once, others_once}
 use Rattle.filing_flow.specs.Structure.{Push, Negate, ValuesOf, JoinTwo, MatchKey, Drop, HasField, PushSize, PushNumber, IsLess, FileInto, SetKept, SetCancelled, End, Flow, nothing, action, sequence, block, leave, leave_if}
 
 -- the number of a comparison
@@ -51,10 +52,10 @@ abbrev mutual
   test_flow (negated t) = sequence (test_flow t) (action Negate)
   test_flow (all_of ts) = either true false (tests_flow false ts)
   test_flow (any_of ts) = either false true (tests_flow true ts)
-  test_flow (has_all names) = either true false (names_flow names)
+  test_flow (has_all names) = either true false (names_flow (each_once names))
   test_flow (over n) = sequence (action (PushNumber n)) (sequence (action PushSize) (action IsLess))
   test_flow (under n) = sequence (action PushSize) (sequence (action (PushNumber n)) (action IsLess))
-  test_flow (header m c n ns k ks) = header_flow (comparison m c) n ns k ks
+  test_flow (header m c n ns k ks) = header_flow (comparison m c) n (others_once n ns) k ks
 
   -- each test, and out where one has this truth
   pub tests_flow : Bool → Tests → Flow

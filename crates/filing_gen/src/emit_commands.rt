@@ -15,7 +15,7 @@ ghost use Rattle.sieve_meaning.specs.declared.branches.Part.TheVariants as parts
 use crate::emit_tests::emit_only;
 use crate::ends::{NO_PLACE, end_branches};
 use crate::linker::Linker;
-use crate::output::{Output, put, put_at, put_with};
+use crate::output::{Output, put, put_at, text_operand};
 use filing_image::Operation;
 use sieve_meaning::branches::{Part, is_branch, part_in};
 use sieve_meaning::reading::{first_string, has_tag, include};
@@ -31,18 +31,13 @@ fn copy_code(is_copy: bool) -> u8
 }
 
 /// `fileinto`: one operation, which names the path.
-fn emit_file(alloc: Global, out: &mut Output, arguments: &[Argument]) -> Result<(), AllocError>
+fn emit_file(out: &mut Output, arguments: &[Argument]) -> Result<(), AllocError>
     requires { HasRoom out.old 1 }
     ensures adds { OnOk result ((ends : List ℕ) → Emits out.old out.new (action (FileInto (copy_number (has_tag_of (codes "copy") arguments.now)) (first_string_of (string_lists false arguments.now)))) ends) }
 {
-    let text = out.texts.len() as u16;
+    let place = text_operand(out, first_string(arguments))?;
     let how = copy_code(has_tag(arguments, b"copy"));
-    put_with(
-        alloc,
-        out,
-        first_string(arguments),
-        Operation::File(how, text),
-    )
+    put(out, Operation::File(how, place))
 }
 
 /// A command that has no block. `keep`, `discard` and `stop` are one operation each, and `return` jumps to a place
@@ -63,7 +58,7 @@ fn emit_plain<L: Linker>(
         CommandWord::Discard => put(out, Operation::Discard),
         CommandWord::Stop => put(out, Operation::Stop),
         CommandWord::Return => put(out, Operation::Jump(back)),
-        CommandWord::FileInto => emit_file(alloc, out, arguments),
+        CommandWord::FileInto => emit_file(out, arguments),
         CommandWord::Include => linker.emit(alloc, out, &include(arguments)),
         CommandWord::Require
         | CommandWord::If

@@ -1,17 +1,22 @@
-//! Writes the code of tests. The code of each test pushes its truth.
+//! Writes the code of tests. The code of each test pushes its truth. A jump within the code of a test is written without
+//! its place, which is put in once what it goes past is written.
 
 ghost use Rattle.std.specs.Prelude.{◌≡◌, ◌≤◌, ◌+◌, ◌<◌, ◌^◌, ℕ, List, [], ◌∷◌, length, OnOk, true, false, not, codes};
-ghost use Rattle.filing_image.specs.declared.instruction.Operation.TheVariants.{Jump, JumpIf, JumpUnless, Pop, PushTrue, PushFalse};
 ghost use Rattle.sieve_syntax.specs.Arguments.{strings_of, first_of, others_of};
 ghost use Rattle.sieve_syntax.specs.View.{test_of, inner_of};
 ghost use Rattle.sieve_meaning.specs.Reading.{test_in, only_in, tests_in, string_lists, exists_of, header_of, size_of, has_tag as has_tag_of, number_in, comparator_from, match_type as match_type_of};
-ghost use Rattle.filing_flow.specs.Structure.{size, action, ValuesOf, HasField, MatchKey, PushNumber, PushSize, IsLess, sequence, leave_if, Negate};
-ghost use Rattle.filing_flow.specs.Code.{end_at, only, jump_when};
+ghost use Rattle.filing_flow.specs.Structure.{Flow, size, action, ValuesOf, HasField, MatchKey, PushNumber, PushSize, IsLess, Push, Drop, sequence, leave, leave_if, Negate};
+ghost use Rattle.filing_flow.specs.Code.{end_at};
+ghost use Rattle.filing_flow.specs.Types.{Shape, HasType};
 ghost use Rattle.filing_gen.specs.Structured.{comparison, either, values_flow, keys_flow, names_flow, header_flow, test_flow, tests_flow};
-ghost use Rattle.filing_gen.specs.Adds.{Adds, Emits, HasRoom};
+ghost use Rattle.filing_gen.specs.Names.{each_once, others_once};
+ghost use Rattle.filing_gen.specs.Ends.{no_place};
+ghost use Rattle.filing_gen.specs.Adds.{Emits, HasRoom};
+ghost use Rattle.filing_gen.specs.declared.output.Output.{Output};
 
-use crate::output::{Output, put, put_truth, put_with};
-use crate::size_tests::tests_size;
+use crate::ends::{NO_PLACE, end_block_at};
+use crate::field_names::FieldNames;
+use crate::output::{Output, number_operand, put, put_truth, text_operand};
 use filing_image::Operation;
 use sieve_meaning::reading::{comparator, has_tag, match_type, next_string_list, number};
 use sieve_meaning::{Comparator, MatchType, TestWord, test_word};
@@ -32,58 +37,73 @@ fn comparison_number(how: MatchType, comparator: Comparator) -> u8
     }
 }
 
-/// `Exists name` and `JumpUnless missing`.
-fn emit_name(alloc: Global, out: &mut Output, name: &[u8], missing: u16) -> Result<(), AllocError>
-    requires { length out.old.texts.items < 2 ^ 16 }
-    ensures adds { OnOk result ((ends : List ℕ) → end_at ends 0 ≡ missing → Emits out.old out.new (sequence (action (HasField name.now)) (leave_if false 0)) ends) }
-    ensures code { OnOk result (length out.new.code.items ≡ length out.old.code.items + 2) }
-    ensures texts { OnOk result (length out.new.texts.items ≡ length out.old.texts.items + 1) }
-    ensures numbers { OnOk result (length out.new.numbers.items ≡ length out.old.numbers.items) }
+/// `JumpIf` or `JumpUnless`, to the end of the block around.
+fn put_jump(out: &mut Output, truth: bool) -> Result<(), AllocError>
+    ensures { OnOk result ((ends : List ℕ) → end_at ends 0 ≡ no_place → Emits out.old out.new (leave_if truth 0) ends) }
 {
-    let text = out.texts.len() as u16;
-    put_with(alloc, out, name, Operation::Exists(text))?;
-    put(out, Operation::JumpUnless(missing))
+    if truth {
+        return put(out, Operation::JumpIf(NO_PLACE));
+    }
+    put(out, Operation::JumpUnless(NO_PLACE))
 }
 
-/// For each name `Exists name` and `JumpUnless missing`.
-fn emit_names(
+/// The truth where no test that was written from a place on jumped out, a jump past the end, and there the other truth:
+/// `PushTrue` or `PushFalse`, `Jump end`; jumped: `PushFalse` or `PushTrue`; end.
+fn put_either(out: &mut Output, start: usize, stop: bool) -> Result<(), AllocError>
+    requires start { start ≤ length out.old.code.items }
+    requires room { HasRoom out.old 3 }
+    ensures { OnOk result ((x : Output) (a : Flow) (ends : List ℕ) → start ≡ length x.code.items → ((around : List Shape) → HasType a ([] ∷ around) [] []) → ((es : List ℕ) → end_at es 0 ≡ no_place → Emits x out.old a es) → Emits x out.new (either (not stop) stop a) ends) }
+{
+    let jumped = (out.code.len() + 2) as u16;
+    end_block_at(out, start, jumped);
+    put_truth(out, !stop)?;
+    put(out, Operation::Jump(jumped + 1))?;
+    put_truth(out, stop)
+}
+
+/// `Exists name` and `JumpUnless missing`.
+fn emit_name(out: &mut Output, name: &[u8]) -> Result<(), AllocError>
+    requires { HasRoom out.old 2 }
+    ensures { OnOk result ((ends : List ℕ) → end_at ends 0 ≡ no_place → Emits out.old out.new (sequence (action (HasField name.now)) (leave_if false 0)) ends) }
+{
+    let place = text_operand(out, name)?;
+    put(out, Operation::Exists(place))?;
+    put_jump(out, false)
+}
+
+/// For each name that was not asked for before `Exists name` and `JumpUnless missing`.
+fn emit_other_names(
     alloc: Global,
     out: &mut Output,
-    names: &[Text],
-    missing: u16,
+    first: &[u8],
+    others: &[Text],
 ) -> Result<(), AllocError>
-    requires { HasRoom out.old (size (names_flow names.now)) }
-    ensures adds { OnOk result ((ends : List ℕ) → end_at ends 0 ≡ missing → Emits out.old out.new (names_flow names.now) ends) }
+    requires { HasRoom out.old (size (names_flow (others_once first.now others.now))) }
+    ensures { OnOk result ((ends : List ℕ) → end_at ends 0 ≡ no_place → Emits out.old out.new (names_flow (others_once first.now others.now)) ends) }
 {
-    for name in names {
-        emit_name(alloc, out, name.as_slice(), missing)?;
+    if others.is_empty() {
+        return Ok(());
+    }
+    let mut asked = FieldNames::of(alloc, first)?;
+    for name in others {
+        let name = name.as_slice();
+        let is_new = asked.insert(name)?;
+        if !is_new {
+            continue;
+        }
+        emit_name(out, name)?;
     }
     Ok(())
 }
 
-/// The listed names, each with a jump to where one is missing, and there the false truth:
-/// for each name `Exists name` and `JumpUnless missing`; `PushTrue`, `Jump end`; missing: `PushFalse`; end.
-fn emit_all_there(alloc: Global, out: &mut Output, names: &StringList) -> Result<(), AllocError>
-    requires { HasRoom out.old (size (either true false (names_flow (strings_of names.now)))) }
-    ensures adds { OnOk result ((ends : List ℕ) → Emits out.old out.new (either true false (names_flow (strings_of names.now))) ends) }
+/// For each name, once, `Exists name` and `JumpUnless missing`.
+fn emit_names(alloc: Global, out: &mut Output, names: &StringList) -> Result<(), AllocError>
+    requires { HasRoom out.old (size (names_flow (each_once (strings_of names.now)))) }
+    ensures { OnOk result ((ends : List ℕ) → end_at ends 0 ≡ no_place → Emits out.old out.new (names_flow (each_once (strings_of names.now))) ends) }
 {
-    let missing = (out.code.len() + 2 * names.others().len() + 4) as u16;
-    emit_name(alloc, out, names.first().as_slice(), missing)?;
-    emit_names(alloc, out, names.others(), missing)?;
-    put_truth(out, true)?;
-    put(out, Operation::Jump(missing + 1))?;
-    put_truth(out, false)
-}
-
-/// The same of no names, which no checked script has.
-fn emit_none_missing(out: &mut Output) -> Result<(), AllocError>
-    requires { HasRoom out.old 3 }
-    ensures adds { OnOk result ((ends : List ℕ) → Emits out.old out.new (test_flow (exists_of [])) ends) }
-{
-    let missing = (out.code.len() + 2) as u16;
-    put_truth(out, true)?;
-    put(out, Operation::Jump(missing + 1))?;
-    put_truth(out, false)
+    let first = names.first().as_slice();
+    emit_name(out, first)?;
+    emit_other_names(alloc, out, first, names.others())
 }
 
 /// `exists`: whether a field is there for each name.
@@ -91,36 +111,36 @@ fn emit_exists(alloc: Global, out: &mut Output, arguments: &[Argument]) -> Resul
     requires { HasRoom out.old (size (test_flow (exists_of (string_lists false arguments.now)))) }
     ensures adds { OnOk result ((ends : List ℕ) → Emits out.old out.new (test_flow (exists_of (string_lists false arguments.now))) ends) }
 {
+    let start = out.code.len();
     match next_string_list(arguments) {
-        None => emit_none_missing(out),
-        Some((names, _)) => emit_all_there(alloc, out, names),
+        None => put_either(out, start, false),
+        Some((names, _)) => {
+            emit_names(alloc, out, names)?;
+            put_either(out, start, false)
+        }
     }
 }
 
 /// `Number n`, `Size`, `Less`: whether the message is longer.
 fn emit_over(out: &mut Output, number: u64) -> Result<(), AllocError>
     requires { HasRoom out.old 3 }
-    ensures adds { OnOk result ((ends : List ℕ) → Emits out.old out.new (sequence (action (PushNumber number)) (sequence (action PushSize) (action IsLess))) ends) }
+    ensures { OnOk result ((ends : List ℕ) → Emits out.old out.new (sequence (action (PushNumber number)) (sequence (action PushSize) (action IsLess))) ends) }
 {
-    let place = out.numbers.len() as u16;
-    out.numbers.push(number)?;
-    out.code.push(Operation::Number(place))?;
-    out.code.push(Operation::Size)?;
-    out.code.push(Operation::Less)?;
-    Ok(())
+    let place = number_operand(out, number)?;
+    put(out, Operation::Number(place))?;
+    put(out, Operation::Size)?;
+    put(out, Operation::Less)
 }
 
 /// `Size`, `Number n`, `Less`: whether the message is shorter.
 fn emit_under(out: &mut Output, number: u64) -> Result<(), AllocError>
     requires { HasRoom out.old 3 }
-    ensures adds { OnOk result ((ends : List ℕ) → Emits out.old out.new (sequence (action PushSize) (sequence (action (PushNumber number)) (action IsLess))) ends) }
+    ensures { OnOk result ((ends : List ℕ) → Emits out.old out.new (sequence (action PushSize) (sequence (action (PushNumber number)) (action IsLess))) ends) }
 {
-    let place = out.numbers.len() as u16;
-    out.numbers.push(number)?;
-    out.code.push(Operation::Size)?;
-    out.code.push(Operation::Number(place))?;
-    out.code.push(Operation::Less)?;
-    Ok(())
+    put(out, Operation::Size)?;
+    let place = number_operand(out, number)?;
+    put(out, Operation::Number(place))?;
+    put(out, Operation::Less)
 }
 
 /// `size`: whether the message is longer, or shorter, than the number.
@@ -136,87 +156,101 @@ fn emit_size(out: &mut Output, arguments: &[Argument]) -> Result<(), AllocError>
 }
 
 /// `Values name`.
-fn emit_value(alloc: Global, out: &mut Output, name: &[u8]) -> Result<(), AllocError>
-    requires { length out.old.texts.items < 2 ^ 16 }
-    ensures adds { OnOk result ((ends : List ℕ) → Emits out.old out.new (action (ValuesOf name.now)) ends) }
-    ensures code { OnOk result (length out.new.code.items ≡ length out.old.code.items + 1) }
-    ensures texts { OnOk result (length out.new.texts.items ≡ length out.old.texts.items + 1) }
-    ensures numbers { OnOk result (length out.new.numbers.items ≡ length out.old.numbers.items) }
+fn emit_value(out: &mut Output, name: &[u8]) -> Result<(), AllocError>
+    requires { HasRoom out.old 1 }
+    ensures { OnOk result ((ends : List ℕ) → Emits out.old out.new (action (ValuesOf name.now)) ends) }
 {
-    let text = out.texts.len() as u16;
-    put_with(alloc, out, name, Operation::Values(text))
+    let place = text_operand(out, name)?;
+    put(out, Operation::Values(place))
 }
 
-/// For each name `Values name` and `Join`.
-fn emit_values(alloc: Global, out: &mut Output, names: &[Text]) -> Result<(), AllocError>
-    requires { HasRoom out.old (size (values_flow names.now)) }
-    ensures adds { OnOk result ((ends : List ℕ) → Emits out.old out.new (values_flow names.now) ends) }
+/// For each name that was not asked for before `Values name` and `Join`.
+fn emit_other_values(
+    alloc: Global,
+    out: &mut Output,
+    first: &[u8],
+    others: &[Text],
+) -> Result<(), AllocError>
+    requires { HasRoom out.old (size (values_flow (others_once first.now others.now))) }
+    ensures { OnOk result ((ends : List ℕ) → Emits out.old out.new (values_flow (others_once first.now others.now)) ends) }
 {
-    for name in names {
-        emit_value(alloc, out, name.as_slice())?;
+    if others.is_empty() {
+        return Ok(());
+    }
+    let mut asked = FieldNames::of(alloc, first)?;
+    for name in others {
+        let name = name.as_slice();
+        let is_new = asked.insert(name)?;
+        if !is_new {
+            continue;
+        }
+        emit_value(out, name)?;
         put(out, Operation::Join)?;
     }
     Ok(())
 }
 
-/// `Match how key` and `JumpIf found`.
-fn emit_key(
-    alloc: Global,
-    out: &mut Output,
-    how: u8,
-    key: &[u8],
-    found: u16,
-) -> Result<(), AllocError>
-    requires { length out.old.texts.items < 2 ^ 16 }
-    ensures adds { OnOk result ((ends : List ℕ) → end_at ends 0 ≡ found → Emits out.old out.new (sequence (action (MatchKey how key.now)) (leave_if true 0)) ends) }
-    ensures code { OnOk result (length out.new.code.items ≡ length out.old.code.items + 2) }
-    ensures texts { OnOk result (length out.new.texts.items ≡ length out.old.texts.items + 1) }
-    ensures numbers { OnOk result (length out.new.numbers.items ≡ length out.old.numbers.items) }
+/// The values of all fields that have the names, as one list: for the first name `Values name`, for each other, once,
+/// `Values name` and `Join`.
+fn emit_values(alloc: Global, out: &mut Output, names: &StringList) -> Result<(), AllocError>
+    requires { HasRoom out.old (size (values_flow (others_once (first_of names.now) (others_of names.now))) + 1) }
+    ensures { OnOk result ((ends : List ℕ) → Emits out.old out.new (sequence (action (ValuesOf (first_of names.now))) (values_flow (others_once (first_of names.now) (others_of names.now)))) ends) }
 {
-    let text = out.texts.len() as u16;
-    put_with(alloc, out, key, Operation::Match(how, text))?;
-    put(out, Operation::JumpIf(found))
+    let first = names.first().as_slice();
+    emit_value(out, first)?;
+    emit_other_values(alloc, out, first, names.others())
 }
 
-/// For each key `Match how key` and `JumpIf found`.
-fn emit_keys(
-    alloc: Global,
-    out: &mut Output,
-    how: u8,
-    keys: &[Text],
-    found: u16,
-) -> Result<(), AllocError>
+/// `Match how key` and `JumpIf found`.
+fn emit_key(out: &mut Output, how: u8, key: &[u8]) -> Result<(), AllocError>
+    requires { HasRoom out.old 2 }
+    ensures { OnOk result ((ends : List ℕ) → end_at ends 0 ≡ no_place → Emits out.old out.new (sequence (action (MatchKey how key.now)) (leave_if true 0)) ends) }
+{
+    let place = text_operand(out, key)?;
+    put(out, Operation::Match(how, place))?;
+    put_jump(out, true)
+}
+
+/// For each key but the first `Match how key` and `JumpIf found`.
+fn emit_other_keys(out: &mut Output, how: u8, keys: &[Text]) -> Result<(), AllocError>
     requires { HasRoom out.old (size (keys_flow how keys.now)) }
-    ensures adds { OnOk result ((ends : List ℕ) → end_at ends 0 ≡ found → Emits out.old out.new (keys_flow how keys.now) ends) }
+    ensures { OnOk result ((ends : List ℕ) → end_at ends 0 ≡ no_place → Emits out.old out.new (keys_flow how keys.now) ends) }
 {
     for key in keys {
-        emit_key(alloc, out, how, key.as_slice(), found)?;
+        emit_key(out, how, key.as_slice())?;
     }
     Ok(())
 }
 
-/// The end of a `header` of which no key matched: `Pop`, `PushFalse`, `Jump end`.
+/// For each key `Match how key` and `JumpIf found`.
+fn emit_keys(out: &mut Output, how: u8, keys: &StringList) -> Result<(), AllocError>
+    requires { HasRoom out.old (size (keys_flow how (first_of keys.now ∷ others_of keys.now))) }
+    ensures { OnOk result ((ends : List ℕ) → end_at ends 0 ≡ no_place → Emits out.old out.new (keys_flow how (first_of keys.now ∷ others_of keys.now)) ends) }
+{
+    emit_key(out, how, keys.first().as_slice())?;
+    emit_other_keys(out, how, keys.others())
+}
+
+/// Where no key matched: `Pop`, `PushFalse`, `Jump end`.
 fn put_missed(out: &mut Output, end: u16) -> Result<(), AllocError>
-    ensures adds { OnOk result (Adds out.old out.new (only (Pop ∷ PushFalse ∷ Jump end ∷ []))) }
+    ensures { OnOk result ((ends : List ℕ) → end_at ends 1 ≡ end → Emits out.old out.new (sequence (action Drop) (sequence (action (Push false)) (leave 1))) ends) }
 {
-    out.code.push(Operation::Pop)?;
-    out.code.push(Operation::PushFalse)?;
-    out.code.push(Operation::Jump(end))?;
-    Ok(())
+    put(out, Operation::Pop)?;
+    put(out, Operation::PushFalse)?;
+    put(out, Operation::Jump(end))
 }
 
-/// The end of a `header` of which a key matched: `Pop`, `PushTrue`.
+/// Where a key matched: `Pop`, `PushTrue`.
 fn put_found(out: &mut Output) -> Result<(), AllocError>
-    ensures adds { OnOk result (Adds out.old out.new (only (Pop ∷ PushTrue ∷ []))) }
+    ensures { OnOk result ((ends : List ℕ) → Emits out.old out.new (sequence (action Drop) (action (Push true))) ends) }
 {
-    out.code.push(Operation::Pop)?;
-    out.code.push(Operation::PushTrue)?;
-    Ok(())
+    put(out, Operation::Pop)?;
+    put(out, Operation::PushTrue)
 }
 
-/// The values of all fields that have the names as one list, and each key, with a jump to where one matches:
-/// `Values name`, for each further name `Values name` and `Join`; for each key `Match how key` and `JumpIf found`;
-/// `Pop`, `PushFalse`, `Jump end`; found: `Pop`, `PushTrue`; end.
+/// The values of all fields that have the names, and each key, with a jump to where one matches:
+/// the list; for each key `Match how key` and `JumpIf found`; `Pop`, `PushFalse`, `Jump end`; found: `Pop`, `PushTrue`;
+/// end.
 fn emit_some_match(
     alloc: Global,
     out: &mut Output,
@@ -224,14 +258,14 @@ fn emit_some_match(
     names: &StringList,
     keys: &StringList,
 ) -> Result<(), AllocError>
-    requires { HasRoom out.old (size (header_flow how (first_of names.now) (others_of names.now) (first_of keys.now) (others_of keys.now))) }
-    ensures adds { OnOk result ((ends : List ℕ) → Emits out.old out.new (header_flow how (first_of names.now) (others_of names.now) (first_of keys.now) (others_of keys.now)) ends) }
+    requires { HasRoom out.old (size (header_flow how (first_of names.now) (others_once (first_of names.now) (others_of names.now)) (first_of keys.now) (others_of keys.now))) }
+    ensures adds { OnOk result ((ends : List ℕ) → Emits out.old out.new (header_flow how (first_of names.now) (others_once (first_of names.now) (others_of names.now)) (first_of keys.now) (others_of keys.now)) ends) }
 {
-    let found = (out.code.len() + 2 * names.others().len() + 2 * keys.others().len() + 6) as u16;
-    emit_value(alloc, out, names.first().as_slice())?;
-    emit_values(alloc, out, names.others())?;
-    emit_key(alloc, out, how, keys.first().as_slice(), found)?;
-    emit_keys(alloc, out, how, keys.others(), found)?;
+    emit_values(alloc, out, names)?;
+    let start = out.code.len();
+    emit_keys(out, how, keys)?;
+    let found = (out.code.len() + 3) as u16;
+    end_block_at(out, start, found);
     put_missed(out, found + 2)?;
     put_found(out)
 }
@@ -249,16 +283,6 @@ fn emit_header(alloc: Global, out: &mut Output, arguments: &[Argument]) -> Resul
     };
     let how = comparison_number(match_type(arguments), comparator(arguments));
     emit_some_match(alloc, out, how, names, keys)
-}
-
-/// `JumpIf to` or `JumpUnless to`.
-fn put_jump(out: &mut Output, truth: bool, to: u16) -> Result<(), AllocError>
-    ensures adds { OnOk result (Adds out.old out.new (only (jump_when truth to ∷ []))) }
-{
-    if truth {
-        return put(out, Operation::JumpIf(to));
-    }
-    put(out, Operation::JumpUnless(to))
 }
 
 /// The code of a test.
@@ -310,37 +334,29 @@ fn emit_row(alloc: Global, out: &mut Output, tests: &Tests, stop: bool) -> Resul
     requires { HasRoom out.old (size (either (not stop) stop (tests_flow stop (tests_in (inner_of tests.now))))) }
     ensures adds { OnOk result ((ends : List ℕ) → Emits out.old out.new (either (not stop) stop (tests_flow stop (tests_in (inner_of tests.now)))) ends) }
 {
-    let stopped = (out.code.len() + tests_size(tests, stop) + 2) as u16;
-    emit_tests(alloc, out, tests, stop, stopped)?;
-    put_truth(out, !stop)?;
-    put(out, Operation::Jump(stopped + 1))?;
-    put_truth(out, stop)
+    let start = out.code.len();
+    emit_tests(alloc, out, tests, stop)?;
+    put_either(out, start, stop)
 }
 
-/// For each test its code, and a jump to stopped where it has the truth that stops.
+/// For each test its code, and a jump out where it has the truth that stops.
 #[cycle(emission)]
-fn emit_tests(
-    alloc: Global,
-    out: &mut Output,
-    tests: &Tests,
-    stop: bool,
-    stopped: u16,
-) -> Result<(), AllocError>
+fn emit_tests(alloc: Global, out: &mut Output, tests: &Tests, stop: bool) -> Result<(), AllocError>
     requires { HasRoom out.old (size (tests_flow stop (tests_in (inner_of tests.now)))) }
-    ensures adds { OnOk result ((ends : List ℕ) → end_at ends 0 ≡ stopped → Emits out.old out.new (tests_flow stop (tests_in (inner_of tests.now))) ends) }
+    ensures adds { OnOk result ((ends : List ℕ) → end_at ends 0 ≡ no_place → Emits out.old out.new (tests_flow stop (tests_in (inner_of tests.now))) ends) }
 {
     match tests {
         Tests::None => Ok(()),
         Tests::One(test) => {
             emit_test(alloc, out, test)?;
-            put_jump(out, stop, stopped)
+            put_jump(out, stop)
         }
         Tests::Listed(list) => {
             emit_test(alloc, out, &list.first)?;
-            put_jump(out, stop, stopped)?;
+            put_jump(out, stop)?;
             for test in list.others.as_slice() {
                 emit_test(alloc, out, test)?;
-                put_jump(out, stop, stopped)?;
+                put_jump(out, stop)?;
             }
             Ok(())
         }

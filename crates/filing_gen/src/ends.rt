@@ -1,8 +1,8 @@
 //! The ends of blocks and branches, which are known only when all that stands in them is written.
 
-ghost use Rattle.std.specs.Prelude.{◌≡◌, ◌≤◌, ◌<◌, ◌^◌, [], ◌++◌, length, map, take, drop};
+ghost use Rattle.std.specs.Prelude.{◌≡◌, ◌≤◌, ◌<◌, ◌^◌, [], length, map};
 ghost use Rattle.std.specs.List.{All};
-ghost use Rattle.filing_gen.specs.Ends.{place_or as place_or_of, with_end as with_end_of, with_jumps};
+ghost use Rattle.filing_gen.specs.Ends.{place_or as place_or_of, with_end as with_end_of, with_jumps, IsEnded};
 
 use crate::output::{Output, put_at};
 use filing_image::Operation;
@@ -38,17 +38,23 @@ fn end_jumps(code: &mut [Operation], end: u16)
     }
 }
 
-/// Ends the block whose code begins at a place: its jumps to places that are not known go behind all that is written.
+/// Has the jumps to places that are not known, of the code that begins at a place, go to this end.
+pub fn end_block_at(out: &mut Output, start: usize, end: u16)
+    requires { start ≤ length out.old.code.items }
+    ensures { IsEnded start end out.old out.new }
+{
+    let (_, block) = out.code.as_mut_slice().split_at_mut(start);
+    end_jumps(block, end);
+}
+
+/// Ends the block whose code begins at a place: its jumps to places that are not known go past all that is written.
 pub fn end_block(out: &mut Output, start: usize)
     requires start { start ≤ length out.old.code.items }
     requires room { length out.old.code.items < 2 ^ 16 }
-    ensures code { out.new.code.items ≡ take start out.old.code.items ++ map (with_end_of (length out.old.code.items)) (drop start out.old.code.items) }
-    ensures texts { out.new.texts ≡ out.old.texts }
-    ensures numbers { out.new.numbers ≡ out.old.numbers }
+    ensures { IsEnded start (length out.old.code.items) out.old out.new }
 {
     let end = out.code.len() as u16;
-    let (_, block) = out.code.as_mut_slice().split_at_mut(start);
-    end_jumps(block, end);
+    end_block_at(out, start, end);
 }
 
 /// Ends branches: their jumps, of which the places are given and then forgotten, go behind all that is written.

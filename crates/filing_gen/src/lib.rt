@@ -5,10 +5,10 @@
 //! lies in memory), and which of them an include finds. `Alike` says how a script and its code run side by side;
 //! `Emission`, `Adds`, `Ends`, `Weights`, `Levels` and `Scopes` what the passes over the tree keep. A script is weighed (`weight`),
 //! and left alone as soon as it is too heavy; then its code is written once, from left to right, by `emit_tests` and
-//! `emit_commands`. `size_tests` counts the operations of tests ahead, so that each jump between them knows its place. The
-//! jumps of branches, and those to the end of a whole script, for `return`, are written without their place: it is put in
-//! where the branch, all branches, or the script ends (`ends`). What a command is to the branches before it, and what an
-//! include asks for, the passes learn from `sieve_meaning`. What stands for an include is a `linker`'s affair, and the
+//! `emit_commands`. A text or number that is named again has the place that it got first (`text_pool`, `number_pool`), and
+//! a test asks for each field once (`Names`: `field_names`). Jumps are written without their place: it is put in where the
+//! test, the branch, all branches, or, for `return`, the script ends (`ends`). What a command is to the branches before
+//! it, and what an include asks for, the passes learn from `sieve_meaning`. What stands for an include is a `linker`'s affair, and the
 //! passes know no more of it. The one of `levels` looks the script up in the library, judges the include by the `chain` of
 //! active scripts (`finding`), and puts the script's own code in its place, one level further down; the deepest level has
 //! none. `program` makes the image and has it verified.
@@ -19,13 +19,15 @@ mod emit_commands;
 mod emit_tests;
 mod ends;
 mod fault;
+mod field_names;
 mod finding;
 mod levels;
 mod library;
 mod linker;
+mod number_pool;
 mod output;
 mod program;
-mod size_tests;
+mod text_pool;
 mod weight;
 
 pub use fault::{GenFault, LibraryFault};

@@ -1,28 +1,60 @@
 //! What was written so far.
 
-ghost use Rattle.std.specs.Prelude.{◌≡◌, ◌+◌, ◌<◌, [], ◌∷◌, length, OnOk};
-ghost use Rattle.filing_flow.specs.Structure.{Push};
-ghost use Rattle.filing_flow.specs.Code.{only, with_text, with_number, action_piece};
-ghost use Rattle.filing_gen.specs.Adds.{Adds, end_of};
+ghost use Rattle.std.specs.Prelude.{◌≡◌, ◌<◌, ◌^◌, ℕ, List, [], length, IfOk, OnOk};
+ghost use Rattle.filing_flow.specs.Structure.{Push, action};
+ghost use Rattle.filing_gen.specs.Adds.{Puts, Brings, Emits};
 ghost use Rattle.filing_gen.specs.Ends.{with_operation};
+ghost use Rattle.filing_gen.specs.Pools.{IsAmong};
 
+use crate::number_pool::NumberPool;
+use crate::text_pool::TextPool;
 use filing_image::Operation;
 use std::alloc::{AllocError, Global};
 
-/// The texts, the numbers and the operations of a program, as far as it is written.
+/// The operations of a program, as far as it is written, and the texts and the numbers that they name.
 #[derive(Drop)]
 pub struct Output {
-    pub texts: Vec<Vec<u8>>,
-    pub numbers: Vec<u64>,
+    pub texts: TextPool,
+    pub numbers: NumberPool,
     pub code: Vec<Operation>,
+}
+
+impl Output {
+    /// Nothing; takes no memory.
+    pub fn new(alloc: Global) -> Output
+        ensures texts { result.texts ≡ [] }
+        ensures numbers { result.numbers ≡ [] }
+        ensures code { result.code.items ≡ [] }
+    {
+        Output {
+            texts: TextPool::new(alloc),
+            numbers: NumberPool::new(alloc),
+            code: Vec::new(alloc),
+        }
+    }
+}
+
+/// The operand that names a text.
+pub fn text_operand(out: &mut Output, text: &[u8]) -> Result<u16, AllocError>
+    requires { length out.old.texts < 2 ^ 16 }
+    ensures there { IfOk result (λ b. IsAmong (text.now, b) out.new.texts) }
+    ensures brings { OnOk result (Brings out.old out.new) }
+{
+    out.texts.place(text)
+}
+
+/// The operand that names a number.
+pub fn number_operand(out: &mut Output, number: u64) -> Result<u16, AllocError>
+    requires { length out.old.numbers < 2 ^ 16 }
+    ensures there { IfOk result (λ b. IsAmong (number, b) out.new.numbers) }
+    ensures brings { OnOk result (Brings out.old out.new) }
+{
+    out.numbers.place(number)
 }
 
 /// Writes an operation.
 pub fn put(out: &mut Output, operation: Operation) -> Result<(), AllocError>
-    ensures adds { OnOk result (Adds out.old out.new (only (operation ∷ []))) }
-    ensures code { OnOk result (length out.new.code.items ≡ length out.old.code.items + 1) }
-    ensures texts { OnOk result (length out.new.texts.items ≡ length out.old.texts.items) }
-    ensures numbers { OnOk result (length out.new.numbers.items ≡ length out.old.numbers.items) }
+    ensures { OnOk result (Puts out.old out.new operation) }
 {
     out.code.push(operation)?;
     Ok(())
@@ -36,30 +68,9 @@ pub fn put_at(out: &mut Output, place: usize, operation: Operation)
     out.code[place] = operation;
 }
 
-/// Writes an operation and the text that it names.
-pub fn put_with(
-    alloc: Global,
-    out: &mut Output,
-    text: &[u8],
-    operation: Operation,
-) -> Result<(), AllocError>
-    ensures adds { OnOk result (Adds out.old out.new (with_text text.now operation)) }
-    ensures code { OnOk result (length out.new.code.items ≡ length out.old.code.items + 1) }
-    ensures texts { OnOk result (length out.new.texts.items ≡ length out.old.texts.items + 1) }
-    ensures numbers { OnOk result (length out.new.numbers.items ≡ length out.old.numbers.items) }
-{
-    let copy = Vec::from_slice(alloc, text)?;
-    out.texts.push(copy)?;
-    out.code.push(operation)?;
-    Ok(())
-}
-
 /// Writes the operation that pushes a truth.
 pub fn put_truth(out: &mut Output, truth: bool) -> Result<(), AllocError>
-    ensures adds { OnOk result (Adds out.old out.new (action_piece (Push truth) (end_of out.old))) }
-    ensures code { OnOk result (length out.new.code.items ≡ length out.old.code.items + 1) }
-    ensures texts { OnOk result (length out.new.texts.items ≡ length out.old.texts.items) }
-    ensures numbers { OnOk result (length out.new.numbers.items ≡ length out.old.numbers.items) }
+    ensures adds { OnOk result ((ends : List ℕ) → Emits out.old out.new (action (Push truth)) ends) }
 {
     if truth {
         return put(out, Operation::PushTrue);

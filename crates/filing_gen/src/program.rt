@@ -13,7 +13,7 @@ ghost use Rattle.filing_flow.specs.Types.{HasType};
 ghost use Rattle.filing_gen.specs.Structured.{script_flow};
 ghost use Rattle.filing_gen.specs.Adds.{IsCode, IsImageOf};
 ghost use Rattle.filing_gen.specs.Emission.{commands_long};
-ghost use Rattle.filing_gen.specs.Correct.{IsCompiled, library_of};
+ghost use Rattle.filing_gen.specs.Correct.{IsCompiled, NamesOnce, library_of};
 ghost use Rattle.filing_gen.specs.declared.fault.GenFault.TheVariants.{NoMemory, TooLarge};
 
 use crate::chain::MainScript;
@@ -46,11 +46,7 @@ fn emit_program<L: Linker>(
     requires typed { HasType (script_flow (L.flow_of linker.now) (program_of (commands_of (map command_of main.now.items)))) ([] ∷ []) [] [] }
     ensures { IfOk result (λ o. IsCode o (script_flow (L.flow_of linker.now) (program_of (commands_of (map command_of main.now.items))))) }
 {
-    let mut out = Output {
-        texts: Vec::new(alloc),
-        numbers: Vec::new(alloc),
-        code: Vec::new(alloc),
-    };
+    let mut out = Output::new(alloc);
     emit_commands(alloc, linker, &mut out, main, NO_PLACE)?;
     end_block(&mut out, 0);
     put(&mut out, Operation::Stop)?;
@@ -71,10 +67,13 @@ fn instructions(alloc: Global, code: &[Operation]) -> Result<Vec<Instruction>, A
 /// The image of what was written, with so many slots. It has a form unless a string is too long for it.
 fn image_of(alloc: Global, budget: u32, slots: u16, out: Output) -> Result<Image, GenFault>
     ensures made { IfOk result (λ i. IsImageOf budget slots out i) }
+    ensures once { IfOk result (λ i. NamesOnce i) }
     ensures refused { IfErr result (λ f. f ≡ NoMemory) }
 {
     let instructions = instructions(alloc, &out.code)?;
-    match Image::new(alloc, budget, out.texts, out.numbers, slots, instructions) {
+    let texts = out.texts.into_texts()?;
+    let numbers = out.numbers.into_numbers()?;
+    match Image::new(alloc, budget, texts, numbers, slots, instructions) {
         Ok(image) => Ok(image),
         Err(_) => Err(GenFault::NoMemory),
     }
@@ -112,6 +111,7 @@ fn build(
     requires weight { weight ≡ linked_weight (library_of scope.library.now) (option_map (λ s. s.now) scope.main.known_as) (program_of (tree_of script.now)) }
     requires small { weight ≤ greatest_weight }
     ensures compiled { IfOk result (λ v. IsCompiled (library_of scope.entry.library.now) (option_map (λ s. s.now) scope.entry.main.known_as) (program_of (tree_of script.now)) v) }
+    ensures once { IfOk result (λ v. NamesOnce v) }
     ensures refused { IfErr result (λ f. f ≡ NoMemory) }
 {
     let includes: Includes<'_, MainScript<'_>, Levels> = Includes {
@@ -140,9 +140,13 @@ fn weigh(script: &Script, scope: Scope<'_>) -> Option<u32>
 
 /// The image of a checked script, which may be known by a personal name, and of the scripts that it includes. It
 /// declares the script's weight as its budget in steps, it is one that may run, and in every case its run ends with
-/// the outcome of what the script means. `TooLarge`, 5, exactly where the weight is above 60,000; `NoMemory`, 99, where
-/// an allocation was refused, or a string is too long for an image. Memory is linear in the weight, and so is time, times
-/// how deep tests stand inside one another. A script that is too heavy takes time linear in 60,000.
+/// the outcome of what the script means. It has no text and no number twice. `TooLarge`, 5, exactly where the weight is
+/// above 60,000; `NoMemory`, 99, where an allocation was refused, or a string is too long for an image.
+///
+/// However often a script is included, its strings are stored once: memory is linear in the octets of the strings of the
+/// scripts, and in the weight, of which the image takes 4 octets an instruction. Time is that of a look-up of each string
+/// for each time that its script is included, and linear in the weight times how deep tests stand inside one another. A
+/// script that is too heavy takes time linear in 60,000.
 pub fn compile(
     alloc: Global,
     main: &Checked,
@@ -150,6 +154,7 @@ pub fn compile(
     library: &Library,
 ) -> Result<Verified, GenFault>
     ensures compiled { IfOk result (λ v. IsCompiled (library_of library.now) (option_map (λ s. s.now) known_as.entry) (program_of (tree_of main.now.script)) v) }
+    ensures once { IfOk result (λ v. NamesOnce v) }
     ensures too_large { result ≡ Err TooLarge ↔ greatest_weight < linked_weight (library_of library.now) (option_map (λ s. s.now) known_as.entry) (program_of (tree_of main.now.script)) }
 {
     let script = main.script();

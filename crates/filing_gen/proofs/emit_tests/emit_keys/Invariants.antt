@@ -1,7 +1,0 @@
-use Rattle.std.proofs.Common.{drop}
-use Rattle.filing_gen.specs.Structured.{keys_flow}
-use Rattle.filing_gen.proofs.Emitted.{Leads, To}
-use Rattle.filing_gen.proofs.emit_tests.emit_keys.Given as goal
-
-abbrev pub invariant-loop-key : goal.invariant-loop-key
-invariant-loop-key l = Leads l.initial.out l.out (keys_flow l.how (drop l.key-index l.keys)) (keys_flow l.how l.keys) (To l.found)

@@ -1,0 +1,7 @@
+use Rattle.filing_gen.proofs.number_pool.NumberPool.into_numbers.Goals as goal
+
+pub by_place-requires : goal.by_place-requires
+by_place-requires c = c.self.invariant
+
+pub returns-clause-places : goal.returns-clause-places
+returns-clause-places c = rw (← c.self.view_is) c.by_place.ensures.places

@@ -1,0 +1,87 @@
+//! The texts that operations name.
+
+ghost use Rattle.std.specs.Prelude.{◌≡◌, ◌+◌, ◌<◌, ◌≤◌, ◌^◌, ℕ, List, [], length, Some, IfOk, OnOk, slice_get};
+ghost use Rattle.filing_gen.specs.Pools.{IsAmong, IsNumbered, Admits, IsOnce, octets_of, texts_in};
+
+use std::alloc::{AllocError, Global};
+use std::collections::BTreeMap;
+use std::marker::Model;
+
+/// Texts, each once, at the place where it came in. Contracts see the texts, each with its place. A look-up takes time
+/// logarithmic in the number of texts, and the octets of each text are stored once.
+#[derive(Drop)]
+pub struct TextPool {
+    alloc: Global,
+    places: BTreeMap<Vec<u8>, u16>,
+}
+
+impl Model for TextPool {
+    ghost use Rattle.std.specs.Prelude.{ℕ, List};
+
+    ghost Value = { List (List ℕ × ℕ) };
+
+    ghost use Rattle.filing_gen.specs.Pools.{texts_in, IsNumbered};
+
+    ghost view = { λ p. texts_in p.places.entries };
+
+    ghost invariant = { λ p. IsNumbered (texts_in p.places.entries) };
+}
+
+impl TextPool {
+    /// No text; takes no memory.
+    pub fn new(alloc: Global) -> TextPool
+        ensures { result ≡ [] }
+    {
+        TextPool {
+            alloc,
+            places: BTreeMap::new(alloc),
+        }
+    }
+
+    /// The place of a text, which comes in where it is new.
+    pub fn place(&mut self, text: &[u8]) -> Result<u16, AllocError>
+        requires { length self.old < 2 ^ 16 }
+        ensures there { IfOk result (λ b. IsAmong (text.now, b) self.new) }
+        ensures admits { OnOk result (Admits self.old self.new) }
+    {
+        if let Some(place) = self.places.get(text).copied() {
+            return Ok(place);
+        }
+        let place = self.places.len() as u16;
+        let text = Vec::from_slice(self.alloc, text)?;
+        self.places.insert(text, place)?;
+        Ok(place)
+    }
+
+    /// The texts in the order of their places. No octet is copied.
+    pub fn into_texts(self) -> Result<Vec<Vec<u8>>, AllocError>
+        ensures places { IfOk result (λ v. (t : List ℕ) (b : ℕ) → IsAmong (t, b) self → slice_get (octets_of v.items) b ≡ Some t) }
+        ensures once { IfOk result (λ v. IsOnce (octets_of v.items)) }
+    {
+        by_place(self.alloc, self.places)
+    }
+}
+
+/// The texts of a map in the order of their places.
+fn by_place(alloc: Global, places: BTreeMap<Vec<u8>, u16>) -> Result<Vec<Vec<u8>>, AllocError>
+    requires { IsNumbered (texts_in places.entries) }
+    ensures places { IfOk result (λ v. (t : List ℕ) (b : ℕ) → IsAmong (t, b) (texts_in places.entries) → slice_get (octets_of v.items) b ≡ Some t) }
+    ensures once { IfOk result (λ v. IsOnce (octets_of v.items)) }
+{
+    let mut texts = no_texts(alloc, places.len())?;
+    for (text, place) in places {
+        texts[place as usize] = text;
+    }
+    Ok(texts)
+}
+
+/// So many texts of no octets.
+fn no_texts(alloc: Global, count: usize) -> Result<Vec<Vec<u8>>, AllocError>
+    ensures { IfOk result (λ v. length v.items ≡ count) }
+{
+    let mut texts = Vec::with_capacity(alloc, count)?;
+    for _place in 0..count {
+        texts.push(Vec::new(alloc))?;
+    }
+    Ok(texts)
+}
