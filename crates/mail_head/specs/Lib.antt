@@ -1,7 +1,8 @@
 pub mod Lines
 pub mod Fields
+pub mod Found
 pub mod Pieces
-pub mod Places
+pub mod Starts
 pub mod Parts
 pub mod Readers
 pub mod Spans
