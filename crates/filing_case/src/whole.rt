@@ -4,8 +4,8 @@ ghost use Rattle.std.specs.Prelude.{◌≡◌, ◌≢◌, ◌≤◌, ◌↔◌, 
 ghost use Rattle.mail_head.specs.Fields.{fields_of};
 ghost use Rattle.mail_head.specs.Pieces.{reader_of};
 ghost use Rattle.mail_head.specs.declared.buffer.HeadFault.TheVariants.{TooLong};
-ghost use Rattle.filing_case.specs.Message.{field_in, case_of};
-ghost use Rattle.filing_case.specs.Views.{is_in};
+ghost use Rattle.filing_case.specs.Message.{field_in, case_of, is_among};
+ghost use Rattle.filing_case.specs.Views.{is_in, paths_in};
 ghost use Rattle.filing_case.specs.Whole.{facts_by, facts_of};
 
 use crate::case::Case;
@@ -101,7 +101,7 @@ impl WholeCase {
         paths: BTreeSet<Vec<u8>>,
     ) -> Result<WholeCase, AllocError>
         requires { length msg.now ≤ MOST_OCTETS }
-        ensures { IfOk result (λ c. facts_of c ≡ case_of msg.now (is_in paths)) }
+        ensures { IfOk result (λ c. facts_of c ≡ case_of msg.now (is_among (paths_in paths))) }
     {
         let buffer = match fed_buffer(alloc, msg) {
             Ok(buffer) => buffer,

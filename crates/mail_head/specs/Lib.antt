@@ -1,5 +1,6 @@
 pub mod Lines
 pub mod Fields
+pub mod Faults
 pub mod Found
 pub mod Pieces
 pub mod Starts

@@ -23,6 +23,20 @@ pub enum HeadFault {
     NoMemory,
 }
 
+impl HeadFault {
+    ghost use Rattle.mail_head.specs.Faults.{number_of};
+
+    /// The refusal's number, 1 or 99.
+    pub fn number(self) -> u8
+        ensures { result ≡ number_of self }
+    {
+        match self {
+            HeadFault::TooLong => 1,
+            HeadFault::NoMemory => 99,
+        }
+    }
+}
+
 impl From<AllocError> for HeadFault {
     ghost use Rattle.std.specs.Prelude.{◌≡◌};
     ghost use Rattle.mail_head.specs.declared.buffer.HeadFault.TheVariants.{NoMemory};
