@@ -1,7 +1,7 @@
 //! Measures the parts of Mailfile on inputs that it makes. `bench` alone runs each measure once on a small input and
 //! tells what it answered. `bench OCTETS ROUNDS` runs each so often on an input of so many octets and on one of half as
-//! many, and tells the least time of each, beside that of a plain pass over the same input. `./bench` at the top runs
-//! the built program and writes the table.
+//! many, and tells the least time of each, beside that of a plain pass over the same input. `bench memory INDEX` tells the
+//! memory of cases, each in a process of its own. `./bench` at the top runs the built program and writes the table.
 #![tactic(auto)]
 
 mod baselines;
@@ -9,6 +9,7 @@ mod filings;
 mod includes;
 mod inputs;
 mod measures;
+mod memory;
 mod plans;
 mod rows;
 mod settings;
@@ -33,6 +34,18 @@ fn asked_for(rt: &(impl Env + Alloc)) -> Result<Option<(usize, u32)>> {
     Ok(octets.zip(rounds))
 }
 
+/// Which row of the memory of cases is asked for, if one is.
+fn memory_asked_for(rt: &(impl Env + Alloc)) -> Result<Option<usize>> {
+    let mut words = env::args(rt)?;
+    let _ = words.next();
+    match words.next() {
+        Some(word) if word.as_str() == "memory" => {
+            Ok(words.next().and_then(|index| index.parse().ok()))
+        }
+        _ => Ok(None),
+    }
+}
+
 /// Tells what a row took: its title, what was asked, the octets and nanoseconds of a run, those of a run on half as
 /// much, the name and nanoseconds of the plain pass, what one run answered, and what all did, with tabs between them.
 fn tell(rt: &impl Print, row: &Row, whole: Timing, half: Timing) -> Result<()> {
@@ -54,6 +67,9 @@ fn tell(rt: &impl Print, row: &Row, whole: Timing, half: Timing) -> Result<()> {
 }
 
 fn main(rt: HostRuntime) -> Result<()> {
+    if let Some(index) = memory_asked_for(&rt)? {
+        return memory::tell(&rt, index);
+    }
     let asked_for = asked_for(&rt)?;
     for row in &ROWS {
         let Some((octets, rounds)) = asked_for else {

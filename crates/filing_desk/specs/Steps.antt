@@ -24,7 +24,7 @@ use Rattle.filing_verify.specs.declared.fault.VerifyFault.{VerifyFault}
 use Rattle.filing_verify.specs.Well.{IsWell, Fails, verify_number}
 use Rattle.filing_table.specs.Ends.{HasOutcome}
 use Rattle.filing_desk.specs.Answers.{Answer, done, captured, refused}
-use Rattle.filing_machine.specs.Message.{case_of}
+use Rattle.filing_case.specs.Message.{case_of}
 use Rattle.filing_desk.specs.Faults.{refused_by, has_place}
 use Rattle.filing_gen.specs.Correct.{library_of}
 use Rattle.filing_gen.specs.Libraries.{NamedScript, entries_code, put, HasNoRoom}

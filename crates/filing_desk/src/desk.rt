@@ -11,8 +11,8 @@ ghost use Rattle.filing_desk.specs.Steps.{add_class, file, set_global, set_plan,
 ghost use Rattle.filing_desk.specs.Payloads.{IsOf};
 ghost use Rattle.filing_desk.specs.declared.fault.DeskFault.TheVariants.{NoMemory};
 ghost use Rattle.filing_table.specs.Ends.{HasOutcome};
-ghost use Rattle.filing_machine.specs.Borrowed.{facts_by};
-ghost use Rattle.filing_machine.specs.Message.{case_of};
+ghost use Rattle.filing_case.specs.Message.{case_of};
+ghost use Rattle.filing_case.specs.Whole.{facts_by};
 
 use crate::classes::PlanClasses;
 use crate::fault::DeskFault;
@@ -20,7 +20,7 @@ use crate::payload::Payload;
 use class_plan::{Plan, PlanFault};
 use filing_gen::{GenFault, Library, compile};
 use filing_image::decode;
-use filing_machine::{BorrowedCase, Case, run};
+use filing_machine::{Case, WholeCase, run};
 use filing_verify::{Verified, verify};
 use sieve_check::{Checked, check};
 use sieve_meaning::{Paths, default_class_alone};
@@ -166,14 +166,14 @@ fn judge_image(alloc: Global, image: &Payload) -> Result<Verified, DeskFault>
 fn judge_message<'a>(
     alloc: Global,
     plan: &'a Plan,
-    message: &'a Payload,
-) -> Result<BorrowedCase<'a, PlanClasses<'a>>, DeskFault>
+    message: &Payload,
+) -> Result<WholeCase<PlanClasses<'a>>, DeskFault>
     ensures short { (m : List ℕ) → IsOf greatest_message message.now m → OnOk result (length m ≤ greatest_message) }
     ensures case { (m : List ℕ) → IsOf greatest_message message.now m → IfOk result (λ c. facts_by (λ p. is_open_in (p.0).now) c ≡ case_of m (is_open_in plan.now)) }
     ensures refused { (m : List ℕ) → IsOf greatest_message message.now m → IfErr result (IsFaultOf (RefusesMessage m)) }
 {
     let octets = message.octets(GREATEST_MESSAGE, DeskFault::MessageTooLong)?;
-    let case = BorrowedCase::read(alloc, octets, PlanClasses(plan))?;
+    let case = WholeCase::from_message(alloc, octets, PlanClasses(plan))?;
     Ok(case)
 }
 

@@ -1,5 +1,4 @@
 pub mod Sound
 pub mod Ready
 pub mod Ends
-pub mod Feeding
-pub mod PathLemmas
+pub mod PlaceLemmas

@@ -7,7 +7,7 @@ use Rattle.filing_table.specs.Machine.{Entry, T, L, N, State, Run, At, Over}
 use Rattle.filing_machine.specs.declared.state.Item.{Item}
 use Rattle.filing_machine.specs.declared.state.Item.TheVariants.{Truth, Fields, Count}
 use Rattle.filing_machine.specs.declared.state.Standing.{Standing}
-use Rattle.filing_machine.specs.Fields.{field_at}
+use Rattle.filing_case.specs.Fields.{field_at}
 
 -- an item of the stack: a list of fields stands for the list of their values
 abbrev pub entry : Facts → Item → Entry

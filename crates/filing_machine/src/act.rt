@@ -7,9 +7,9 @@ ghost use Rattle.filing_table.specs.Machine.{act, file, Trap};
 ghost use Rattle.filing_machine.specs.Seen.{state, entry, run_at, InCase, IsModest, joined};
 ghost use Rattle.filing_machine.specs.Items.{HasTwo};
 
-use crate::case::Case;
 use crate::fields::{any_matches, fields_named, has_field};
 use crate::state::{Item, Standing};
+use filing_case::Case;
 use filing_image::{Image, Operation};
 use std::alloc::{AllocError, Global};
 

@@ -5,10 +5,10 @@ ghost use Rattle.std.specs.List.{list_any};
 ghost use Rattle.sieve_meaning.specs.Truth.{has_field as has_field_of};
 ghost use Rattle.sieve_meaning.specs.Matching.{key_matches as key_matches_by};
 ghost use Rattle.filing_table.specs.Machine.{values_of, compared};
-ghost use Rattle.filing_machine.specs.Fields.{field_at};
+ghost use Rattle.filing_case.specs.Fields.{field_at};
 
-use crate::case::Case;
 use crate::places::FieldPlaces;
+use filing_case::Case;
 use sieve_match::{Comparator, MatchType, key_matches};
 use std::alloc::{AllocError, Global};
 
@@ -24,20 +24,6 @@ pub fn has_field<C: Case>(case: &C, name: &[u8]) -> bool
     false
 }
 
-/// The places of the fields of this name, in the order of the message.
-fn places_named<C: Case>(alloc: Global, case: &C, name: &[u8]) -> Result<Vec<usize>, AllocError>
-    ensures values { IfOk result (λ v. map (λ place. (field_at (C.facts case.now) place).value) v.items ≡ values_of (C.facts case.now) name.now) }
-    ensures in_case { IfOk result (λ v. All (λ place. place < length (C.facts case.now).fields) v.items) }
-{
-    let mut fields = Vec::new(alloc);
-    for field in 0..case.field_count() {
-        if case.is_named(field, name) {
-            fields.push(field)?;
-        }
-    }
-    Ok(fields)
-}
-
 /// The fields of this name, in the order of the message.
 pub fn fields_named<C: Case>(
     alloc: Global,
@@ -47,8 +33,13 @@ pub fn fields_named<C: Case>(
     ensures values { IfOk result (λ v. map (λ place. (field_at (C.facts case.now) place).value) v ≡ values_of (C.facts case.now) name.now) }
     ensures in_case { IfOk result (λ v. All (λ place. place < length (C.facts case.now).fields) v) }
 {
-    let places = places_named(alloc, case, name)?;
-    Ok(FieldPlaces::from_vec(places))
+    let mut fields = FieldPlaces::new(alloc);
+    for field in 0..case.field_count() {
+        if case.is_named(field, name) {
+            fields.push(field)?;
+        }
+    }
+    Ok(fields)
 }
 
 /// Whether the value of one of the fields matches a key, by the number of the comparison: 0 `:is`, 2 `:contains`, 4
@@ -58,13 +49,13 @@ pub fn any_matches<C: Case>(case: &C, fields: &FieldPlaces, comparison: u8, key:
     ensures { result ≡ list_any (compared comparison key.now) (map (λ place. (field_at (C.facts case.now) place).value) fields.now) }
 {
     let (match_type, comparator) = comparison_of(comparison);
-    any_value_matches(case, fields.as_slice(), match_type, comparator, key)
+    any_value_matches(case, fields, match_type, comparator, key)
 }
 
 /// Whether the value of one of the fields matches a key.
 fn any_value_matches<C: Case>(
     case: &C,
-    fields: &[usize],
+    fields: &FieldPlaces,
     match_type: MatchType,
     comparator: Comparator,
     key: &[u8],
@@ -72,8 +63,8 @@ fn any_value_matches<C: Case>(
     requires { All (λ place. place < length (C.facts case.now).fields) fields.now }
     ensures { result ≡ list_any (key_matches_by match_type comparator key.now) (map (λ place. (field_at (C.facts case.now) place).value) fields.now) }
 {
-    for place in fields {
-        if key_matches(match_type, key, case.value(*place), comparator) {
+    for index in 0..fields.count() {
+        if key_matches(match_type, key, case.value(fields.at(index)), comparator) {
             return true;
         }
     }

@@ -1,28 +1,20 @@
 //! Runs verified filing programs on messages.
 //!
-//! A `Case` is what a run can learn of a message. A `Machine` makes one step of a run at a time, and `run` makes them
-//! all; both do what the table machine of `filing_table` does, instruction by instruction. No run of a verified program
-//! goes wrong, and each ends within its budget: `laws` has that of the table machine itself.
+//! A `Case`, of the crate `filing_case`, is what a run can learn of a message. A `Machine` makes one step of a run at a time,
+//! and `run` makes them all; both do what the table machine of `filing_table` does, instruction by instruction. No run of a
+//! verified program goes wrong, and each ends within its budget: `laws` has that of the table machine itself.
 #![tactic(auto)]
 
 mod act;
-mod borrowed;
-mod case;
 mod fields;
 mod laws;
 mod machine;
 mod outcome;
-mod pieces;
 mod places;
 mod stack;
 mod state;
-mod values;
-mod whole;
 
-pub use borrowed::{BorrowedCase, BorrowedField, OpenPaths};
-pub use case::Case;
+pub use filing_case::{Case, OpenPaths, PieceCase, WholeCase};
 pub use laws::every_run_ends;
 pub use machine::{Machine, run};
 pub use outcome::Outcome;
-pub use pieces::PieceCase;
-pub use whole::WholeCase;

@@ -8,10 +8,10 @@ ghost use Rattle.filing_table.specs.Ends.{HasOutcome};
 ghost use Rattle.filing_machine.specs.Runs.{seen, Stands, IsModestAt, answer, Leaves};
 
 use crate::act::act;
-use crate::case::Case;
 use crate::outcome::Outcome;
 use crate::stack::Stack;
 use crate::state::Standing;
+use filing_case::Case;
 use filing_verify::Verified;
 use sieve_meaning::{Paths, captured_classes};
 use std::alloc::{AllocError, Global};

@@ -1,7 +1,7 @@
 pub mod LineLemmas
+pub mod FoundLemmas
 pub mod FieldLemmas
 pub mod Rows
-pub mod PlaceLemmas
 pub mod PieceLemmas
 pub mod FeedLemmas
 pub mod PartLemmas

@@ -1,12 +1,15 @@
 -- What a reader keeps, and the room that its fields need.
-use Rattle.std.proofs.Common.{◌≡◌, ◌≢◌, ℕ, suc, ◌+◌, ◌<◌, ◌≤◌, Bool, true, false, cond, eqb, List, [], ◌∷◌, ◌++◌, length, refl, sym, ap, ◌∙◌, arith, Option, Some, None}
-use Rattle.std.proofs.lemmas.List.{length-append}
-use Rattle.std.proofs.lemmas.List.Sums.{sum_by-cons}
+use Rattle.std.proofs.Common.{◌≡◌, ◌≢◌, ℕ, suc, ◌+◌, ◌-◌, ◌<◌, ◌≤◌, Bool, true, false, cond, eqb, List, [], ◌∷◌, ◌++◌, length, take, drop, refl, sym, ap, ◌∙◌, arith, Option, Some, None}
+use Rattle.std.proofs.lemmas.List.{append-nil, length-append, take-append-drop}
+use Rattle.std.proofs.lemmas.List.Sums.{sum_by-cons, sum_by-append}
 use Rattle.std.specs.Prelude.{nat_lt, count_by, ◌==◌}
 use Rattle.std.specs.List.{filter_map, cons_option}
 use Rattle.mail_head.specs.Lines.{into_first, raw_lines, without_end, begins_blank, header_lines, header_of, logical_from, logical_lines}
 use Rattle.mail_head.specs.Fields.{field_of, fields_of}
 use Rattle.mail_head.specs.Pieces.{Reader, Owned, header_octets, reader_of}
+use Rattle.mail_head.specs.Parts.{IsPart, IsNextPart, with_part, gained}
+use Rattle.mail_head.specs.declared.parts.HeaderPart.{HeaderPart}
+use Rattle.mail_head.specs.declared.parts.HeaderPart.TheVariants.{Front, LessCr}
 use Rattle.mail_head.proofs.FeedLemmas.{header_octets_ended, header_octets_whole, fields_of-kept}
 
 length-filter_map : {X Y : Type 0} (f : X → Option Y) (xs : List X) → length (filter_map f xs) ≤ length xs
@@ -66,7 +69,7 @@ unfolding fields_of
 length-fields_of bs = omega (arith, length-filter_map field_of (logical_lines (header_of bs)), length-logical_lines (header_of bs), length-header_lines (raw_lines bs), length-raw_lines bs)
 
 -- there is room for the fields
-pub fields_room : (bs : List ℕ) (n room : ℕ) → n ≡ count_by (λ b. b == 10) bs → (0 < length bs → n < room) → length (fields_of bs) ≤ room
+pub fields_room : (bs : List ℕ) (n room : ℕ) → count_by (λ b. b == 10) bs ≤ n → (0 < length bs → n < room) → length (fields_of bs) ≤ room
 fields_room [] n room e h = omega (arith, fields_none)
 fields_room (b ∷ bs) n room e h = omega (arith, length-fields_of (b ∷ bs), h (omega arith))
 
@@ -82,21 +85,37 @@ pub finished : (a : Owned) (r : Reader) (kept : List ℕ) (message : List ℕ) �
 finished a r kept message e ef es eo =
     owned_is a (fields_of message) (length message) (header_octets message) (ef ∙ ap (λ x. fields_of x.kept) e ∙ fields_of-kept message) (es ∙ ap (λ x. x.size) e) (eo ∙ ap (λ x. x.kept) e)
 
--- a piece more, behind a header that goes on or has ended
-pub fed_open : (r s : Reader) (message piece : List ℕ) (n : ℕ) → r ≡ reader_of message → length r.kept ≡ r.size → n ≡ length piece → (header_octets r.kept ≡ r.kept → s.kept ≡ header_octets (r.kept ++ piece)) → s.size ≡ r.size + n → s.refuses ≡ r.refuses → s ≡ reader_of (message ++ piece)
-fed_open r s message piece n e long en kept size refuses =
-    let message_kept : header_octets message ≡ message = header_octets_whole message (ap length (sym (ap (λ x. x.kept) e)) ∙ long ∙ ap (λ x. x.size) e) in
-    let all : r.kept ≡ message = ap (λ x. x.kept) e ∙ message_kept in
-    reader_is s (header_octets (message ++ piece)) (length (message ++ piece)) false (kept (ap header_octets all ∙ message_kept ∙ sym all) ∙ ap (λ x. header_octets (x ++ piece)) all) (size ∙ omega (arith, ap (λ x. x.size) e, en, length-append message piece)) (refuses ∙ ap (λ x. x.refuses) e)
+-- what a piece adds to a header that goes on, and to one that has ended
+kept_whole : (r : Reader) (message : List ℕ) → r ≡ reader_of message → length r.kept ≡ r.size → r.kept ≡ message
+kept_whole r message e long = ap (λ x. x.kept) e ∙ header_octets_whole message (ap length (sym (ap (λ x. x.kept) e)) ∙ long ∙ ap (λ x. x.size) e)
 
-pub fed_ended : (r s : Reader) (message piece : List ℕ) (n : ℕ) → r ≡ reader_of message → length r.kept ≢ r.size → n ≡ length piece → s.kept ≡ r.kept → s.size ≡ r.size + n → s.refuses ≡ r.refuses → s ≡ reader_of (message ++ piece)
-fed_ended r s message piece n e long en kept size refuses =
-    let other : length (header_octets message) ≢ length message = λ same. long (ap (λ x. length x.kept) e ∙ same ∙ sym (ap (λ x. x.size) e)) in
-    reader_is s (header_octets (message ++ piece)) (length (message ++ piece)) false (kept ∙ ap (λ x. x.kept) e ∙ sym (header_octets_ended message piece other)) (size ∙ omega (arith, ap (λ x. x.size) e, en, length-append message piece)) (refuses ∙ ap (λ x. x.refuses) e)
+joined : (r : Reader) (message piece next : List ℕ) → r ≡ reader_of message → length r.kept ≡ r.size → (header_octets r.kept ≡ r.kept → header_octets (r.kept ++ piece) ≡ next) → next ≡ header_octets (message ++ piece)
+joined r message piece next e long h =
+    let all : r.kept ≡ message = kept_whole r message e long in
+    let whole : header_octets message ≡ message = sym (ap (λ x. x.kept) e) ∙ all in
+    sym (h (ap header_octets all ∙ whole ∙ sym all)) ∙ ap (λ x. header_octets (x ++ piece)) all
 
--- the header so far, with the count of all octets that were fed
-pub head_so_far : (h : List (List ℕ × List ℕ) × ℕ) (r : Reader) (n : ℕ) (message : List ℕ) → r ≡ reader_of message → h.0 ≡ fields_of r.kept → n ≡ r.size → h.1 ≡ n → h ≡ (fields_of message, length message)
-head_so_far h r n message e ef en es =
-    let fields : h.0 ≡ fields_of message = ef ∙ ap (λ x. fields_of x.kept) e ∙ fields_of-kept message in
-    let size : h.1 ≡ length message = es ∙ en ∙ ap (λ x. x.size) e in
-    rw (← fields, ← size) refl
+pub part_open : (r : Reader) (piece : List ℕ) (part : HeaderPart) → length r.kept ≡ r.size → IsPart r.kept piece part → IsNextPart r piece part
+part_open r piece (Front n) long h = record { of_piece = h.0; next = λ message e. joined r message piece (r.kept ++ take n piece) e long h.1 }
+part_open r piece LessCr long h = record { of_piece = tt; next = λ message e. joined r message piece (take (length r.kept - 1) r.kept) e long h.1 }
+
+pub part_ended : (r : Reader) (piece : List ℕ) → length r.kept ≢ r.size → IsNextPart r piece (Front 0)
+part_ended r piece long = record {
+  of_piece = omega arith;
+  next = λ message e.
+      let other : length (header_octets message) ≢ length message = λ same. long (ap (λ x. length x.kept) e ∙ same ∙ sym (ap (λ x. x.size) e)) in
+      append-nil r.kept ∙ ap (λ x. x.kept) e ∙ sym (header_octets_ended message piece other);
+}
+
+-- a piece more
+pub fed : (r s : Reader) (message piece : List ℕ) (part : HeaderPart) → r ≡ reader_of message → IsNextPart r piece part → s ≡ record r { kept = with_part r.kept piece part; size = r.size + length piece } → s ≡ reader_of (message ++ piece)
+fed r s message piece part e h es =
+    reader_is s (header_octets (message ++ piece)) (length (message ++ piece)) false (ap (λ x. x.kept) es ∙ h.next message e) (ap (λ x. x.size) es ∙ omega (arith, ap (λ x. x.size) e, length-append message piece)) (ap (λ x. x.refuses) es ∙ ap (λ x. x.refuses) e)
+
+-- the header has no line end but those that it had, and those of what it gained
+count-append : (xs ys : List ℕ) → count_by (λ b. b == 10) (xs ++ ys) ≡ count_by (λ b. b == 10) xs + count_by (λ b. b == 10) ys
+count-append xs ys = sum_by-append (λ x. cond (eqb x 10) 1 0) xs ys
+
+pub count-part : (kept piece : List ℕ) (part : HeaderPart) → count_by (λ b. b == 10) (with_part kept piece part) ≤ count_by (λ b. b == 10) kept + count_by (λ b. b == 10) (gained piece part)
+count-part kept piece (Front n) = omega (arith, count-append kept (take n piece))
+count-part kept piece LessCr = omega (arith, count-append (take (length kept - 1) kept) (drop (length kept - 1) kept), ap (count_by (λ b. b == 10)) (take-append-drop (length kept - 1) kept))

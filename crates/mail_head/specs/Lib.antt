@@ -1,7 +1,9 @@
 pub mod Lines
 pub mod Fields
+pub mod Faults
+pub mod Found
 pub mod Pieces
-pub mod Places
+pub mod Starts
 pub mod Parts
 pub mod Readers
 pub mod Spans

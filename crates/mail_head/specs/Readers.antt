@@ -1,11 +1,15 @@
 -- What holds of each reader of pieces, whatever it was fed.
 use Rattle.std.specs.Prelude.{◌≡◌, ℕ, ◌<◌, ◌≤◌, List, [], length, count_by, ◌==◌}
-use Rattle.mail_head.specs.declared.fields.FieldPlace.{FieldPlace}
-use Rattle.mail_head.specs.declared.pieces.TheConstants.{MOST_OCTETS}
+use Rattle.mail_head.specs.declared.buffer.TheConstants.{MOST_OCTETS}
 
--- the line ends of the kept octets are counted, and there is room for as many fields as they can have
-pub record IsReady (kept : List ℕ) (line_ends : ℕ) (places : List FieldPlace) (room size : ℕ) : Type 0 where
-  pub counted : line_ends ≡ count_by (λ b. b == 10) kept
-  pub empty : places ≡ []
+-- no more is kept than was fed, and that is no more than a message may have
+pub record IsBounded (kept : List ℕ) (size : ℕ) : Type 0 where
+  pub kept_within : length kept ≤ size
+  pub size_within : size ≤ MOST_OCTETS
+
+-- the kept octets have no more line ends than were counted, and there is room for as many fields as they can have
+pub record IsReady (kept : List ℕ) (size line_ends : ℕ) (starts : List ℕ) (room : ℕ) : Type 0 where
+  pub counted : count_by (λ b. b == 10) kept ≤ line_ends
+  pub few : line_ends ≤ size
+  pub empty : starts ≡ []
   pub roomy : 0 < length kept → line_ends < room
-  pub bounded : size ≤ MOST_OCTETS

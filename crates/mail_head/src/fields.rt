@@ -1,9 +1,8 @@
 //! One field: its name, and its body as it stands in the message (RFC 5322, section 2.2).
 
-ghost use Rattle.std.specs.Prelude.{◌≡◌, ◌+◌, ◌^◌, ◌<◌, ◌≤◌, length, IsTrue, IfSome, option_map, ◌==◌};
+ghost use Rattle.std.specs.Prelude.{◌≡◌, ◌+◌, ◌<◌, ◌≤◌, length, IsTrue, IfSome, ◌==◌};
 ghost use Rattle.std.specs.List.{prefix_len};
 ghost use Rattle.mail_head.specs.Lines.{is_blank};
-ghost use Rattle.mail_head.specs.Places.{field_in, IsWithin};
 ghost use Rattle.mail_head.specs.Fields.{is_name_octet, begins_with, field_of};
 
 use crate::lines::{is_blank_octet, line_text};
@@ -77,76 +76,20 @@ fn begins_with_colon(text: &[u8]) -> bool
     }
 }
 
-/// Where a field lies in some octets: its name from `start` to `name_end`, its body from `raw_start` to `raw_end`.
-#[derive(Clone, Copy)]
-pub struct FieldPlace {
-    pub start: usize,
-    pub name_end: usize,
-    pub raw_start: usize,
-    pub raw_end: usize,
-}
-
-impl FieldPlace {
-    /// The field in the octets that it lies in.
-    pub fn field(self, octets: &[u8]) -> Field<'_>
-        requires { IsWithin (length octets.now) self }
-        ensures { result ≡ field_in octets.now self }
-    {
-        Field {
-            name: &octets[self.start..self.name_end],
-            raw: &octets[self.raw_start..self.raw_end],
-        }
-    }
-
-    /// The same place in octets with `before` more at the front.
-    pub fn moved(self, before: usize) -> FieldPlace
-        requires name { self.start + before < 2 ^ 64 }
-        requires name_end { self.name_end + before < 2 ^ 64 }
-        requires raw { self.raw_start + before < 2 ^ 64 }
-        requires raw_end { self.raw_end + before < 2 ^ 64 }
-        ensures name { result.start ≡ self.start + before }
-        ensures name_end { result.name_end ≡ self.name_end + before }
-        ensures raw { result.raw_start ≡ self.raw_start + before }
-        ensures raw_end { result.raw_end ≡ self.raw_end + before }
-    {
-        FieldPlace {
-            start: self.start + before,
-            name_end: self.name_end + before,
-            raw_start: self.raw_start + before,
-            raw_end: self.raw_end + before,
-        }
-    }
-}
-
-/// Where the field lies in a logical line, if that is one.
-#[tactic(auto, unfolding(crate::specs::Fields::field_of))]
-pub fn place_in(line: &[u8]) -> Option<FieldPlace>
-    ensures value { option_map (field_in line.now) result ≡ field_of line.now }
-    ensures within { IfSome result (IsWithin (length line.now)) }
-{
-    let name_end = name_len(line);
-    let (_, after) = line.split_at(name_end);
-    let (_, rest) = after.split_at(blank_len(after));
-    if name_end > 0 && begins_with_colon(rest) {
-        let (_, body) = rest.split_at(1);
-        let raw_start = line.len() - body.len();
-        Some(FieldPlace {
-            start: 0,
-            name_end,
-            raw_start,
-            raw_end: raw_start + line_text(body).len(),
-        })
-    } else {
-        None
-    }
-}
-
 /// The field that a logical line is, if it is one.
+#[tactic(auto, unfolding(crate::specs::Fields::field_of))]
 pub fn field_at(line: &[u8]) -> Option<Field<'_>>
-    ensures { result ≡ field_of line.now }
+    ensures value { result ≡ field_of line.now }
+    ensures within { IfSome result (λ f. length f.0 + length f.1 < length line.now) }
 {
-    match place_in(line) {
-        Some(place) => Some(place.field(line)),
-        None => None,
+    let (name, after) = line.split_at(name_len(line));
+    let (_, rest) = after.split_at(blank_len(after));
+    if name.is_empty() || !begins_with_colon(rest) {
+        return None;
     }
+    let (_, body) = rest.split_at(1);
+    Some(Field {
+        name,
+        raw: line_text(body),
+    })
 }

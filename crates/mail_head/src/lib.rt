@@ -5,13 +5,15 @@
 //! here: a folded body keeps its line ends, and encoded words stay as they stand.
 //!
 //! `read_head` reads a whole message, `HeadReader` one that comes in pieces; both give the same fields. `lines` cuts a
-//! header into logical lines, `fields` takes one apart, and `reading` puts both together. `parts` says what a piece adds
-//! to the header of those before it, `pieces` has the reader, and `owned` the header that it gives.
+//! header into logical lines, `fields` takes one apart, and `reading` finds one field after another. `parts` says what a
+//! piece adds to the header of those before it, `buffer` keeps the header's octets, and of these `pieces` makes the header
+//! that `owned` has.
 //!
 //! In `specs/`, `Spans` says what the fields are by the spans that a message is cut into, and `Lines` and `Fields` compute
 //! them. `laws` has what ties the two.
 #![tactic(auto)]
 
+mod buffer;
 mod fields;
 mod laws;
 mod lines;
@@ -20,8 +22,9 @@ mod parts;
 mod pieces;
 mod reading;
 
+pub use buffer::{HeadFault, HeaderBuffer, MOST_OCTETS};
 pub use fields::Field;
 pub use laws::fields_are_decided;
 pub use owned::PieceHead;
-pub use pieces::{HeadFault, HeadReader, MOST_OCTETS};
-pub use reading::{Head, read_head};
+pub use pieces::HeadReader;
+pub use reading::{FoundField, Head, first_field, read_head};

@@ -1,13 +1,13 @@
 //! A header that owns its octets.
 
-ghost use Rattle.std.specs.Prelude.{◌≡◌, ◌<◌, ◌≤◌, [], length, map, IfSome};
+ghost use Rattle.std.specs.Prelude.{◌≡◌, ◌<◌, ◌≤◌, ◌^◌, [], length, map};
 ghost use Rattle.std.specs.List.{All, HoldsAt};
 ghost use Rattle.std.specs.Vec.{vec_capacity};
 ghost use Rattle.mail_head.specs.Fields.{fields_of};
-ghost use Rattle.mail_head.specs.Places.{field_in, IsWithin};
+ghost use Rattle.mail_head.specs.Starts.{field_from, IsFieldStart};
 
-use crate::fields::{FieldPlace, place_in};
-use crate::lines::{header_ends, logical_len};
+use crate::fields::Field;
+use crate::reading::first_field;
 use std::marker::Model;
 
 /// The header of a message that came in pieces: its fields in order, and how many octets the message had. It owns the
@@ -15,37 +15,51 @@ use std::marker::Model;
 #[derive(Drop)]
 pub struct PieceHead {
     octets: Vec<u8>,
-    places: Vec<FieldPlace>,
+    /// Where each field begins.
+    starts: Vec<u32>,
     size: u64,
 }
 
 impl Model for PieceHead {
-    ghost use Rattle.std.specs.Prelude.{map, length};
+    ghost use Rattle.std.specs.Prelude.{map};
     ghost use Rattle.std.specs.List.{All};
     ghost use Rattle.mail_head.specs.Pieces.{Owned};
-    ghost use Rattle.mail_head.specs.Places.{field_in, IsWithin};
+    ghost use Rattle.mail_head.specs.Starts.{field_from, IsFieldStart};
 
     ghost Value = { Owned };
 
-    ghost view = { λ h. record { fields = map (field_in h.octets.items) h.places.items; size = h.size; octets = h.octets.items } };
+    ghost view = { λ h. record { fields = map (field_from h.octets.items) h.starts.items; size = h.size; octets = h.octets.items } };
 
-    ghost invariant = { λ h. All (IsWithin (length h.octets.items)) h.places.items };
+    ghost invariant = { λ h. All (IsFieldStart h.octets.items) h.starts.items };
 }
 
 impl PieceHead {
-    /// The header in `octets`, whose places the empty `places` has room for.
-    pub(crate) fn from_octets(octets: Vec<u8>, places: Vec<FieldPlace>, size: u64) -> PieceHead
-        requires empty { places.items ≡ [] }
-        requires room { length (fields_of octets.items) ≤ vec_capacity places }
+    /// The header in `octets`, for the starts of whose fields the empty `starts` has room.
+    pub(crate) fn from_octets(octets: Vec<u8>, starts: Vec<u32>, size: u64) -> PieceHead
+        requires empty { starts.items ≡ [] }
+        requires room { length (fields_of octets.items) ≤ vec_capacity starts }
+        requires short { length octets.items < 2 ^ 32 }
         ensures fields { result.fields ≡ fields_of octets.items }
         ensures size { result.size ≡ size }
         ensures octets { result.octets ≡ octets.items }
     {
-        let places = field_places(places, octets.as_slice());
+        let starts = field_starts(starts, octets.as_slice());
         PieceHead {
             octets,
-            places,
+            starts,
             size,
+        }
+    }
+
+    /// The field `index`, counted from 0.
+    fn field(&self, index: usize) -> Field<'_>
+        requires { index < length self.now.fields }
+        ensures { HoldsAt (λ f. result ≡ f) self.now.fields index }
+    {
+        let (_, text) = self.octets.as_slice().split_at(self.starts[index] as usize);
+        match first_field(text) {
+            Some(found) => found.field,
+            None => unreachable!(),
         }
     }
 
@@ -53,23 +67,24 @@ impl PieceHead {
     pub fn field_count(&self) -> usize
         ensures { result ≡ length self.now.fields }
     {
-        self.places.len()
+        self.starts.len()
     }
 
-    /// The name of the field `index`, counted from 0 and below `field_count`.
+    /// The name of the field `index`, counted from 0 and below `field_count`. It takes time linear in the field.
     pub fn name(&self, index: usize) -> &[u8]
         requires { index < length self.now.fields }
         ensures { HoldsAt (λ f. result.now ≡ f.0) self.now.fields index }
     {
-        self.places[index].field(self.octets.as_slice()).name()
+        self.field(index).name()
     }
 
-    /// The body of the field `index`, counted from 0 and below `field_count`, as it stands in the message.
+    /// The body of the field `index`, counted from 0 and below `field_count`, as it stands in the message. It takes time
+    /// linear in the field.
     pub fn raw(&self, index: usize) -> &[u8]
         requires { index < length self.now.fields }
         ensures { HoldsAt (λ f. result.now ≡ f.1) self.now.fields index }
     {
-        self.places[index].field(self.octets.as_slice()).raw()
+        self.field(index).raw()
     }
 
     /// How many octets the message had, its body included.
@@ -80,24 +95,21 @@ impl PieceHead {
     }
 }
 
-/// The places of the fields of a header, in order, in the room that `places` has.
-fn field_places(mut places: Vec<FieldPlace>, octets: &[u8]) -> Vec<FieldPlace>
-    requires empty { places.items ≡ [] }
-    requires room { length (fields_of octets.now) ≤ vec_capacity places }
-    ensures value { map (field_in octets.now) result.items ≡ fields_of octets.now }
-    ensures within { All (IsWithin (length octets.now)) result.items }
+/// Where the fields of a header begin, in order, in the room that `starts` has.
+fn field_starts(mut starts: Vec<u32>, octets: &[u8]) -> Vec<u32>
+    requires empty { starts.items ≡ [] }
+    requires room { length (fields_of octets.now) ≤ vec_capacity starts }
+    requires short { length octets.now < 2 ^ 32 }
+    ensures value { map (field_from octets.now) result.items ≡ fields_of octets.now }
+    ensures starts { All (IsFieldStart octets.now) result.items }
 {
-    let mut at = 0;
     let mut rest = octets;
-    while !header_ends(rest) {
-        let (line, after) = rest.split_at(logical_len(rest));
-        if let Some(place) = place_in(line) {
-            let Ok(()) = places.push(place.moved(at)) else {
-                unreachable!()
-            };
-        }
-        at += line.len();
-        rest = after;
+    while let Some(found) = first_field(rest) {
+        let start = octets.len() - found.from.len();
+        let Ok(()) = starts.push(start as u32) else {
+            unreachable!()
+        };
+        rest = found.after;
     }
-    places
+    starts
 }

@@ -1,14 +1,14 @@
 //! What a piece of a message adds to the header of the pieces before it.
 
-ghost use Rattle.std.specs.Prelude.{◌≡◌, ◌≤◌, length, take, drop, count_by, ◌==◌};
+ghost use Rattle.std.specs.Prelude.{◌≡◌, ◌≤◌, length, take};
 ghost use Rattle.mail_head.specs.Fields.{begins_with};
 ghost use Rattle.mail_head.specs.Parts.{IsPart};
 ghost use Rattle.mail_head.specs.Pieces.{header_octets, at_line_start, ends_in_lone_cr};
 
 use crate::lines::{first_line_len, header_ends};
 
-/// What a piece adds to a header that hasn't ended: its first octets, so many; or nothing, since it begins with the LF
-/// that makes an empty line of the CR at the header's end, which then is no part of the header either.
+/// What a piece adds to a header: its first octets, so many; or nothing, since it begins with the LF that makes an empty
+/// line of the CR at the header's end, which then is no part of the header either.
 #[derive(Clone, Copy)]
 pub enum HeaderPart {
     Front(usize),
@@ -30,7 +30,7 @@ pub fn header_len(text: &[u8]) -> usize
     len
 }
 
-/// Whether no octet stands behind the last line end.
+/// Whether no octet stands after the last line end.
 fn is_at_line_start(text: &[u8]) -> bool
     ensures { result ≡ at_line_start text.now }
 {
@@ -72,12 +72,4 @@ pub fn header_part(kept: &[u8], piece: &[u8]) -> HeaderPart
     }
     let (line, rest) = piece.split_at(first_line_len(piece));
     HeaderPart::Front(line.len() + header_len(rest))
-}
-
-/// How many LF the text has.
-pub fn line_end_count(text: &[u8]) -> usize
-    ensures value { result ≡ count_by (λ b. b == 10) text.now }
-    ensures within { result ≤ length text.now }
-{
-    text.iter().filter(|octet| **octet == b'\n').count()
 }

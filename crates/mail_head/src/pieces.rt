@@ -1,51 +1,28 @@
 //! The header of a message that comes in pieces.
 
-ghost use Rattle.std.specs.Prelude.{◌≡◌, true, ◌+◌, ◌-◌, ◌<◌, ◌↔◌, ◌⊎◌, ◌++◌, [], ℕ, List, length, take, count_by, ◌==◌, IsTrue, IfOk, OnOk, OnErr, IsErrOf};
+ghost use Rattle.std.specs.Prelude.{◌≡◌, true, ◌+◌, ◌<◌, ◌≤◌, ◌↔◌, ◌⊎◌, ◌++◌, ◌==◌, [], ℕ, List, length, count_by, IsTrue, IfOk, OnOk, OnErr, IsErrOf};
 ghost use Rattle.std.specs.Vec.{vec_capacity};
 ghost use Rattle.mail_head.specs.Fields.{fields_of};
 ghost use Rattle.mail_head.specs.Pieces.{header_octets, reader_of};
+ghost use Rattle.mail_head.specs.Parts.{gained, IsOfPiece};
+ghost use Rattle.mail_head.specs.declared.buffer.TheConstants.{MOST_OCTETS};
+ghost use Rattle.mail_head.specs.declared.buffer.HeadFault.TheVariants.{TooLong, NoMemory};
 
-use crate::fields::FieldPlace;
+use crate::buffer::{HeadFault, HeaderBuffer};
 use crate::owned::PieceHead;
-use crate::parts::{HeaderPart, header_part, line_end_count};
-use crate::reading::{Head, read_head};
+use crate::parts::HeaderPart;
 use std::alloc::{AllocError, Global};
 use std::marker::Model;
-use thiserror::Error;
 
-/// How many octets a message has at most: 8 MiB.
-pub const MOST_OCTETS: u64 = 8_388_608;
-
-/// Why a reader refuses.
-#[derive(Clone, Copy, Debug, PartialEq, Eq, Error)]
-pub enum HeadFault {
-    /// 1: the message has more than 8,388,608 octets.
-    #[error("the message has more than 8388608 octets")]
-    TooLong,
-    /// 99: out of memory.
-    #[error("out of memory")]
-    NoMemory,
-}
-
-impl From<AllocError> for HeadFault {
-    ghost use Rattle.std.specs.Prelude.{◌≡◌};
-    ghost use Rattle.mail_head.specs.declared.pieces.HeadFault.TheVariants.{NoMemory};
-
-    ghost from_gives = { λ _ fault. fault ≡ NoMemory };
-
-    fn from(_error: AllocError) -> HeadFault {
-        HeadFault::NoMemory
-    }
-}
-
-/// A reader that is fed a message piece by piece. It keeps the octets of the header and none of the body.
+/// A reader that is fed a message piece by piece. It keeps the octets of the header and none of the body, and room of
+/// four octets for each line end of the header, so that `finish` takes no memory.
 #[derive(Drop)]
 pub struct HeadReader {
-    kept: Vec<u8>,
+    header: HeaderBuffer,
+    /// At least as many as the header has.
     line_ends: usize,
-    places: Vec<FieldPlace>,
-    size: u64,
-    refuses: bool,
+    /// Empty, with room for the start of each field that the header can have.
+    starts: Vec<u32>,
 }
 
 impl Model for HeadReader {
@@ -55,9 +32,9 @@ impl Model for HeadReader {
 
     ghost Value = { Reader };
 
-    ghost view = { λ r. record { kept = r.kept.items; size = r.size; refuses = r.refuses } };
+    ghost view = { λ r. r.header };
 
-    ghost invariant = { λ r. IsReady r.kept.items r.line_ends r.places.items (vec_capacity r.places) r.size };
+    ghost invariant = { λ r. IsReady r.header.kept r.header.size r.line_ends r.starts.items (vec_capacity r.starts) };
 }
 
 impl HeadReader {
@@ -66,11 +43,9 @@ impl HeadReader {
         ensures { result ≡ reader_of [] }
     {
         HeadReader {
-            kept: Vec::new(alloc),
+            header: HeaderBuffer::new(alloc),
             line_ends: 0,
-            places: Vec::new(alloc),
-            size: 0,
-            refuses: false,
+            starts: Vec::new(alloc),
         }
     }
 
@@ -78,82 +53,63 @@ impl HeadReader {
     /// 8,388,608 octets, and from then on for good. After `NoMemory` (99) the reader is unchanged.
     pub fn feed(&mut self, piece: &[u8]) -> Result<(), HeadFault>
         ensures fed { (message : List ℕ) → self.old ≡ reader_of message → OnOk result (self.new ≡ reader_of (message ++ piece.now)) }
-        ensures too_long { (result ≡ Err HeadFault.TooLong) ↔ (IsTrue self.old.refuses ⊎ (MOST_OCTETS < self.old.size + length piece.now)) }
-        ensures for_good { result ≡ Err HeadFault.TooLong → self.new ≡ record self.old { refuses = true } }
-        ensures no_memory { result ≡ Err HeadFault.NoMemory → self.new ≡ self.old }
+        ensures too_long { (result ≡ Err TooLong) ↔ (IsTrue self.old.refuses ⊎ (MOST_OCTETS < self.old.size + length piece.now)) }
+        ensures for_good { result ≡ Err TooLong → self.new ≡ record self.old { refuses = true } }
+        ensures no_memory { result ≡ Err NoMemory → self.new ≡ self.old }
     {
-        let len = piece.len() as u64;
-        if self.refuses || len > MOST_OCTETS - self.size {
-            self.refuses = true;
-            return Err(HeadFault::TooLong);
-        }
-        if self.kept.len() as u64 == self.size {
-            keep_header(&mut self.kept, &mut self.line_ends, &mut self.places, piece)?;
-        }
-        self.size += len;
+        let part = self.header.next_part(piece)?;
+        let line_ends = self.line_ends + line_ends_gained(piece, part);
+        make_room(&mut self.starts, line_ends)?;
+        self.header.add(piece, part)?;
+        self.line_ends = line_ends;
         Ok(())
-    }
-
-    /// The header of the message that was fed so far, as slices of what the reader keeps; the reader stays as it is.
-    /// `TooLong` (1) comes only where a `feed` answered it, and then before any want of memory (`NoMemory`, 99).
-    pub fn head(&self, alloc: Global) -> Result<Head<'_>, HeadFault>
-        ensures head { (message : List ℕ) → self.now ≡ reader_of message → IfOk result (λ h. h ≡ (fields_of message, length message)) }
-        ensures too_long { IsErrOf result HeadFault.TooLong ↔ IsTrue self.now.refuses }
-    {
-        if !self.refuses {
-            let head = read_head(alloc, self.kept.as_slice())?;
-            return Ok(head.with_size(self.size));
-        }
-        Err(HeadFault::TooLong)
     }
 
     /// The header of the message that was fed. It takes no memory, and `TooLong` (1) comes only where a `feed`
     /// answered it.
     pub fn finish(self) -> Result<PieceHead, HeadFault>
         ensures head { (message : List ℕ) → self ≡ reader_of message → IfOk result (λ h. h ≡ record { fields = fields_of message; size = length message; octets = header_octets message }) }
-        ensures too_long { IsErrOf result HeadFault.TooLong ↔ IsTrue self.refuses }
-        ensures no_other { result ≡ Err HeadFault.NoMemory → ⊥ }
+        ensures too_long { IsErrOf result TooLong ↔ IsTrue self.refuses }
+        ensures no_other { result ≡ Err NoMemory → ⊥ }
     {
-        if self.refuses {
-            return Err(HeadFault::TooLong);
-        }
-        let HeadReader {
-            kept,
-            places,
-            size,
-            ..
-        } = self;
-        Ok(PieceHead::from_octets(kept, places, size))
+        let HeadReader { header, starts, .. } = self;
+        header.octets()?;
+        let size = header.size();
+        Ok(PieceHead::from_octets(header.into_octets(), starts, size))
     }
 }
 
-/// Adds to `kept` what belongs to the header of `piece`, which stands behind `kept`, and makes room for as many fields
-/// as the header can have.
-fn keep_header(
-    kept: &mut Vec<u8>,
-    line_ends: &mut usize,
-    places: &mut Vec<FieldPlace>,
-    piece: &[u8],
-) -> Result<(), AllocError>
-    requires counted { line_ends.old ≡ count_by (λ b. b == 10) kept.old.items }
-    requires empty { places.old.items ≡ [] }
-    ensures ok { OnOk result (header_octets kept.old.items ≡ kept.old.items → kept.new.items ≡ header_octets (kept.old.items ++ piece.now)) }
-    ensures err { OnErr result (kept.new.items ≡ kept.old.items) }
-    ensures counted { line_ends.new ≡ count_by (λ b. b == 10) kept.new.items }
-    ensures empty { places.new.items ≡ [] }
-    ensures roomy { (0 < length kept.old.items → line_ends.old < vec_capacity places.old) → 0 < length kept.new.items → line_ends.new < vec_capacity places.new }
+/// How many LF the octets of a piece have that belong to the header.
+fn line_ends_gained(piece: &[u8], part: HeaderPart) -> usize
+    requires { IsOfPiece piece.now part }
+    ensures value { result ≡ count_by (λ b. b == 10) (gained piece.now part) }
+    ensures within { result ≤ length piece.now }
 {
-    match header_part(kept.as_slice(), piece) {
-        HeaderPart::LessCr => {
-            let _ = kept.pop();
-        }
-        HeaderPart::Front(len) => {
-            let (front, _) = piece.split_at(len);
-            let ends = *line_ends + line_end_count(front);
-            places.reserve(ends + 1)?;
-            kept.extend_from_slice(front)?;
-            *line_ends = ends;
-        }
+    match part {
+        HeaderPart::LessCr => 0,
+        HeaderPart::Front(len) => line_end_count(&piece[..len]),
+    }
+}
+
+/// How many LF the text has.
+fn line_end_count(text: &[u8]) -> usize
+    ensures value { result ≡ count_by (λ b. b == 10) text.now }
+    ensures within { result ≤ length text.now }
+{
+    text.iter().filter(|octet| **octet == b'\n').count()
+}
+
+/// Makes room for the starts of one field more than there are line ends: for as many as are asked for and at most a
+/// quarter more, or as much as was there before.
+fn make_room(starts: &mut Vec<u32>, line_ends: usize) -> Result<(), AllocError>
+    requires empty { starts.old.items ≡ [] }
+    requires few { line_ends ≤ MOST_OCTETS }
+    ensures ok { OnOk result (line_ends < vec_capacity starts.new) }
+    ensures empty { starts.new.items ≡ [] }
+    ensures room { vec_capacity starts.old ≤ vec_capacity starts.new }
+{
+    if starts.capacity() <= line_ends {
+        starts.reserve_exact(line_ends + 1 + line_ends / 4)?;
     }
     Ok(())
 }

@@ -1,12 +1,43 @@
-//! The whole header of a message.
+//! The fields of a header, one after another, and the whole header of a message.
 
-ghost use Rattle.std.specs.Prelude.{◌≡◌, ◌<◌, length, IfOk};
+ghost use Rattle.std.specs.Prelude.{◌≡◌, [], length, IfOk, MatchOption};
 ghost use Rattle.mail_head.specs.Fields.{fields_of};
+ghost use Rattle.mail_head.specs.Found.{IsFirstField};
 
 use crate::fields::{Field, field_at};
 use crate::lines::{header_ends, logical_len};
 use std::alloc::{AllocError, Global};
 use std::marker::Model;
+
+/// A field where it stands in a text.
+#[derive(Drop)]
+pub struct FoundField<'a> {
+    pub field: Field<'a>,
+    /// The text from the field's first octet on.
+    pub from: &'a [u8],
+    /// The text after the field, its line end included.
+    pub after: &'a [u8],
+}
+
+/// The first field of the header of a text, which begins at a line's start; lines before it that are no fields are passed
+/// over. None where the header has no field.
+pub fn first_field(text: &[u8]) -> Option<FoundField<'_>>
+    ensures { MatchOption result (fields_of text.now ≡ []) (IsFirstField text.now) }
+{
+    let mut rest = text;
+    while !header_ends(rest) {
+        let (line, after) = rest.split_at(logical_len(rest));
+        if let Some(field) = field_at(line) {
+            return Some(FoundField {
+                field,
+                from: rest,
+                after,
+            });
+        }
+        rest = after;
+    }
+    None
+}
 
 /// The fields of a message in order, and how many octets the message has.
 #[derive(Drop)]
@@ -37,30 +68,18 @@ impl<'a> Head<'a> {
     {
         self.size
     }
-
-    /// The same fields, of a message of so many octets.
-    pub(crate) fn with_size(self, size: u64) -> Head<'a>
-        ensures { result ≡ (self.entry.0, size) }
-    {
-        Head {
-            fields: self.fields,
-            size,
-        }
-    }
 }
 
 /// The header of a message: the fields of RFC 5322, section 2.2, read leniently, in order, as slices of `msg`, and
-/// the number of its octets, those behind the header included. Its one refusal is want of memory.
+/// the number of its octets, those after the header included. Its one refusal is want of memory.
 pub fn read_head(alloc: Global, msg: &[u8]) -> Result<Head<'_>, AllocError>
     ensures { IfOk result (λ h. h ≡ (fields_of msg.now, length msg.now)) }
 {
     let mut fields = Vec::new(alloc);
     let mut rest = msg;
-    while !header_ends(rest) {
-        let (line, after) = rest.split_at(logical_len(rest));
-        if let Some(field) = field_at(line) {
-            fields.push(field)?;
-        }
+    while let Some(found) = first_field(rest) {
+        let FoundField { field, after, .. } = found;
+        fields.push(field)?;
         rest = after;
     }
     Ok(Head {

@@ -31,7 +31,7 @@ bytes_unfolded [] h = bytes_nil
 bytes_unfolded (b ∷ bs) h = bytes_cond _ b (unfolded bs) (h 0) (bytes_unfolded bs (λ i. h (suc i)))
 
 -- how long an encoding is
-length-encoded : (octets : List ℕ) → length (encode_of standard octets) ≡ 4 * ((length octets + 2) / 3)
+pub length-encoded : (octets : List ℕ) → length (encode_of standard octets) ≡ 4 * ((length octets + 2) / 3)
 length-encoded octets =
     let pads : List ℕ = replicate (padding_len (length octets)) standard.padding.value in
     let whole : length (encode_of standard octets) ≡ length (encode_symbols standard.encode_table octets) + length pads = length-append (encode_symbols standard.encode_table octets) pads in

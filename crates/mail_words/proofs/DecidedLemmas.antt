@@ -189,10 +189,5 @@ shown_is text value (cut, is_cut, h) =
 pub shown_from : (text value : List ℕ) → value ≡ words_shown text → IsShown text value
 shown_from text value e = let P : List ℕ → Type 0 = λ v. IsShown text v in subst P (sym e) (words_are_shown text)
 
--- the answer of a call that shows a text
-pub answer_is_shown : {V E : Type 0} (answer : Result V E) (items : V → List ℕ) (text line : List ℕ) → text ≡ line → IfOk answer (λ v. items v ≡ words_shown text) → IfOk answer (λ v. IsShown line (items v))
-answer_is_shown (Ok v) items text line e h = shown_from line (items v) (h ∙ ap words_shown e)
-answer_is_shown (Err x) items text line e h = tt
-
 pub shown_law : ShownLaw
 shown_law text value = (shown_from text value, shown_is text value)

@@ -12,3 +12,4 @@ pub mod MeaningLemmas
 pub mod ShownLemmas
 pub mod SpanLemmas
 pub mod DecidedLemmas
+pub mod ShortLemmas

@@ -8,14 +8,14 @@ use Rattle.mail_words.specs.Words.{Word, spelling, first_word}
 use Rattle.mail_words.specs.Decoding.{text_of}
 use Rattle.mail_words.specs.Value.{cut_at, cut_words, shown_word, shown, words_shown, IsPutWord}
 
--- what was shown, and the rest of the text
-pub record Showing (text out rest : List ℕ) (after_good : Bool) : Type 0 where
+-- what was shown, and the rest of the text, of which all is what comes of it
+pub record Showing (all out rest : List ℕ) (after_good : Bool) : Type 0 where
   pub turns : ℕ
   pub enough : length rest ≤ turns
-  pub same : out ++ shown after_good (cut_words turns rest).0 (cut_words turns rest).1 ≡ words_shown text
+  pub same : out ++ shown after_good (cut_words turns rest).0 (cut_words turns rest).1 ≡ all
 
-pub Showing-none : (text : List ℕ) → Showing text [] text false
-Showing-none text = record { turns = length text; enough = omega arith; same = refl }
+pub Showing-none : (old text : List ℕ) → Showing (old ++ words_shown text) old text false
+Showing-none old text = record { turns = length text; enough = omega arith; same = refl }
 
 -- what a cut is after one word
 cut_more : (n : ℕ) (rest gap after : List ℕ) (w : Word) → Some (gap, w, after) ≡ first_word true rest → cut_words (suc n) rest ≡ ((gap, w) ∷ (cut_words n after).0, (cut_words n after).1)
@@ -35,24 +35,24 @@ shown_more : (after_good : Bool) (gap : List ℕ) (w : Word) (parts : List (List
 unfolding shown
 shown_more after_good gap w parts last = refl
 
-pub Showing-done : (text out rest : List ℕ) (after_good : Bool) → Showing text out rest after_good → None ≡ first_word true rest → out ++ rest ≡ words_shown text
-Showing-done text out rest after_good h e =
+pub Showing-done : (all out rest : List ℕ) (after_good : Bool) → Showing all out rest after_good → None ≡ first_word true rest → out ++ rest ≡ all
+Showing-done all out rest after_good h e =
     let cut = cut_last h.turns rest e in
     ap (λ x. out ++ x) (sym (ap (λ c. shown after_good c.0 c.1) cut ∙ shown_last after_good rest)) ∙ h.same
 
 -- one word more
-record Next (text out rest gap after : List ℕ) (w : Word) (after_good : Bool) : Type 0 where
+record Next (all out rest gap after : List ℕ) (w : Word) (after_good : Bool) : Type 0 where
   pub turns : ℕ
   pub enough : length after ≤ turns
-  pub same : out ++ shown_word after_good gap w (text_of w) (λ good. shown good (cut_words turns after).0 (cut_words turns after).1) ≡ words_shown text
+  pub same : out ++ shown_word after_good gap w (text_of w) (λ good. shown good (cut_words turns after).0 (cut_words turns after).1) ≡ all
 
 longer : (rest gap after : List ℕ) (w : Word) → rest ≡ gap ++ (spelling w ++ after) → length after < length rest
 longer rest gap after w e = omega (arith, ap length e, length-append gap (spelling w ++ after), length-append (spelling w) after)
 
-next : (text out rest gap after : List ℕ) (w : Word) (after_good : Bool) → Showing text out rest after_good → Some (gap, w, after) ≡ first_word true rest → rest ≡ gap ++ (spelling w ++ after) → Next text out rest gap after w after_good
-next text out rest gap after w after_good h e spelled = at h.turns h.enough h.same
+next : (all out rest gap after : List ℕ) (w : Word) (after_good : Bool) → Showing all out rest after_good → Some (gap, w, after) ≡ first_word true rest → rest ≡ gap ++ (spelling w ++ after) → Next all out rest gap after w after_good
+next all out rest gap after w after_good h e spelled = at h.turns h.enough h.same
   where
-    at : (n : ℕ) → length rest ≤ n → out ++ shown after_good (cut_words n rest).0 (cut_words n rest).1 ≡ words_shown text → Next text out rest gap after w after_good
+    at : (n : ℕ) → length rest ≤ n → out ++ shown after_good (cut_words n rest).0 (cut_words n rest).1 ≡ all → Next all out rest gap after w after_good
     at zero enough same = absurd (omega (arith, longer rest gap after w spelled))
     at (suc n) enough same = record {
       turns = n;
@@ -61,9 +61,9 @@ next text out rest gap after w after_good h e spelled = at h.turns h.enough h.sa
     }
 
 -- a word and the gap before it, as they are shown
-pub Showing-put : (text out rest gap after new : List ℕ) (w : Word) (after_good good : Bool) → Showing text out rest after_good → Some (gap, w, after) ≡ first_word true rest → rest ≡ gap ++ (spelling w ++ after) → IsPutWord good after_good gap w out new → Showing text new after good
-Showing-put text out rest gap after new w after_good true h e spelled (t, is, put) =
-    let n = next text out rest gap after w after_good h e spelled in
+pub Showing-put : (all out rest gap after new : List ℕ) (w : Word) (after_good good : Bool) → Showing all out rest after_good → Some (gap, w, after) ≡ first_word true rest → rest ≡ gap ++ (spelling w ++ after) → IsPutWord good after_good gap w out new → Showing all new after good
+Showing-put all out rest gap after new w after_good true h e spelled (t, is, put) =
+    let n = next all out rest gap after w after_good h e spelled in
     let kept = cond (after_good && list_all is_blank gap) [] gap in
     let tail = shown true (cut_words n.turns after).0 (cut_words n.turns after).1 in
     record {
@@ -71,8 +71,8 @@ Showing-put text out rest gap after new w after_good true h e spelled (t, is, pu
       enough = n.enough;
       same = ap (λ x. x ++ tail) put ∙ append_assoc out (kept ++ t) tail ∙ ap (λ x. out ++ x) (append_assoc kept t tail) ∙ ap (λ o. out ++ shown_word after_good gap w o (λ good. shown good (cut_words n.turns after).0 (cut_words n.turns after).1)) (sym is) ∙ n.same;
     }
-Showing-put text out rest gap after new w after_good false h e spelled (is, put) =
-    let n = next text out rest gap after w after_good h e spelled in
+Showing-put all out rest gap after new w after_good false h e spelled (is, put) =
+    let n = next all out rest gap after w after_good h e spelled in
     let tail = shown false (cut_words n.turns after).0 (cut_words n.turns after).1 in
     record {
       turns = n.turns;
@@ -80,5 +80,5 @@ Showing-put text out rest gap after new w after_good false h e spelled (is, put)
       same = ap (λ x. x ++ tail) put ∙ append_assoc out (gap ++ spelling w) tail ∙ ap (λ x. out ++ x) (append_assoc gap (spelling w) tail) ∙ ap (λ o. out ++ shown_word after_good gap w o (λ good. shown good (cut_words n.turns after).0 (cut_words n.turns after).1)) (sym is) ∙ n.same;
     }
 
-pub Showing-next : (text out after rest : List ℕ) (good : Bool) → Showing text out after good → rest ≡ after → Showing text out rest good
-Showing-next text out after rest good h e = let P : List ℕ → Type 0 = λ x. Showing text out x good in subst P (sym e) h
+pub Showing-next : (all out after rest : List ℕ) (good : Bool) → Showing all out after good → rest ≡ after → Showing all out rest good
+Showing-next all out after rest good h e = let P : List ℕ → Type 0 = λ x. Showing all out x good in subst P (sym e) h

@@ -19,4 +19,4 @@ mod value;
 mod words;
 
 pub use laws::{meaning_is_decided, value_is_decided, words_stand_apart};
-pub use value::value_of;
+pub use value::{append_value, value_of};

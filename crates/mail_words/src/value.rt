@@ -1,6 +1,6 @@
 //! The value of a field.
 
-ghost use Rattle.std.specs.Prelude.{◌≡◌, [], ◌++◌, ◌&&◌, IfOk, OnOk, if◌then◌else◌};
+ghost use Rattle.std.specs.Prelude.{◌≡◌, [], ◌++◌, ◌+◌, ◌*◌, ◌≤◌, ◌&&◌, length, IfOk, OnOk, if◌then◌else◌};
 ghost use Rattle.std.specs.List.{list_all};
 ghost use Rattle.mail_words.specs.Unfolding.{is_blank, unfolded, trimmed};
 ghost use Rattle.mail_words.specs.Spans.{IsShown};
@@ -55,22 +55,31 @@ fn append_word(
     Ok(false)
 }
 
-/// The text with its good words replaced by what they stand for, and without the blanks that alone stand between two
-/// of them. Room for as many octets as the text has is taken at once, and all is written there: only words of ISO 8859-1
-/// in B text can come out longer than they are written, by less than a half, and then the room grows.
-fn show_words(alloc: Global, text: &[u8]) -> Result<Vec<u8>, AllocError>
-    ensures { IfOk result (λ v. v.items ≡ words_shown (unfolded text.now)) }
+/// Appends the text with its good words replaced by what they stand for, and without the blanks that alone stand between two
+/// of them.
+fn append_shown(shown: &mut Vec<u8>, text: &[u8]) -> Result<(), AllocError>
+    ensures { OnOk result (shown.new.items ≡ shown.old.items ++ words_shown (unfolded text.now)) }
 {
-    let mut shown = Vec::with_capacity(alloc, text.len())?;
     let mut after_good = false;
     let mut rest = text;
     while let Some(standing) = next_word(rest) {
-        let good = append_word(&mut shown, &standing, after_good)?;
+        let good = append_word(shown, &standing, after_good)?;
         after_good = good;
         rest = standing.behind();
     }
-    append_unfolded(&mut shown, rest)?;
-    Ok(shown)
+    append_unfolded(shown, rest)?;
+    Ok(())
+}
+
+/// Appends the value of a field whose body is `raw`, as `value_of` answers it: at most four octets for each of the body. The
+/// one refusal is want of memory, and some octets may have been appended then.
+#[tactic(auto, unfolding(crate::specs::Value::value_of_body))]
+pub fn append_value(shown: &mut Vec<u8>, raw: &[u8]) -> Result<(), AllocError>
+    ensures value { OnOk result (shown.new.items ≡ shown.old.items ++ value_of_body raw.now) }
+    ensures short { OnOk result (length shown.new.items ≤ length shown.old.items + 4 * length raw.now) }
+{
+    append_shown(shown, trim(raw))?;
+    Ok(())
 }
 
 /// The value of a field whose body is `raw`: unfolded (RFC 5322, section 2.2.3), without blanks at both ends, and with
@@ -83,10 +92,16 @@ fn show_words(alloc: Global, text: &[u8]) -> Result<Vec<u8>, AllocError>
 ///
 /// The value is that computed by the definition (`value`), and is what is said of the words that stand in the unfolded and
 /// trimmed body, of what they mean and of the gaps between them (`spans`).
+///
+/// Room for as many octets as the trimmed body has is taken at once: only words of ISO 8859-1 in B text can come out longer
+/// than they are written, by less than a half, and then the room grows.
 #[tactic(auto, unfolding(crate::specs::Value::value_of_body))]
 pub fn value_of(alloc: Global, raw: &[u8]) -> Result<Vec<u8>, AllocError>
     ensures value { IfOk result (λ v. v.items ≡ value_of_body raw.now) }
     ensures spans { IfOk result (λ v. IsShown (trimmed (unfolded raw.now)) v.items) }
 {
-    show_words(alloc, trim(raw))
+    let text = trim(raw);
+    let mut shown = Vec::with_capacity(alloc, text.len())?;
+    append_shown(&mut shown, text)?;
+    Ok(shown)
 }

@@ -14,10 +14,9 @@ use Rattle.sieve_meaning.specs.Case.{Facts, is_named}
 use Rattle.sieve_meaning.specs.Reading.{string_lists, match_type, comparator_from, exists_of, header_of, test_in, tests_in, row_in}
 use Rattle.sieve_meaning.specs.Truth.{truth, has_field, all_true, some_true}
 use Rattle.sieve_meaning.specs.Paths.{Paths}
-use Rattle.filing_machine.specs.Borrowed.{lent}
-use Rattle.filing_machine.specs.declared.borrowed.BorrowedCase.{BorrowedCase}
-use Rattle.filing_machine.specs.declared.borrowed.BorrowedField.{BorrowedField}
-use Rattle.plain_evaluator.specs.Case.{facts_of}
+use Rattle.plain_evaluator.specs.declared.case.BorrowedCase.{BorrowedCase}
+use Rattle.plain_evaluator.specs.declared.case.BorrowedField.{BorrowedField}
+use Rattle.plain_evaluator.specs.Case.{lent, facts_of}
 
 pub list_any-map : {X Y : Type 0} (p : Y → Bool) (f : X → Y) (xs : List X) → list_any p (map f xs) ≡ list_any (λ x. p (f x)) xs
 list_any-map p f [] = refl

@@ -1,9 +1,18 @@
 -- The case of a message, as the evaluator is handed it.
-use Rattle.sieve_meaning.specs.Case.{Facts}
+use Rattle.std.specs.Prelude.{ℕ, List, Bool, map}
+use Rattle.sieve_meaning.specs.Case.{Facts, Field}
 use Rattle.sieve_meaning.specs.Paths.{Paths}
-use Rattle.filing_machine.specs.Borrowed.{facts_by}
-use Rattle.filing_machine.specs.Message.{is_among}
-use Rattle.filing_machine.specs.declared.borrowed.BorrowedCase.{BorrowedCase}
+use Rattle.filing_case.specs.Message.{is_among}
+use Rattle.plain_evaluator.specs.declared.case.BorrowedCase.{BorrowedCase}
+use Rattle.plain_evaluator.specs.declared.case.BorrowedField.{BorrowedField}
+
+-- a field with its value
+abbrev pub lent : BorrowedField → Field
+lent f = record { name = f.name.now; value = f.value.items }
+
+-- what there is to learn of a message, where a function tells which paths are open
+abbrev pub facts_by : {P : Type 0} → (P → List ℕ → Bool) → BorrowedCase P → Facts
+facts_by opens c = record { size = c.size; fields = map lent c.fields.items; is_open = opens c.paths }
 
 -- what a case stands for whose open classes are those of a set
 abbrev pub facts_of : BorrowedCase Paths → Facts

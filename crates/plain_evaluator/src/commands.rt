@@ -5,12 +5,13 @@ ghost use Rattle.sieve_syntax.specs.View.{command_of, commands_of, ending_of};
 ghost use Rattle.plain_evaluator.specs.Case.{facts_of};
 ghost use Rattle.plain_evaluator.specs.Runs.{ending_at, filing_of, runs_from, commands_in, filing_into, includes_at, IsNoIf, PlainlyEnds, BranchLeads, Leads};
 
+use crate::case::BorrowedCase;
 use crate::filing::{Ending, Filing};
 use crate::includes::run_include;
 use crate::level::Level;
 use crate::scope::Scope;
 use crate::truth::is_only_true;
-use filing_machine::{BorrowedCase, Case};
+use filing_case::Case;
 use sieve_meaning::branches::{Part, part_in};
 use sieve_meaning::reading::{first_string, has_tag, include};
 use sieve_meaning::{CommandWord, Paths, command_word};

@@ -3,9 +3,11 @@
 //! this crate is beside them, so that a program can compare the two.
 //!
 //! In `specs/`, `Case` says what a case stands for, and `Runs` what each part of a run is owed; the modules from the bottom:
-//! `truth` (tests), `filing` and `scope` (what a run keeps), `level`, `includes`, `commands`, `levels`, `outcome`.
+//! `case` (the message), `truth` (tests), `filing` and `scope` (what a run keeps), `level`, `includes`, `commands`, `levels`,
+//! `outcome`.
 #![tactic(auto)]
 
+mod case;
 mod commands;
 mod filing;
 mod includes;
@@ -15,4 +17,5 @@ mod outcome;
 mod scope;
 mod truth;
 
+pub use case::{BorrowedCase, BorrowedField};
 pub use outcome::{Outcome, evaluate};

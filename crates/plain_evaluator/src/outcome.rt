@@ -11,12 +11,12 @@ ghost use Rattle.plain_evaluator.specs.Runs.{fault_of};
 ghost use Rattle.plain_evaluator.specs.Outcomes.{outcome_view};
 ghost use Rattle.sieve_meaning.specs.Scripts.{script_of};
 
+use crate::case::BorrowedCase;
 use crate::commands::run;
 use crate::filing::{Ending, Filing};
 use crate::levels::Levels;
 use crate::scope::Scope;
 use filing_gen::Library;
-use filing_machine::BorrowedCase;
 use sieve_meaning::{Location, Paths, ScriptName, captured_classes};
 use sieve_syntax::Script;
 use std::alloc::{AllocError, Global};

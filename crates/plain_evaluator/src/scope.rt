@@ -1,7 +1,7 @@
 //! Where a run stands.
 
+use crate::case::BorrowedCase;
 use filing_gen::Library;
-use filing_machine::BorrowedCase;
 use sieve_meaning::{Paths, ScriptName};
 
 /// What is the same for all commands of a script that runs.

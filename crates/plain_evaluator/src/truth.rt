@@ -8,10 +8,9 @@ ghost use Rattle.sieve_meaning.specs.Case.{is_named};
 ghost use Rattle.sieve_meaning.specs.Matching.{key_matches as key_matches_by};
 ghost use Rattle.sieve_meaning.specs.Reading.{test_in, only_in, tests_in, string_lists, exists_of, header_of, size_of, has_tag as has_tag_of, number_in, match_type as match_type_of, comparator_from};
 ghost use Rattle.sieve_meaning.specs.Truth.{truth, all_true, some_true};
-ghost use Rattle.filing_machine.specs.Borrowed.{lent};
-ghost use Rattle.plain_evaluator.specs.Case.{facts_of};
+ghost use Rattle.plain_evaluator.specs.Case.{lent, facts_of};
 
-use filing_machine::{BorrowedCase, BorrowedField};
+use crate::case::{BorrowedCase, BorrowedField};
 use sieve_match::key_matches;
 use sieve_meaning::reading::{comparator, has_tag, match_type, next_string_list, number};
 use sieve_meaning::{Comparator, MatchType, Paths, TestWord, is_word, test_word};

@@ -10,6 +10,7 @@ pub enum Call {
     Is,
     Contains,
     Matches,
+    Counted,
     ShortPatterns,
     Fields,
     Reader,
@@ -34,6 +35,7 @@ pub enum Call {
     Changes,
     Run,
     Compile,
+    Own,
     Size,
     Put,
     Find,
@@ -42,7 +44,7 @@ pub enum Call {
 }
 
 /// Each call's word.
-const WORDS: [(&str, Call); 36] = [
+const WORDS: [(&str, Call); 38] = [
     ("tokens", Call::Tokens),
     ("lengths", Call::Lengths),
     ("tree", Call::Tree),
@@ -50,6 +52,7 @@ const WORDS: [(&str, Call); 36] = [
     ("is", Call::Is),
     ("contains", Call::Contains),
     ("matches", Call::Matches),
+    ("counted", Call::Counted),
     ("short_patterns", Call::ShortPatterns),
     ("fields", Call::Fields),
     ("reader", Call::Reader),
@@ -74,6 +77,7 @@ const WORDS: [(&str, Call); 36] = [
     ("changes", Call::Changes),
     ("run", Call::Run),
     ("compile", Call::Compile),
+    ("own", Call::Own),
     ("size", Call::Size),
     ("put", Call::Put),
     ("find", Call::Find),

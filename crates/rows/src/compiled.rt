@@ -1,10 +1,11 @@
 //! What the compiler answers, where scripts include others, and what the runs of their images capture.
 
-use crate::messages::whole_case;
+use crate::messages::{octet_case, whole_case};
+use crate::runs::{OWN_CASE, outcome_of, outcome_of_both};
 use crate::told::{refused, word};
 use anyhow::{Result, bail};
 use filing_gen::{Library, LibraryFault, compile as compile_script};
-use filing_machine::{Outcome, run};
+use filing_machine::Outcome;
 use filing_verify::Verified;
 use sieve_check::{Checked, check};
 use sieve_meaning::Location;
@@ -128,8 +129,8 @@ pub fn size(alloc: Global, library: &Library, script: &[u8], known_as: &[u8]) ->
     Ok(format!(in alloc; "budget {budget}, {count} instructions")?.into_bytes())
 }
 
-/// The budget of a script's image, and what the image's run captures in the case of a message, or by which number the
-/// script is refused.
+/// The budget of a script's image, and what the image's run captures in the case of a message, whole and octet by octet, or by
+/// which number the script is refused.
 pub fn compile(
     alloc: Global,
     library: &Library,
@@ -141,6 +142,20 @@ pub fn compile(
         Ok(program) => program,
         Err(number) => return refused(alloc, number),
     };
-    let outcome = run(alloc, &program, &whole_case(alloc, message)?)?;
+    let (whole, octets) = (whole_case(alloc, message)?, octet_case(alloc, message)?);
+    let outcome = outcome_of_both(alloc, &program, &whole, &octets)?;
     told(alloc, program.budget(), &outcome)
+}
+
+/// The budget of a script's image, and what the image's run captures in the tests' own case.
+pub fn own(alloc: Global, library: &Library, script: &[u8]) -> Result<Vec<u8>> {
+    let program = match program(alloc, library, script, b"")? {
+        Ok(program) => program,
+        Err(number) => return refused(alloc, number),
+    };
+    told(
+        alloc,
+        program.budget(),
+        &outcome_of(alloc, &program, &OWN_CASE)?,
+    )
 }

@@ -1,10 +1,11 @@
 //! What images answer.
 
 use crate::messages::whole_case;
+use crate::runs::outcome_of;
 use crate::told::{refused, word};
 use anyhow::{Context, Result, bail};
 use filing_image::{Image, Instruction, decode, encode};
-use filing_machine::{Outcome, run as run_program};
+use filing_machine::Outcome;
 use filing_verify::verify as verify_image;
 use std::alloc::Global;
 use std::str;
@@ -119,6 +120,6 @@ pub fn run(alloc: Global, octets: &[u8], message: &[u8]) -> Result<Vec<u8>> {
     let Ok(program) = verify_image(alloc, image) else {
         bail!("an image that may not run");
     };
-    let outcome = run_program(alloc, &program, &whole_case(alloc, message)?)?;
+    let outcome = outcome_of(alloc, &program, &whole_case(alloc, message)?)?;
     captured(alloc, &outcome)
 }

@@ -11,6 +11,7 @@ mod matching;
 mod messages;
 mod plans;
 mod row;
+mod runs;
 mod sessions;
 mod streams;
 mod tokens;
@@ -37,6 +38,7 @@ fn answer(alloc: Global, library: &mut Library, row: &Row) -> Result<Vec<u8>> {
         Call::Is | Call::Contains | Call::Matches => {
             matching::matched(alloc, row.call(), first, second, third)
         }
+        Call::Counted => matching::counted(alloc, first, second, third),
         Call::ShortPatterns => matching::short_patterns(alloc),
         Call::Fields => messages::fields(alloc, first),
         Call::Reader => messages::reader(alloc, first),
@@ -61,6 +63,7 @@ fn answer(alloc: Global, library: &mut Library, row: &Row) -> Result<Vec<u8>> {
         Call::Changes => images::changes(alloc, first),
         Call::Run => images::run(alloc, first, second),
         Call::Compile => compiled::compile(alloc, library, first, second, third),
+        Call::Own => compiled::own(alloc, library, first),
         Call::Size => compiled::size(alloc, library, first, second),
         Call::Put => compiled::put(alloc, library, first, second, third),
         Call::Find => compiled::find(alloc, library, first, second),

@@ -3,8 +3,24 @@
 use crate::call::Call;
 use crate::told::word;
 use anyhow::Result;
-use sieve_match::{Comparator, MatchType, contains, is, key_matches, matches};
+use sieve_match::{Comparator, MatchType, contains, is, key_matches, matches, matches_counted};
 use std::alloc::Global;
+
+/// The comparator of a word: `octet`, or else without case.
+fn comparator_of(word: &[u8]) -> Comparator {
+    if word == b"octet".as_slice() {
+        Comparator::Octet
+    } else {
+        Comparator::Casemap
+    }
+}
+
+/// Whether a pattern matches a value, and how many octets were compared.
+pub fn counted(alloc: Global, value: &[u8], pattern: &[u8], comparator: &[u8]) -> Result<Vec<u8>> {
+    let (answer, count) = matches_counted(pattern, value, comparator_of(comparator));
+    let count = u64::try_from(count).unwrap_or(u64::MAX);
+    Ok(format!(in alloc; "{answer} {count}")?.into_bytes())
+}
 
 /// Whether a key matches a value, by the call and by its match type; the comparator is `octet` or `casemap`.
 pub fn matched(
@@ -14,11 +30,7 @@ pub fn matched(
     key: &[u8],
     comparator: &[u8],
 ) -> Result<Vec<u8>> {
-    let comparator = if comparator == b"octet".as_slice() {
-        Comparator::Octet
-    } else {
-        Comparator::Casemap
-    };
+    let comparator = comparator_of(comparator);
     let (match_type, answer) = match call {
         Call::Is => (MatchType::Is, is(key, value, comparator)),
         Call::Contains => (MatchType::Contains, contains(key, value, comparator)),

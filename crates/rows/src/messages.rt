@@ -137,6 +137,18 @@ fn cut_case(alloc: Global, front: &[u8], back: &[u8]) -> Result<WholeCase> {
     Ok(case)
 }
 
+/// The case of a message that comes octet by octet.
+pub fn octet_case(alloc: Global, message: &[u8]) -> Result<WholeCase> {
+    let mut coming = PieceCase::new(alloc, open_paths(alloc)?);
+    for octet in message {
+        coming.feed(&[*octet])?;
+    }
+    let Ok(case) = coming.finish() else {
+        bail!("a message octet by octet has no case");
+    };
+    Ok(case)
+}
+
 /// What a case knows: the message's octets, how many fields it has, whether a path is open, and the values of the fields that
 /// have a name.
 fn known(alloc: Global, case: &WholeCase, path: &[u8], name: &[u8]) -> Result<Vec<u8>> {
@@ -150,7 +162,7 @@ fn known(alloc: Global, case: &WholeCase, path: &[u8], name: &[u8]) -> Result<Ve
     Ok(out)
 }
 
-/// What the case of a message knows, whole and cut at each place.
+/// What the case of a message knows, whole, cut at each place, and octet by octet.
 pub fn case(alloc: Global, message: &[u8], path: &[u8], name: &[u8]) -> Result<Vec<u8>> {
     let whole = known(alloc, &whole_case(alloc, message)?, path, name)?;
     for place in 0..=message.len() {
@@ -158,6 +170,9 @@ pub fn case(alloc: Global, message: &[u8], path: &[u8], name: &[u8]) -> Result<V
         if known(alloc, &cut_case(alloc, front, back)?, path, name)? != whole {
             bail!("another case in two pieces, cut at {place}");
         }
+    }
+    if known(alloc, &octet_case(alloc, message)?, path, name)? != whole {
+        bail!("another case octet by octet");
     }
     Ok(whole)
 }

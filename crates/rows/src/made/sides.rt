@@ -2,8 +2,8 @@
 
 use anyhow::Result;
 use filing_gen::{Library, compile};
-use filing_machine::{BorrowedCase, run};
-use plain_evaluator::evaluate;
+use filing_machine::run;
+use plain_evaluator::{BorrowedCase, evaluate};
 use sieve_check::Checked;
 use sieve_meaning::Paths;
 use std::alloc::{AllocError, Global};

@@ -1,0 +1,17 @@
+use Rattle.std.proofs.Common.{◌++◌, ◌∙◌}
+use Rattle.mail_words.specs.Unfolding.{unfolded}
+use Rattle.mail_words.specs.Value.{words_shown}
+use Rattle.mail_words.proofs.ShownLemmas.{Showing-none, Showing-put, Showing-next, Showing-done}
+use Rattle.mail_words.proofs.value.append_shown.Goals as goal
+
+pub loop-standing-init : goal.loop-standing-init
+loop-standing-init c = Showing-none c.args.shown.now.items (unfolded c.args.text.now)
+
+pub loop-standing-preserved : goal.loop-standing-preserved
+loop-standing-preserved c =
+    let shown = Showing-put (c.args.shown.now.items ++ words_shown (unfolded c.args.text.now)) c.loop-standing.shown.items (unfolded c.loop-standing.rest.now) c.in-Some.standing.0 c.in-Some.standing.2 c.append_word.new.shown.items c.in-Some.standing.1 c.loop-standing.after_good c.in_ok-good.good c.loop-standing.invariant c.in-Some.ensures.first c.in-Some.ensures.spelled c.in_ok-good.ensures in
+    Showing-next (c.args.shown.now.items ++ words_shown (unfolded c.args.text.now)) c.append_word.new.shown.items c.in-Some.standing.2 (unfolded c.behind-rest.result.now) c.in_ok-good.good shown c.behind-rest.ensures
+
+pub returns : goal.returns
+returns c =
+    c.in_ok-append_unfolded.ensures ∙ Showing-done (c.args.shown.now.items ++ words_shown (unfolded c.args.text.now)) c.loop-standing.shown.items (unfolded c.loop-standing.rest.now) c.loop-standing.after_good c.loop-standing.invariant c.in_default.ensures.first
