@@ -1,11 +1,12 @@
 //! What is laid, replaced and moved is read back.
 
-use crate::tables::{classes, due, fill_first, lay_first, schedules};
+use crate::tables::{classes, fill_first, lay_first, schedules};
 use record_tables::fault::Fault;
 use record_tables::lay::{lay, move_first};
 use record_tables::layout::{Layout, layout_of};
 use record_tables::read;
 use record_tables::renew::replace_plan;
+use record_tables::rows::DueRow;
 use sqlite::{Alter, Connection, MemStore};
 use std::alloc::Global;
 use std::process::Abort;
@@ -55,7 +56,11 @@ fn laid_and_replaced(rt: HostRuntime) -> Result<(), Fail> {
         &mut conn,
         rules.as_slice(),
         listed.as_slice(),
-        &[due(1, 30), due(2, 20), due(3, 30)],
+        &[
+            DueRow { record: 1, day: 30 },
+            DueRow { record: 2, day: 20 },
+            DueRow { record: 3, day: 30 },
+        ],
     )?;
     has_plan(&rt, rt.alloc(), &mut conn)?;
     let all = rows(read::dues_by(rt.alloc(), &mut conn, 29))?;
@@ -87,7 +92,10 @@ fn moves(
         &mut conn,
         rules.as_slice(),
         listed.as_slice(),
-        &[due(2, 20088)],
+        &[DueRow {
+            record: 2,
+            day: 20088,
+        }],
     )?;
     assert_eq!(rt; layout_of(conn.schema()), Layout::Second);
     has_plan(rt, alloc, &mut conn)?;

@@ -1,6 +1,6 @@
 //! Tables and rows for the tests.
 
-use record_tables::rows::{ClassRow, DueRow, ScheduleRow};
+use record_tables::rows::{ClassRow, ScheduleRow};
 use sqlite::{Alter, Connection, Error};
 use std::alloc::Global;
 use std::test::Fail;
@@ -56,9 +56,4 @@ pub(crate) fn schedules(alloc: Global) -> Result<Vec<ScheduleRow>, Fail> {
         year_end: 1,
     })?;
     Ok(all)
-}
-
-/// A due day.
-pub(crate) fn due(record: u32, day: u32) -> DueRow {
-    DueRow { record, day }
 }
