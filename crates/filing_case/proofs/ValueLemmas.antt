@@ -1,12 +1,12 @@
 -- Fields with their values, one after another in a row of octets.
-use Rattle.std.proofs.Common.{◌≡◌, ℕ, zero, suc, ◌+◌, ◌-◌, ◌*◌, ◌<◌, ◌≤◌, Bool, true, false, List, [], ◌∷◌, ◌++◌, length, get_or, take, drop, map, refl, sym, ap, ◌∙◌, subst, arith, eqb, leb, eqb-true, eq-eqb, append_assoc}
+use Rattle.std.proofs.Common.{◌≡◌, ℕ, zero, suc, ◌+◌, ◌-◌, ◌*◌, ◌<◌, ◌≤◌, true, List, [], ◌∷◌, ◌++◌, length, take, drop, map, refl, sym, ap, ◌∙◌, arith, eqb-true, eq-eqb, append_assoc}
 use Rattle.std.proofs.lemmas.List.{append-nil, length-append, length-drop, drop-append-le, take-append-le, drop_at, take_at, take_all}
 use Rattle.std.proofs.lemmas.Bool.{and_parts, leb-true, le-leb}
 use Rattle.std.specs.Prelude.{slice_range, slice_index_or, nat_le, ◌&&◌}
 use Rattle.mail_head.specs.declared.reading.FoundField.{FoundField}
 use Rattle.mail_head.specs.Fields.{fields_of}
 use Rattle.mail_head.specs.Found.{IsFirstField}
-use Rattle.mail_head.specs.Pieces.{Reader, reader_of, header_octets}
+use Rattle.mail_head.specs.Pieces.{Reader, reader_of}
 use Rattle.mail_head.proofs.FeedLemmas.{fields_of-kept}
 use Rattle.mail_words.specs.Value.{value_of_body}
 use Rattle.sieve_meaning.specs.Case.{Field}

@@ -1,5 +1,5 @@
 -- Lists of places, in two parts, and the fields that they are of.
-use Rattle.std.proofs.Common.{◌≡◌, ℕ, ◌+◌, ◌-◌, ◌<◌, ◌≤◌, Bool, true, false, cond, List, [], ◌∷◌, ◌++◌, length, get_or, take, map, refl, sym, ap, subst, ◌∙◌, arith, append_assoc}
+use Rattle.std.proofs.Common.{◌≡◌, ℕ, ◌+◌, ◌-◌, ◌<◌, ◌≤◌, true, false, cond, List, [], ◌∷◌, ◌++◌, length, get_or, take, map, refl, sym, ap, subst, ◌∙◌, arith, append_assoc}
 use Rattle.std.proofs.lemmas.List.Elements.{All-push, All-append, filter_more}
 use Rattle.std.specs.List.{All, AllByRecursion, filter}
 use Rattle.sieve_meaning.specs.Case.{Facts, is_named}
@@ -7,7 +7,7 @@ use Rattle.filing_case.specs.Fields.{field_at}
 use Rattle.filing_machine.specs.declared.state.Item.{Item}
 use Rattle.filing_machine.specs.declared.state.Item.TheVariants.{Fields}
 use Rattle.filing_machine.specs.Seen.{InCase}
-use Rattle.std.proofs.lemmas.List.{append-nil, map-append, get_or-append_right, get_or_append_left, length-append}
+use Rattle.std.proofs.lemmas.List.{append-nil, map-append, get_or-append_right, get_or_append_left}
 
 nil_of : (ys : List ℕ) → length ys ≡ 0 → ys ≡ []
 nil_of [] h = refl

@@ -1,5 +1,5 @@
 -- How long a value can be.
-use Rattle.std.proofs.Common.{◌≡◌, ℕ, zero, suc, ◌+◌, ◌-◌, ◌*◌, ◌/◌, ◌≤◌, Bool, true, false, cond, List, [], ◌∷◌, ◌++◌, length, take, drop, refl, sym, ap, ◌∙◌, arith, inl, inr, ◌⊎◌, Option, Some, None}
+use Rattle.std.proofs.Common.{◌≡◌, ℕ, zero, suc, ◌+◌, ◌-◌, ◌*◌, ◌≤◌, Bool, true, false, cond, List, [], ◌∷◌, ◌++◌, length, refl, ap, arith, inl, inr, Option, Some, None}
 use Rattle.std.proofs.lemmas.List.{length-append, length-take, length-drop}
 use Rattle.std.proofs.lemmas.Str.{length-encode, len_utf8_bounds}
 use Rattle.std.specs.Prelude.{◌&&◌}
@@ -7,12 +7,12 @@ use Rattle.std.specs.List.{list_all, prefix_len, suffix_len}
 use Rattle.std.specs.Str.{encode_utf8_all}
 use Rattle.mail_words.specs.declared.charset.Charset.{Charset}
 use Rattle.mail_words.specs.declared.charset.Charset.TheVariants.{Ascii, Latin1, Utf8}
-use Rattle.mail_words.specs.Unfolding.{is_blank, begins_with, unfolded, without_first_blanks, trimmed}
+use Rattle.mail_words.specs.Unfolding.{is_blank, unfolded, without_first_blanks, trimmed}
 use Rattle.mail_words.specs.Words.{Word, spelling, IsWord, first_word}
 use Rattle.mail_words.specs.Charsets.{text_in}
 use Rattle.mail_words.specs.Decoding.{text_of}
 use Rattle.mail_words.specs.Meaning.{QText, q_end, q_itself, q_space, q_escape, IsEncoding}
-use Rattle.mail_words.specs.Value.{cut_at, cut_words, shown_word, shown, words_shown, value_of_body}
+use Rattle.mail_words.specs.Value.{cut_at, cut_words, shown_word, shown, value_of_body}
 use Rattle.mail_words.proofs.Base64Lemmas.{length-encoded}
 use Rattle.mail_words.proofs.MeaningLemmas.{means_from}
 use Rattle.mail_words.proofs.SpellingLemmas.{Found, first_word-stands}

@@ -8,4 +8,4 @@ abbrev pub field_of : OwnField → Field
 field_of f = record { name = f.name.now; value = f.value.now }
 
 abbrev pub facts_of : OwnCase → Facts
-facts_of c = record { size = c.size; fields = map field_of c.fields; is_open = λ path. length path == 1 }
+facts_of c = record { size = c.size; fields = map field_of c.fields.now; is_open = λ path. length path == 1 }

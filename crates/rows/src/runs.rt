@@ -16,13 +16,13 @@ pub struct OwnField {
 /// A case of the tests' own; a path of one octet is open in it.
 pub struct OwnCase {
     pub size: u64,
-    pub fields: [OwnField; 2],
+    pub fields: &'static [OwnField],
 }
 
 /// The greatest size, and two fields of one name.
 pub const OWN_CASE: OwnCase = OwnCase {
     size: u64::MAX,
-    fields: [
+    fields: &[
         OwnField {
             name: b"To",
             value: b"first",

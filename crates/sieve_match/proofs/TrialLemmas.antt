@@ -1,12 +1,12 @@
 -- A search that is under way, and the comparisons that are left to it.
-use Rattle.std.proofs.Common.{◌≡◌, ℕ, zero, suc, ◌+◌, Bool, true, false, cond, eqb, List, [], ◌∷◌, length, ◌⊎◌, inl, inr, Option, Some, None, refl, sym, ap, subst, ◌∙◌, arith, add_assoc}
+use Rattle.std.proofs.Common.{◌≡◌, ℕ, ◌+◌, Bool, true, false, cond, eqb, List, [], ◌∷◌, length, ◌⊎◌, inl, inr, Option, Some, None, refl, sym, subst, arith}
 use Rattle.std.specs.Borrow.{Bor}
 use Rattle.sieve_meaning.specs.declared.matching.Comparator.{Comparator}
 use Rattle.sieve_meaning.specs.declared.matching.Item.{Item}
 use Rattle.sieve_meaning.specs.declared.matching.Item.TheVariants.{Octet, One, Any}
 use Rattle.sieve_meaning.specs.Matching.{folded, items_of}
 use Rattle.sieve_match.specs.Search.{Trial, covered, to_star, misfit, trial, comparisons, Search, covers_all, at_star, at_front, at_end, next_place}
-use Rattle.sieve_match.specs.Steps.{compared, Turn, ends, star, goes, stuck, turn_of}
+use Rattle.sieve_match.specs.Steps.{compared, ends, star, goes, stuck, turn_of}
 use Rattle.sieve_match.proofs.FoldLemmas.{nil_from_length}
 use Rattle.sieve_match.proofs.SearchLemmas.{ends_is, star_is}
 

@@ -1,5 +1,4 @@
-use Rattle.std.proofs.Common.{ap, refl, ◌∙◌}
-use Rattle.mail_head.specs.Fields.{field_of}
+use Rattle.std.proofs.Common.{refl}
 use Rattle.mail_head.proofs.FoundLemmas.{Passed-none, Passed-more, Passed-found, Passed-done}
 use Rattle.mail_head.proofs.reading.first_field.Goals as goal
 

@@ -1,4 +1,4 @@
-use Rattle.std.proofs.Common.{length, ap, ◌∙◌, arith}
+use Rattle.std.proofs.Common.{length, ap, arith}
 use Rattle.std.proofs.lemmas.List.{length-append}
 use Rattle.mail_words.specs.Unfolding.{unfolded}
 use Rattle.mail_words.specs.Value.{words_shown, value_of_body}

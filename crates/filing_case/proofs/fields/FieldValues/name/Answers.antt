@@ -1,5 +1,4 @@
-use Rattle.std.proofs.Common.{◌<◌, length, ap, arith, ◌∙◌}
-use Rattle.std.specs.Prelude.{slice_range}
+use Rattle.std.proofs.Common.{length, ap, arith, ◌∙◌}
 use Rattle.filing_case.proofs.ValueLemmas.{length-fields, has_field}
 use Rattle.filing_case.proofs.fields.FieldValues.name.Goals as goal
 

@@ -1,4 +1,4 @@
-use Rattle.std.proofs.Common.{◌≡◌, length, sym, ◌∙◌}
+use Rattle.std.proofs.Common.{sym, ◌∙◌}
 use Rattle.mail_head.proofs.ReaderLemmas.{part_open, part_ended}
 use Rattle.mail_head.proofs.buffer.HeaderBuffer.next_part.Goals as goal
 
