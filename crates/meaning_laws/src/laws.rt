@@ -1,0 +1,9 @@
+//! The law, on a function with nothing to do.
+
+ghost use Rattle.meaning_laws.specs.Read.{ReadLaw};
+
+/// Of a script without refusal each name is one that has a meaning, and its tags, strings, numbers, comparators, tests and
+/// block are those that its meaning reads, and no others (RFC 5228, sections 3 to 5; RFC 3894; RFC 6609, section 3).
+pub fn checked_scripts_are_read()
+    ensures { ReadLaw }
+{}
