@@ -1,0 +1,5 @@
+pub mod Archive
+pub mod Stores
+pub mod Faults
+pub mod Counts
+pub mod Captures
