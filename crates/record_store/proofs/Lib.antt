@@ -5,3 +5,4 @@ pub mod HoldLemmas
 pub mod CaptureLemmas
 pub mod CaptureStands
 pub mod MessageLemmas
+pub mod DueLemmas

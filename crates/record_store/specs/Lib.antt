@@ -3,3 +3,4 @@ pub mod Stores
 pub mod Faults
 pub mod Counts
 pub mod Captures
+pub mod Dues

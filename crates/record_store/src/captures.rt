@@ -23,7 +23,7 @@ use std::alloc::{AllocError, Global};
 const NUMBERS: u64 = 1 << 32;
 
 /// The number of a day of 1970 to 9999.
-fn number_of(day: Date) -> u32
+pub(crate) fn number_of(day: Date) -> u32
     requires { IsBetween (pos 0) (pos 2932896) (epoch_day day) }
     ensures { result ≡ number_of_day day }
 {

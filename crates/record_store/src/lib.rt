@@ -3,6 +3,7 @@
 
 mod captures;
 mod counts;
+mod dues;
 mod fault;
 mod holds;
 mod messages;
