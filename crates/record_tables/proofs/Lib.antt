@@ -11,3 +11,4 @@ pub mod DropLemmas
 pub mod LayoutLemmas
 pub mod TypedLemmas
 pub mod ReadLemmas
+pub mod LookupLemmas

@@ -8,3 +8,4 @@ pub mod Layouts
 pub mod Shapes
 pub mod Layout
 pub mod Faults
+pub mod Lookups

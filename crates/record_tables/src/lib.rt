@@ -5,6 +5,7 @@ mod cells;
 pub mod fault;
 pub mod lay;
 pub mod layout;
+pub mod lookup;
 mod query;
 pub mod read;
 pub mod renew;

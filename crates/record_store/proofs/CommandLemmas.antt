@@ -1,0 +1,120 @@
+-- A command that is judged first and then done.
+use Rattle.std.proofs.Common.{◌≡◌, ◌-◌, ℕ, false, sym, subst, ◌∙◌, arith, IsTrue, Result, Ok}
+use Rattle.sqlite.specs.Store.{Ghosts}
+use Rattle.sqlite.specs.Tree.{Trees}
+use Rattle.sqlite.specs.Effect.{Database}
+use Rattle.sqlite.specs.State.{HasCleanDisk, Survives}
+use Rattle.sqlite.specs.Held.{Held, state}
+use Rattle.sqlite.proofs.StateLemmas.{survives_then, survives_weaker}
+use Rattle.record_tables.specs.Rows.{Tables}
+use Rattle.record_tables.specs.Changes.{Turns}
+use Rattle.record_tables.specs.Lookups.{Looks}
+use Rattle.record_store.specs.Archive.{Archive, IsArchive, next_number}
+use Rattle.record_store.specs.Counts.{count_at}
+use Rattle.record_store.specs.Stores.{StandsFor, StoresArchive, Becomes, live_count, hold_count, Leaves, LeavesAll, LeavesMade}
+use Rattle.record_store.specs.declared.fault.StoreFault.{StoreFault}
+use Rattle.record_store.specs.declared.store.Store.{Store}
+
+becomes : {S : Type 0} (g : Ghosts S) (new : Store S) (r : Result Archive StoreFault) (b : Archive) → r ≡ Ok b → StandsFor g new b → Becomes g new r
+becomes g new r b e s = subst (Becomes g new) (sym e) s
+
+-- the command is done
+pub obeys_done : {S : Type 0} (g : Ghosts S) (old mid new : Store S) (command : Archive → Result Archive StoreFault) (change : Archive → Archive)
+    → ((a : Archive) → StandsFor g old a → StandsFor g mid a × (HasCleanDisk (state g mid.conn) → command a ≡ Ok (change a)))
+    → ((a : Archive) → StandsFor g mid a → command a ≡ Ok (change a) → StandsFor g new (change a))
+    → (HasCleanDisk (state g new.conn) → HasCleanDisk (state g mid.conn))
+    → HasCleanDisk (state g new.conn) → (a : Archive) → StandsFor g old a → Becomes g new (command a) × Unit {0}
+obeys_done g old mid new command change judged made falls clean a s =
+    let j = judged a s in
+    let e = j.1 (falls clean) in
+    (becomes g new (command a) (change a) e (made a j.0 e), tt)
+
+-- what a crash leaves of it
+pub leaves_done : {S : Type 0} (g : Ghosts S) (old mid new : Store S) (command : Archive → Result Archive StoreFault) (change : Archive → Archive)
+    → ((a : Archive) → StandsFor g old a → StandsFor g mid a × (HasCleanDisk (state g mid.conn) → command a ≡ Ok (change a)))
+    → LeavesAll g old mid → (HasCleanDisk (state g mid.conn) → IsTrue (state g mid.conn).is_open) → LeavesMade g mid new command change → Leaves g old new command
+leaves_done g old mid new command change judged looked opened made a s is_open =
+    let j = judged a s in
+    let two = made a j.0 in
+    let back : HasCleanDisk (state g new.conn) → HasCleanDisk (state g mid.conn) = λ clean. omega (arith, two.clean, clean) in
+    survives_then (state g old.conn) (state g mid.conn) (state g new.conn) _ _ _ (λ _ db none. absurd (none is_open))
+    (λ clean trees left. let e = j.1 (back clean) in (left.0, change a, e, left.1 (opened (back clean)) e, left.2)) (looked a s) two
+
+-- the command is refused by its judge
+pub leaves_refused : {S : Type 0} (g : Ghosts S) (old new : Store S) (command : Archive → Result Archive StoreFault) → LeavesAll g old new → Leaves g old new command
+leaves_refused g old new command looked a s is_open = survives_weaker (state g old.conn) (state g new.conn) _ _ (λ _ db none. absurd (none is_open)) (looked a s)
+
+-- two looks, the second on a connection that the first left open
+pub leaves_on : {S : Type 0} (g : Ghosts S) (old mid new : Store S) → ((a : Archive) → StandsFor g old a → StandsFor g mid a)
+    → LeavesAll g old mid → (HasCleanDisk (state g mid.conn) → IsTrue (state g old.conn).is_open → IsTrue (state g mid.conn).is_open) → LeavesAll g mid new → LeavesAll g old new
+leaves_on g old mid new kept looked opened last a s =
+    let two = last a (kept a s) in
+    let back : HasCleanDisk (state g new.conn) → HasCleanDisk (state g mid.conn) = λ clean. omega (arith, two.clean, clean) in
+    survives_then (state g old.conn) (state g mid.conn) (state g new.conn) _ _ _ (λ _ db none. none) (λ clean db none is_open. none (opened (back clean) is_open)) (looked a s) two
+
+pub leaves_then : {S : Type 0} (g : Ghosts S) (old mid new : Store S) → ((a : Archive) → StandsFor g old a → StandsFor g mid a)
+    → LeavesAll g old mid → (HasCleanDisk (state g mid.conn) → IsTrue (state g mid.conn).is_open) → LeavesAll g mid new → LeavesAll g old new
+leaves_then g old mid new kept looked opened last = leaves_on g old mid new kept looked (λ clean _. opened clean) last
+
+-- the same store after it was only looked at
+pub stands_looked : {S : Type 0} (g : Ghosts S) (old new : Store S) (a : Archive) → StandsFor g old a → Looks g old.conn new.conn → new.plan ≡ old.plan → new.next ≡ old.next
+    → ((n : ℕ) → count_at new.held n ≡ count_at old.held n) → ((m : ℕ) → count_at new.others m ≡ count_at old.others m) → StandsFor g new a
+stands_looked g old new a s looks plan next held others = record {
+  idle = looks.idle s.idle;
+  plan = plan ∙ s.plan;
+  next = next ∙ s.next;
+  held = λ n. held n ∙ s.held n;
+  others = λ m. others m ∙ s.others m;
+  archive = s.archive;
+  rows = λ clean is_open.
+      let it = looks.still s.idle (λ was. (s.rows (looks.falls clean) was).stored.schema) clean is_open in
+      subst (λ db. StoresArchive db a) (sym it.1) (s.rows (looks.falls clean) it.0);
+}
+
+pub leaves_looked : {S : Type 0} (g : Ghosts S) (old new : Store S) (a : Archive) → StandsFor g old a → Looks g old.conn new.conn
+    → Survives (state g old.conn) (state g new.conn) (λ _. IsTrue (state g old.conn).is_open → ⊥)
+leaves_looked g old new a s looks = survives_weaker (state g old.conn) (state g new.conn) _ _ (λ clean db none is_open. none (s.rows (looks.falls clean) is_open).stored.schema) looks.survives
+
+-- ---- a transaction
+
+-- the store after a transaction that was made
+pub stands_turned : {S : Type 0} (g : Ghosts S) (old new : Store S) (a b : Archive) (Allows : Tables → Type 0) (change : Tables → Tables) → StandsFor g old a → IsArchive b
+    → new.conn.in_transaction ≡ false → new.plan ≡ b.plan → new.next ≡ next_number b
+    → ((n : ℕ) → count_at new.held n ≡ hold_count b n) → ((m : ℕ) → count_at new.others m ≡ live_count b m - 1)
+    → (HasCleanDisk (state g new.conn) → HasCleanDisk (state g old.conn)) → (HasCleanDisk (state g new.conn) → IsTrue (state g new.conn).is_open → IsTrue (state g old.conn).is_open)
+    → (HasCleanDisk (state g new.conn) → Turns (state g old.conn).now (state g new.conn).now Allows change)
+    → ((was db : Database) → StoresArchive was a → Turns was db Allows change → StoresArchive db b)
+    → StandsFor g new b
+stands_turned g old new a b Allows change s archive idle plan next held others falls opened turns stores = record {
+  idle = idle;
+  plan = plan;
+  next = next;
+  held = held;
+  others = others;
+  archive = archive;
+  rows = λ clean is_open. stores (state g old.conn).now (state g new.conn).now (s.rows (falls clean) (opened clean is_open)) (turns clean);
+}
+
+-- the store after a transaction that was refused
+pub stands_refused : {S : Type 0} (g : Ghosts S) (old new : Store S) (a : Archive) → StandsFor g old a → new.conn.in_transaction ≡ false → new.plan ≡ old.plan → new.next ≡ old.next
+    → ((n : ℕ) → count_at new.held n ≡ count_at old.held n) → ((m : ℕ) → count_at new.others m ≡ count_at old.others m)
+    → (HasCleanDisk (state g new.conn) → HasCleanDisk (state g old.conn)) → (HasCleanDisk (state g new.conn) → IsTrue (state g new.conn).is_open → IsTrue (state g old.conn).is_open)
+    → (HasCleanDisk (state g new.conn) → IsTrue (state g new.conn).is_open → (state g new.conn).now ≡ (state g old.conn).now) → StandsFor g new a
+stands_refused g old new a s idle plan next held others falls opened same = record {
+  idle = idle;
+  plan = plan ∙ s.plan;
+  next = next ∙ s.next;
+  held = λ n. held n ∙ s.held n;
+  others = λ m. others m ∙ s.others m;
+  archive = s.archive;
+  rows = λ clean is_open. subst (λ db. StoresArchive db a) (sym (same clean is_open)) (s.rows (falls clean) (opened clean is_open));
+}
+
+-- what a crash leaves of a transaction
+pub leaves_turned : {S : Type 0} (g : Ghosts S) (old : Store S) (new : Held S) (a b : Archive) (Legal : Type 0) (Allows : Tables → Type 0) (change : Tables → Tables) → StandsFor g old a
+    → ((was db : Database) → StoresArchive was a → Legal → Turns was db Allows change → StoresArchive db b)
+    → Survives (state g old.conn) (state g new) (λ (trees : Trees). (db : Database) × Turns (state g old.conn).now db Allows change × (trees ≡ db.trees))
+    → Survives (state g old.conn) (state g new) (λ (trees : Trees). (db : Database) × (IsTrue (state g old.conn).is_open → Legal → StoresArchive db b) × (trees ≡ db.trees))
+leaves_turned g old new a b Legal Allows change s stores made =
+    survives_weaker (state g old.conn) (state g new) _ _
+    (λ clean trees left. (left.0, (λ is_open legal. stores (state g old.conn).now left.0 (s.rows (omega (arith, made.clean, clean)) is_open) legal left.1), left.2)) made

@@ -1,0 +1,238 @@
+-- The due list is what the stored due days tell, in their order.
+use Rattle.std.proofs.Common.{◌≡◌, ◌<◌, ℕ, pos, Bool, true, false, not, ◌&&◌, cond, List, [], ◌∷◌, map, filter, find, Option, Some, None, is_some, unwrap_or, option_map, refl, sym, ap, ap₂, ◌∙◌, arith, Ordering, Less, Equal, Greater, is_gt, is_eq, int_cmp, int_le, nat_le, nat_cmp, true≢false, ◌==◌}
+use Rattle.std.proofs.Common.{◌≤◌, ◌+◌, ◌||◌, ◌++◌, length, take, get_or}
+use Rattle.std.proofs.lemmas.List.{take_more, map-append, append-nil}
+use Rattle.record_store.specs.Counts.{tally}
+use Rattle.std.specs.List.{AllByRecursion, list_any}
+use Rattle.std.specs.Cmp.{IsTotalOrder}
+use Rattle.std.specs.Ordering.{ordering_then, ordering_reverse}
+use Rattle.std.proofs.lemmas.Cmp.{int_cmp_total, on_total, then_total}
+use Rattle.std.proofs.lemmas.Int.{ints}
+use Rattle.sqlite_trees.specs.Tree.{IsAscending}
+use Rattle.sqlite_keyed.specs.Lists.{sort_by, insert_sorted}
+use Rattle.sqlite_keyed.proofs.KeyedLemmas.{Less-from_lt}
+use Rattle.sqlite_typed.proofs.AnswerLemmas.{no_tie, no_tie_after}
+use Rattle.sqlite_keyed.proofs.ListLemmas.{all_both, all_weaker, all-filter, ascending-filter, ascending_weaker, filter-map, filter_same, map-map}
+use Rattle.sqlite_keyed.proofs.SortLemmas.{sort_by-map}
+use Rattle.record_tables.specs.Rows.{Record, Due}
+use Rattle.record_tables.specs.Reads as reads
+use Rattle.record_store.specs.Archive.{Line, Archive, IsArchive, has_number, line_of, due_of, is_due, is_by, is_live, is_held, line_cmp, due_list}
+use Rattle.record_store.specs.Dues.{told, unheld}
+use Rattle.record_store.specs.Stores.{has_due, due_row, due_rows}
+
+module _ {X : Type 0} (cmp : X → X → Ordering) (total : IsTotalOrder cmp) where
+  all-insert : (P : X → Type 0) (new : X) (xs : List X) → P new → AllByRecursion P xs → AllByRecursion P (insert_sorted cmp new xs)
+  all-insert P new [] h all = (h, tt)
+  all-insert P new (x ∷ xs) h all =
+      elim (is_gt (cmp new x)) as (λ b. AllByRecursion P (cond b (x ∷ insert_sorted cmp new xs) (new ∷ x ∷ xs))) [ true ↦ (all.0, all-insert P new xs h all.1) | false ↦ (h, all) ]
+
+  pub all-sort : (P : X → Type 0) (xs : List X) → AllByRecursion P xs → AllByRecursion P (sort_by cmp xs)
+  all-sort P [] all = tt
+  all-sort P (x ∷ xs) all = all-insert P x _ all.0 (all-sort P xs all.1)
+
+  abbrev Rises : List X → Type 0
+  Rises = IsAscending (λ a b. cmp a b ≡ Less)
+
+  abbrev pub IsUntied : List X → Type 0
+  IsUntied = IsAscending (λ a b. is_eq (cmp a b) ≡ false)
+
+  rises-insert : (new : X) (xs : List X) → AllByRecursion (λ y. is_eq (cmp new y) ≡ false) xs → Rises xs → Rises (insert_sorted cmp new xs)
+  rises-insert new [] apart up = (tt, tt)
+  rises-insert new (x ∷ xs) apart up = go (cmp new x) refl (rises-insert new xs apart.1 up.1)
+    where
+      go : (o : Ordering) → cmp new x ≡ o → Rises (insert_sorted cmp new xs) → Rises (cond (is_gt o) (x ∷ insert_sorted cmp new xs) (new ∷ x ∷ xs))
+      go Less e more = ((e, all_weaker _ (λ y. cmp new y ≡ Less) (λ y. total.trans new x y e) xs up.0), up)
+      go Equal e more = absurd (true≢false (sym (ap is_eq e) ∙ apart.0))
+      go Greater e more = (all-insert _ new xs (total.antisymm x new ∙ ap ordering_reverse e) up.0, more)
+
+  rises-sort : (xs : List X) → IsUntied xs → Rises (sort_by cmp xs)
+  rises-sort [] apart = tt
+  rises-sort (x ∷ xs) apart = rises-insert x _ (all-sort _ xs apart.0) (rises-sort xs apart.1)
+
+  insert_first : (x : X) (xs : List X) → AllByRecursion (λ y. cmp x y ≡ Less) xs → insert_sorted cmp x xs ≡ x ∷ xs
+  insert_first x [] h = refl
+  insert_first x (y ∷ xs) h = ap (λ o. cond (is_gt o) (y ∷ insert_sorted cmp x xs) (x ∷ y ∷ xs)) h.0
+
+  module _ (u : X → Bool) where
+    passed_over : (x : X) (xs : List X) → u x ≡ false → filter u (insert_sorted cmp x xs) ≡ filter u xs
+    passed_over x [] out = rw out refl
+    passed_over x (y ∷ xs) out = go (is_gt (cmp x y)) (passed_over x xs out)
+      where
+        go : (b : Bool) → filter u (insert_sorted cmp x xs) ≡ filter u xs → filter u (cond b (y ∷ insert_sorted cmp x xs) (x ∷ y ∷ xs)) ≡ filter u (y ∷ xs)
+        go true more = ap (λ l. cond (u y) (y ∷ l) l) more
+        go false more = rw out refl
+
+    put_in : (x : X) (xs : List X) → Rises xs → AllByRecursion (λ y. is_eq (cmp x y) ≡ false) xs → u x ≡ true → filter u (insert_sorted cmp x xs) ≡ insert_sorted cmp x (filter u xs)
+    put_in x [] up apart kept = rw kept refl
+    put_in x (y ∷ xs) up apart kept = go (cmp x y) refl (put_in x xs up.1 apart.1 kept)
+      where
+        later : (b : Bool) → cmp x y ≡ Greater → filter u (insert_sorted cmp x xs) ≡ insert_sorted cmp x (filter u xs)
+            → cond b (y ∷ filter u (insert_sorted cmp x xs)) (filter u (insert_sorted cmp x xs)) ≡ insert_sorted cmp x (cond b (y ∷ filter u xs) (filter u xs))
+        later true e more = ap (λ l. y ∷ l) more ∙ sym (ap (λ o. cond (is_gt o) (y ∷ insert_sorted cmp x (filter u xs)) (x ∷ y ∷ filter u xs)) e)
+        later false e more = more
+
+        go : (o : Ordering) → cmp x y ≡ o → filter u (insert_sorted cmp x xs) ≡ insert_sorted cmp x (filter u xs)
+            → filter u (cond (is_gt o) (y ∷ insert_sorted cmp x xs) (x ∷ y ∷ xs)) ≡ insert_sorted cmp x (filter u (y ∷ xs))
+        go Less e more =
+            let above : AllByRecursion (λ z. cmp x z ≡ Less) (y ∷ xs) = (e, all_weaker _ (λ z. cmp x z ≡ Less) (λ z. total.trans x y z e) xs up.0) in
+            ap (λ b. cond b (x ∷ filter u (y ∷ xs)) (filter u (y ∷ xs))) kept ∙ sym (insert_first x (filter u (y ∷ xs)) (all-filter _ u (y ∷ xs) above))
+        go Equal e more = absurd (true≢false (sym (ap is_eq e) ∙ apart.0))
+        go Greater e more = later (u y) e more
+
+    -- what is left out may be left out before or after
+    pub filter-sort_by : (xs : List X) → IsUntied xs → filter u (sort_by cmp xs) ≡ sort_by cmp (filter u xs)
+    filter-sort_by [] apart = refl
+    filter-sort_by (x ∷ xs) apart = go (u x) refl (filter-sort_by xs apart.1)
+      where
+        go : (b : Bool) → u x ≡ b → filter u (sort_by cmp xs) ≡ sort_by cmp (filter u xs) → filter u (insert_sorted cmp x (sort_by cmp xs)) ≡ sort_by cmp (cond b (x ∷ filter u xs) (filter u xs))
+        go true e more = put_in x (sort_by cmp xs) (rises-sort xs apart.1) (all-sort _ xs apart.0) e ∙ ap (insert_sorted cmp x) more
+        go false e more = passed_over x (sort_by cmp xs) e ∙ more
+
+filter-twice : {X : Type 0} (p q : X → Bool) (xs : List X) → filter p (filter q xs) ≡ filter (λ x. q x && p x) xs
+filter-twice p q [] = refl
+filter-twice p q (x ∷ xs) = go (q x) (filter-twice p q xs)
+  where
+    go : (b : Bool) → filter p (filter q xs) ≡ filter (λ x. q x && p x) xs → filter p (cond b (x ∷ filter q xs) (filter q xs)) ≡ cond (b && p x) (x ∷ filter (λ x. q x && p x) xs) (filter (λ x. q x && p x) xs)
+    go true more = ap (λ l. cond (p x) (x ∷ l) l) more
+    go false more = more
+
+map_same_on : {X Y : Type 0} (f g : X → Y) (xs : List X) → AllByRecursion (λ x. f x ≡ g x) xs → map f xs ≡ map g xs
+map_same_on f g [] h = refl
+map_same_on f g (x ∷ xs) h = ap₂ ◌∷◌ h.0 (map_same_on f g xs h.1)
+
+all_found : {X : Type 0} (P : X → Type 0) (p : X → Bool) (xs : List X) → ((x : X) → p x ≡ true → P x) → AllByRecursion P (filter p xs)
+all_found P p [] h = tt
+all_found P p (x ∷ xs) h = go (p x) refl (all_found P p xs h)
+  where
+    go : (b : Bool) → p x ≡ b → AllByRecursion P (filter p xs) → AllByRecursion P (cond b (x ∷ filter p xs) (filter p xs))
+    go true e more = (h x e, more)
+    go false e more = more
+
+-- ---- due rows
+
+cmp_is : (m n : ℕ) → int_cmp (pos m) (pos n) ≡ nat_cmp m n
+cmp_is m n = grind (arith, ints)
+
+due_cmp_total : IsTotalOrder reads.due_cmp
+due_cmp_total = then_total (on_total (λ (d : Due). pos d.day) int_cmp_total) (on_total (λ (d : Due). pos d.number) int_cmp_total)
+
+le_is : (m n : ℕ) → int_le (pos m) (pos n) ≡ nat_le m n
+le_is m n = grind (arith, ints)
+
+same_number : (n : ℕ) → (n == n) ≡ true
+same_number n = grind arith
+
+other_number : (m n : ℕ) → m < n → (m == n) ≡ false
+other_number m n h = grind arith
+
+-- each record is found by its number
+found_itself : (xs : List Record) → IsAscending (λ (x y : Record). x.number < y.number) xs → AllByRecursion (λ (r : Record). find (has_number r.number) xs ≡ Some r) xs
+found_itself [] up = tt
+found_itself (x ∷ xs) up = (
+  ap (λ b. cond b (Some x) (find (has_number x.number) xs)) (same_number x.number),
+  all_both _ (λ (r : Record). find (has_number r.number) xs ≡ Some r) (λ (r : Record). find (has_number r.number) (x ∷ xs) ≡ Some r)
+      (λ r low h. ap (λ b. cond b (Some x) (find (has_number r.number) xs)) (other_number x.number r.number low) ∙ h) xs up.0 (found_itself xs up.1),
+)
+
+all_passed : {X : Type 0} (Q P : X → Type 0) (p : X → Bool) (xs : List X) → ((x : X) → Q x → p x ≡ true → P x) → AllByRecursion Q xs → AllByRecursion P (filter p xs)
+all_passed Q P p [] h all = tt
+all_passed Q P p (x ∷ xs) h all = go (p x) refl (all_passed Q P p xs h all.1)
+  where
+    go : (b : Bool) → p x ≡ b → AllByRecursion P (filter p xs) → AllByRecursion P (cond b (x ∷ filter p xs) (filter p xs))
+    go true e more = (h x all.0 e, more)
+    go false e more = more
+
+-- the tests of the stored rows are those of the due list
+tests_are : (live held : Bool) (o : Option ℕ) (day : ℕ) → (((live && is_some o) && int_le (pos (unwrap_or o 0)) (pos day)) && not held) ≡ (live && (not held && is_by day o))
+tests_are false held o day = refl
+tests_are true true None day = refl
+tests_are true false None day = refl
+tests_are true true (Some d) day = go (int_le (pos d) (pos day))
+  where
+    go : (b : Bool) → (b && false) ≡ false
+    go true = refl
+    go false = refl
+tests_are true false (Some d) day = go (int_le (pos d) (pos day)) ∙ le_is d day
+  where
+    go : (b : Bool) → (b && true) ≡ b
+    go true = refl
+    go false = refl
+
+there_is : (live held : Bool) (o : Option ℕ) (day : ℕ) → (live && (not held && is_by day o)) ≡ true → Some (unwrap_or o 0) ≡ o
+there_is live held (Some d) day h = refl
+there_is true true None day h = absurd (true≢false (sym h))
+there_is true false None day h = absurd (true≢false (sym h))
+there_is false held None day h = absurd (true≢false (sym h))
+
+-- THE DUE LIST: what the ordered due rows up to a day tell, those of held records left out
+pub due_list_is : (a : Archive) → IsArchive a → (day : ℕ) → map (told a) (filter (unheld a) (sort_by reads.due_cmp (filter (reads.is_by day) (due_rows a)))) ≡ due_list a day
+due_list_is a is day =
+    let D = due_row a in
+    let R = a.records in
+    let by : Record → Bool = λ r. reads.is_by day (D r) in
+    let free : Record → Bool = λ r. unheld a (D r) in
+    let c : Record → Record → Ordering = λ r s. reads.due_cmp (D r) (D s) in
+    let total : IsTotalOrder c = on_total D due_cmp_total in
+    let X1 = filter by (filter (has_due a) R) in
+    let first : filter (reads.is_by day) (due_rows a) ≡ map D X1 = filter-map (reads.is_by day) D (filter (has_due a) R) in
+    let second : sort_by reads.due_cmp (map D X1) ≡ map D (sort_by c X1) = sort_by-map reads.due_cmp D X1 in
+    let third : filter (unheld a) (map D (sort_by c X1)) ≡ map D (filter free (sort_by c X1)) = filter-map (unheld a) D (sort_by c X1) in
+    let apart : IsUntied c total X1 =
+    ascending_weaker _ (λ (x y : Record). is_eq (c x y) ≡ false) (λ x y low. (no_tie_after (int_cmp (pos (D x).day) (pos (D y).day)) (no_tie (Less-from_lt (pos x.number) (pos y.number) (grind (arith, ints, low))))).apart)
+    X1 (ascending-filter _ by _ (ascending-filter _ (has_due a) R is.in_order)) in
+    let fourth : filter free (sort_by c X1) ≡ sort_by c (filter free X1) = filter-sort_by c total free X1 apart in
+    let all : filter free X1 ≡ filter (is_due a day) R =
+    ap (filter free) (filter-twice by (has_due a) R) ∙ filter-twice free (λ r. has_due a r && by r) R
+    ∙ filter_same _ (is_due a day) (λ r. tests_are (is_live r) (is_held a r.number) (due_of a r) day) R in
+    let Z = filter (is_due a day) R in
+    let order : c ≡ (λ r s. line_cmp (line_of a r) (line_of a s)) = λ i r s. ordering_then (cmp_is (D r).day (D s).day i) (cmp_is r.number s.number i) in
+    let lines : AllByRecursion (λ r. told a (D r) ≡ line_of a r) (sort_by c Z) =
+    all-sort c total (λ r. told a (D r) ≡ line_of a r) Z
+    (all_passed (λ (r : Record). find (has_number r.number) R ≡ Some r) (λ r. told a (D r) ≡ line_of a r) (is_due a day) R
+    (λ r at due. λ i. record { number = r.number; path = unwrap_or (option_map (λ (x : Record). x.path) (at i)) []; due = there_is (is_live r) (is_held a r.number) (due_of a r) day due i })
+    (found_itself R is.in_order)) in
+    ap (λ l. map (told a) (filter (unheld a) (sort_by reads.due_cmp l))) first
+    ∙ ap (λ l. map (told a) (filter (unheld a) l)) second
+    ∙ ap (map (told a)) (third ∙ ap (map D) (fourth ∙ ap (sort_by c) all))
+    ∙ map-map (told a) D (sort_by c Z)
+    ∙ map_same_on _ (line_of a) (sort_by c Z) lines
+    ∙ ap (λ k. map (line_of a) (sort_by k Z)) order
+    ∙ sym (sort_by-map line_cmp (line_of a) Z)
+
+-- ---- one due day after another
+
+pub held_if : {X : Type 0} (p : X → Bool) (xs : List X) → 0 < tally p xs → list_any p xs ≡ true
+held_if p [] h = absurd (omega arith)
+held_if p (x ∷ xs) h = go (p x) h (held_if p xs)
+  where
+    go : (b : Bool) → 0 < cond b 1 0 + tally p xs → (0 < tally p xs → list_any p xs ≡ true) → (b || list_any p xs) ≡ true
+    go true h more = refl
+    go false h more = more (let low : 0 < 0 + tally p xs = h in omega (arith, low))
+
+pub free_if : {X : Type 0} (p : X → Bool) (xs : List X) → tally p xs ≤ 0 → list_any p xs ≡ false
+free_if p [] h = refl
+free_if p (x ∷ xs) h = go (p x) h (free_if p xs)
+  where
+    go : (b : Bool) → cond b 1 0 + tally p xs ≤ 0 → (tally p xs ≤ 0 → list_any p xs ≡ false) → (b || list_any p xs) ≡ false
+    go true h more = absurd (let low : 1 + tally p xs ≤ 0 = h in omega (arith, low))
+    go false h more = more (let low : 0 + tally p xs ≤ 0 = h in omega (arith, low))
+
+pub told_none : (a : Archive) (d : Due) (l : List Line) → is_held a d.number ≡ true → l ≡ l ++ map (told a) (filter (unheld a) (d ∷ []))
+told_none a d l h = sym (ap (λ b. l ++ map (told a) (cond (not b) (d ∷ []) [])) h ∙ append-nil l)
+
+pub told_one : (a : Archive) (d : Due) (l : List Line) (x : Line) → is_held a d.number ≡ false → x ≡ told a d → l ++ x ∷ [] ≡ l ++ map (told a) (filter (unheld a) (d ∷ []))
+told_one a d l x h e = ap (λ y. l ++ y ∷ []) e ∙ sym (ap (λ b. l ++ map (told a) (cond (not b) (d ∷ []) [])) h)
+
+filter-append : {X : Type 0} (p : X → Bool) (xs ys : List X) → filter p (xs ++ ys) ≡ filter p xs ++ filter p ys
+filter-append p [] ys = refl
+filter-append p (x ∷ xs) ys = go (p x) (filter-append p xs ys)
+  where
+    go : (b : Bool) → filter p (xs ++ ys) ≡ filter p xs ++ filter p ys → cond b (x ∷ filter p (xs ++ ys)) (filter p (xs ++ ys)) ≡ cond b (x ∷ filter p xs) (filter p xs) ++ filter p ys
+    go true more = ap (λ l. x ∷ l) more
+    go false more = more
+
+pub told_next : {V : Type 0} (a : Archive) (f : V → Due) (vs : List V) (v : V) (i : ℕ) → i < length vs → v ≡ get_or vs i v
+    → map (told a) (filter (unheld a) (map f (take i vs))) ++ map (told a) (filter (unheld a) (f v ∷ [])) ≡ map (told a) (filter (unheld a) (map f (take (i + 1) vs)))
+told_next a f vs v i low is =
+    let next : map f (take (i + 1) vs) ≡ map f (take i vs) ++ f v ∷ [] = ap (map f) (take_more vs i v low) ∙ map-append f (take i vs) _ ∙ ap (λ x. map f (take i vs) ++ f x ∷ []) (sym is) in
+    sym (ap (λ l. map (told a) (filter (unheld a) l)) next ∙ ap (map (told a)) (filter-append (unheld a) (map f (take i vs)) (f v ∷ [])) ∙ map-append (told a) (filter (unheld a) (map f (take i vs))) (filter (unheld a) (f v ∷ [])))

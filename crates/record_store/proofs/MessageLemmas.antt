@@ -1,0 +1,24 @@
+-- The message of a record.
+use Rattle.std.proofs.Common.{◌≡◌, ◌==◌, ℕ, Bool, true, false, cond, List, [], ◌∷◌, find, Some, option_map, Ok, Err, refl, sym, ap, ◌∙◌}
+use Rattle.sqlite.specs.Effect.{Database}
+use Rattle.record_tables.specs.Rows.{Message, Record}
+use Rattle.record_tables.specs.Lookups.{body_with}
+use Rattle.record_store.specs.Archive.{Archive, body_of, record_at, message, message_one}
+use Rattle.record_store.specs.Stores.{StoresArchive}
+use Rattle.record_store.specs.declared.fault.StoreFault.TheVariants as fault
+
+found_body : (ms : List Message) (n : ℕ) → option_map (λ (m : Message). m.body) (find (λ (m : Message). m.number == n) ms) ≡ body_of ms n
+found_body [] n = refl
+found_body (m ∷ ms) n = go (m.number == n) (found_body ms n)
+  where
+    go : (b : Bool) → option_map (λ (m : Message). m.body) (find (λ (m : Message). m.number == n) ms) ≡ body_of ms n
+        → option_map (λ (m : Message). m.body) (cond b (Some m) (find (λ (m : Message). m.number == n) ms)) ≡ cond b (Some m.body) (body_of ms n)
+    go true more = refl
+    go false more = more
+
+-- the tables tell a message
+pub body_told : (n : ℕ) (a : Archive) (db : Database) (s : StoresArchive db a) → body_with n s.tables ≡ body_of a.messages n
+body_told n a db s = found_body s.tables.messages n ∙ ap (λ ms. body_of ms n) s.keeps.messages
+
+pub message_is : (a : Archive) (n : ℕ) (r : Record) (b : List ℕ) → record_at a n ≡ Some r → r.destroyed ≡ false → Some b ≡ body_of a.messages r.message → message a n ≡ Ok (Some b)
+message_is a n r b at live body = ap (message_one a) at ∙ ap (λ d. cond d (Err fault.Destroyed) (Ok (body_of a.messages r.message))) live ∙ ap (λ o. Ok o) (sym body)

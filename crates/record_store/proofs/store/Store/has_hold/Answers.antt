@@ -1,0 +1,13 @@
+use Rattle.std.proofs.Common.{refl, ◌∙◌}
+use Rattle.record_store.specs.Archive.{Archive}
+use Rattle.record_store.proofs.CommandLemmas.{stands_looked}
+use Rattle.record_store.proofs.HoldLemmas.{hold_told}
+use Rattle.record_store.proofs.store.Store.has_hold.Goals as goal
+
+pub returns-in-Ok-clause-tells : goal.returns-in-Ok-clause-tells
+returns-in-Ok-clause-tells g c = λ (a : Archive) s. (
+  stands_looked g.S.Store c.args.self.now _ a s c.has_hold.ensures.looks refl refl (λ n. refl) (λ m. refl),
+  λ clean.
+      let kept = s.rows (c.has_hold.ensures.looks.falls clean) (c.in-Ok.ensures.open clean).0 in
+      c.in-Ok.ensures.there clean kept.tables kept.stored kept.keyed ∙ hold_told c.args.name.now c.args.number a _ kept,
+)

@@ -1,0 +1,237 @@
+-- An archive, and what each command makes of it.
+use Rattle.std.specs.Prelude.{◌≡◌, ◌≤◌, ◌<◌, ℕ, ◌+◌, ◌^◌, max, nat_le, ◌==◌, Bool, true, false, not, ◌&&◌, if◌then◌else◌, List, [], ◌∷◌, ◌++◌, map, filter, find, length, Option, Some, None, unwrap_or, Result, Ok, Err, All}
+use Rattle.std.specs.Str.{bytes_eq}
+use Rattle.std.specs.List.{list_any}
+use Rattle.std.specs.declared.cmp.Ordering.{Ordering}
+use Rattle.std.specs.Ordering.{nat_cmp, ordering_then}
+use Rattle.sqlite_keyed.specs.Lists.{sort_by, delete_where, update_where}
+use Rattle.sqlite_trees.specs.Tree.{IsAscending}
+use Rattle.class_plan.specs.declared.faults.PlanFault.{PlanFault}
+use Rattle.class_plan.specs.declared.faults.PlanFault.TheVariants.{PathDropped}
+use Rattle.class_plan.specs.declared.schedules.Action.TheVariants.{Destroy}
+use Rattle.class_plan.specs.declared.schedules.Schedule.{Schedule}
+use Rattle.class_plan.specs.declared.schedules.Schedule.TheVariants.{After}
+use Rattle.class_plan.specs.Changes.{added}
+use Rattle.class_plan.specs.Plans.{Listing, IsPlan, first_plan, has, keeps, schedule_at}
+use Rattle.record_tables.specs.Rows.{Message, Record}
+use Rattle.class_plan.specs.Calendar.{due_on}
+use Rattle.record_store.specs.declared.fault.StoreFault.{StoreFault}
+use Rattle.record_store.specs.declared.fault.StoreFault.TheVariants as fault
+
+-- a hold, by its name, of a record
+pub record Hold : Type 0 where
+  pub name : List ℕ
+  pub number : ℕ
+
+-- a plan, the stored messages and the records, each in the order of their numbers, and the holds in the order in which they
+-- were placed, which no answer depends on
+pub record Archive : Type 0 where
+  pub plan : Listing
+  pub messages : List Message
+  pub records : List Record
+  pub holds : List Hold
+
+-- the archive that nothing was captured in
+abbrev pub empty_archive : Archive
+empty_archive = record { plan = first_plan; messages = []; records = []; holds = [] }
+
+-- a record as it is told: its number, its path, and the number of its due day, if it has one
+pub record Line : Type 0 where
+  pub number : ℕ
+  pub path : List ℕ
+  pub due : Option ℕ
+
+-- ---- what is looked up
+
+abbrev pub has_number : ℕ → Record → Bool
+has_number n r = r.number == n
+
+abbrev pub record_at : Archive → ℕ → Option Record
+record_at a n = find (has_number n) a.records
+
+abbrev pub is_live : Record → Bool
+is_live r = not r.destroyed
+
+abbrev pub is_hold : List ℕ → ℕ → Hold → Bool
+is_hold name n h = bytes_eq h.name name && (h.number == n)
+
+abbrev pub is_held_by : Archive → List ℕ → ℕ → Bool
+is_held_by a name n = list_any (is_hold name n) a.holds
+
+-- some hold keeps the record
+abbrev pub is_held : Archive → ℕ → Bool
+is_held a n = list_any (λ (h : Hold). h.number == n) a.holds
+
+abbrev pub due_of : Archive → Record → Option ℕ
+due_of a r = due_on a.plan r.path r.day
+
+abbrev pub line_of : Archive → Record → Line
+line_of a r = record { number = r.number; path = r.path; due = due_of a r }
+
+-- there is a day, and it is not later than this one
+abbrev pub is_by : ℕ → Option ℕ → Bool
+is_by day None = false
+is_by day (Some d) = nat_le d day
+
+-- the schedule's action is to destroy
+abbrev pub destroys : Option Schedule → Bool
+destroys (Some (After n u Destroy y)) = true
+destroys _ = false
+
+-- one above the greatest number
+abbrev pub past_all : ℕ → List Record → ℕ
+past_all n [] = n
+past_all n (r ∷ rs) = past_all (max n (r.number + 1)) rs
+
+abbrev pub next_number : Archive → ℕ
+next_number a = past_all 1 a.records
+
+-- ---- captures
+
+-- live records of a message, numbered upwards
+abbrev pub records_of : ℕ → ℕ → ℕ → List (List ℕ) → List Record
+records_of n message day [] = []
+records_of n message day (q ∷ qs) = record { number = n; message = message; path = q; day = day; destroyed = false } ∷ records_of (n + 1) message day qs
+
+abbrev pub new_records : Archive → ℕ → List (List ℕ) → List Record
+new_records a day paths = records_of (next_number a) (next_number a) day paths
+
+-- one message and a record for each path; nothing where there is no path
+abbrev pub captured : Archive → List ℕ → ℕ → List (List ℕ) → Archive
+captured a body day [] = a
+captured a body day (q ∷ qs) = record a { messages = a.messages ++ record { number = next_number a; body = body } ∷ []; records = a.records ++ new_records a day (q ∷ qs) }
+
+-- a capture needs its numbers to be at most 4,294,967,295
+abbrev pub has_room : Archive → List (List ℕ) → Bool
+has_room a [] = true
+has_room a (q ∷ qs) = nat_le (next_number a + length (q ∷ qs)) (2 ^ 32)
+
+abbrev pub capture : Archive → List ℕ → ℕ → List (List ℕ) → Result Archive StoreFault
+capture a body day paths = if has_room a paths then Ok (captured a body day paths) else Err fault.Full
+
+-- what a capture answers: a line for each new record
+abbrev pub captured_lines : Archive → ℕ → List (List ℕ) → List Line
+captured_lines a day paths = map (line_of a) (new_records a day paths)
+
+-- ---- holds
+
+abbrev pub with_hold : Archive → List ℕ → ℕ → Archive
+with_hold a name n = record a { holds = a.holds ++ record { name = name; number = n } ∷ [] }
+
+abbrev pub without_hold : Archive → List ℕ → ℕ → Archive
+without_hold a name n = record a { holds = delete_where (is_hold name n) a.holds }
+
+abbrev pub hold_one : Archive → List ℕ → ℕ → Option Record → Result Archive StoreFault
+hold_one a name n None = Err fault.NoRecord
+hold_one a name n (Some r) =
+    if r.destroyed then Err fault.Destroyed
+    else if is_held_by a name n then Err fault.HoldThere
+    else Ok (with_hold a name n)
+
+-- a hold of a live record, where that hold is not there
+abbrev pub hold : Archive → List ℕ → ℕ → Result Archive StoreFault
+hold a name n = hold_one a name n (record_at a n)
+
+abbrev pub release_one : Archive → List ℕ → ℕ → Option Record → Result Archive StoreFault
+release_one a name n None = Err fault.NoRecord
+release_one a name n (Some r) = if is_held_by a name n then Ok (without_hold a name n) else Err fault.NoHold
+
+-- the end of a hold that is there
+abbrev pub release : Archive → List ℕ → ℕ → Result Archive StoreFault
+release a name n = release_one a name n (record_at a n)
+
+-- ---- destruction
+
+abbrev pub destroyed : Record → Record
+destroyed r = record r { destroyed = true }
+
+-- another live record has the message
+abbrev pub is_shared : Archive → Record → Bool
+is_shared a r = list_any (λ (x : Record). is_live x && ((x.message == r.message) && not (x.number == r.number))) a.records
+
+abbrev pub messages_without : Archive → Record → List Message
+messages_without a r = if is_shared a r then a.messages else delete_where (λ (m : Message). m.number == r.message) a.messages
+
+-- the record stays as a number, a path and a day, and the message goes with its last live record
+abbrev pub without : Archive → Record → Archive
+without a r = record a { messages = messages_without a r; records = update_where (has_number r.number) destroyed a.records }
+
+abbrev pub destroy_one : Archive → ℕ → ℕ → Option Record → Result Archive StoreFault
+destroy_one a n day None = Err fault.NoRecord
+destroy_one a n day (Some r) =
+    if r.destroyed then Err fault.Destroyed
+    else if is_held a n then Err fault.Held
+    else if not (destroys (schedule_at a.plan r.path)) then Err fault.NotForDestruction
+    else if not (is_by day (due_of a r)) then Err fault.NotDue
+    else Ok (without a r)
+
+-- the destruction of a live record that no hold keeps, whose schedule destroys it and that is due by the day
+abbrev pub destroy : Archive → ℕ → ℕ → Result Archive StoreFault
+destroy a n day = destroy_one a n day (record_at a n)
+
+-- ---- the plan
+
+abbrev pub plan_answer : Archive → Result Listing PlanFault → Result Archive StoreFault
+plan_answer a (Ok p) = Ok (record a { plan = p })
+plan_answer a (Err f) = Err (fault.Plan f)
+
+abbrev pub add_class : Archive → List ℕ → Result Archive StoreFault
+add_class a q = plan_answer a (added a.plan q)
+
+abbrev pub revise : Archive → Listing → Result Archive StoreFault
+revise a p = if keeps a.plan p then Ok (record a { plan = p }) else Err (fault.Plan PathDropped)
+
+-- ---- what is read
+
+abbrev pub body_of : List Message → ℕ → Option (List ℕ)
+body_of [] n = None
+body_of (m ∷ ms) n = if m.number == n then Some m.body else body_of ms n
+
+abbrev pub message_one : Archive → Option Record → Result (Option (List ℕ)) StoreFault
+message_one a None = Err fault.NoRecord
+message_one a (Some r) = if r.destroyed then Err fault.Destroyed else Ok (body_of a.messages r.message)
+
+-- the message of a record
+abbrev pub message : Archive → ℕ → Result (Option (List ℕ)) StoreFault
+message a n = message_one a (record_at a n)
+
+-- a live record without a hold whose due day is not later
+abbrev pub is_due : Archive → ℕ → Record → Bool
+is_due a day r = is_live r && (not (is_held a r.number) && is_by day (due_of a r))
+
+-- by due day, then by number; each line of a due list has a due day
+abbrev pub line_cmp : Line → Line → Ordering
+line_cmp x y = ordering_then (nat_cmp (unwrap_or x.due 0) (unwrap_or y.due 0)) (nat_cmp x.number y.number)
+
+-- the due list of a day, in the plan as it is now
+abbrev pub due_list : Archive → ℕ → List Line
+due_list a day = sort_by line_cmp (map (line_of a) (filter (is_due a day) a.records))
+
+-- ---- which rows are an archive
+
+-- a live record names the message
+abbrev pub is_named : List Record → ℕ → Bool
+is_named rs m = list_any (λ (r : Record). is_live r && (r.message == m)) rs
+
+abbrev pub has_message : List Message → ℕ → Bool
+has_message ms n = list_any (λ (m : Message). m.number == n) ms
+
+-- what is kept of a record
+pub record IsRecord (a : Archive) (r : Record) : Type 0 where
+  pub number : (1 ≤ r.number) × (r.number < 2 ^ 32)
+  pub message : (1 ≤ r.message) × (r.message ≤ r.number)
+  pub day : r.day ≤ 84005
+  pub class : has a.plan.rows r.path ≡ true
+  pub stored : r.destroyed ≡ false → has_message a.messages r.message ≡ true
+
+pub record IsArchive (a : Archive) : Type 0 where
+  pub plan : IsPlan a.plan
+  pub records : All (IsRecord a) a.records
+  pub in_order : IsAscending (λ (x y : Record). x.number < y.number) a.records
+  pub messages : IsAscending (λ (x y : Message). x.number < y.number) a.messages
+  -- no message is there that no live record names
+  pub named : All (λ (m : Message). is_named a.records m.number ≡ true) a.messages
+  -- each hold names a live record
+  pub held : All (λ (h : Hold). list_any (λ (r : Record). is_live r && has_number h.number r) a.records ≡ true) a.holds
+  -- each hold is there once
+  pub once : IsAscending (λ (x y : Hold). is_hold x.name x.number y ≡ false) a.holds

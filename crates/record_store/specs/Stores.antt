@@ -1,0 +1,139 @@
+-- How tables keep an archive, and which archive a store stands for.
+use Rattle.std.specs.Prelude.{◌≡◌, ◌-◌, ◌==◌, ℕ, ℤ, pos, negsuc, Bool, true, false, ◌&&◌, unsigned_abs, List, [], ◌∷◌, map, filter, is_some, option_map, unwrap_or, codes, Result, Ok, Err, IsTrue, IsPermutation, All}
+use Rattle.std.specs.List.Sorted.{IsStrictlySortedBy}
+use Rattle.std.specs.Ordering.{nat_cmp}
+use Rattle.std.specs.Cmp.Lexicographic.{slice_cmp}
+use Rattle.jiff.specs.Words.{epoch_day}
+use Rattle.class_plan.specs.Plans as plans
+use Rattle.sqlite.specs.Store.{Ghosts}
+use Rattle.sqlite.specs.Effect.{Database}
+use Rattle.sqlite.specs.State.{HasCleanDisk, Survives}
+use Rattle.sqlite.specs.Tree.{Trees}
+use Rattle.sqlite.specs.Held.{state}
+use Rattle.record_tables.specs.Rows.{Tables, Stores, AreKeyed, Record, Due, Hold as HoldRow}
+use Rattle.record_tables.specs.Reads.{listed, rule, paired}
+use Rattle.record_rows.specs.Rules.{rules_of, classes_of}
+use Rattle.record_store.specs.Archive.{Archive, Hold, Line, IsArchive, due_of, due_list, is_live, next_number}
+use Rattle.record_store.specs.declared.fault.StoreFault.{StoreFault}
+use Rattle.record_store.specs.declared.fault.StoreFault.TheVariants as fault
+use Rattle.record_store.specs.Counts.{count_at, tally}
+use Rattle.record_store.specs.declared.store.Store.{Store}
+use Rattle.record_store.specs.declared.store.Line as code
+
+-- ---- the tables
+
+abbrev pub hold_of : HoldRow → Hold
+hold_of h = record { name = h.name; number = h.number }
+
+-- a live record with a due day
+abbrev pub has_due : Archive → Record → Bool
+has_due a r = is_live r && is_some (due_of a r)
+
+abbrev pub due_row : Archive → Record → Due
+due_row a r = record { number = r.number; day = unwrap_or (due_of a r) 0 }
+
+-- the due day of each live record that has one, by the plan as it is now
+abbrev pub due_rows : Archive → List Due
+due_rows a = map (due_row a) (filter (has_due a) a.records)
+
+-- the tables keep the archive, the due days left aside
+pub record Keeps (t : Tables) (a : Archive) : Type 0 where
+  pub messages : t.messages ≡ a.messages
+  pub records : t.records ≡ a.records
+  pub holds : map hold_of t.holds ≡ a.holds
+  pub settings : map paired t.settings ≡ record { key = codes "version"; value = codes "2" } ∷ []
+  pub classes : IsPermutation (map listed t.classes) (classes_of a.plan)
+  pub schedules : IsPermutation (map rule t.schedules) (rules_of a.plan)
+
+-- the database keeps the archive, with the due days by its plan
+pub record StoresArchive (db : Database) (a : Archive) : Type 0 where
+  pub tables : Tables
+  pub stored : Stores db tables
+  pub keyed : AreKeyed tables
+  pub keeps : Keeps tables a
+  pub dues : tables.dues ≡ due_rows a
+
+-- ---- a store
+
+-- the live records of a message
+abbrev pub live_count : Archive → ℕ → ℕ
+live_count a m = tally (λ (r : Record). is_live r && (r.message == m)) a.records
+
+-- how many holds keep a record
+abbrev pub hold_count : Archive → ℕ → ℕ
+hold_count a n = tally (λ (h : Hold). h.number == n) a.holds
+
+-- While the disk is clean and the connection open, the rows are those of the archive. Beside the connection the store keeps the
+-- plan, the next number, how many holds each record has, and how many live records each message has beyond the first.
+pub record StandsFor {S : Type 0} (g : Ghosts S) (store : Store S) (a : Archive) : Type 0 where
+  pub idle : store.conn.in_transaction ≡ false
+  pub plan : store.plan ≡ a.plan
+  pub next : store.next ≡ next_number a
+  pub held : (n : ℕ) → count_at store.held n ≡ hold_count a n
+  pub others : (m : ℕ) → count_at store.others m ≡ live_count a m - 1
+  pub archive : IsArchive a
+  pub rows : HasCleanDisk (state g store.conn) → IsTrue (state g store.conn).is_open → StoresArchive (state g store.conn).now a
+
+-- a refusal that comes from the world and not from the archive: of `sqlite`, or for want of memory
+abbrev pub is_trouble : StoreFault → Bool
+is_trouble (fault.Sqlite e) = true
+is_trouble fault.NoMemory = true
+is_trouble _ = false
+
+abbrev pub Becomes : {S : Type 0} → Ghosts S → Store S → Result Archive StoreFault → Type 0
+Becomes g new (Ok b) = StandsFor g new b
+Becomes g new (Err f) = ⊥
+
+-- A call is a command of the archive: it is done and answered so, or refused and nothing has changed, by the command's own
+-- refusal or by the world's.
+abbrev pub Obeys : {S X : Type 0} → Ghosts S → (old new : Store S) → Result X StoreFault → (Archive → Result Archive StoreFault) → (Archive → X → Type 0) → Type 0
+Obeys g old new (Ok x) command Answers = (a : Archive) → StandsFor g old a → Becomes g new (command a) × Answers a x
+Obeys g old new (Err f) command Answers = (a : Archive) → StandsFor g old a → StandsFor g new a × (is_trouble f ≡ false → command a ≡ Err f)
+
+-- The same of a call that looks at the tables first: it goes by what the disk returns, so it is the archive's command while that
+-- is what was written.
+abbrev pub ObeysRows : {S X : Type 0} → Ghosts S → (old new : Store S) → Result X StoreFault → (Archive → Result Archive StoreFault) → (Archive → X → Type 0) → Type 0
+ObeysRows g old new (Ok x) command Answers = HasCleanDisk (state g new.conn) → (a : Archive) → StandsFor g old a → Becomes g new (command a) × Answers a x
+ObeysRows g old new (Err f) command Answers = (a : Archive) → StandsFor g old a → StandsFor g new a × (is_trouble f ≡ false → HasCleanDisk (state g new.conn) → command a ≡ Err f)
+
+-- A call reads: the store stands for the same archive, and while the disk is clean the answer is the archive's.
+abbrev pub Tells : {S X : Type 0} → Ghosts S → (old new : Store S) → Result X StoreFault → (Archive → X → Type 0) → (Archive → StoreFault → Type 0) → Type 0
+Tells g old new (Ok x) Answers Refuses = (a : Archive) → StandsFor g old a → StandsFor g new a × (HasCleanDisk (state g new.conn) → Answers a x)
+Tells g old new (Err f) Answers Refuses = (a : Archive) → StandsFor g old a → StandsFor g new a × (is_trouble f ≡ false → HasCleanDisk (state g new.conn) → Refuses a f)
+
+abbrev pub Quietly : {X : Type 0} → Archive → X → Type 0
+Quietly a x = Unit {0}
+
+-- what a crash in a call on an open connection may leave: what it might leave before, or the archive that the command makes
+abbrev pub Leaves : {S : Type 0} → Ghosts S → (old new : Store S) → (Archive → Result Archive StoreFault) → Type 0
+Leaves g old new command = (a : Archive) → StandsFor g old a → IsTrue (state g old.conn).is_open → Survives (state g old.conn) (state g new.conn)
+    (λ (trees : Trees). (db : Database) × (b : Archive) × (command a ≡ Ok b) × StoresArchive db b × (trees ≡ db.trees))
+
+-- what a crash in a call that reads on an open connection may leave: what it might leave before
+abbrev pub LeavesAll : {S : Type 0} → Ghosts S → (old new : Store S) → Type 0
+LeavesAll g old new = (a : Archive) → StandsFor g old a → Survives (state g old.conn) (state g new.conn) (λ _. IsTrue (state g old.conn).is_open → ⊥)
+
+-- what a crash in the doing of a command on an open connection may leave: what it might leave before, or where the command is
+-- one of the archive's, the archive that it makes
+abbrev pub LeavesMade : {S : Type 0} → Ghosts S → (old new : Store S) → (Archive → Result Archive StoreFault) → (Archive → Archive) → Type 0
+LeavesMade g old new command change = (a : Archive) → StandsFor g old a → Survives (state g old.conn) (state g new.conn)
+    (λ (trees : Trees). (db : Database) × (IsTrue (state g old.conn).is_open → command a ≡ Ok (change a) → StoresArchive db (change a)) × (trees ≡ db.trees))
+
+-- no fault of the disk is forgotten
+abbrev pub Falls : {S : Type 0} → Ghosts S → (old new : Store S) → Type 0
+Falls g old new = HasCleanDisk (state g new.conn) → HasCleanDisk (state g old.conn)
+
+-- ---- lines
+
+abbrev pub line_view : code.Line → Line
+line_view l = record { number = l.number; path = l.path.items; due = option_map (λ d. unsigned_abs (epoch_day d)) l.due }
+
+-- the due list of a day by its number, which is none before 1970
+abbrev pub due_list_on : Archive → ℤ → List Line
+due_list_on a (pos n) = due_list a n
+due_list_on a (negsuc n) = []
+
+-- paths of classes of a plan, in byte order, each once
+pub record AreClasses (p : plans.Listing) (paths : List (List ℕ)) : Type 0 where
+  pub classes : All (λ q. plans.has p.rows q ≡ true) paths
+  pub in_order : IsStrictlySortedBy (slice_cmp nat_cmp) paths

@@ -1,0 +1,168 @@
+//! Captures: a message is stored, with a record in each of its classes.
+
+ghost use Rattle.std.specs.Prelude.{◌≡◌, ◌+◌, ◌≤◌, ◌<◌, ◌^◌, length, map, ◌++◌, [], pos, unsigned_abs, true, false, Ok, Err, Some, None, IsTrue, IfOk, IfErr, OnOk, OnErr};
+ghost use Rattle.std.specs.List.{All};
+ghost use Rattle.jiff.specs.Words.{IsBetween, epoch_day};
+ghost use Rattle.class_plan.specs.Dates.{IsCaptureDay};
+ghost use Rattle.class_plan.specs.Calendar.{number_of_day, due_on};
+ghost use Rattle.record_tables.specs.Typed.{due_of};
+ghost use Rattle.record_store.specs.Archive as archive;
+ghost use Rattle.record_store.specs.Archive.{Archive};
+ghost use Rattle.record_store.specs.Captures.{HasDueDay, lines_of, dues_told, due_before};
+ghost use Rattle.record_store.specs.Stores.{StandsFor, AreClasses, Obeys, Leaves, LeavesMade, Falls, line_view, is_trouble};
+
+use crate::fault::StoreFault;
+use crate::store::{Line, Store};
+use crate::transactions::put_capture;
+use class_plan::{Date, day_number};
+use record_tables::rows::DueRow;
+use sqlite::Alter;
+use std::alloc::{AllocError, Global};
+
+/// One above the greatest number of a record.
+const NUMBERS: u64 = 1 << 32;
+
+/// The number of a day of 1970 to 9999.
+pub(crate) fn number_of(day: Date) -> u32
+    requires { IsBetween (pos 0) (pos 2932896) (epoch_day day) }
+    ensures { result ≡ number_of_day day }
+{
+    day_number(day) as u32
+}
+
+/// Adds the due day that a line tells, if it tells one.
+fn push_due(dues: &mut Vec<DueRow>, line: &Line) -> Result<(), AllocError>
+    requires { HasDueDay line.now }
+    ensures { OnOk result (map due_of dues.new.items ≡ map due_of dues.old.items ++ due_before (line_view line.now).number (line_view line.now).due []) }
+{
+    let Some(date) = line.due else {
+        return Ok(());
+    };
+    dues.push(DueRow {
+        record: line.number,
+        day: number_of(date),
+    })?;
+    Ok(())
+}
+
+/// The due days that lines tell.
+fn due_rows(alloc: Global, lines: &[Line]) -> Result<Vec<DueRow>, AllocError>
+    requires { All HasDueDay lines.now }
+    ensures { IfOk result (λ v. map due_of v.items ≡ dues_told (map line_view lines.now)) }
+{
+    let mut dues = Vec::new(alloc);
+    for line in lines {
+        push_due(&mut dues, line)?;
+    }
+    Ok(dues)
+}
+
+impl<S: Alter> Store<S> {
+    /// The line of a new record, with the due date by the plan.
+    fn new_line(&self, number: u32, path: &[u8], day: Date) -> Result<Line, AllocError>
+        requires { IsCaptureDay day }
+        ensures line { IfOk result (λ l. line_view l ≡ record { number = number; path = path.now; due = due_on self.now.plan path.now (number_of_day day) }) }
+        ensures day { IfOk result HasDueDay }
+    {
+        let due = self.plan.due_of(path, day);
+        Ok(Line {
+            number,
+            path: Vec::from_slice(self.alloc, path)?,
+            due,
+        })
+    }
+
+    /// A line for each path, numbered upwards, with the due date by the plan.
+    fn new_lines(&self, first: u32, day: Date, paths: &[Vec<u8>]) -> Result<Vec<Line>, AllocError>
+        requires room { first + length paths.now ≤ 2 ^ 32 }
+        requires day { IsCaptureDay day }
+        ensures lines { IfOk result (λ v. map line_view v.items ≡ lines_of self.now.plan first (number_of_day day) (map (λ p. p.items) paths.now)) }
+        ensures days { IfOk result (λ v. All HasDueDay v.items) }
+    {
+        let mut lines = Vec::new(self.alloc);
+        for (i, path) in paths.iter().enumerate() {
+            let line = self.new_line(first + i as u32, path.as_slice(), day)?;
+            lines.push(line)?;
+        }
+        Ok(lines)
+    }
+
+    /// Stores a message and its records, which have room.
+    fn place_capture(
+        &mut self,
+        first: u32,
+        body: &[u8],
+        day: u32,
+        paths: &[Vec<u8>],
+        dues: &[DueRow],
+    ) -> Result<(), StoreFault>
+        requires some { 0 < length paths.now }
+        requires room { first + length paths.now ≤ 2 ^ 32 }
+        requires first { first ≡ self.old.next }
+        requires classes { AreClasses self.old.plan (map (λ p. p.items) paths.now) }
+        requires day { day ≤ 84005 }
+        requires dues { map due_of dues.now ≡ dues_told (lines_of self.old.plan first day (map (λ p. p.items) paths.now)) }
+        ensures ok { OnOk result ((a : Archive) → StandsFor S.Store self.old a → StandsFor S.Store self.new (archive.captured a body.now day (map (λ p. p.items) paths.now))) }
+        ensures err { OnErr result ((a : Archive) → StandsFor S.Store self.old a → StandsFor S.Store self.new a) }
+        ensures trouble { IfErr result (λ f. is_trouble f ≡ true) }
+        ensures falls { Falls S.Store self.old self.new }
+        ensures crash { LeavesMade S.Store self.old self.new (λ a. Ok (archive.captured a body.now day (map (λ p. p.items) paths.now))) (λ a. archive.captured a body.now day (map (λ p. p.items) paths.now)) }
+    {
+        if !self.conn.is_autocommit() {
+            return Err(StoreFault::BUSY);
+        }
+        let further = paths.len() as u64 - 1;
+        let Ok(()) = self.others.add(first, further) else {
+            return Err(StoreFault::NoMemory);
+        };
+        match put_capture(&mut self.conn, first, body, day, paths, dues) {
+            Ok(()) => {
+                self.next += paths.len() as u64;
+                Ok(())
+            }
+            Err(error) => {
+                self.others.take(first, further);
+                Err(StoreFault::from(error))
+            }
+        }
+    }
+
+    /// Stores a message, and a record of it for each path, numbered upwards in their order; answers a line for each record, with
+    /// the due date by the plan. Nothing is stored where there is no path. 87 where a number would pass 4,294,967,295.
+    ///
+    /// The caller gives a day of 1970 to 2199, and paths of classes in byte order, each once.
+    pub fn capture(
+        &mut self,
+        body: &[u8],
+        day: Date,
+        paths: &[Vec<u8>],
+    ) -> Result<Vec<Line>, StoreFault>
+        requires day { IsCaptureDay day }
+        requires paths { AreClasses self.old.plan (map (λ p. p.items) paths.now) }
+        ensures obeys { Obeys S.Store self.old self.new result (λ a. archive.capture a body.now (number_of_day day) (map (λ p. p.items) paths.now))
+            (λ a lines. map line_view lines.items ≡ archive.captured_lines a (number_of_day day) (map (λ p. p.items) paths.now)) }
+        ensures falls { Falls S.Store self.old self.new }
+        ensures crash { Leaves S.Store self.old self.new (λ a. archive.capture a body.now (number_of_day day) (map (λ p. p.items) paths.now)) }
+    {
+        if paths.is_empty() {
+            return Ok(Vec::new(self.alloc));
+        }
+        if self.next > NUMBERS || paths.len() as u64 > NUMBERS - self.next {
+            return Err(StoreFault::Full);
+        }
+        let first = self.next as u32;
+        let lines = self.new_lines(first, day, paths)?;
+        let dues = due_rows(self.alloc, lines.as_slice())?;
+        self.place_capture(first, body, capture_number(day), paths, dues.as_slice())?;
+        Ok(lines)
+    }
+}
+
+/// The number of a capture day.
+fn capture_number(day: Date) -> u32
+    requires { IsCaptureDay day }
+    ensures number { result ≡ number_of_day day }
+    ensures small { result ≤ 84005 }
+{
+    day_number(day) as u32
+}

@@ -1,0 +1,112 @@
+//! Holds: what keeps a record from destruction.
+
+ghost use Rattle.std.specs.Prelude.{◌≡◌, true, false, Ok, Err, Some, None, IsTrue, IfErr, OnOk, OnErr};
+ghost use Rattle.sqlite.specs.State.{HasCleanDisk};
+ghost use Rattle.sqlite.specs.Held.{state};
+ghost use Rattle.record_store.specs.Archive as archive;
+ghost use Rattle.record_store.specs.Archive.{Archive};
+ghost use Rattle.record_store.specs.Stores.{StandsFor, ObeysRows, Tells, Leaves, LeavesAll, LeavesMade, Falls, Quietly, is_trouble};
+
+use crate::fault::StoreFault;
+use crate::store::Store;
+use crate::transactions::{end_hold, put_hold};
+use sqlite::Alter;
+
+impl<S: Alter> Store<S> {
+    /// Whether a record may be held by that name: 80, 84 and 86 in this order.
+    fn judge_hold(&mut self, name: &[u8], number: u32) -> Result<(), StoreFault>
+        ensures tells { Tells S.Store self.old self.new result (λ a _. archive.hold a name.now number ≡ Ok (archive.with_hold a name.now number)) (λ a f. archive.hold a name.now number ≡ Err f) }
+        ensures falls { Falls S.Store self.old self.new }
+        ensures open { HasCleanDisk (state S.Store self.new.conn) → OnOk result (IsTrue (state S.Store self.new.conn).is_open) }
+        ensures crash { LeavesAll S.Store self.old self.new }
+    {
+        let record = self.record_at(number)?;
+        if record.destroyed {
+            return Err(StoreFault::Destroyed);
+        }
+        if self.has_hold(name, number)? {
+            return Err(StoreFault::HoldThere);
+        }
+        Ok(())
+    }
+
+    /// Places a hold that may be placed.
+    fn place_hold(&mut self, name: &[u8], number: u32) -> Result<(), StoreFault>
+        ensures ok { OnOk result ((a : Archive) → StandsFor S.Store self.old a → archive.hold a name.now number ≡ Ok (archive.with_hold a name.now number) → StandsFor S.Store self.new (archive.with_hold a name.now number)) }
+        ensures err { OnErr result ((a : Archive) → StandsFor S.Store self.old a → StandsFor S.Store self.new a) }
+        ensures trouble { IfErr result (λ f. is_trouble f ≡ true) }
+        ensures falls { Falls S.Store self.old self.new }
+        ensures crash { LeavesMade S.Store self.old self.new (λ a. archive.hold a name.now number) (λ a. archive.with_hold a name.now number) }
+    {
+        if !self.conn.is_autocommit() {
+            return Err(StoreFault::BUSY);
+        }
+        let Ok(()) = self.held.add(number, 1) else {
+            return Err(StoreFault::NoMemory);
+        };
+        match put_hold(&mut self.conn, name, number) {
+            Ok(()) => Ok(()),
+            Err(error) => {
+                self.held.take(number, 1);
+                Err(StoreFault::from(error))
+            }
+        }
+    }
+
+    /// Holds a record by a name: 80 where there is no such record, 84 where it is destroyed, 86 where that hold is there.
+    pub fn hold(&mut self, name: &[u8], number: u32) -> Result<(), StoreFault>
+        ensures obeys { ObeysRows S.Store self.old self.new result (λ a. archive.hold a name.now number) Quietly }
+        ensures falls { Falls S.Store self.old self.new }
+        ensures crash { Leaves S.Store self.old self.new (λ a. archive.hold a name.now number) }
+    {
+        self.judge_hold(name, number)?;
+        self.place_hold(name, number)?;
+        Ok(())
+    }
+
+    /// Whether a hold of that name may end: 80 and 85 in this order.
+    fn judge_release(&mut self, name: &[u8], number: u32) -> Result<(), StoreFault>
+        ensures tells { Tells S.Store self.old self.new result (λ a _. archive.release a name.now number ≡ Ok (archive.without_hold a name.now number)) (λ a f. archive.release a name.now number ≡ Err f) }
+        ensures falls { Falls S.Store self.old self.new }
+        ensures open { HasCleanDisk (state S.Store self.new.conn) → OnOk result (IsTrue (state S.Store self.new.conn).is_open) }
+        ensures crash { LeavesAll S.Store self.old self.new }
+    {
+        let _record = self.record_at(number)?;
+        if self.has_hold(name, number)? {
+            Ok(())
+        } else {
+            Err(StoreFault::NoHold)
+        }
+    }
+
+    /// Ends a hold that may end.
+    fn end_hold(&mut self, name: &[u8], number: u32) -> Result<(), StoreFault>
+        ensures ok { OnOk result ((a : Archive) → StandsFor S.Store self.old a → archive.release a name.now number ≡ Ok (archive.without_hold a name.now number) → StandsFor S.Store self.new (archive.without_hold a name.now number)) }
+        ensures err { OnErr result ((a : Archive) → StandsFor S.Store self.old a → StandsFor S.Store self.new a) }
+        ensures trouble { IfErr result (λ f. is_trouble f ≡ true) }
+        ensures falls { Falls S.Store self.old self.new }
+        ensures crash { LeavesMade S.Store self.old self.new (λ a. archive.release a name.now number) (λ a. archive.without_hold a name.now number) }
+    {
+        if !self.conn.is_autocommit() {
+            return Err(StoreFault::BUSY);
+        }
+        match end_hold(&mut self.conn, name, number) {
+            Ok(()) => {
+                self.held.take(number, 1);
+                Ok(())
+            }
+            Err(error) => Err(StoreFault::from(error)),
+        }
+    }
+
+    /// Ends a hold: 80 where there is no such record, 85 where that hold is not there.
+    pub fn release(&mut self, name: &[u8], number: u32) -> Result<(), StoreFault>
+        ensures obeys { ObeysRows S.Store self.old self.new result (λ a. archive.release a name.now number) Quietly }
+        ensures falls { Falls S.Store self.old self.new }
+        ensures crash { Leaves S.Store self.old self.new (λ a. archive.release a name.now number) }
+    {
+        self.judge_release(name, number)?;
+        self.end_hold(name, number)?;
+        Ok(())
+    }
+}

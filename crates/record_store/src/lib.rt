@@ -1,0 +1,15 @@
+//! An archive of messages and records.
+#![tactic(auto)]
+
+mod captures;
+mod counts;
+mod dues;
+mod fault;
+mod holds;
+mod messages;
+mod store;
+mod transactions;
+
+pub use counts::Counts;
+pub use fault::StoreFault;
+pub use store::{Line, Store};

@@ -1,0 +1,43 @@
+//! Messages of records.
+
+ghost use Rattle.std.specs.Prelude.{◌≡◌, option_map, Ok, Err, Some, None, IsTrue, OnOk};
+ghost use Rattle.sqlite.specs.State.{HasCleanDisk};
+ghost use Rattle.sqlite.specs.Held.{state};
+ghost use Rattle.record_store.specs.Archive as archive;
+ghost use Rattle.record_store.specs.Archive.{Archive};
+ghost use Rattle.record_store.specs.Stores.{StandsFor, Tells, LeavesAll, Falls};
+
+use crate::fault::StoreFault;
+use crate::store::Store;
+use record_tables::lookup::message_body;
+use sqlite::Alter;
+
+impl<S: Alter> Store<S> {
+    /// The octets of the message with a number.
+    fn body_of(&mut self, message: u32) -> Result<Option<Vec<u8>>, StoreFault>
+        ensures tells { Tells S.Store self.old self.new result (λ a b. option_map (λ v. v.items) b ≡ archive.body_of a.messages message) (λ a f. ⊥) }
+        ensures falls { Falls S.Store self.old self.new }
+        ensures crash { LeavesAll S.Store self.old self.new }
+    {
+        match message_body(&mut self.conn, message) {
+            Ok(body) => Ok(body),
+            Err(error) => Err(StoreFault::from(error)),
+        }
+    }
+
+    /// The message of a record: 80 where there is no such record, 84 where it is destroyed.
+    pub fn message(&mut self, number: u32) -> Result<Vec<u8>, StoreFault>
+        ensures tells { Tells S.Store self.old self.new result (λ a body. archive.message a number ≡ Ok (Some body.items)) (λ a f. archive.message a number ≡ Err f) }
+        ensures falls { Falls S.Store self.old self.new }
+        ensures crash { LeavesAll S.Store self.old self.new }
+    {
+        let record = self.record_at(number)?;
+        if record.destroyed {
+            return Err(StoreFault::Destroyed);
+        }
+        match self.body_of(record.message)? {
+            Some(body) => Ok(body),
+            None => Err(StoreFault::LOST),
+        }
+    }
+}

@@ -1,0 +1,119 @@
+//! The store and its calls.
+
+ghost use Rattle.std.specs.Prelude.{◌≡◌, false, true, Some, None, Ok, Err, IfOk, IfErr, OnOk, OnErr, IsTrue};
+ghost use Rattle.sqlite.specs.State.{HasCleanDisk};
+ghost use Rattle.sqlite.specs.Held.{state};
+ghost use Rattle.record_tables.specs.Tables.{no_schema};
+ghost use Rattle.record_tables.specs.Typed.{record_of};
+ghost use Rattle.record_store.specs.Archive as archive;
+ghost use Rattle.record_store.specs.Archive.{Archive, empty_archive};
+ghost use Rattle.record_store.specs.Stores.{StandsFor, is_trouble, Tells, LeavesAll, Falls};
+
+use crate::counts::Counts;
+use crate::fault::StoreFault;
+use class_plan::{Date, Plan};
+use record_rows::{classes_of, rules_of};
+use record_tables::lay::lay;
+use record_tables::lookup::{has_hold, record_by_number};
+use record_tables::rows::RecordRow;
+use sqlite::{Alter, Connection};
+use std::alloc::Global;
+
+/// A record as it is told: its number, its class, and the date on which it falls due.
+#[derive(Debug, Drop)]
+pub struct Line {
+    pub number: u32,
+    pub path: Vec<u8>,
+    pub due: Option<Date>,
+}
+
+/// A store of an archive.
+#[derive(Drop)]
+pub struct Store<S: Alter> {
+    pub(crate) alloc: Global,
+    pub(crate) conn: Connection<S>,
+    pub(crate) plan: Plan,
+    pub(crate) next: u64,
+    pub(crate) held: Counts,
+    pub(crate) others: Counts,
+}
+
+impl<S: Alter> Store<S> {
+    /// The store over a database without tables, which lays them: an archive with the plan of `Plan::new` and no record. A refusal,
+    /// 99 or 89, hands the connection back, and the database is as it was.
+    pub fn create(
+        alloc: Global,
+        mut conn: Connection<S>,
+    ) -> Result<Store<S>, (StoreFault, Connection<S>)>
+        requires { conn.in_transaction ≡ false }
+        ensures ok { IfOk result (λ s. HasCleanDisk (state S.Store s.conn) → (state S.Store conn).now.schema ≡ no_schema → StandsFor S.Store s empty_archive) }
+        ensures trouble { IfErr result (λ e. is_trouble e.0 ≡ true) }
+        ensures unchanged { IfErr result (λ e. HasCleanDisk (state S.Store e.1) → IsTrue (state S.Store e.1).is_open
+            → ((state S.Store e.1).now ≡ (state S.Store conn).now) × ((state S.Store e.1).committed ≡ (state S.Store conn).committed)) }
+    {
+        let Ok(plan) = Plan::new(alloc) else {
+            return Err((StoreFault::NoMemory, conn));
+        };
+        let Ok(rules) = rules_of(alloc, &plan) else {
+            return Err((StoreFault::NoMemory, conn));
+        };
+        let Ok(classes) = classes_of(alloc, &plan) else {
+            return Err((StoreFault::NoMemory, conn));
+        };
+        let held = Counts::new(alloc);
+        let others = Counts::new(alloc);
+        match lay(&mut conn, rules.as_slice(), classes.as_slice()) {
+            Ok(()) => Ok(Store {
+                alloc,
+                conn,
+                plan,
+                next: 1,
+                held,
+                others,
+            }),
+            Err(error) => Err((StoreFault::from(error), conn)),
+        }
+    }
+
+    /// The record with a number (80).
+    pub(crate) fn record_at(&mut self, number: u32) -> Result<RecordRow, StoreFault>
+        ensures tells { Tells S.Store self.old self.new result (λ a r. archive.record_at a number ≡ Some (record_of r)) (λ a f. (f ≡ StoreFault.NoRecord) × (archive.record_at a number ≡ None)) }
+        ensures falls { Falls S.Store self.old self.new }
+        ensures open { HasCleanDisk (state S.Store self.new.conn) → OnOk result (IsTrue (state S.Store self.new.conn).is_open) }
+        ensures crash { LeavesAll S.Store self.old self.new }
+    {
+        match record_by_number(&mut self.conn, number) {
+            Ok(Some(record)) => Ok(record),
+            Ok(None) => Err(StoreFault::NoRecord),
+            Err(error) => Err(StoreFault::from(error)),
+        }
+    }
+
+    /// Whether a hold of that name keeps the record.
+    pub(crate) fn has_hold(&mut self, name: &[u8], number: u32) -> Result<bool, StoreFault>
+        ensures tells { Tells S.Store self.old self.new result (λ a b. b ≡ archive.is_held_by a name.now number) (λ a f. ⊥) }
+        ensures falls { Falls S.Store self.old self.new }
+        ensures open { HasCleanDisk (state S.Store self.new.conn) → OnOk result (IsTrue (state S.Store self.new.conn).is_open) }
+        ensures crash { LeavesAll S.Store self.old self.new }
+    {
+        match has_hold(&mut self.conn, name, number) {
+            Ok(is_there) => Ok(is_there),
+            Err(error) => Err(StoreFault::from(error)),
+        }
+    }
+
+    /// The plan.
+    pub fn plan(&self) -> &Plan
+        ensures { (a : Archive) → StandsFor S.Store self.now a → result.now ≡ a.plan }
+    {
+        &self.plan
+    }
+
+    /// The connection, given back.
+    pub fn into_connection(self) -> Connection<S>
+        ensures { result ≡ self.conn }
+    {
+        let Store { conn, .. } = self;
+        conn
+    }
+}
