@@ -104,7 +104,8 @@ impl<S: Alter> Store<S> {
 
     /// The plan.
     pub fn plan(&self) -> &Plan
-        ensures { (a : Archive) → StandsFor S.Store self.now a → result.now ≡ a.plan }
+        ensures value { result.now ≡ self.now.plan }
+        ensures stands { (a : Archive) → StandsFor S.Store self.now a → result.now ≡ a.plan }
     {
         &self.plan
     }
