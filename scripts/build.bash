@@ -261,9 +261,11 @@ build_libraries() {
     end_lanes
 }
 
-# Builds a program over its libraries.
+# Builds a program over its libraries; rt also runs it, on its own input if it has one.
 build_program() {
-    (cd -- "$root/crates/$1" && exec rt run) > "$root/crates/$1/out/build.log" 2>&1 < /dev/null &
+    local input=$root/crates/$1/stdin
+    [[ -f $input ]] || input=/dev/null
+    (cd -- "$root/crates/$1" && exec rt run) > "$root/crates/$1/out/build.log" 2>&1 < "$input" &
     builders[$1]=$!
     wait "${builders[$1]}"
 }

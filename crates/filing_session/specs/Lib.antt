@@ -9,3 +9,4 @@ pub mod Replies
 pub mod Session
 pub mod Heard
 pub mod Memory
+pub mod Known

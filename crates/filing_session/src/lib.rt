@@ -6,23 +6,30 @@
 //! - `reply`: what is written;
 //! - `commands`: what each command does at the desk;
 //! - `items`: a line with its payloads, which is read and done;
+//! - `input`, `output`: a source over a reader, which is read `ahead`, and a sink over a writer;
 //! - `memory`: a source and a sink for tests;
 //! - `session`: `serve`, whose contract says which octets it writes to which it read, and what the desk has done.
 //!
 //! In `specs/`, `Session` has the whole of it: the commands of an input, the runs of a desk, and the octets of answers.
 #![tactic(auto)]
 
+mod ahead;
 mod commands;
+mod input;
 mod items;
 mod lines;
 pub mod memory;
+mod output;
 mod payload;
 mod reply;
 mod session;
 mod stream;
 mod tally;
+mod trouble;
 mod words;
 
+pub use input::Input;
+pub use output::Output;
 pub use session::{COMMANDS, ServeFault, serve};
 pub use stream::{Sink, Source, Trouble};
 pub use tally::Tally;

@@ -1,17 +1,11 @@
 //! The program: serves a session from standard input to standard output.
 #![tactic(auto)]
 
-mod ahead;
 mod command_line;
-mod input;
-mod output;
-mod trouble;
 
 use command_line::{LineFault, read_command_line};
 use filing_desk::Desk;
-use filing_session::serve;
-use input::Input;
-use output::Output;
+use filing_session::{Input, Output, serve};
 use std::process::ExitCode;
 
 /// The status after a read or a write fault.

@@ -1,7 +1,10 @@
 //! Plays a table of calls (`src/row.rt`) and one of sessions (`src/sessions.rt`), and compares the outcomes of scripts that are
-//! made by chance (`src/made.rt`). Standard input has the calls and, after a line `[sessions]`, the sessions.
+//! made by chance (`src/made.rt`). Standard input has the calls and, after a line `[sessions]`, the sessions. Then each measure is
+//! run once (`src/bench.rt`). With words on its command line the program measures alone: `rows OCTETS ROUNDS` tells times, and
+//! `rows memory INDEX` memory.
 #![tactic(auto)]
 
+mod bench;
 mod call;
 mod compiled;
 mod given;
@@ -105,11 +108,18 @@ fn play_calls(rt: &(impl Print + AllocGlobal), table: &str) -> Result<()> {
 }
 
 fn main(rt: HostRuntime) -> Result<()> {
+    if let Some(index) = bench::memory_asked_for(&rt)? {
+        return bench::memory::tell(&rt, index);
+    }
+    if let Some((octets, rounds)) = bench::asked_for(&rt)? {
+        return bench::tell_times(&rt, octets, rounds);
+    }
     let mut text = String::new(rt.alloc());
     rt.reader().read_to_string(&mut text)?;
     let tables = text.as_str().split_once("\n[sessions]\n");
     let (calls, cases) = tables.context("the sessions are missing")?;
     play_calls(&rt, calls)?;
     sessions::play_all(&rt, cases)?;
-    made::compare_all(&rt)
+    made::compare_all(&rt)?;
+    bench::tell_answers(&rt)
 }

@@ -1,5 +1,5 @@
 use Rattle.std.proofs.Common.{◌-◌, ◌≡◌}
-use Rattle.mailfile.proofs.output.Output.send_held.Given as goal
+use Rattle.filing_session.proofs.output.Output.send_held.Given as goal
 
 abbrev pub invariant-loop-self : goal.invariant-loop-self
 invariant-loop-self g l = l.self.tally ≡ l.fn.self.tally

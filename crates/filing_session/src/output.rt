@@ -2,8 +2,9 @@
 
 ghost use Rattle.std.specs.Prelude.{◌≡◌, ◌≤◌, length, IfOk};
 
+use crate::stream::{Sink, Trouble};
+use crate::tally::Tally;
 use crate::trouble::trouble_of;
-use filing_session::{Sink, Tally, Trouble};
 use std::io::{self, Write};
 
 /// How many octets are held until their line ends.

@@ -1,9 +1,9 @@
 //! What measures work on beside their inputs.
 
-use crate::filings::{INVOICE_SCRIPT, case_of, compiled, judged, message};
-use crate::includes::{Linked, Texts};
-use crate::measures::Measure;
-use crate::plans::{MOST_CLASSES, plan_of};
+use crate::bench::filings::{INVOICE_SCRIPT, case_of, compiled, judged, message};
+use crate::bench::includes::{Linked, Texts};
+use crate::bench::measures::Measure;
+use crate::bench::plans::{MOST_CLASSES, plan_of};
 use class_plan::Plan;
 use filing_machine::{WholeCase, run};
 use filing_verify::Verified;

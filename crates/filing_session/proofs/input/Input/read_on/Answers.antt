@@ -1,5 +1,5 @@
-use Rattle.mailfile.proofs.Reading.{took, filled, some_taken, ended}
-use Rattle.mailfile.proofs.input.Input.read_on.Goals as goal
+use Rattle.filing_session.proofs.ReadingAhead.{took, filled, some_taken, ended}
+use Rattle.filing_session.proofs.input.Input.read_on.Goals as goal
 
 pub returns-then-not-is_empty-clause-octets : goal.returns-then-not-is_empty-clause-octets
 returns-then-not-is_empty-clause-octets g c = (

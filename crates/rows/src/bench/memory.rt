@@ -1,7 +1,7 @@
 //! The memory that the cases of messages take, by the most that the process has had at once.
 
-use crate::filings::message;
-use crate::inputs::repeated;
+use crate::bench::filings::message;
+use crate::bench::inputs::repeated;
 use anyhow::{Context, Result};
 use filing_desk::GREATEST_MESSAGE;
 use filing_machine::{Case, PieceCase, WholeCase};

@@ -1,14 +1,14 @@
 //! What is measured: the input of each measure, and one run of it.
 
-use crate::filings::{
+use crate::bench::filings::{
     INVOICE_SCRIPT, fields_of_cases, judged, message, octets_answered, script_of_tests,
     session_of_classes, session_of_filings, weight_of, weights_of,
 };
-use crate::includes::Texts;
-use crate::inputs::{image_of_code, image_of_steps, image_of_texts, repeated};
-use crate::plans::{class_path, plan_text, schedules, taken_over};
-use crate::settings::Setting;
-use crate::trees::octets_of_tree;
+use crate::bench::includes::Texts;
+use crate::bench::inputs::{image_of_code, image_of_steps, image_of_texts, repeated};
+use crate::bench::plans::{class_path, plan_text, schedules, taken_over};
+use crate::bench::settings::Setting;
+use crate::bench::trees::octets_of_tree;
 use mail_head::{HeadReader, read_head};
 use mail_words::value_of;
 use sieve_match::{Comparator, contains, matches};

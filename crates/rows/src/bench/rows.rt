@@ -1,7 +1,7 @@
 //! The table that is measured, as data: what, what was asked of it, and the plain pass beside it.
 
-use crate::baselines::Baseline;
-use crate::measures::{AcceptedText, HostileText, Measure};
+use crate::bench::baselines::Baseline;
+use crate::bench::measures::{AcceptedText, HostileText, Measure};
 
 /// What was asked of a measure.
 #[derive(Clone, Copy)]

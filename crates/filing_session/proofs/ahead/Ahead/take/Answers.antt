@@ -1,7 +1,7 @@
 use Rattle.std.proofs.Common.{◌∙◌, ap, arith, drop}
 use Rattle.std.proofs.lemmas.Grind.{common_steps}
-use Rattle.mailfile.proofs.Reading.{rest_of}
-use Rattle.mailfile.proofs.ahead.Ahead.take.Goals as goal
+use Rattle.filing_session.proofs.ReadingAhead.{rest_of}
+use Rattle.filing_session.proofs.ahead.Ahead.take.Goals as goal
 
 pub returns-clause-rest : goal.returns-clause-rest
 returns-clause-rest c =

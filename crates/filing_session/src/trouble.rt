@@ -3,7 +3,7 @@
 ghost use Rattle.std.specs.Prelude.{◌≡◌, ◌↔◌};
 ghost use Rattle.std.specs.IoError.{error_kind};
 
-use filing_session::Trouble;
+use crate::stream::Trouble;
 use std::io::{self, ErrorKind};
 
 /// What trouble an error is: an interruption exactly where its kind is that.

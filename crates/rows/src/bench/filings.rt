@@ -1,6 +1,6 @@
 //! Scripts, messages and sessions, and what is measured on them.
 
-use crate::inputs::repeated;
+use crate::bench::inputs::repeated;
 use filing_desk::{Desk, GREATEST_MESSAGE};
 use filing_gen::{Library, compile};
 use filing_image::decode;

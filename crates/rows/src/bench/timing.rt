@@ -1,7 +1,7 @@
 //! How long a row of the table takes.
 
-use crate::rows::Row;
-use crate::settings::Setting;
+use crate::bench::rows::Row;
+use crate::bench::settings::Setting;
 use anyhow::Result;
 use std::alloc::{AllocError, Global};
 use std::rt::Clock;

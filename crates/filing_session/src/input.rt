@@ -3,11 +3,12 @@
 
 ghost use Rattle.std.specs.Prelude.{◌<◌, ◌≤◌, ◌≡◌, length, IfOk};
 ghost use Rattle.std.specs.Io.KnownBytes.{ReadConsumes};
-ghost use Rattle.mailfile.specs.Known.{octets_left};
+ghost use Rattle.filing_session.specs.Known.{octets_left};
 
 use crate::ahead::Ahead;
+use crate::stream::{Source, Trouble};
+use crate::tally::Tally;
 use crate::trouble::trouble_of;
-use filing_session::{Source, Tally, Trouble};
 use std::io::{self, Read};
 
 /// A reader that is read ahead, so that a session may ask for one octet at a time.

@@ -1,7 +1,7 @@
 -- What an input has left, where its reader knows what it has left.
 use Rattle.std.specs.Prelude.{ℕ, List, Option}
 use Rattle.std.specs.Io.KnownBytes.{prepend_known}
-use Rattle.mailfile.specs.declared.input.Input.{Input}
+use Rattle.filing_session.specs.declared.input.Input.{Input}
 
 -- the octets that were read ahead, and then those of the reader
 abbrev pub octets_left : {R : Type 0} → (R → Option (List ℕ)) → Input R → Option (List ℕ)

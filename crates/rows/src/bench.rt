@@ -1,15 +1,14 @@
-//! Measures the parts of Mailfile on inputs that it makes. `bench` alone runs each measure once on a small input and
-//! tells what it answered. `bench OCTETS ROUNDS` runs each so often on an input of so many octets and on one of half as
-//! many, and tells the least time of each, beside that of a plain pass over the same input. `bench memory INDEX` tells the
-//! memory of cases, each in a process of its own. `./bench` at the top runs the built program and writes the table.
-#![tactic(auto)]
+//! Measures the parts of Mailfile on inputs that it makes. Each measure is run once on a small input, and what it answered is told;
+//! or each is run so often on an input of so many octets and on one of half as many, and the least time of each is told, beside that
+//! of a plain pass over the same input; or the memory of a case is told, each in a process of its own. `./bench` at the top of the
+//! repository runs the built program and writes the table.
 
 mod baselines;
 mod filings;
 mod includes;
 mod inputs;
 mod measures;
-mod memory;
+pub mod memory;
 mod plans;
 mod rows;
 mod settings;
@@ -19,14 +18,14 @@ mod trees;
 use anyhow::Result;
 use rows::{Asked, ROWS, Row};
 use std::env;
-use std::rt::Env;
+use std::rt::{Clock, Env};
 use timing::{Timing, answer_of, timing_of};
 
 /// The octets of an input where none are asked for.
 const FEW_OCTETS: usize = 4_096;
 
-/// The octets of an input and the rounds that are asked for, if both are.
-fn asked_for(rt: &(impl Env + Alloc)) -> Result<Option<(usize, u32)>> {
+/// The octets of an input and the rounds that the command line asks for, if it has both.
+pub fn asked_for(rt: &(impl Env + Alloc)) -> Result<Option<(usize, u32)>> {
     let mut words = env::args(rt)?;
     let _ = words.next();
     let octets = words.next().and_then(|word| word.parse().ok());
@@ -34,8 +33,8 @@ fn asked_for(rt: &(impl Env + Alloc)) -> Result<Option<(usize, u32)>> {
     Ok(octets.zip(rounds))
 }
 
-/// Which row of the memory of cases is asked for, if one is.
-fn memory_asked_for(rt: &(impl Env + Alloc)) -> Result<Option<usize>> {
+/// Which row of the memory of cases the command line asks for, if it has one.
+pub fn memory_asked_for(rt: &(impl Env + Alloc)) -> Result<Option<usize>> {
     let mut words = env::args(rt)?;
     let _ = words.next();
     match words.next() {
@@ -66,20 +65,25 @@ fn tell(rt: &impl Print, row: &Row, whole: Timing, half: Timing) -> Result<()> {
     Ok(())
 }
 
-fn main(rt: HostRuntime) -> Result<()> {
-    if let Some(index) = memory_asked_for(&rt)? {
-        return memory::tell(&rt, index);
-    }
-    let asked_for = asked_for(&rt)?;
+/// Tells what each measure answers on a small input.
+pub fn tell_answers(rt: &(impl Print + AllocGlobal)) -> Result<()> {
     for row in &ROWS {
-        let Some((octets, rounds)) = asked_for else {
-            let (title, answer) = (row.title, answer_of(rt.alloc(), row, FEW_OCTETS)?);
-            println!(rt; "{title}: {answer}")?;
-            continue;
-        };
-        let whole = timing_of(&rt, row, octets, rounds)?;
-        let half = timing_of(&rt, row, octets / 2, rounds)?;
-        tell(&rt, row, whole, half)?;
+        let (title, answer) = (row.title, answer_of(rt.alloc(), row, FEW_OCTETS)?);
+        println!(rt; "{title}: {answer}")?;
+    }
+    Ok(())
+}
+
+/// Tells what each measure takes, in so many rounds, on an input of so many octets and on one of half as many.
+pub fn tell_times<R: Clock + Print + AllocGlobal>(
+    rt: &R,
+    octets: usize,
+    rounds: u32,
+) -> Result<()> {
+    for row in &ROWS {
+        let whole = timing_of(rt, row, octets, rounds)?;
+        let half = timing_of(rt, row, octets / 2, rounds)?;
+        tell(rt, row, whole, half)?;
     }
     Ok(())
 }
