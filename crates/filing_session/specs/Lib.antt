@@ -8,4 +8,5 @@ pub mod Payloads
 pub mod Replies
 pub mod Session
 pub mod Heard
+pub mod Laws
 pub mod Memory

@@ -7,13 +7,16 @@
 //! - `commands`: what each command does at the desk;
 //! - `items`: a line with its payloads, which is read and done;
 //! - `memory`: a source and a sink for tests;
-//! - `session`: `serve`, whose contract says which octets it writes to which it read, and what the desk has done.
+//! - `session`: `serve`, whose contract says which octets it writes to which it read, and what the desk has done;
+//! - `laws`: what that says of the states that the desk stands for.
 //!
-//! In `specs/`, `Session` has the whole of it: the commands of an input, the runs of a desk, and the octets of answers.
+//! In `specs/`, `Session` has the whole of it: the commands of an input, the runs of a desk or of the states that it stands
+//! for, and the octets of answers.
 #![tactic(auto)]
 
 mod commands;
 mod items;
+mod laws;
 mod lines;
 pub mod memory;
 mod payload;
@@ -23,6 +26,7 @@ mod stream;
 mod tally;
 mod words;
 
+pub use laws::sessions_refine_states;
 pub use session::{COMMANDS, ServeFault, serve};
 pub use stream::{Sink, Source, Trouble};
 pub use tally::Tally;
