@@ -1,2 +1,4 @@
+mod Rows
+pub mod ScriptLemmas
 pub mod StepLemmas
 pub mod OutcomeLemmas

@@ -1,22 +1,18 @@
 -- What each command may be answered, and what it leaves.
-use Rattle.std.specs.Prelude.{◌≡◌, ℕ, true, false, ◌≤◌, ◌<◌, ◌⊎◌, List, [], length, Some, None, is_some, Result, Ok, Err, refl}
-use Rattle.std.specs.Coded.{Coded, code_by, coded×}
+use Rattle.std.specs.Prelude.{◌≡◌, ℕ, true, false, ◌≤◌, ◌<◌, ◌⊎◌, List, [], length, Some, None, is_some, Result, Ok, Err}
 use Rattle.sieve_syntax.specs.Tree.{CommandTrees}
-use Rattle.sieve_syntax.specs.View.{tree_of}
-use Rattle.sieve_syntax.specs.declared.tree.Script.{Script}
 use Rattle.sieve_text.specs.declared.fault.TextRefusal.{TextRefusal}
 use Rattle.sieve_text.specs.declared.fault.TextFault.TheVariants as texts
 use Rattle.sieve_text.specs.Grammar.{IsScript, Explains, text_number}
 use Rattle.sieve_check.specs.Rules as rules
-use Rattle.class_plan.specs.contracts.plans.Plan as kept
 use Rattle.class_plan.specs.declared.faults.PlanFault.{PlanFault}
 use Rattle.class_plan.specs.Faults as plan
 use Rattle.class_plan.specs.Plans.{Listing, is_open_in}
 use Rattle.class_plan.specs.Plans as plans
 use Rattle.class_plan.specs.Changes as changes
 use Rattle.class_plan.specs.Document as documents
+use Rattle.sieve_meaning.specs.Program.{Commands}
 use Rattle.sieve_meaning.specs.Reading.{program_of}
-use Rattle.sieve_meaning.specs.Meaning.{Library}
 use Rattle.sieve_meaning.specs.Outcome as meaning
 use Rattle.filing_image.specs.Program.{Program, parts}
 use Rattle.filing_image.specs.Spelling.{spelling, Fits}
@@ -26,19 +22,18 @@ use Rattle.filing_table.specs.Ends.{HasOutcome}
 use Rattle.filing_desk.specs.Answers.{Answer, done, captured, refused}
 use Rattle.filing_case.specs.Message.{case_of}
 use Rattle.filing_desk.specs.Faults.{refused_by, has_place}
-use Rattle.filing_gen.specs.Correct.{library_of}
-use Rattle.filing_gen.specs.Libraries.{NamedScript, entries_code, put, HasNoRoom}
+use Rattle.filing_desk.specs.Scripts.{put_script, HasNoRoom, library}
 use Rattle.filing_desk.specs.declared.fault.DeskFault.{DeskFault}
 use Rattle.filing_desk.specs.declared.desk.Outcome.{Outcome}
 
--- what a desk stands for: its plan of classes, and the global scripts
-pub record State : Type 0 where
+-- what a desk stands for: its plan of classes, and the global scripts with their names
+pub record Office : Type 0 where
   pub plan : Listing
-  pub globals : List NamedScript
+  pub globals : List (List ℕ × Commands)
 
--- which is stored as a pair
-abbrev pub state_code : Coded State
-state_code = code_by (Listing × List NamedScript) (coded× kept.the_row.coded entries_code) (λ s. (s.plan, s.globals)) (λ p. record { plan = p.0; globals = p.1 }) (λ _. refl)
+-- the class `unfiled` alone, and no global script
+abbrev pub opening : Office
+opening = record { plan = plans.first_plan; globals = [] }
 
 pub data Command : Type 0 where
   add_class : (path : List ℕ) → Command
@@ -75,17 +70,13 @@ pub record IsGood (script : List ℕ) (tree : CommandTrees) : Type 0 where
   pub is_script : IsScript script tree
   pub well_made : rules.refusal_of tree ≡ None
 
--- the scripts that can be included: the global ones, and no personal one
-abbrev pub library_in : State → Library
-library_in s = library_of (record { personal = []; global = s.globals })
-
 -- The outcome of a script for a message, in the message's case and the open classes of the plan. It can include the
--- global scripts, and has no name.
-abbrev pub outcome_in : State → CommandTrees → (message : List ℕ) → meaning.Outcome
-outcome_in s tree message = meaning.outcome (case_of message (is_open_in s.plan)) (library_in s) None (program_of tree)
+-- global scripts, no personal one, and has no name.
+abbrev pub outcome_in : Office → CommandTrees → (message : List ℕ) → meaning.Outcome
+outcome_in s tree message = meaning.outcome (case_of message (is_open_in s.plan)) (library [] s.globals) None (program_of tree)
 
 -- a script captures a message so
-pub record IsFiled (s : State) (script message : List ℕ) (o : meaning.Outcome) : Type 0 where
+pub record IsFiled (s : Office) (script message : List ℕ) (o : meaning.Outcome) : Type 0 where
   pub tree : CommandTrees
   pub good : IsGood script tree
   pub short : length message ≤ greatest_message
@@ -114,41 +105,39 @@ pub record IsTooLong (script message : List ℕ) (number : ℕ) : Type 0 where
 abbrev pub RefusesFiling : (script message : List ℕ) (number : ℕ) → Type 0
 RefusesFiling script message number = LacksMemory greatest_script script number ⊎ (IsNoScript script number ⊎ (IsIllMade script number ⊎ IsTooLong script message number))
 
--- the text is a script, and it is kept under the name: in the place of one that has the name, or behind all others
-pub record IsKept (s : State) (name text : List ℕ) (new : State) : Type 0 where
-  pub script : Script
-  pub good : IsGood text (tree_of script)
-  pub has_room : HasNoRoom s.globals name → ⊥
-  pub globals : new.globals ≡ put (record { name = name; script = script }) s.globals
-  pub plan : new.plan ≡ s.plan
-
--- the text is a script, and its name is a new one where there are thirty-two
-pub record IsOneTooMany (s : State) (name text : List ℕ) (number : ℕ) : Type 0 where
+-- the text is a script, and it is kept under the name: in the place of one that has the name, or after all others
+pub record IsKept (old : List (List ℕ × Commands)) (name text : List ℕ) (new : List (List ℕ × Commands)) : Type 0 where
   pub tree : CommandTrees
   pub good : IsGood text tree
-  pub has_no_room : HasNoRoom s.globals name
+  pub has_room : HasNoRoom old name → ⊥
+  pub put : new ≡ put_script name (program_of tree) old
+
+-- the text is a script, and its name is a new one where there are thirty-two
+pub record IsOneTooMany (old : List (List ℕ × Commands)) (name text : List ℕ) (number : ℕ) : Type 0 where
+  pub tree : CommandTrees
+  pub good : IsGood text tree
+  pub has_no_room : HasNoRoom old name
   pub is_number : number ≡ 96
 
 -- a global script is refused with this number: want of memory, or the first of the text, the check and the room that
 -- fails
-abbrev pub RefusesGlobal : State → (name text : List ℕ) (number : ℕ) → Type 0
-RefusesGlobal s name text number = LacksMemory greatest_script text number ⊎ (IsNoScript text number ⊎ (IsIllMade text number ⊎ IsOneTooMany s name text number))
+abbrev pub RefusesGlobal : Office → (name text : List ℕ) (number : ℕ) → Type 0
+RefusesGlobal s name text number = LacksMemory greatest_script text number ⊎ (IsNoScript text number ⊎ (IsIllMade text number ⊎ IsOneTooMany s.globals name text number))
 
 -- the plan refuses one more class with this number
-pub record IsNoClass (s : State) (path : List ℕ) (number : ℕ) : Type 0 where
+pub record IsNoClass (old : Listing) (path : List ℕ) (number : ℕ) : Type 0 where
   pub fault : PlanFault
-  pub refuses : changes.added s.plan path ≡ Err fault
+  pub refuses : changes.added old path ≡ Err fault
   pub is_number : number ≡ plan.number_of fault
 
-abbrev pub RefusesClass : State → (path : List ℕ) (number : ℕ) → Type 0
-RefusesClass s path number = (number ≡ 99) ⊎ IsNoClass s path number
+abbrev pub RefusesClass : Office → (path : List ℕ) (number : ℕ) → Type 0
+RefusesClass s path number = (number ≡ 99) ⊎ IsNoClass s.plan path number
 
 -- the text is that of a plan which keeps each path of the plan so far
-pub record IsRevision (s : State) (text : List ℕ) (new : State) : Type 0 where
+pub record IsRevision (old : Listing) (text : List ℕ) (new : Listing) : Type 0 where
   pub short : length text ≤ greatest_plan
-  pub is_plan : documents.plan_of_text text ≡ Ok new.plan
-  pub keeps_paths : plans.keeps s.plan new.plan ≡ true
-  pub globals : new.globals ≡ s.globals
+  pub is_plan : documents.plan_of_text text ≡ Ok new
+  pub keeps_paths : plans.keeps old new ≡ true
 
 -- the text is no plan, for this reason
 pub record IsNoPlan (text : List ℕ) (number : ℕ) : Type 0 where
@@ -158,16 +147,16 @@ pub record IsNoPlan (text : List ℕ) (number : ℕ) : Type 0 where
   pub is_number : number ≡ plan.number_of fault
 
 -- the text is that of a plan which drops a path
-pub record DropsPath (s : State) (text : List ℕ) (number : ℕ) : Type 0 where
+pub record DropsPath (old : Listing) (text : List ℕ) (number : ℕ) : Type 0 where
   pub short : length text ≤ greatest_plan
   pub plan : Listing
   pub is_plan : documents.plan_of_text text ≡ Ok plan
-  pub drops : plans.keeps s.plan plan ≡ false
+  pub drops : plans.keeps old plan ≡ false
   pub is_number : number ≡ 57
 
 -- a plan is refused with this number: want of memory, or the first of its length, its text and its paths that fails
-abbrev pub RefusesPlan : State → (text : List ℕ) (number : ℕ) → Type 0
-RefusesPlan s text number = LacksMemory greatest_plan text number ⊎ (((greatest_plan < length text) × (number ≡ 58)) ⊎ (IsNoPlan text number ⊎ DropsPath s text number))
+abbrev pub RefusesPlan : Office → (text : List ℕ) (number : ℕ) → Type 0
+RefusesPlan s text number = LacksMemory greatest_plan text number ⊎ (((greatest_plan < length text) × (number ≡ 58)) ⊎ (IsNoPlan text number ⊎ DropsPath s.plan text number))
 
 -- the octets are the image of a program
 pub record IsImageOf (image : List ℕ) (program : Program) : Type 0 where
@@ -181,7 +170,7 @@ pub record IsGoodImage (image : List ℕ) (program : Program) : Type 0 where
   pub well : IsWell program
 
 -- an image captures a message so: by its run in the message's case and the open classes of the plan
-pub record IsTried (s : State) (image message : List ℕ) (o : meaning.Outcome) : Type 0 where
+pub record IsTried (s : Office) (image message : List ℕ) (o : meaning.Outcome) : Type 0 where
   pub program : Program
   pub good : IsGoodImage image program
   pub short : length message ≤ greatest_message
@@ -229,15 +218,15 @@ filed (Ok o) = captured (record { classes = o.classes; fault = o.fault })
 filed (Err f) = refused_by f
 
 -- a command that has nothing to tell but that it was done leaves that
-abbrev pub Settles : State → Command → State → Type 0
-Settles s (add_class path) new = (changes.added s.plan path ≡ Ok new.plan) × (new.globals ≡ s.globals)
-Settles s (set_global name text) new = IsKept s name text new
-Settles s (set_plan text) new = IsRevision s text new
+abbrev pub Settles : Office → Command → Office → Type 0
+Settles s (add_class path) new = (new_plan : Listing) × (changes.added s.plan path ≡ Ok new_plan) × (new ≡ record s { plan = new_plan })
+Settles s (set_global name text) new = (new_globals : List (List ℕ × Commands)) × IsKept s.globals name text new_globals × (new ≡ record s { globals = new_globals })
+Settles s (set_plan text) new = (new_plan : Listing) × IsRevision s.plan text new_plan × (new ≡ record s { plan = new_plan })
 Settles s (file script message) new = ⊥
 Settles s (try_image image message) new = ⊥
 
 -- a command captures a message so
-abbrev pub Captures : State → Command → meaning.Outcome → Type 0
+abbrev pub Captures : Office → Command → meaning.Outcome → Type 0
 Captures s (file script message) o = IsFiled s script message o
 Captures s (try_image image message) o = IsTried s image message o
 Captures s (add_class path) o = ⊥
@@ -245,7 +234,7 @@ Captures s (set_global name text) o = ⊥
 Captures s (set_plan text) o = ⊥
 
 -- a command is refused with this number
-abbrev pub Refuses : State → Command → (number : ℕ) → Type 0
+abbrev pub Refuses : Office → Command → (number : ℕ) → Type 0
 Refuses s (add_class path) number = RefusesClass s path number
 Refuses s (file script message) number = RefusesFiling script message number
 Refuses s (set_global name text) number = RefusesGlobal s name text number
@@ -254,7 +243,7 @@ Refuses s (try_image image message) number = RefusesTrial image message number
 
 -- A command may be answered so, and leaves that. Only a command that settles something changes anything, and a refusal
 -- has an offset exactly where its number is shown with one.
-unfoldable pub Step : State → Command → Answer → State → Type 0
+unfoldable pub Step : Office → Command → Answer → Office → Type 0
 Step s c done new = Settles s c new
 Step s c (captured o) new = (new ≡ s) × Captures s c o
 Step s c (refused n at) new = (new ≡ s) × (is_some at ≡ has_place n) × Refuses s c n

@@ -1,13 +1,13 @@
 //! The desk and its calls.
 
-ghost use Rattle.std.specs.Prelude.{◌≡◌, ℕ, List, [], ◌<◌, ◌≤◌, length, false, Some, None, IfOk, IfErr, OnOk};
-ghost use Rattle.class_plan.specs.Plans.{first_plan, is_open_in};
+ghost use Rattle.std.specs.Prelude.{◌≡◌, ℕ, List, [], ◌≤◌, length, false, Some, None, IfOk, IfErr, OnOk};
+ghost use Rattle.class_plan.specs.Plans.{is_open_in};
 ghost use Rattle.sieve_syntax.specs.View.{tree_of};
 ghost use Rattle.sieve_meaning.specs.Reading.{program_of};
 ghost use Rattle.filing_gen.specs.Correct.{library_of};
 ghost use Rattle.sieve_meaning.specs.Outcome.{outcome_at, outcome};
 ghost use Rattle.filing_desk.specs.Judging.{RefusesScript, RefusesImage, RefusesMessage, IsFaultOf, outcome_view};
-ghost use Rattle.filing_desk.specs.Steps.{add_class, file, set_global, set_plan, try_image, Step, settled, filed, IsGood, IsGoodImage, greatest_image, greatest_message, greatest_plan, greatest_script};
+ghost use Rattle.filing_desk.specs.Steps.{add_class, file, set_global, set_plan, try_image, opening, settled, filed, IsGood, IsGoodImage, greatest_image, greatest_message, greatest_plan, greatest_script};
 ghost use Rattle.filing_desk.specs.Payloads.{IsOf};
 ghost use Rattle.filing_desk.specs.declared.fault.DeskFault.TheVariants.{NoMemory};
 ghost use Rattle.filing_table.specs.Ends.{HasOutcome};
@@ -26,7 +26,6 @@ use sieve_check::{Checked, check};
 use sieve_meaning::{Paths, default_class_alone};
 use sieve_text::{ScanRefusal, TextRefusal, parse};
 use std::alloc::{AllocError, Global};
-use std::marker::Model;
 use std::rc::Rc;
 
 /// The greatest length of a script, in octets.
@@ -48,26 +47,14 @@ pub struct Outcome {
     pub fault: Option<u8>,
 }
 
-/// What a session talks to: it keeps the plan of classes and the global scripts, and files messages by scripts.
-/// Contracts see it as these.
+/// What a session talks to: it keeps the plan of classes and the global scripts, and files messages by scripts. Contracts
+/// say for which state it stands.
 #[derive(Drop)]
 pub struct Desk {
     alloc: Global,
     plan: Plan,
     library: Library,
-}
-
-impl Model for Desk {
-    ghost use Rattle.std.specs.Prelude.{◌≡◌, []};
-    ghost use Rattle.filing_desk.specs.Steps.{State, state_code};
-
-    ghost Value = { State };
-
-    ghost coded = { state_code };
-
-    ghost view = { λ d. record { plan = d.plan; globals = d.library.global } };
-
-    ghost invariant = { λ d. d.library.personal ≡ [] };
+    ghost no_personal_scripts: { length library.personal ≡ 0 },
 }
 
 /// The default class alone, with a fault.
@@ -178,9 +165,12 @@ fn judge_message<'a>(
 }
 
 impl Desk {
+    ghost use Rattle.filing_desk.specs.Calls.{Calls};
+    ghost use Rattle.filing_desk.specs.Standing.{IsClean, StandsFor};
+
     /// A desk with the class `unfiled` alone, and no global script. The only error is want of memory.
     pub fn new(alloc: Global) -> Result<Desk, AllocError>
-        ensures { IfOk result (λ d. d ≡ record { plan = first_plan; globals = [] }) }
+        ensures { IfOk result (λ d. StandsFor d opening) }
     {
         Ok(Desk {
             alloc,
@@ -192,9 +182,8 @@ impl Desk {
     /// Adds a class that is open and has no schedule of its own. It is refused with the smallest of 52 (no path),
     /// 53 (no parent), 54 (there already) and 56 (4,096 classes are there); 99 is want of memory. The plan is then as
     /// before.
-    #[tactic(auto, unfolding(crate::specs::Steps::Step))]
     pub fn add_class(&mut self, path: &[u8]) -> Result<(), DeskFault>
-        ensures { Step self.old (add_class path.now) (settled result) self.new }
+        ensures { Calls IsClean StandsFor self.old (add_class path.now) (settled result) self.new }
     {
         self.plan.add(path)?;
         Ok(())
@@ -203,9 +192,8 @@ impl Desk {
     /// Takes over the plan of a text (a TOML document). It is refused by its length (58), by the smallest of 50 to 56
     /// that holds of its text, or where it drops a path of the plan so far (57); 99 is want of memory. The plan is then
     /// as before.
-    #[tactic(auto, unfolding(crate::specs::Steps::Step))]
     pub fn set_plan(&mut self, text: &Payload) -> Result<(), DeskFault>
-        ensures { (t : List ℕ) → IsOf greatest_plan text.now t → Step self.old (set_plan t) (settled result) self.new }
+        ensures { (t : List ℕ) → IsOf greatest_plan text.now t → Calls IsClean StandsFor self.old (set_plan t) (settled result) self.new }
     {
         let octets = text.octets(GREATEST_PLAN, DeskFault::PlanTooLong)?;
         let plan = Plan::from_toml(self.alloc, octets)?;
@@ -218,9 +206,8 @@ impl Desk {
     /// Keeps a script under a name, for scripts that include it by `:global`; it takes the place of the one that has the
     /// name, if there is one. It is refused by its text (10 to 16, 20, 21), then by the check (30 to 41), then where
     /// thirty-two global scripts have other names (96); 99 is want of memory. The global scripts are then as before.
-    #[tactic(auto, unfolding(crate::specs::Steps::Step))]
     pub fn set_global(&mut self, name: &[u8], text: &Payload) -> Result<(), DeskFault>
-        ensures { (t : List ℕ) → IsOf greatest_script text.now t → Step self.old (set_global name.now t) (settled result) self.new }
+        ensures { (t : List ℕ) → IsOf greatest_script text.now t → Calls IsClean StandsFor self.old (set_global name.now t) (settled result) self.new }
     {
         let script = judge(self.alloc, text)?;
         let script = Rc::new(self.alloc, script)?;
@@ -231,9 +218,8 @@ impl Desk {
     /// What an image captures a message in: a dry run that stores nothing. An image is refused by its length (61: more
     /// than 16,777,216 octets), its form (60) and its code (62 to 66); then a message over 8,388,608 octets by 95; 99
     /// is want of memory.
-    #[tactic(auto, unfolding(crate::specs::Steps::Step))]
     pub fn try_image(&self, image: &Payload, message: &Payload) -> Result<Outcome, DeskFault>
-        ensures { (i m : List ℕ) → IsOf greatest_image image.now i → IsOf greatest_message message.now m → Step self.now (try_image i m) (filed result) self.now }
+        ensures { (i m : List ℕ) → IsOf greatest_image image.now i → IsOf greatest_message message.now m → Calls IsClean StandsFor self.now (try_image i m) (filed result) self.now }
     {
         let program = judge_image(self.alloc, image)?;
         let case = judge_message(self.alloc, &self.plan, message)?;
@@ -244,9 +230,8 @@ impl Desk {
     /// What a script captures a message in: a dry run that stores nothing. A script is refused by its text (10 to 16,
     /// 20, 21), then by the check (30 to 41); then a message over 8,388,608 octets by 95; 99 is want of memory. It
     /// can include the global scripts, and no others. A script of weight above 60,000 has the outcome fault 5.
-    #[tactic(auto, unfolding(crate::specs::Steps::Step))]
     pub fn file(&self, script: &Payload, message: &Payload) -> Result<Outcome, DeskFault>
-        ensures { (s m : List ℕ) → IsOf greatest_script script.now s → IsOf greatest_message message.now m → Step self.now (file s m) (filed result) self.now }
+        ensures { (s m : List ℕ) → IsOf greatest_script script.now s → IsOf greatest_message message.now m → Calls IsClean StandsFor self.now (file s m) (filed result) self.now }
     {
         let checked = judge(self.alloc, script)?;
         let case = judge_message(self.alloc, &self.plan, message)?;

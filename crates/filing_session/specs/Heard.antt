@@ -1,6 +1,7 @@
 -- What one line and its payloads lead to.
 use Rattle.std.specs.Prelude.{◌≡◌, ℕ, List, Result, Ok, Err}
-use Rattle.filing_desk.specs.Steps.{State}
+use Rattle.filing_desk.specs.Answers.{Answer}
+use Rattle.filing_desk.specs.Steps.{Command}
 use Rattle.filing_session.specs.Replies.{answer_of}
 use Rattle.filing_session.specs.Session.{Item, Heard, Got, Stop, ItemStep, EndsByInput}
 use Rattle.filing_session.specs.declared.items.Said.{Said}
@@ -8,9 +9,9 @@ use Rattle.filing_session.specs.declared.stream.ReadFault.{ReadFault}
 use Rattle.filing_session.specs.declared.items.Said.TheVariants as said
 
 -- an item is done and answered so, and leaves what is behind it; an ending does nothing, and leaves what is behind it
-abbrev pub Answers : State → Heard → Said → State → (left : List ℕ) → Type 0
-Answers s h (said.Reply r) new left = (item : Item) × (h ≡ Got item left) × ItemStep s item (answer_of r) new
-Answers s h (said.End e) new left = (h ≡ Stop e left) × (new ≡ s)
+abbrev pub Answers : {D : Type 0} → (D → Command → Answer → D → Type 0) → D → Heard → Said → D → (left : List ℕ) → Type 0
+Answers Does s h (said.Reply r) new left = (item : Item) × (h ≡ Got item left) × ItemStep Does s item (answer_of r) new
+Answers Does s h (said.End e) new left = (h ≡ Stop e left) × (new ≡ s)
 
 -- the input is said to have ended
 abbrev pub SaysEnd : Result Said ReadFault → Type 0

@@ -8,5 +8,6 @@ pub mod Payloads
 pub mod Replies
 pub mod Session
 pub mod Heard
+pub mod Laws
 pub mod Memory
 pub mod Known

@@ -1,7 +1,7 @@
 -- The commands of a session's octets, the runs of a desk that they lead to, and the octets of its answers.
 use Rattle.std.specs.Prelude.{◌≡◌, ℕ, zero, suc, ◌+◌, List, [], ◌∷◌, ◌++◌, if◌then◌else◌, nat_le, None, length, take, drop, codes, flat_map}
 use Rattle.filing_desk.specs.Answers.{Answer, refused}
-use Rattle.filing_desk.specs.Steps.{State, Command, add_class, file, set_global, set_plan, try_image, Step}
+use Rattle.filing_desk.specs.Steps.{Command, add_class, file, set_global, set_plan, try_image}
 use Rattle.filing_session.specs.Lines.{Line, Whole, TooLong, Cut, End, line_of}
 use Rattle.filing_session.specs.Words.{Asked, AddClass, File, SetGlobal, SetPlan, Try, Quit, Unknown, BadWord, asked}
 use Rattle.filing_session.specs.Replies.{reply_octets}
@@ -90,35 +90,38 @@ ending_octets ending.Limit = codes "end\n"
 abbrev pub answers_octets : List Answer → List ℕ
 answers_octets answers = flat_map reply_octets answers
 
--- an item may be answered so, and leaves that: a command as the desk says, another line is refused and leaves all as it was
-abbrev pub ItemStep : State → Item → Answer → State → Type 0
-ItemStep s (Call c) a new = Step s c a new
-ItemStep s UnknownCommand a new = (a ≡ refused 70 None) × (new ≡ s)
-ItemStep s WrongWord a new = (a ≡ refused 71 None) × (new ≡ s)
+-- What follows is said of desks, and of the states that desks stand for, by what a command may be answered there and what it
+-- leaves.
+module _ {D : Type 0} (Does : D → Command → Answer → D → Type 0) where
+  -- an item may be answered so, and leaves that: a command as the desk says, another line is refused and leaves all as it was
+  abbrev pub ItemStep : D → Item → Answer → D → Type 0
+  ItemStep s (Call c) a new = Does s c a new
+  ItemStep s UnknownCommand a new = (a ≡ refused 70 None) × (new ≡ s)
+  ItemStep s WrongWord a new = (a ≡ refused 71 None) × (new ≡ s)
 
--- items may be answered so, one after the other, and leave that
-abbrev pub Run : State → List Item → List Answer → State → Type 0
-Run s [] [] new = new ≡ s
-Run s (i ∷ items) (a ∷ answers) new = (mid : State) × ItemStep s i a mid × Run mid items answers new
-Run s [] (a ∷ answers) new = ⊥
-Run s (i ∷ items) [] new = ⊥
+  -- items may be answered so, one after the other, and leave that
+  abbrev pub Run : D → List Item → List Answer → D → Type 0
+  Run s [] [] new = new ≡ s
+  Run s (i ∷ items) (a ∷ answers) new = (mid : D) × ItemStep s i a mid × Run mid items answers new
+  Run s [] (a ∷ answers) new = ⊥
+  Run s (i ∷ items) [] new = ⊥
 
--- all items were done, and all answers and the ending were written
-abbrev pub IsServed : Session → State → (old written : List ℕ) → State → Type 0
-IsServed session s old written new = (answers : List Answer) × Run s session.items answers new × (written ≡ old ++ answers_octets answers ++ ending_octets session.ending)
+  -- all items were done, and all answers and the ending were written
+  abbrev pub IsServed : Session → D → (old written : List ℕ) → D → Type 0
+  IsServed session s old written new = (answers : List Answer) × Run s session.items answers new × (written ≡ old ++ answers_octets answers ++ ending_octets session.ending)
 
--- some first items were done, and all their answers were written
-abbrev pub IsAnswered : Session → State → (old written : List ℕ) → State → Type 0
-IsAnswered session s old written new = (n : ℕ) × (answers : List Answer) × Run s (take n session.items) answers new × (written ≡ old ++ answers_octets answers)
+  -- some first items were done, and all their answers were written
+  abbrev pub IsAnswered : Session → D → (old written : List ℕ) → D → Type 0
+  IsAnswered session s old written new = (n : ℕ) × (answers : List Answer) × Run s (take n session.items) answers new × (written ≡ old ++ answers_octets answers)
 
--- some first items were done, all their answers but the last were written, and of the last a prefix
-abbrev pub IsCutInAnswer : Session → State → (old written : List ℕ) → State → Type 0
-IsCutInAnswer session s old written new =
-    (n : ℕ) × (answers : List Answer) × (last : Answer) × Run s (take n session.items) (answers ++ last ∷ []) new × IsBehind (old ++ answers_octets answers) (reply_octets last) written
+  -- some first items were done, all their answers but the last were written, and of the last a prefix
+  abbrev pub IsCutInAnswer : Session → D → (old written : List ℕ) → D → Type 0
+  IsCutInAnswer session s old written new =
+      (n : ℕ) × (answers : List Answer) × (last : Answer) × Run s (take n session.items) (answers ++ last ∷ []) new × IsBehind (old ++ answers_octets answers) (reply_octets last) written
 
--- all items were done, all their answers were written, and of the ending a prefix
-abbrev pub IsCutInEnding : Session → State → (old written : List ℕ) → State → Type 0
-IsCutInEnding session s old written new = (answers : List Answer) × Run s session.items answers new × IsBehind (old ++ answers_octets answers) (ending_octets session.ending) written
+  -- all items were done, all their answers were written, and of the ending a prefix
+  abbrev pub IsCutInEnding : Session → D → (old written : List ℕ) → D → Type 0
+  IsCutInEnding session s old written new = (answers : List Answer) × Run s session.items answers new × IsBehind (old ++ answers_octets answers) (ending_octets session.ending) written
 
 -- the input ended, between items or inside one
 abbrev pub EndsByInput : Ending → Type 0

@@ -2,9 +2,11 @@
 
 ghost use Rattle.std.specs.Prelude.{ℕ, List, ◌≡◌, None};
 ghost use Rattle.filing_desk.specs.Answers.{refused as refused_answer};
+ghost use Rattle.filing_desk.specs.Calls.{Calls};
 ghost use Rattle.filing_desk.specs.Faults.{refused_by};
 ghost use Rattle.filing_desk.specs.Payloads.{IsOf};
-ghost use Rattle.filing_desk.specs.Steps.{add_class as class_command, filed, settled as settled_answer, Step};
+ghost use Rattle.filing_desk.specs.Standing.{IsClean, StandsFor};
+ghost use Rattle.filing_desk.specs.Steps.{add_class as class_command, filed, settled as settled_answer};
 ghost use Rattle.filing_session.specs.Commands.{one_command, one_limit, two_command, two_limits};
 ghost use Rattle.filing_session.specs.Replies.{answer_of};
 
@@ -54,7 +56,7 @@ fn captured(outcome: Result<Outcome, DeskFault>) -> Reply
 
 /// Adds a class.
 pub fn add_class(desk: &mut Desk, path: &[u8]) -> Reply
-    ensures { Step desk.old (class_command path.now) (answer_of result) desk.new }
+    ensures { Calls IsClean StandsFor desk.old (class_command path.now) (answer_of result) desk.new }
 {
     settled(desk.add_class(path))
 }
@@ -81,7 +83,7 @@ pub fn limits_of_two(command: TwoPayloads) -> (usize, usize)
 
 /// Does what one payload is for.
 pub fn do_one(desk: &mut Desk, command: OnePayload<'_>, payload: &Payload) -> Reply
-    ensures { (octets : List ℕ) → IsOf (one_limit command.entry) payload.now octets → Step desk.old (one_command command.entry octets) (answer_of result) desk.new }
+    ensures { (octets : List ℕ) → IsOf (one_limit command.entry) payload.now octets → Calls IsClean StandsFor desk.old (one_command command.entry octets) (answer_of result) desk.new }
 {
     match command {
         OnePayload::SetGlobal(name) => settled(desk.set_global(name, payload)),
@@ -91,7 +93,7 @@ pub fn do_one(desk: &mut Desk, command: OnePayload<'_>, payload: &Payload) -> Re
 
 /// Does what two payloads are for.
 pub fn do_two(desk: &Desk, command: TwoPayloads, first: &Payload, second: &Payload) -> Reply
-    ensures { (a b : List ℕ) → IsOf (two_limits command).0 first.now a → IsOf (two_limits command).1 second.now b → Step desk.now (two_command command a b) (answer_of result) desk.now }
+    ensures { (a b : List ℕ) → IsOf (two_limits command).0 first.now a → IsOf (two_limits command).1 second.now b → Calls IsClean StandsFor desk.now (two_command command a b) (answer_of result) desk.now }
 {
     match command {
         TwoPayloads::File => captured(desk.file(first, second)),

@@ -1,6 +1,8 @@
 //! A line with its payloads: it is read, and done.
 
 ghost use Rattle.std.specs.Prelude.{◌≡◌, IfOk, OnErr};
+ghost use Rattle.filing_desk.specs.Calls.{Calls};
+ghost use Rattle.filing_desk.specs.Standing.{IsClean, StandsFor};
 ghost use Rattle.filing_session.specs.Commands.{one_command, two_command};
 ghost use Rattle.filing_session.specs.Heard.{Answers, SaysEnd};
 ghost use Rattle.filing_session.specs.Session.{heard, heard_line, with_payload, with_payloads};
@@ -48,7 +50,7 @@ fn answer_one<S: Source>(
     command: OnePayload<'_>,
     size: usize,
 ) -> Result<Said, ReadFault>
-    ensures said { S.tells → IfOk result (λ a. Answers desk.old (with_payload size (one_command command.entry) (S.left source.old)) a desk.new (S.left source.new)) }
+    ensures said { S.tells → IfOk result (λ a. Answers (Calls IsClean StandsFor) desk.old (with_payload size (one_command command.entry) (S.left source.old)) a desk.new (S.left source.new)) }
     ensures same { OnErr result (desk.new ≡ desk.old) }
     ensures ends { TellsEnd (SaysEnd result) (S.ends source.old) (S.ends source.new) }
     ensures troubles { TellsTroubles S.failures S.interruptions S.most_interruptions result source.old source.new }
@@ -67,7 +69,7 @@ fn answer_two<S: Source>(
     command: TwoPayloads,
     sizes: (usize, usize),
 ) -> Result<Said, ReadFault>
-    ensures said { S.tells → IfOk result (λ a. Answers desk.now (with_payloads sizes.0 sizes.1 (two_command command) (S.left source.old)) a desk.now (S.left source.new)) }
+    ensures said { S.tells → IfOk result (λ a. Answers (Calls IsClean StandsFor) desk.now (with_payloads sizes.0 sizes.1 (two_command command) (S.left source.old)) a desk.now (S.left source.new)) }
     ensures ends { TellsEnd (SaysEnd result) (S.ends source.old) (S.ends source.new) }
     ensures troubles { TellsTroubles S.failures S.interruptions S.most_interruptions result source.old source.new }
 {
@@ -85,7 +87,7 @@ fn answer<S: Source>(
     desk: &mut Desk,
     request: Request<'_>,
 ) -> Result<Said, ReadFault>
-    ensures said { S.tells → IfOk result (λ a. Answers desk.old (heard_line (asked_as request.entry) (S.left source.old)) a desk.new (S.left source.new)) }
+    ensures said { S.tells → IfOk result (λ a. Answers (Calls IsClean StandsFor) desk.old (heard_line (asked_as request.entry) (S.left source.old)) a desk.new (S.left source.new)) }
     ensures same { OnErr result (desk.new ≡ desk.old) }
     ensures ends { TellsEnd (SaysEnd result) (S.ends source.old) (S.ends source.new) }
     ensures troubles { TellsTroubles S.failures S.interruptions S.most_interruptions result source.old source.new }
@@ -115,7 +117,7 @@ pub fn next<S: Source>(
     desk: &mut Desk,
     line: &mut LineBuffer,
 ) -> Result<Said, ReadFault>
-    ensures said { S.tells → IfOk result (λ a. Answers desk.old (heard (S.left source.old)) a desk.new (S.left source.new)) }
+    ensures said { S.tells → IfOk result (λ a. Answers (Calls IsClean StandsFor) desk.old (heard (S.left source.old)) a desk.new (S.left source.new)) }
     ensures same { OnErr result (desk.new ≡ desk.old) }
     ensures ends { TellsEnd (SaysEnd result) (S.ends source.old) (S.ends source.new) }
     ensures troubles { TellsTroubles S.failures S.interruptions S.most_interruptions result source.old source.new }

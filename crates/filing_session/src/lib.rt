@@ -8,15 +8,18 @@
 //! - `items`: a line with its payloads, which is read and done;
 //! - `input`, `output`: a source over a reader, which is read `ahead`, and a sink over a writer;
 //! - `memory`: a source and a sink for tests;
-//! - `session`: `serve`, whose contract says which octets it writes to which it read, and what the desk has done.
+//! - `session`: `serve`, whose contract says which octets it writes to which it read, and what the desk has done;
+//! - `laws`: what that says of the states that the desk stands for.
 //!
-//! In `specs/`, `Session` has the whole of it: the commands of an input, the runs of a desk, and the octets of answers.
+//! In `specs/`, `Session` has the whole of it: the commands of an input, the runs of a desk or of the states that it stands
+//! for, and the octets of answers.
 #![tactic(auto)]
 
 mod ahead;
 mod commands;
 mod input;
 mod items;
+mod laws;
 mod lines;
 pub mod memory;
 mod output;
@@ -29,6 +32,7 @@ mod trouble;
 mod words;
 
 pub use input::Input;
+pub use laws::sessions_refine_states;
 pub use output::Output;
 pub use session::{COMMANDS, ServeFault, serve};
 pub use stream::{Sink, Source, Trouble};

@@ -1,6 +1,8 @@
 //! The session: lines are read, done and answered, one after the other.
 
 ghost use Rattle.std.specs.Prelude.{◌≡◌, ◌≢◌, ◌⊎◌, OnOk, Ok, Err, IsErrOf};
+ghost use Rattle.filing_desk.specs.Calls.{Calls};
+ghost use Rattle.filing_desk.specs.Standing.{IsClean, StandsFor};
 ghost use Rattle.filing_session.specs.Session.{session_of, ending_octets, left_by, IsServed, IsAnswered, IsCutInAnswer, IsCutInEnding, EndsByInput};
 ghost use Rattle.filing_session.specs.Streams.{Rises, GivesUp, TellsTroubles, TriesOn};
 ghost use Rattle.filing_session.specs.Written.{Writes};
@@ -68,10 +70,10 @@ pub fn serve<S: Source, K: Sink>(
     sink: &mut K,
     desk: &mut Desk,
 ) -> Result<(), ServeFault>
-    ensures ok { S.tells → K.tells → OnOk result (IsServed (session_of 1000000 (S.left source.old)) desk.old (K.written sink.old) (K.written sink.new) desk.new) }
-    ensures unheard { S.tells → K.tells → IsErrOf result ServeFault.Read → IsAnswered (session_of 1000000 (S.left source.old)) desk.old (K.written sink.old) (K.written sink.new) desk.new }
+    ensures ok { S.tells → K.tells → OnOk result (IsServed (Calls IsClean StandsFor) (session_of 1000000 (S.left source.old)) desk.old (K.written sink.old) (K.written sink.new) desk.new) }
+    ensures unheard { S.tells → K.tells → IsErrOf result ServeFault.Read → IsAnswered (Calls IsClean StandsFor) (session_of 1000000 (S.left source.old)) desk.old (K.written sink.old) (K.written sink.new) desk.new }
     ensures unsaid { S.tells → K.tells → IsErrOf result ServeFault.Write →
-        IsCutInAnswer (session_of 1000000 (S.left source.old)) desk.old (K.written sink.old) (K.written sink.new) desk.new ⊎ IsCutInEnding (session_of 1000000 (S.left source.old)) desk.old (K.written sink.old) (K.written sink.new) desk.new }
+        IsCutInAnswer (Calls IsClean StandsFor) (session_of 1000000 (S.left source.old)) desk.old (K.written sink.old) (K.written sink.new) desk.new ⊎ IsCutInEnding (Calls IsClean StandsFor) (session_of 1000000 (S.left source.old)) desk.old (K.written sink.old) (K.written sink.new) desk.new }
     ensures read { IsErrOf result ServeFault.Read → GivesUp (S.failures source.old) (S.failures source.new) (S.interruptions source.new) }
     ensures write { IsErrOf result ServeFault.Write → GivesUp (K.failures sink.old) (K.failures sink.new) (K.interruptions sink.new) }
     ensures outlasts { OnOk result ((S.failures source.new ≡ S.failures source.old) × (K.failures sink.new ≡ K.failures sink.old)) }

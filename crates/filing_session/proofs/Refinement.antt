@@ -1,0 +1,49 @@
+-- Runs of desks, as runs of the states that they stand for.
+use Rattle.std.proofs.Common.{◌++◌, ◌∷◌, [], ℕ, List, take, refl, sym, subst}
+use Rattle.filing_desk.specs.Answers.{Answer}
+use Rattle.filing_desk.specs.Calls.{Calls}
+use Rattle.filing_desk.specs.Steps.{Office, Step}
+use Rattle.filing_session.specs.Laws.{Refines}
+use Rattle.filing_session.specs.Session.{Item, Call, UnknownCommand, WrongWord, Session, ItemStep, Run, IsServed, IsAnswered, IsCutInAnswer, IsCutInEnding}
+
+module _ {D : Type 0} (clean : D → Type 0) (stands : D → Office → Type 0) where
+  item_refines : (i : Item) (a : Answer) → Refines clean stands (λ old. ItemStep (Calls clean stands) old i a) (λ s. ItemStep Step s i a)
+  item_refines (Call c) a old new step ok = (step.was_clean ok, step.leads ok)
+  item_refines UnknownCommand a old new step ok =
+      (subst clean step.1 ok, λ s there. let P : D → Type 0 = λ d. stands d s in record { to = s; is_one = (step.0, refl); there = subst P (sym step.1) there })
+  item_refines WrongWord a old new step ok =
+      (subst clean step.1 ok, λ s there. let P : D → Type 0 = λ d. stands d s in record { to = s; is_one = (step.0, refl); there = subst P (sym step.1) there })
+
+  pub run_refines : (items : List Item) (answers : List Answer) → Refines clean stands (λ old. Run (Calls clean stands) old items answers) (λ s. Run Step s items answers)
+  run_refines [] [] old new run ok = (subst clean run ok, λ s there. let P : D → Type 0 = λ d. stands d s in record { to = s; is_one = refl; there = subst P (sym run) there })
+  run_refines (i ∷ items) (a ∷ answers) old new run ok =
+      let rest = run_refines items answers run.0 new run.2 ok in
+      let first = item_refines i a old run.0 run.1 rest.0 in (
+        first.0,
+        λ s there.
+            let mid = first.1 s there in
+            let end = rest.1 mid.to mid.there in
+            record { to = end.to; is_one = (mid.to, mid.is_one, end.is_one); there = end.there },
+      )
+  run_refines [] (a ∷ answers) old new run ok = absurd run
+  run_refines (i ∷ items) [] old new run ok = absurd run
+
+  pub served_refines : (session : Session) (old written : List ℕ) → Refines clean stands (λ desk. IsServed (Calls clean stands) session desk old written) (λ s. IsServed Step session s old written)
+  served_refines session old written desk new (answers, run, wrote) ok =
+      let led = run_refines session.items answers desk new run ok in
+      (led.0, λ s there. let l = led.1 s there in record { to = l.to; is_one = (answers, l.is_one, wrote); there = l.there })
+
+  pub answered_refines : (session : Session) (old written : List ℕ) → Refines clean stands (λ desk. IsAnswered (Calls clean stands) session desk old written) (λ s. IsAnswered Step session s old written)
+  answered_refines session old written desk new (n, answers, run, wrote) ok =
+      let led = run_refines (take n session.items) answers desk new run ok in
+      (led.0, λ s there. let l = led.1 s there in record { to = l.to; is_one = (n, answers, l.is_one, wrote); there = l.there })
+
+  pub cut_in_answer_refines : (session : Session) (old written : List ℕ) → Refines clean stands (λ desk. IsCutInAnswer (Calls clean stands) session desk old written) (λ s. IsCutInAnswer Step session s old written)
+  cut_in_answer_refines session old written desk new (n, answers, last, run, wrote) ok =
+      let led = run_refines (take n session.items) (answers ++ last ∷ []) desk new run ok in
+      (led.0, λ s there. let l = led.1 s there in record { to = l.to; is_one = (n, answers, last, l.is_one, wrote); there = l.there })
+
+  pub cut_in_ending_refines : (session : Session) (old written : List ℕ) → Refines clean stands (λ desk. IsCutInEnding (Calls clean stands) session desk old written) (λ s. IsCutInEnding Step session s old written)
+  cut_in_ending_refines session old written desk new (answers, run, wrote) ok =
+      let led = run_refines session.items answers desk new run ok in
+      (led.0, λ s there. let l = led.1 s there in record { to = l.to; is_one = (answers, l.is_one, wrote); there = l.there })
