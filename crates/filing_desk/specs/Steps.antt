@@ -26,8 +26,7 @@ use Rattle.filing_table.specs.Ends.{HasOutcome}
 use Rattle.filing_desk.specs.Answers.{Answer, done, captured, refused}
 use Rattle.filing_case.specs.Message.{case_of}
 use Rattle.filing_desk.specs.Faults.{refused_by, has_place}
-use Rattle.filing_gen.specs.Correct.{library_of}
-use Rattle.filing_gen.specs.Libraries.{NamedScript, entries_code, put, HasNoRoom}
+use Rattle.script_library.specs.Libraries.{NamedScript, entries_code, library_of, put, HasNoRoom}
 use Rattle.filing_desk.specs.declared.fault.DeskFault.{DeskFault}
 use Rattle.filing_desk.specs.declared.desk.Outcome.{Outcome}
 

@@ -10,4 +10,4 @@ pub returns : goal.returns
 returns c = λ t is.
     let P : Checked → Type 0 = λ x. IsGood t (tree_of x.script) in
     let good = subst P (sym c.in_ok-script-2.ensures.ok) (c.in_ok-script.ensures.good t is) in
-    script_kept c.args.self.now c.self.inside.plan c.self.inside.library c.set_global.new.self c.args.name.now t c.in_ok-script-2.script.value.script c.self.view_is good (λ full. ok_is_no_fault _ _ (c.in_ok-set_global.ensures.full.1 full)) c.in_ok-set_global.ensures.ok
+    script_kept c.args.self.now c.self.inside.plan c.self.inside.globals c.put.new.self c.args.name.now t c.in_ok-script-2.script.value.script c.self.view_is good (λ full. ok_is_no_fault _ _ (c.in_ok-put.ensures.full.1 full)) c.in_ok-put.ensures.ok
