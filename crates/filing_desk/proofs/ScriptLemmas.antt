@@ -8,9 +8,8 @@ use Rattle.sieve_syntax.specs.declared.tree.Script.{Script}
 use Rattle.sieve_meaning.specs.Program.{Commands}
 use Rattle.sieve_meaning.specs.Reading.{program_of}
 use Rattle.sieve_meaning.specs.Meaning.{ScriptName}
-use Rattle.filing_gen.specs.Correct.{library_of}
-use Rattle.filing_gen.specs.Libraries.{NamedScript, Scripts, named, location_of, put}
-use Rattle.filing_gen.specs.Libraries as kept
+use Rattle.script_library.specs.Libraries.{NamedScript, Scripts, library_of, named, location_of, put}
+use Rattle.script_library.specs.Libraries as kept
 use Rattle.filing_desk.specs.Scripts.{script_at, put_script, HasNoRoom, location, library, meanings_of}
 
 abbrev meaning_of : Script → Commands
@@ -52,12 +51,8 @@ found_in : (l : Scripts) (s : ScriptName) (global : Bool) → option_map meaning
 found_in l s true = meaning_at s.name l.global
 found_in l s false = meaning_at s.name l.personal
 
-none_stored : (es : List NamedScript) → length es ≡ 0 → es ≡ []
-none_stored [] e = refl
-none_stored (x ∷ es) e = cc
-
 -- what an include finds where there is no personal script
-pub library_meant : (l : Scripts) → length l.personal ≡ 0 → library_of l ≡ library [] (meanings_of l.global)
-library_meant l none =
+pub library_meant : (l : Scripts) (globals : List NamedScript) → l ≡ record { personal = []; global = globals } → library_of l ≡ library [] (meanings_of globals)
+library_meant l globals is =
     let all : library_of l ≡ library (meanings_of l.personal) (meanings_of l.global) = ap (λ f. record { find = f }) (fun_ext (λ s. found_in l s s.global)) in
-    all ∙ ap (λ es. library (meanings_of es) (meanings_of l.global)) (none_stored l.personal none)
+    all ∙ ap (λ (x : Scripts). library (meanings_of x.personal) (meanings_of x.global)) is

@@ -7,8 +7,8 @@ use Rattle.sieve_check.specs.Faults as check
 use Rattle.class_plan.specs.declared.faults.PlanFault.{PlanFault}
 use Rattle.class_plan.specs.declared.faults.PlanFault.TheVariants as plans
 use Rattle.class_plan.specs.Faults as plan
-use Rattle.filing_gen.specs.declared.fault.LibraryFault.{LibraryFault}
-use Rattle.filing_gen.specs.declared.fault.LibraryFault.TheVariants as libraries
+use Rattle.script_library.specs.declared.fault.LibraryFault.{LibraryFault}
+use Rattle.script_library.specs.declared.fault.LibraryFault.TheVariants as libraries
 use Rattle.filing_image.specs.declared.fault.FormFault.{FormFault}
 use Rattle.filing_image.specs.declared.fault.FormFault.TheVariants as forms
 use Rattle.filing_verify.specs.declared.fault.VerifyFault.{VerifyFault}

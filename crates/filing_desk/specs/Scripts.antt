@@ -5,7 +5,7 @@ use Rattle.sieve_syntax.specs.View.{tree_of}
 use Rattle.sieve_meaning.specs.Program.{Commands}
 use Rattle.sieve_meaning.specs.Meaning.{Library}
 use Rattle.sieve_meaning.specs.Reading.{program_of}
-use Rattle.filing_gen.specs.Libraries.{NamedScript, most_scripts}
+use Rattle.script_library.specs.Libraries.{NamedScript, most_scripts}
 
 -- The scripts of a location (RFC 6609, section 3.2), each with its name. This is the one at a name.
 abbrev pub script_at : (name : List ℕ) → List (List ℕ × Commands) → Option Commands

@@ -4,7 +4,8 @@ ghost use Rattle.std.specs.Prelude.{◌≡◌, ℕ, List, [], ◌≤◌, length,
 ghost use Rattle.class_plan.specs.Plans.{is_open_in};
 ghost use Rattle.sieve_syntax.specs.View.{tree_of};
 ghost use Rattle.sieve_meaning.specs.Reading.{program_of};
-ghost use Rattle.filing_gen.specs.Correct.{library_of};
+ghost use Rattle.script_library.specs.Lent.{scripts_of};
+ghost use Rattle.script_library.specs.Libraries.{library_of};
 ghost use Rattle.sieve_meaning.specs.Outcome.{outcome_at, outcome};
 ghost use Rattle.filing_desk.specs.Judging.{RefusesScript, RefusesImage, RefusesMessage, IsFaultOf, outcome_view};
 ghost use Rattle.filing_desk.specs.Steps.{add_class, file, set_global, set_plan, try_image, opening, settled, filed, IsGood, IsGoodImage, greatest_image, greatest_message, greatest_plan, greatest_script};
@@ -18,10 +19,11 @@ use crate::classes::PlanClasses;
 use crate::fault::DeskFault;
 use crate::payload::Payload;
 use class_plan::{Plan, PlanFault};
-use filing_gen::{GenFault, Library, compile};
+use filing_gen::{GenFault, compile_with};
 use filing_image::decode;
 use filing_machine::{Case, WholeCase, run};
 use filing_verify::{Verified, verify};
+use script_library::{Shelf, Shelves};
 use sieve_check::{Checked, check};
 use sieve_meaning::{Paths, default_class_alone};
 use sieve_text::{ScanRefusal, TextRefusal, parse};
@@ -53,8 +55,7 @@ pub struct Outcome {
 pub struct Desk {
     alloc: Global,
     plan: Plan,
-    library: Library,
-    ghost no_personal_scripts: { length library.personal ≡ 0 },
+    globals: Shelf,
 }
 
 /// The default class alone, with a fault.
@@ -83,12 +84,12 @@ fn outcome_of<C: Case>(
     alloc: Global,
     case: &C,
     script: &Checked,
-    library: &Library,
+    shelves: Shelves<'_>,
 ) -> Result<Outcome, DeskFault>
-    ensures outcome { IfOk result (λ o. outcome_view o ≡ outcome (C.facts case.now) (library_of library.now) None (program_of (tree_of script.now.script))) }
+    ensures outcome { IfOk result (λ o. outcome_view o ≡ outcome (C.facts case.now) (library_of (scripts_of shelves.entry)) None (program_of (tree_of script.now.script))) }
     ensures refused { IfErr result (λ f. f ≡ NoMemory) }
 {
-    match compile(alloc, script, None, library) {
+    match compile_with(alloc, script, None, shelves) {
         Ok(program) => {
             let outcome = run_image(alloc, &program, case)?;
             Ok(outcome)
@@ -175,7 +176,7 @@ impl Desk {
         Ok(Desk {
             alloc,
             plan: Plan::new(alloc)?,
-            library: Library::new(alloc),
+            globals: Shelf::new(alloc),
         })
     }
 
@@ -211,7 +212,7 @@ impl Desk {
     {
         let script = judge(self.alloc, text)?;
         let script = Rc::new(self.alloc, script)?;
-        self.library.set_global(name, script)?;
+        self.globals.put(name, script)?;
         Ok(())
     }
 
@@ -235,7 +236,12 @@ impl Desk {
     {
         let checked = judge(self.alloc, script)?;
         let case = judge_message(self.alloc, &self.plan, message)?;
-        let outcome = outcome_of(self.alloc, &case, &checked, &self.library)?;
+        let personal = Shelf::new(self.alloc);
+        let shelves = Shelves {
+            personal: &personal,
+            global: &self.globals,
+        };
+        let outcome = outcome_of(self.alloc, &case, &checked, shelves)?;
         Ok(outcome)
     }
 }

@@ -4,9 +4,9 @@ ghost use Rattle.std.specs.Prelude.{◌≡◌};
 ghost use Rattle.filing_desk.specs.Faults.{refusal_of, has_place as has_place_of};
 
 use class_plan::PlanFault;
-use filing_gen::LibraryFault;
 use filing_image::FormFault;
 use filing_verify::VerifyFault;
+use script_library::LibraryFault;
 use sieve_check::CheckFault;
 use sieve_text::{TextFault, TextRefusal};
 use std::alloc::{AllocError, AllocFailed};

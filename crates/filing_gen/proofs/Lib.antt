@@ -14,8 +14,6 @@ mod Written
 mod WeightLemmas
 mod Includes
 mod IncludesTypes
-mod Shelves
-pub mod Slots
-mod Stacked
+mod SlotLemmas
 mod Rows
 mod LevelLemmas

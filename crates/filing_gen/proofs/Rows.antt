@@ -1,11 +1,9 @@
--- The definitions on small libraries: each line computes.
-use Rattle.std.proofs.Common.{◌≡◌, ℕ, List, [], ◌∷◌, true, false, Some, None, codes, refl}
+-- The definitions on small libraries, and on lists of names: each line computes.
+use Rattle.std.proofs.Common.{◌≡◌, ℕ, List, [], ◌∷◌, true, false, codes, refl}
 use Rattle.sieve_syntax.specs.declared.tree.Script.{Script}
-use Rattle.sieve_syntax.specs.View.{tree_of}
-use Rattle.sieve_meaning.specs.Reading.{program_of}
-use Rattle.filing_gen.specs.Correct.{library_of}
-use Rattle.filing_gen.specs.Libraries.{NamedScript, Scripts, named, put, slots_of}
+use Rattle.script_library.specs.Libraries.{NamedScript, Scripts}
 use Rattle.filing_gen.specs.Names.{each_once}
+use Rattle.filing_gen.specs.Slots.{slots_of}
 
 abbrev entry : List ℕ → Script → NamedScript
 entry name s = record { name = name; script = s }
@@ -19,29 +17,6 @@ lists = codes "lists"
 -- two personal scripts, and a global one with the name of the second
 abbrev three : (a b c : Script) → Scripts
 three a b c = record { personal = entry spam a ∷ entry lists b ∷ []; global = entry lists c ∷ [] }
-
--- a new name comes behind the others
-put_new : (a b c : Script) → put (entry (codes "new") c) (three a b c).personal ≡ entry spam a ∷ entry lists b ∷ entry (codes "new") c ∷ []
-put_new a b c = refl
-
--- a script is replaced in its place
-put_again : (a b c : Script) → put (entry spam c) (three a b c).personal ≡ entry spam c ∷ entry lists b ∷ []
-put_again a b c = refl
-
--- names are compared octet for octet
-named_exactly : (a b c : Script) → named (codes "Lists") (three a b c).personal ≡ None
-named_exactly a b c = refl
-
--- one name in both locations
-found_personal : (a b c : Script) → (library_of (three a b c)).find (record { global = false; name = lists }) ≡ Some (program_of (tree_of b))
-found_personal a b c = refl
-
-found_global : (a b c : Script) → (library_of (three a b c)).find (record { global = true; name = lists }) ≡ Some (program_of (tree_of c))
-found_global a b c = refl
-
--- a personal script is not found among the global ones
-not_found : (a b c : Script) → (library_of (three a b c)).find (record { global = true; name = spam }) ≡ None
-not_found a b c = refl
 
 slot_personal : (a b c : Script) → slots_of (three a b c) (record { global = false; name = lists }) ≡ 1
 slot_personal a b c = refl

@@ -1,23 +1,16 @@
 -- What a compiler owes.
-use Rattle.std.specs.Prelude.{◌≡◌, ℕ, List, Option, option_map}
+use Rattle.std.specs.Prelude.{◌≡◌, ℕ, List, Option}
 use Rattle.filing_image.specs.Program.{Program}
 use Rattle.filing_verify.specs.Well.{IsWell}
 use Rattle.filing_table.specs.Ends.{HasOutcome}
-use Rattle.sieve_syntax.specs.View.{tree_of}
 use Rattle.sieve_meaning.specs.Case.{Facts}
 use Rattle.sieve_meaning.specs.Program.{Commands}
 use Rattle.sieve_meaning.specs.Meaning.{Library, meaning}
-use Rattle.sieve_meaning.specs.Reading.{program_of}
-use Rattle.filing_gen.specs.Libraries.{Scripts, named, location_of}
 use Rattle.filing_gen.specs.Pools.{IsOnce}
 use Rattle.sieve_meaning.specs.Outcome.{outcome_of}
 use Rattle.sieve_meaning.specs.Weight.{linked_weight}
 use Rattle.filing_gen.specs.declared.fault.GenFault.{GenFault}
 use Rattle.filing_gen.specs.declared.fault.GenFault.TheVariants.{TooLarge, NoMemory}
-
--- what an include finds: a global name among the global scripts, another among the personal ones
-abbrev pub library_of : Scripts → Library
-library_of l = record { find = λ s. option_map (λ x. program_of (tree_of x)) (named s.name (location_of s.global l)) }
 
 -- The image of a main script, which may have a name: it declares the script's weight as its budget, it may run, and in
 -- every case it ends with the outcome of what the script means.

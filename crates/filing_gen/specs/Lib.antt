@@ -7,8 +7,7 @@ pub mod Emission
 pub mod Correct
 pub mod Weights
 pub mod Linked
-pub mod Libraries
-pub mod Shelves
+pub mod Slots
 pub mod Levels
 pub mod Scopes
 pub mod Ends

@@ -1,8 +1,7 @@
-//! Why there is no image of a script, and why a library refuses one.
+//! Why there is no image of a script.
 
 ghost use Rattle.std.specs.Prelude.{◌≡◌};
 ghost use Rattle.filing_gen.specs.Correct.{gen_number};
-ghost use Rattle.filing_gen.specs.Libraries.{library_number};
 ghost use Rattle.filing_gen.specs.declared.fault.GenFault.TheVariants.{NoMemory};
 
 use std::alloc::{AllocError, AllocFailed};
@@ -45,48 +44,5 @@ impl<T: Drop> From<AllocFailed<T>> for GenFault {
 
     fn from(_error: AllocFailed<T>) -> GenFault {
         GenFault::NoMemory
-    }
-}
-
-/// Why a library refuses a script.
-#[derive(Clone, Copy, Debug, PartialEq, Eq, Error)]
-pub enum LibraryFault {
-    /// 96: the name is new, and its location has thirty-two scripts.
-    #[error("the library is full")]
-    Full,
-    /// 99: an allocation was refused.
-    #[error("out of memory")]
-    NoMemory,
-}
-
-impl LibraryFault {
-    /// The number by which the fault is told: 96 or 99.
-    pub fn number(self) -> u8
-        ensures { result ≡ library_number self }
-    {
-        match self {
-            LibraryFault::Full => 96,
-            LibraryFault::NoMemory => 99,
-        }
-    }
-}
-
-impl From<AllocError> for LibraryFault {
-    ghost use Rattle.filing_gen.specs.declared.fault.LibraryFault.TheVariants.{NoMemory};
-
-    ghost from_gives = { λ _ fault. fault ≡ NoMemory };
-
-    fn from(_error: AllocError) -> LibraryFault {
-        LibraryFault::NoMemory
-    }
-}
-
-impl<T: Drop> From<AllocFailed<T>> for LibraryFault {
-    ghost use Rattle.filing_gen.specs.declared.fault.LibraryFault.TheVariants.{NoMemory};
-
-    ghost from_gives = { λ _ fault. fault ≡ NoMemory };
-
-    fn from(_error: AllocFailed<T>) -> LibraryFault {
-        LibraryFault::NoMemory
     }
 }

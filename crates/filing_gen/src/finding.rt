@@ -4,14 +4,16 @@ ghost use Rattle.std.specs.Prelude.{◌≡◌, ◌<◌, ℕ, option_map, IfSome}
 ghost use Rattle.sieve_syntax.specs.View.{tree_of};
 ghost use Rattle.sieve_meaning.specs.Reading.{program_of};
 ghost use Rattle.sieve_meaning.specs.Scripts.{asked, script_of};
-ghost use Rattle.filing_gen.specs.Libraries.{slots_of};
-ghost use Rattle.filing_gen.specs.Correct.{library_of};
+ghost use Rattle.script_library.specs.Lent.{scripts_of};
+ghost use Rattle.script_library.specs.Libraries.{library_of};
+ghost use Rattle.filing_gen.specs.Slots.{slots_of};
 ghost use Rattle.filing_gen.specs.Linked.{is_passed as is_passed_of};
 ghost use Rattle.filing_gen.specs.Levels.{judged, judgement};
 ghost use Rattle.filing_gen.specs.Scopes.{names_of, told, EntersAt};
 
 use crate::chain::{Chain, MainScript};
-use crate::library::Library;
+use crate::slots::find_script;
+use script_library::Shelves;
 use sieve_check::Checked;
 use sieve_meaning::Include;
 use sieve_syntax::Script;
@@ -19,7 +21,7 @@ use sieve_syntax::Script;
 /// What all includes of a main script share: the scripts that can be included, and the main one.
 #[derive(Clone, Copy, Drop)]
 pub struct Scope<'a> {
-    pub library: &'a Library,
+    pub shelves: Shelves<'a>,
     pub main: MainScript<'a>,
 }
 
@@ -75,12 +77,11 @@ fn judge<'a>(
 
 /// What an include comes to behind the scripts that are active.
 pub fn find<'a, C: Chain>(scope: &Scope<'a>, chain: &C, include: &Include<'_>) -> Finding<'a>
-    ensures told { told result ≡ judgement (library_of scope.now.library.now) (names_of scope.now.main) (C.names chain.now) (asked include.now) }
-    ensures slot { EntersAt result (slots_of scope.now.library.now (script_of include.now.script)) }
+    ensures told { told result ≡ judgement (library_of (scripts_of scope.now.shelves)) (names_of scope.now.main) (C.names chain.now) (asked include.now) }
+    ensures slot { EntersAt result (slots_of (scripts_of scope.now.shelves) (script_of include.now.script)) }
 {
-    let library = scope.library;
     judge(
-        library.find(&include.script),
+        find_script(scope.shelves, &include.script),
         is_passed(&scope.main, include),
         chain.contains(&include.script),
         include.is_once,

@@ -5,13 +5,14 @@ ghost use Rattle.std.specs.Prelude.{◌<◌, ℕ, zero, suc, List, OnOk};
 ghost use Rattle.sieve_syntax.specs.View.{tree_of};
 ghost use Rattle.sieve_meaning.specs.Reading.{program_of};
 ghost use Rattle.sieve_meaning.specs.Weight.{included_weight};
+ghost use Rattle.script_library.specs.Lent.{scripts_of};
+ghost use Rattle.script_library.specs.Libraries.{library_of};
 ghost use Rattle.filing_flow.specs.Structure.{size};
 ghost use Rattle.filing_gen.specs.Adds.{Emits, HasRoom};
-ghost use Rattle.filing_gen.specs.Correct.{library_of};
 ghost use Rattle.filing_gen.specs.Levels.{entered_flow, entered_weight};
-ghost use Rattle.filing_gen.specs.Libraries.{slots_of};
 ghost use Rattle.filing_gen.specs.Linked.{included_flow};
 ghost use Rattle.filing_gen.specs.Scopes.{names_of};
+ghost use Rattle.filing_gen.specs.Slots.{slots_of};
 ghost use Rattle.filing_gen.specs.Weights.{IsLeft};
 
 use crate::chain::{Chain, Link};
@@ -34,7 +35,7 @@ pub trait Level {
 
     /// Takes what the script adds to the weight from what is left; none where it is more.
     fn weigh<C: Chain>(scope: &Scope<'_>, chain: &C, script: &Script, left: u32) -> Option<u32>
-        ensures { IsLeft left (entered_weight (library_of scope.now.library.now) depth (C.names chain.now) (program_of (tree_of script.now))) result };
+        ensures { IsLeft left (entered_weight (library_of (scripts_of scope.now.shelves)) depth (C.names chain.now) (program_of (tree_of script.now))) result };
 
     /// Writes the entry of the script.
     fn emit<C: Chain>(
@@ -46,8 +47,8 @@ pub trait Level {
         script: &Script,
     ) -> Result<(), AllocError>
         requires slot { slot < 64 }
-        requires room { HasRoom out.old (size (entered_flow (library_of scope.now.library.now) (slots_of scope.now.library.now) (names_of scope.now.main) depth (C.names chain.now) slot (program_of (tree_of script.now)))) }
-        ensures adds { OnOk result ((ends : List ℕ) → Emits out.old out.new (entered_flow (library_of scope.now.library.now) (slots_of scope.now.library.now) (names_of scope.now.main) depth (C.names chain.now) slot (program_of (tree_of script.now))) ends) };
+        requires room { HasRoom out.old (size (entered_flow (library_of (scripts_of scope.now.shelves)) (slots_of (scripts_of scope.now.shelves)) (names_of scope.now.main) depth (C.names chain.now) slot (program_of (tree_of script.now)))) }
+        ensures adds { OnOk result ((ends : List ℕ) → Emits out.old out.new (entered_flow (library_of (scripts_of scope.now.shelves)) (slots_of (scripts_of scope.now.shelves)) (names_of scope.now.main) depth (C.names chain.now) slot (program_of (tree_of script.now))) ends) };
 }
 
 /// No further script may be active: the entry is fault 4.
@@ -119,9 +120,9 @@ pub struct Includes<'a, C, L> {
 }
 
 impl<C: Chain, L: Level> Linker for Includes<'_, C, L> {
-    ghost flow_of = { λ s. included_flow (library_of s.scope.library.now) (slots_of s.scope.library.now) (names_of s.scope.main) L.depth (C.names s.chain.now) };
+    ghost flow_of = { λ s. included_flow (library_of (scripts_of s.scope.shelves)) (slots_of (scripts_of s.scope.shelves)) (names_of s.scope.main) L.depth (C.names s.chain.now) };
 
-    ghost weight_of = { λ s. included_weight (library_of s.scope.library.now) L.depth (C.names s.chain.now) };
+    ghost weight_of = { λ s. included_weight (library_of (scripts_of s.scope.shelves)) L.depth (C.names s.chain.now) };
 
     fn weigh(&self, include: &Include<'_>, left: u32) -> Option<u32> {
         match find(&self.scope, self.chain, include) {

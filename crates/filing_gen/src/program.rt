@@ -6,6 +6,8 @@ ghost use Rattle.sieve_syntax.specs.View.{command_of, commands_of, tree_of};
 ghost use Rattle.sieve_meaning.specs.Outcome.{greatest_weight};
 ghost use Rattle.sieve_meaning.specs.Reading.{program_of};
 ghost use Rattle.sieve_meaning.specs.Weight.{linked_weight};
+ghost use Rattle.script_library.specs.Lent.{scripts_of};
+ghost use Rattle.script_library.specs.Libraries.{library_of};
 ghost use Rattle.filing_image.specs.Program.{instruction_of};
 ghost use Rattle.filing_verify.specs.Well.{IsWell};
 ghost use Rattle.filing_flow.specs.Structure.{size};
@@ -13,7 +15,7 @@ ghost use Rattle.filing_flow.specs.Types.{HasType};
 ghost use Rattle.filing_gen.specs.Structured.{script_flow};
 ghost use Rattle.filing_gen.specs.Adds.{IsCode, IsImageOf};
 ghost use Rattle.filing_gen.specs.Emission.{commands_long};
-ghost use Rattle.filing_gen.specs.Correct.{IsCompiled, NamesOnce, library_of};
+ghost use Rattle.filing_gen.specs.Correct.{IsCompiled, NamesOnce};
 ghost use Rattle.filing_gen.specs.declared.fault.GenFault.TheVariants.{NoMemory, TooLarge};
 
 use crate::chain::MainScript;
@@ -22,12 +24,13 @@ use crate::ends::{NO_PLACE, end_block};
 use crate::fault::GenFault;
 use crate::finding::Scope;
 use crate::levels::{Above, Deepest, Includes};
-use crate::library::Library;
 use crate::linker::Linker;
 use crate::output::{Output, put};
+use crate::slots::slot_count;
 use crate::weight::script_weight;
 use filing_image::{Image, Instruction, Operation};
 use filing_verify::{Verified, VerifyFault, verify};
+use script_library::{Library, Shelves};
 use sieve_check::Checked;
 use sieve_syntax::{Command, Script};
 use std::alloc::{AllocError, Global};
@@ -108,9 +111,9 @@ fn build(
     scope: Scope<'_>,
     weight: u32,
 ) -> Result<Verified, GenFault>
-    requires weight { weight ≡ linked_weight (library_of scope.library.now) (option_map (λ s. s.now) scope.main.known_as) (program_of (tree_of script.now)) }
+    requires weight { weight ≡ linked_weight (library_of (scripts_of scope.shelves)) (option_map (λ s. s.now) scope.main.known_as) (program_of (tree_of script.now)) }
     requires small { weight ≤ greatest_weight }
-    ensures compiled { IfOk result (λ v. IsCompiled (library_of scope.entry.library.now) (option_map (λ s. s.now) scope.entry.main.known_as) (program_of (tree_of script.now)) v) }
+    ensures compiled { IfOk result (λ v. IsCompiled (library_of (scripts_of scope.entry.shelves)) (option_map (λ s. s.now) scope.entry.main.known_as) (program_of (tree_of script.now)) v) }
     ensures once { IfOk result (λ v. NamesOnce v) }
     ensures refused { IfErr result (λ f. f ≡ NoMemory) }
 {
@@ -119,7 +122,7 @@ fn build(
         chain: &scope.main,
         below: PhantomData,
     };
-    let slots = scope.library.slot_count();
+    let slots = slot_count(scope.shelves);
     let out = emit_program(alloc, &includes, &script.commands)?;
     let image = image_of(alloc, weight, slots, out)?;
     let verified = verified(alloc, image)?;
@@ -128,7 +131,7 @@ fn build(
 
 /// The weight of a script and all that it includes; none where it is above 60,000.
 fn weigh(script: &Script, scope: Scope<'_>) -> Option<u32>
-    ensures { MatchOption result (greatest_weight < linked_weight (library_of scope.entry.library.now) (option_map (λ s. s.now) scope.entry.main.known_as) (program_of (tree_of script.now))) (λ w. (w ≡ linked_weight (library_of scope.entry.library.now) (option_map (λ s. s.now) scope.entry.main.known_as) (program_of (tree_of script.now))) × (w ≤ greatest_weight)) }
+    ensures { MatchOption result (greatest_weight < linked_weight (library_of (scripts_of scope.entry.shelves)) (option_map (λ s. s.now) scope.entry.main.known_as) (program_of (tree_of script.now))) (λ w. (w ≡ linked_weight (library_of (scripts_of scope.entry.shelves)) (option_map (λ s. s.now) scope.entry.main.known_as) (program_of (tree_of script.now))) × (w ≤ greatest_weight)) }
 {
     let includes: Includes<'_, MainScript<'_>, Levels> = Includes {
         scope,
@@ -157,9 +160,24 @@ pub fn compile(
     ensures once { IfOk result (λ v. NamesOnce v) }
     ensures too_large { result ≡ Err TooLarge ↔ greatest_weight < linked_weight (library_of library.now) (option_map (λ s. s.now) known_as.entry) (program_of (tree_of main.now.script)) }
 {
+    compile_with(alloc, main, known_as, library.shelves())
+}
+
+/// The image of a checked script, as `compile` gives it, where the scripts that can be included stand on two shelves that
+/// are borrowed: so many users, each with a shelf of his own, can share the other, and none is copied.
+pub fn compile_with(
+    alloc: Global,
+    main: &Checked,
+    known_as: Option<&[u8]>,
+    shelves: Shelves<'_>,
+) -> Result<Verified, GenFault>
+    ensures compiled { IfOk result (λ v. IsCompiled (library_of (scripts_of shelves.entry)) (option_map (λ s. s.now) known_as.entry) (program_of (tree_of main.now.script)) v) }
+    ensures once { IfOk result (λ v. NamesOnce v) }
+    ensures too_large { result ≡ Err TooLarge ↔ greatest_weight < linked_weight (library_of (scripts_of shelves.entry)) (option_map (λ s. s.now) known_as.entry) (program_of (tree_of main.now.script)) }
+{
     let script = main.script();
     let scope = Scope {
-        library,
+        shelves,
         main: MainScript { known_as },
     };
     match weigh(script, scope) {

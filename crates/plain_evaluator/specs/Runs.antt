@@ -10,7 +10,8 @@ use Rattle.sieve_meaning.specs.Truth.{truth}
 use Rattle.sieve_meaning.specs.Reading.{only_in, block_in, command_named, program_of, branches_of, string_lists, first_string, has_tag}
 use Rattle.sieve_meaning.specs.Meaning.{ScriptName, script_named, Library, Included, included, run, run_branches, and_then, filing, ended, entering}
 use Rattle.sieve_meaning.specs.Meaning as meaning
-use Rattle.filing_gen.specs.Correct.{library_of}
+use Rattle.script_library.specs.Lent.{scripts_of}
+use Rattle.script_library.specs.Libraries.{library_of}
 use Rattle.plain_evaluator.specs.Case.{facts_of}
 use Rattle.sieve_meaning.specs.Scripts.{script_of}
 use Rattle.plain_evaluator.specs.declared.filing.Filing.{Filing}
@@ -37,7 +38,7 @@ fault_of (endings.Faults n) = Some n
 
 -- what an `include` does in a scope, where so many further scripts may be active
 abbrev pub includes_at : ℕ → Scope → Included
-includes_at left s = included (facts_of s.case.now) (library_of s.library.now) left (map script_of s.chain.now)
+includes_at left s = included (facts_of s.case.now) (library_of (scripts_of s.shelves)) left (map script_of s.chain.now)
 
 -- A script is entered by an include behind the active ones, where so many further ones may be active.
 abbrev pub entered : Facts → Library → ℕ → (chain : List ScriptName) → Include → Commands → meaning.Filing → meaning.Ending

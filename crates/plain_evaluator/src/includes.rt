@@ -52,7 +52,7 @@ pub fn run_include<'a, L: Level>(
         return Ok(Ending::GoesOn);
     }
     let Some(script) = scope
-        .library
+        .shelves
         .get(include.script.location, include.script.name)
     else {
         return Ok(missing(include.is_optional));

@@ -2,7 +2,8 @@
 //! however the includes lead on.
 
 ghost use Rattle.std.specs.Prelude.{◌≡◌, ℕ, IfOk, map};
-ghost use Rattle.filing_gen.specs.Correct.{library_of};
+ghost use Rattle.script_library.specs.Lent.{scripts_of};
+ghost use Rattle.script_library.specs.Libraries.{library_of};
 ghost use Rattle.sieve_syntax.specs.View.{tree_of};
 ghost use Rattle.sieve_meaning.specs.Reading.{program_of};
 ghost use Rattle.plain_evaluator.specs.Case.{facts_of};
@@ -28,5 +29,5 @@ pub trait Level {
         script: &'a Script,
         filing: &mut Filing<'a>,
     ) -> Result<Ending, AllocError>
-        ensures { IfOk result (λ e. ending_at e filing.new ≡ entered (facts_of scope.now.case.now) (library_of scope.now.library.now) depth (map script_of scope.now.chain.now) (asked include.now) (program_of (tree_of script.now)) (filing_of filing.old)) };
+        ensures { IfOk result (λ e. ending_at e filing.new ≡ entered (facts_of scope.now.case.now) (library_of (scripts_of scope.now.shelves)) depth (map script_of scope.now.chain.now) (asked include.now) (program_of (tree_of script.now)) (filing_of filing.old)) };
 }

@@ -74,7 +74,7 @@ impl<L: Level> Level for Above<L> {
         filing.entered.insert(0, include.script)?;
         let inner = Scope {
             case: scope.case,
-            library: scope.library,
+            shelves: scope.shelves,
             chain: chain.as_slice(),
         };
         let ending = run::<L>(alloc, &inner, &script.commands, filing)?;

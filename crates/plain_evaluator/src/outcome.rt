@@ -1,7 +1,8 @@
 //! The evaluator's call.
 
 ghost use Rattle.std.specs.Prelude.{◌≡◌, IfOk, map, option_map};
-ghost use Rattle.filing_gen.specs.Correct.{library_of};
+ghost use Rattle.script_library.specs.Lent.{scripts_of};
+ghost use Rattle.script_library.specs.Libraries.{library_of};
 ghost use Rattle.sieve_syntax.specs.View.{tree_of};
 ghost use Rattle.sieve_meaning.specs.Reading.{program_of};
 ghost use Rattle.sieve_meaning.specs.Meaning.{main_names, meaning};
@@ -16,7 +17,7 @@ use crate::commands::run;
 use crate::filing::{Ending, Filing};
 use crate::levels::Levels;
 use crate::scope::Scope;
-use filing_gen::Library;
+use script_library::Shelves;
 use sieve_meaning::{Location, Paths, ScriptName, captured_classes};
 use sieve_syntax::Script;
 use std::alloc::{AllocError, Global};
@@ -57,22 +58,22 @@ fn main_names<'a>(
     Ok(names)
 }
 
-/// What a main script captures a message in, which may be known by a personal name, and may include the scripts of a
-/// library: the outcome of what the script means in the message's case. Its weight is left aside: a script that is too
+/// What a main script captures a message in, which may be known by a personal name, and may include the scripts of two
+/// shelves: the outcome of what the script means in the message's case. Its weight is left aside: a script that is too
 /// heavy for an image is run like any other. The only error is want of memory.
 pub fn evaluate<'a>(
     alloc: Global,
     main: &'a Script,
     known_as: Option<&'a [u8]>,
-    library: &'a Library,
+    shelves: Shelves<'a>,
     case: &BorrowedCase<'_, Paths>,
 ) -> Result<Outcome, AllocError>
-    ensures { IfOk result (λ o. outcome_view o ≡ outcome_of (meaning (facts_of case.now) (library_of library.now) (option_map (λ s. s.now) known_as.entry) (program_of (tree_of main.now)))) }
+    ensures { IfOk result (λ o. outcome_view o ≡ outcome_of (meaning (facts_of case.now) (library_of (scripts_of shelves.entry)) (option_map (λ s. s.now) known_as.entry) (program_of (tree_of main.now)))) }
 {
     let chain = main_names(alloc, known_as)?;
     let scope = Scope {
         case,
-        library,
+        shelves,
         chain: chain.as_slice(),
     };
     let entered = main_names(alloc, known_as)?;

@@ -1,7 +1,7 @@
 //! Where a run stands.
 
 use crate::case::BorrowedCase;
-use filing_gen::Library;
+use script_library::Shelves;
 use sieve_meaning::{Paths, ScriptName};
 
 /// What is the same for all commands of a script that runs.
@@ -9,7 +9,7 @@ use sieve_meaning::{Paths, ScriptName};
 pub struct Scope<'s, 'm, 'a> {
     pub case: &'s BorrowedCase<'m, Paths>,
     /// The scripts that can be included.
-    pub library: &'a Library,
+    pub shelves: Shelves<'a>,
     /// The active scripts that have names, the innermost first.
     pub chain: &'s [ScriptName<'a>],
 }

@@ -3,7 +3,7 @@
 use crate::compiled::keep;
 use crate::row::{add_more, read_script};
 use anyhow::Result;
-use filing_gen::Library;
+use script_library::Library;
 use sieve_meaning::Location;
 use std::alloc::Global;
 

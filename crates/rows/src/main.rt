@@ -23,9 +23,9 @@ mod trees;
 
 use anyhow::{Context, Result};
 use call::Call;
-use filing_gen::Library;
 use given::Given;
 use row::{Row, read_row};
+use script_library::Library;
 use std::alloc::Global;
 use std::io::Read;
 use std::str;

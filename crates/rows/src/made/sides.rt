@@ -1,9 +1,10 @@
 //! The two ways from a checked script, with those that it can include, and a message to an outcome.
 
 use anyhow::Result;
-use filing_gen::{Library, compile};
+use filing_gen::compile;
 use filing_machine::run;
 use plain_evaluator::{BorrowedCase, evaluate};
+use script_library::Library;
 use sieve_check::Checked;
 use sieve_meaning::Paths;
 use std::alloc::{AllocError, Global};
@@ -79,7 +80,8 @@ pub fn by_tree(
     case: &BorrowedCase<'_, Paths>,
 ) -> Result<Captured, AllocError> {
     let main = script.main.script();
-    let outcome = evaluate(alloc, main, script.known_as, script.library, case)?;
+    let shelves = script.library.shelves();
+    let outcome = evaluate(alloc, main, script.known_as, shelves, case)?;
     Ok(Captured {
         classes: outcome.classes,
         fault: outcome.fault,

@@ -4,7 +4,8 @@ use Rattle.std.specs.Prelude.{option_map, Some}
 use Rattle.sieve_syntax.specs.View.{tree_of}
 use Rattle.sieve_meaning.specs.Meaning.{script_named}
 use Rattle.sieve_meaning.specs.Reading.{program_of}
-use Rattle.filing_gen.specs.Correct.{library_of}
+use Rattle.script_library.specs.Lent.{scripts_of}
+use Rattle.script_library.specs.Libraries.{library_of}
 use Rattle.plain_evaluator.specs.Case.{facts_of}
 use Rattle.plain_evaluator.specs.Runs.{ending_at, entered, filing_of, includes_at}
 use Rattle.sieve_meaning.specs.Scripts.{asked, script_of}
@@ -16,7 +17,7 @@ returns-then-is_among g c =
     let s = c.args.scope.now in
     let i = asked c.args.include.now in
     let script = program_of (tree_of c.in-Some.script.now.script) in
-    included_active (facts_of s.case.now) (library_of s.library.now) g.L.Level.depth (map script_of s.chain.now) i (filing_of c.args.filing.now) script
+    included_active (facts_of s.case.now) (library_of (scripts_of s.shelves)) g.L.Level.depth (map script_of s.chain.now) i (filing_of c.args.filing.now) script
     (not_passed i.once c.as_slice.result.now c.args.filing.now.entered.items (script_named i) c.is_passed.result c.as_slice.ensures.value c.is_passed.ensures c.if-is_passed.false)
     (ap (option_map (λ x. program_of (tree_of x))) (sym c.in-Some.ensures))
     (among_told s.chain.now (script_named i) c.is_among.result _ c.is_among.ensures c.if-is_among.true)
@@ -25,7 +26,7 @@ pub returns : goal.returns
 returns g c =
     let s = c.args.scope.now in
     let facts = facts_of s.case.now in
-    let lib = library_of s.library.now in
+    let lib = library_of (scripts_of s.shelves) in
     let left = g.L.Level.depth in
     let chain = map script_of s.chain.now in
     let i = asked c.args.include.now in

@@ -1,7 +1,8 @@
 use Rattle.std.proofs.Common.{refl, false, map, ap, ◌∙◌}
 use Rattle.std.specs.Prelude.{option_map}
 use Rattle.sieve_syntax.specs.View.{tree_of}
-use Rattle.filing_gen.specs.Correct.{library_of}
+use Rattle.script_library.specs.Lent.{scripts_of}
+use Rattle.script_library.specs.Libraries.{library_of}
 use Rattle.plain_evaluator.specs.Case.{facts_of}
 use Rattle.sieve_meaning.specs.Scripts.{script_of}
 use Rattle.plain_evaluator.proofs.OutcomeLemmas.{outcome_of_run}
@@ -10,5 +11,5 @@ use Rattle.plain_evaluator.proofs.outcome.evaluate.Goals as goal
 pub returns : goal.returns
 returns c =
     c.in_ok-outcome.ensures ∙
-    outcome_of_run (facts_of c.args.case.now) (library_of c.args.library.now) (option_map (λ s. s.now) c.args.known_as) (tree_of c.args.main.now) (map script_of c.as_slice.result.now) c.in_ok-ending.ending c.run.new.filing (record { filed = c.new.result; kept = false; cancelled = false; entered = c.in_ok-entered.entered })
+    outcome_of_run (facts_of c.args.case.now) (library_of (scripts_of c.args.shelves)) (option_map (λ s. s.now) c.args.known_as) (tree_of c.args.main.now) (map script_of c.as_slice.result.now) c.in_ok-ending.ending c.run.new.filing (record { filed = c.new.result; kept = false; cancelled = false; entered = c.in_ok-entered.entered })
     (ap (map script_of) c.as_slice.ensures.value ∙ c.in_ok-chain.ensures) c.new.ensures refl refl c.in_ok-entered.ensures c.in_ok-ending.ensures

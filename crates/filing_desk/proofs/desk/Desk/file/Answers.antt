@@ -19,4 +19,4 @@ returns-in_err-outcome c = λ s m s_is m_is. calls_by _ _ _ _ (search rules)
 pub returns : goal.returns
 unfolding Step
 returns c = λ s m s_is m_is.
-    calls_by _ _ _ _ (refl, filed_by c.args.self.now (tree_of c.in_ok-checked.checked.script) s m _ _ (c.in_ok-checked.ensures.good s s_is) (c.in_ok-case.ensures.short m m_is) (c.in_ok-case.ensures.case m m_is) c.in_ok-outcome.ensures.outcome)
+    calls_by _ _ _ _ (refl, filed_by c.args.self.now _ (tree_of c.in_ok-checked.checked.script) s m _ _ (search rules) (c.in_ok-checked.ensures.good s s_is) (c.in_ok-case.ensures.short m m_is) (c.in_ok-case.ensures.case m m_is) c.in_ok-outcome.ensures.outcome)

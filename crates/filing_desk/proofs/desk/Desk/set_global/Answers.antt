@@ -14,16 +14,16 @@ pub returns-in_err-script-2 : goal.returns-in_err-script-2
 unfolding Step
 returns-in_err-script-2 c = λ t is. calls_by _ _ _ _ (search rules)
 
-pub returns-in_err-set_global : goal.returns-in_err-set_global
-returns-in_err-set_global c = λ t is.
-    let result = c.from_residual-in_err-set_global.ensures in
-    let kept = c.in_err-set_global.ensures in
+pub returns-in_err-put : goal.returns-in_err-put
+returns-in_err-put c = λ t is.
+    let result = c.from_residual-in_err-put.ensures in
+    let kept = c.in_err-put.ensures in
     let P : Checked → Type 0 = λ x. IsGood t (tree_of x.script) in
     let good = subst P (sym c.in_ok-script-2.ensures.ok) (c.in_ok-script.ensures.good t is) in
-    calls_by _ _ _ _ (global_settled c.args.self.now _ c.args.name.now t (tree_of c.in_ok-script-2.script.value.script) c.in_err-set_global.field-0.0 _ result.0 result.1 kept.err good (c.in_ok-script.ensures.short t is) (λ full. kept.full.0 (ap (λ f. Err f) full)))
+    calls_by _ _ _ _ (global_settled c.args.self.now _ c.args.name.now t (tree_of c.in_ok-script-2.script.value.script) c.in_err-put.field-0.0 _ result.0 result.1 kept.err good (c.in_ok-script.ensures.short t is) (λ full. kept.full.0 (ap (λ f. Err f) full)))
 
 pub returns : goal.returns
 returns c = λ t is.
     let P : Checked → Type 0 = λ x. IsGood t (tree_of x.script) in
     let good = subst P (sym c.in_ok-script-2.ensures.ok) (c.in_ok-script.ensures.good t is) in
-    calls_by _ _ _ _ (global_kept c.args.self.now _ c.args.name.now t c.in_ok-script-2.script.value.script c.in_ok-set_global.ensures.ok good (λ full. ok_is_no_fault _ _ (c.in_ok-set_global.ensures.full.1 full)))
+    calls_by _ _ _ _ (global_kept c.args.self.now _ c.args.name.now t c.in_ok-script-2.script.value.script c.in_ok-put.ensures.ok good (λ full. ok_is_no_fault _ _ (c.in_ok-put.ensures.full.1 full)))

@@ -1,0 +1,3 @@
+pub mod LocationLemmas
+mod EntryLemmas
+mod Rows

@@ -1,0 +1,89 @@
+//! A library that owns its scripts.
+
+ghost use Rattle.std.specs.Prelude.{◌≡◌, ◌↔◌, Err, IsOk, IsSome, OnOk, OnErr, option_map};
+ghost use Rattle.sieve_meaning.specs.Meaning.{no_library};
+ghost use Rattle.sieve_meaning.specs.Scripts.{is_global};
+ghost use Rattle.script_library.specs.Lent.{scripts_of};
+ghost use Rattle.script_library.specs.Libraries.{named, put, location_of, library_of, no_scripts, HasNoRoom, IsFoundIn};
+ghost use Rattle.script_library.specs.declared.fault.LibraryFault.TheVariants.{Full};
+
+use crate::fault::LibraryFault;
+use crate::shelf::Shelf;
+use crate::shelves::Shelves;
+use sieve_check::Checked;
+use sieve_meaning::Location;
+use std::alloc::Global;
+use std::marker::Model;
+use std::rc::Rc;
+
+/// The scripts that can be included, in two locations: those of the user and those that all users share. Contracts see
+/// it as the two maps from names to scripts.
+#[derive(Drop)]
+pub struct Library {
+    personal: Shelf,
+    global: Shelf,
+}
+
+impl Model for Library {
+    ghost use Rattle.script_library.specs.Libraries.{Scripts, scripts_code};
+
+    ghost Value = { Scripts };
+
+    ghost coded = { scripts_code };
+
+    ghost view = { λ l. record { personal = l.personal; global = l.global } };
+}
+
+impl Library {
+    /// No script; takes no memory.
+    pub fn new(alloc: Global) -> Library
+        ensures empty { result ≡ no_scripts }
+        ensures finds_none { library_of result ≡ no_library }
+    {
+        Library {
+            personal: Shelf::new(alloc),
+            global: Shelf::new(alloc),
+        }
+    }
+
+    /// Puts a script at a name of the user's own, in the place of one that is there. `Full`, 96, exactly for a new name
+    /// where thirty-two are there; `NoMemory`, 99, only for a new name. The library is then as before.
+    pub fn set_personal(&mut self, name: &[u8], script: Rc<Checked>) -> Result<(), LibraryFault>
+        ensures ok { OnOk result (self.new ≡ record self.old { personal = put (record { name = name.now; script = script.value.script }) self.old.personal }) }
+        ensures found { OnOk result (IsFoundIn (record { name = name.now; script = script.value.script }) self.old.personal self.new.personal) }
+        ensures full { result ≡ Err Full ↔ HasNoRoom self.old.personal name.now }
+        ensures replaced { IsSome (named name.now self.old.personal) → IsOk result }
+        ensures err { OnErr result (self.new ≡ self.old) }
+    {
+        self.personal.put(name, script)
+    }
+
+    /// Puts a script at a name that all users share, in the place of one that is there. `Full`, 96, exactly for a new
+    /// name where thirty-two are there; `NoMemory`, 99, only for a new name. The library is then as before.
+    pub fn set_global(&mut self, name: &[u8], script: Rc<Checked>) -> Result<(), LibraryFault>
+        ensures ok { OnOk result (self.new ≡ record self.old { global = put (record { name = name.now; script = script.value.script }) self.old.global }) }
+        ensures found { OnOk result (IsFoundIn (record { name = name.now; script = script.value.script }) self.old.global self.new.global) }
+        ensures full { result ≡ Err Full ↔ HasNoRoom self.old.global name.now }
+        ensures replaced { IsSome (named name.now self.old.global) → IsOk result }
+        ensures err { OnErr result (self.new ≡ self.old) }
+    {
+        self.global.put(name, script)
+    }
+
+    /// The script at a name of a location.
+    pub fn get(&self, location: Location, name: &[u8]) -> Option<&Checked>
+        ensures { option_map (λ c. c.now.script) result ≡ named name.now (location_of (is_global location) self.now) }
+    {
+        self.shelves().get(location, name)
+    }
+
+    /// Its two shelves, as an include looks at them.
+    pub fn shelves(&self) -> Shelves<'_>
+        ensures { scripts_of result ≡ self.now }
+    {
+        Shelves {
+            personal: &self.personal,
+            global: &self.global,
+        }
+    }
+}
