@@ -6,3 +6,5 @@ pub mod CaptureLemmas
 pub mod CaptureStands
 pub mod MessageLemmas
 pub mod DueLemmas
+pub mod AllowedLemmas
+pub mod DestroyLemmas

@@ -3,10 +3,12 @@
 
 mod captures;
 mod counts;
+mod destruction;
 mod dues;
 mod fault;
 mod holds;
 mod messages;
+mod plan_days;
 mod store;
 mod transactions;
 
