@@ -8,3 +8,5 @@ pub mod MessageLemmas
 pub mod DueLemmas
 pub mod AllowedLemmas
 pub mod DestroyLemmas
+pub mod ReviseLemmas
+pub mod ClassLemmas

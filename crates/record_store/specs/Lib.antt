@@ -5,3 +5,4 @@ pub mod Counts
 pub mod Captures
 pub mod Dues
 pub mod Destruction
+pub mod Revisions

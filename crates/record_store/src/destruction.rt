@@ -16,15 +16,12 @@ ghost use Rattle.record_store.specs.Stores.{StandsFor, ObeysRows, Tells, Leaves,
 
 use crate::captures::number_of;
 use crate::fault::StoreFault;
-use crate::plan_days::due_day_of;
+use crate::plan_days::{LAST_CAPTURE_DAY, due_day_of};
 use crate::store::Store;
 use class_plan::{Action, Date, Plan, Schedule};
 use record_tables::rows::RecordRow;
 use record_tables::writes::{delete_due, delete_message, set_destroyed};
 use sqlite::{Alter, Connection, Error, Transaction};
-
-/// The number of the last day on which a record may be captured, 2199-12-31.
-const LAST_CAPTURE_DAY: u32 = 84_005;
 
 /// Takes a message out, if there is one to go.
 fn delete_body<S: Alter>(tx: &mut Transaction<'_, S>, last: Option<u32>) -> Result<(), Error>

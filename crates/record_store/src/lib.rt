@@ -2,6 +2,7 @@
 #![tactic(auto)]
 
 mod captures;
+mod classes;
 mod counts;
 mod destruction;
 mod dues;
@@ -9,6 +10,7 @@ mod fault;
 mod holds;
 mod messages;
 mod plan_days;
+mod revisions;
 mod store;
 mod transactions;
 
