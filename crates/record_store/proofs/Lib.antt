@@ -6,3 +6,7 @@ pub mod CaptureLemmas
 pub mod CaptureStands
 pub mod MessageLemmas
 pub mod DueLemmas
+pub mod AllowedLemmas
+pub mod DestroyLemmas
+pub mod ReviseLemmas
+pub mod ClassLemmas

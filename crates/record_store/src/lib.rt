@@ -2,11 +2,15 @@
 #![tactic(auto)]
 
 mod captures;
+mod classes;
 mod counts;
+mod destruction;
 mod dues;
 mod fault;
 mod holds;
 mod messages;
+mod plan_days;
+mod revisions;
 mod store;
 mod transactions;
 
