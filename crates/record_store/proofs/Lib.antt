@@ -6,3 +6,4 @@ pub mod CaptureLemmas
 pub mod CaptureStands
 pub mod MessageLemmas
 pub mod DueLemmas
+pub mod PathLemmas

@@ -7,9 +7,11 @@ mod dues;
 mod fault;
 mod holds;
 mod messages;
+mod paths;
 mod store;
 mod transactions;
 
 pub use counts::Counts;
 pub use fault::StoreFault;
+pub use paths::are_classes;
 pub use store::{Line, Store};
