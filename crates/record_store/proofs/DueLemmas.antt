@@ -1,7 +1,6 @@
 -- The due list is what the stored due days tell, in their order.
-use Rattle.std.proofs.Common.{◌≡◌, ◌<◌, ℕ, pos, Bool, true, false, not, ◌&&◌, cond, List, [], ◌∷◌, map, filter, find, Option, Some, None, is_some, unwrap_or, option_map, refl, sym, ap, ap₂, ◌∙◌, arith, Ordering, Less, Equal, Greater, is_gt, is_eq, int_cmp, int_le, nat_le, nat_cmp, true≢false, ◌==◌}
-use Rattle.std.proofs.Common.{◌≤◌, ◌+◌, ◌||◌, ◌++◌, length, take, get_or}
-use Rattle.std.proofs.lemmas.List.{take_more, map-append, append-nil}
+use Rattle.std.proofs.Common.{◌≡◌, ◌<◌, ◌≤◌, ◌+◌, ◌==◌, ℕ, zero, suc, pos, Bool, true, false, not, ◌&&◌, ◌||◌, cond, List, [], ◌∷◌, ◌++◌, length, map, filter, flat_map, Option, Some, None, is_some, unwrap_or, refl, sym, ap, ap₂, append_assoc, ◌∙◌, arith, Ordering, Less, Equal, Greater, is_gt, is_eq, int_cmp, int_eq, int_le, nat_le, nat_cmp, true≢false}
+use Rattle.std.proofs.lemmas.List.{map-append}
 use Rattle.record_store.specs.Counts.{tally}
 use Rattle.std.specs.List.{AllByRecursion, list_any}
 use Rattle.std.specs.Cmp.{IsTotalOrder}
@@ -12,13 +11,14 @@ use Rattle.sqlite_trees.specs.Tree.{IsAscending}
 use Rattle.sqlite_keyed.specs.Lists.{sort_by, insert_sorted}
 use Rattle.sqlite_keyed.proofs.KeyedLemmas.{Less-from_lt}
 use Rattle.sqlite_typed.proofs.AnswerLemmas.{no_tie, no_tie_after}
-use Rattle.sqlite_keyed.proofs.ListLemmas.{all_both, all_weaker, all-filter, ascending-filter, ascending_weaker, filter-map, filter_same, map-map}
+use Rattle.sqlite_keyed.proofs.ListLemmas.{all_both, all_weaker, all-filter, ascending-filter, ascending_weaker, filter-map, filter_none, filter_same, flat_map-map, map-map}
 use Rattle.sqlite_keyed.proofs.SortLemmas.{sort_by-map}
 use Rattle.record_tables.specs.Rows.{Record, Due}
 use Rattle.record_tables.specs.Reads as reads
-use Rattle.record_store.specs.Archive.{Line, Archive, IsArchive, has_number, line_of, due_of, is_due, is_by, is_live, is_held, line_cmp, due_list}
-use Rattle.record_store.specs.Dues.{told, unheld}
-use Rattle.record_store.specs.Stores.{has_due, due_row, due_rows}
+use Rattle.record_tables.specs.DueRecords.{DueRecord, due_record, is_of, with_records}
+use Rattle.record_store.specs.Archive.{Line, Archive, Hold, IsArchive, line_of, due_of, is_due, is_by, is_live, is_held, line_cmp, due_list}
+use Rattle.record_store.specs.Dues.{told, due_records}
+use Rattle.record_store.specs.Stores.{has_due, due_row, due_rows, hold_count}
 
 module _ {X : Type 0} (cmp : X → X → Ordering) (total : IsTotalOrder cmp) where
   all-insert : (P : X → Type 0) (new : X) (xs : List X) → P new → AllByRecursion P xs → AllByRecursion P (insert_sorted cmp new xs)
@@ -119,28 +119,29 @@ due_cmp_total = then_total (on_total (λ (d : Due). pos d.day) int_cmp_total) (o
 le_is : (m n : ℕ) → int_le (pos m) (pos n) ≡ nat_le m n
 le_is m n = grind (arith, ints)
 
-same_number : (n : ℕ) → (n == n) ≡ true
-same_number n = grind arith
+same_key : (n : ℕ) → int_eq (pos n) (pos n) ≡ true
+same_key n = grind (arith, ints)
 
-other_number : (m n : ℕ) → m < n → (m == n) ≡ false
-other_number m n h = grind arith
+other_key : (m n : ℕ) → m < n → int_eq (pos m) (pos n) ≡ false
+other_key m n h = grind (arith, ints)
 
--- each record is found by its number
-found_itself : (xs : List Record) → IsAscending (λ (x y : Record). x.number < y.number) xs → AllByRecursion (λ (r : Record). find (has_number r.number) xs ≡ Some r) xs
-found_itself [] up = tt
-found_itself (x ∷ xs) up = (
-  ap (λ b. cond b (Some x) (find (has_number x.number) xs)) (same_number x.number),
-  all_both _ (λ (r : Record). find (has_number r.number) xs ≡ Some r) (λ (r : Record). find (has_number r.number) (x ∷ xs) ≡ Some r)
-      (λ r low h. ap (λ b. cond b (Some x) (find (has_number r.number) xs)) (other_number x.number r.number low) ∙ h) xs up.0 (found_itself xs up.1),
+other_key_below : (m n : ℕ) → n < m → int_eq (pos m) (pos n) ≡ false
+other_key_below m n h = grind (arith, ints)
+
+-- each record is the one that has its number
+alone_itself : (xs : List Record) → IsAscending (λ (x y : Record). x.number < y.number) xs → AllByRecursion (λ (r : Record). filter (λ (x : Record). int_eq (pos x.number) (pos r.number)) xs ≡ r ∷ []) xs
+alone_itself [] up = tt
+alone_itself (x ∷ xs) up = (
+  ap (λ b. cond b (x ∷ filter (λ (y : Record). int_eq (pos y.number) (pos x.number)) xs) (filter (λ (y : Record). int_eq (pos y.number) (pos x.number)) xs)) (same_key x.number)
+      ∙ ap (λ l. x ∷ l) (filter_none (λ (y : Record). int_eq (pos y.number) (pos x.number)) xs (all_weaker _ (λ (y : Record). int_eq (pos y.number) (pos x.number) ≡ false) (λ y low. other_key_below y.number x.number low) xs up.0)),
+  all_both _ (λ (r : Record). filter (λ (y : Record). int_eq (pos y.number) (pos r.number)) xs ≡ r ∷ []) (λ (r : Record). filter (λ (y : Record). int_eq (pos y.number) (pos r.number)) (x ∷ xs) ≡ r ∷ [])
+      (λ r low h. ap (λ b. cond b (x ∷ filter (λ (y : Record). int_eq (pos y.number) (pos r.number)) xs) (filter (λ (y : Record). int_eq (pos y.number) (pos r.number)) xs)) (other_key x.number r.number low) ∙ h) xs up.0 (alone_itself xs up.1),
 )
 
-all_passed : {X : Type 0} (Q P : X → Type 0) (p : X → Bool) (xs : List X) → ((x : X) → Q x → p x ≡ true → P x) → AllByRecursion Q xs → AllByRecursion P (filter p xs)
-all_passed Q P p [] h all = tt
-all_passed Q P p (x ∷ xs) h all = go (p x) refl (all_passed Q P p xs h all.1)
-  where
-    go : (b : Bool) → p x ≡ b → AllByRecursion P (filter p xs) → AllByRecursion P (cond b (x ∷ filter p xs) (filter p xs))
-    go true e more = (h x all.0 e, more)
-    go false e more = more
+-- a list for each element, where each list has one element
+flat_map_ones : {X Y : Type 0} (f : X → List Y) (g : X → Y) (xs : List X) → AllByRecursion (λ x. f x ≡ g x ∷ []) xs → flat_map f xs ≡ map g xs
+flat_map_ones f g [] h = refl
+flat_map_ones f g (x ∷ xs) h = ap₂ ◌++◌ h.0 (flat_map_ones f g xs h.1)
 
 -- the tests of the stored rows are those of the due list
 tests_are : (live held : Bool) (o : Option ℕ) (day : ℕ) → (((live && is_some o) && int_le (pos (unwrap_or o 0)) (pos day)) && not held) ≡ (live && (not held && is_by day o))
@@ -164,19 +165,22 @@ there_is true true None day h = absurd (true≢false (sym h))
 there_is true false None day h = absurd (true≢false (sym h))
 there_is false held None day h = absurd (true≢false (sym h))
 
--- THE DUE LIST: what the ordered due rows up to a day tell, those of held records left out
-pub due_list_is : (a : Archive) → IsArchive a → (day : ℕ) → map (told a) (filter (unheld a) (sort_by reads.due_cmp (filter (reads.is_by day) (due_rows a)))) ≡ due_list a day
+-- THE DUE LIST: what the due records up to a day tell in their order, those that are held left out
+pub due_list_is : (a : Archive) → IsArchive a → (day : ℕ) → map told (filter (λ d. not (is_held a d.number)) (due_records a day)) ≡ due_list a day
 due_list_is a is day =
     let D = due_row a in
+    let E : Record → DueRecord = λ r. due_record (D r) r in
     let R = a.records in
     let by : Record → Bool = λ r. reads.is_by day (D r) in
-    let free : Record → Bool = λ r. unheld a (D r) in
+    let free : Record → Bool = λ r. not (is_held a r.number) in
     let c : Record → Record → Ordering = λ r s. reads.due_cmp (D r) (D s) in
     let total : IsTotalOrder c = on_total D due_cmp_total in
     let X1 = filter by (filter (has_due a) R) in
     let first : filter (reads.is_by day) (due_rows a) ≡ map D X1 = filter-map (reads.is_by day) D (filter (has_due a) R) in
     let second : sort_by reads.due_cmp (map D X1) ≡ map D (sort_by c X1) = sort_by-map reads.due_cmp D X1 in
-    let third : filter (unheld a) (map D (sort_by c X1)) ≡ map D (filter free (sort_by c X1)) = filter-map (unheld a) D (sort_by c X1) in
+    let own : AllByRecursion (λ r. map (due_record (D r)) (filter (is_of (D r)) R) ≡ E r ∷ []) (sort_by c X1) =
+    all-sort c total _ X1 (all-filter _ by _ (all-filter _ (has_due a) R (all_weaker _ (λ r. map (due_record (D r)) (filter (is_of (D r)) R) ≡ E r ∷ []) (λ r alone. ap (map (due_record (D r))) alone) R (alone_itself R is.in_order)))) in
+    let third : with_records R (map D (sort_by c X1)) ≡ map E (sort_by c X1) = flat_map-map _ D (sort_by c X1) ∙ flat_map_ones _ E (sort_by c X1) own in
     let apart : IsUntied c total X1 =
     ascending_weaker _ (λ (x y : Record). is_eq (c x y) ≡ false) (λ x y low. (no_tie_after (int_cmp (pos (D x).day) (pos (D y).day)) (no_tie (Less-from_lt (pos x.number) (pos y.number) (grind (arith, ints, low))))).apart)
     X1 (ascending-filter _ by _ (ascending-filter _ (has_due a) R is.in_order)) in
@@ -186,20 +190,20 @@ due_list_is a is day =
     ∙ filter_same _ (is_due a day) (λ r. tests_are (is_live r) (is_held a r.number) (due_of a r) day) R in
     let Z = filter (is_due a day) R in
     let order : c ≡ (λ r s. line_cmp (line_of a r) (line_of a s)) = λ i r s. ordering_then (cmp_is (D r).day (D s).day i) (cmp_is r.number s.number i) in
-    let lines : AllByRecursion (λ r. told a (D r) ≡ line_of a r) (sort_by c Z) =
-    all-sort c total (λ r. told a (D r) ≡ line_of a r) Z
-    (all_passed (λ (r : Record). find (has_number r.number) R ≡ Some r) (λ r. told a (D r) ≡ line_of a r) (is_due a day) R
-    (λ r at due. λ i. record { number = r.number; path = unwrap_or (option_map (λ (x : Record). x.path) (at i)) []; due = there_is (is_live r) (is_held a r.number) (due_of a r) day due i })
-    (found_itself R is.in_order)) in
-    ap (λ l. map (told a) (filter (unheld a) (sort_by reads.due_cmp l))) first
-    ∙ ap (λ l. map (told a) (filter (unheld a) l)) second
-    ∙ ap (map (told a)) (third ∙ ap (map D) (fourth ∙ ap (sort_by c) all))
-    ∙ map-map (told a) D (sort_by c Z)
+    let lines : AllByRecursion (λ r. told (E r) ≡ line_of a r) (sort_by c Z) =
+    all-sort c total (λ r. told (E r) ≡ line_of a r) Z
+    (all_found (λ r. told (E r) ≡ line_of a r) (is_due a day) R
+    (λ r due. λ i. record { number = r.number; path = r.path; due = there_is (is_live r) (is_held a r.number) (due_of a r) day due i })) in
+    ap (λ l. map told (filter (λ d. not (is_held a d.number)) (with_records R (sort_by reads.due_cmp l)))) first
+    ∙ ap (λ l. map told (filter (λ d. not (is_held a d.number)) (with_records R l))) second
+    ∙ ap (λ l. map told (filter (λ d. not (is_held a d.number)) l)) third
+    ∙ ap (map told) (filter-map (λ d. not (is_held a d.number)) E (sort_by c X1) ∙ ap (map E) (fourth ∙ ap (sort_by c) all))
+    ∙ map-map told E (sort_by c Z)
     ∙ map_same_on _ (line_of a) (sort_by c Z) lines
     ∙ ap (λ k. map (line_of a) (sort_by k Z)) order
     ∙ sym (sort_by-map line_cmp (line_of a) Z)
 
--- ---- one due day after another
+-- ---- counts of holds
 
 pub held_if : {X : Type 0} (p : X → Bool) (xs : List X) → 0 < tally p xs → list_any p xs ≡ true
 held_if p [] h = absurd (omega arith)
@@ -217,22 +221,41 @@ free_if p (x ∷ xs) h = go (p x) h (free_if p xs)
     go true h more = absurd (let low : 1 + tally p xs ≤ 0 = h in omega (arith, low))
     go false h more = more (let low : 0 + tally p xs ≤ 0 = h in omega (arith, low))
 
-pub told_none : (a : Archive) (d : Due) (l : List Line) → is_held a d.number ≡ true → l ≡ l ++ map (told a) (filter (unheld a) (d ∷ []))
-told_none a d l h = sym (ap (λ b. l ++ map (told a) (cond (not b) (d ∷ []) [])) h ∙ append-nil l)
+positive : (k : ℕ) → (suc k == 0) ≡ false
+positive k = grind arith
 
-pub told_one : (a : Archive) (d : Due) (l : List Line) (x : Line) → is_held a d.number ≡ false → x ≡ told a d → l ++ x ∷ [] ≡ l ++ map (told a) (filter (unheld a) (d ∷ []))
-told_one a d l x h e = ap (λ y. l ++ y ∷ []) e ∙ sym (ap (λ b. l ++ map (told a) (cond (not b) (d ∷ []) [])) h)
+-- the store's counts tell which records are held
+unheld_is : (a : Archive) (n k : ℕ) → k ≡ hold_count a n → (k == 0) ≡ not (is_held a n)
+unheld_is a n zero is = sym (ap not (free_if (λ (h : Hold). h.number == n) a.holds (let count : 0 ≡ tally (λ (h : Hold). h.number == n) a.holds = is in omega (arith, count))))
+unheld_is a n (suc k) is = positive k ∙ sym (ap not (held_if (λ (h : Hold). h.number == n) a.holds (let count : suc k ≡ tally (λ (h : Hold). h.number == n) a.holds = is in omega (arith, count))))
 
-filter-append : {X : Type 0} (p : X → Bool) (xs ys : List X) → filter p (xs ++ ys) ≡ filter p xs ++ filter p ys
-filter-append p [] ys = refl
-filter-append p (x ∷ xs) ys = go (p x) (filter-append p xs ys)
-  where
-    go : (b : Bool) → filter p (xs ++ ys) ≡ filter p xs ++ filter p ys → cond b (x ∷ filter p (xs ++ ys)) (filter p (xs ++ ys)) ≡ cond b (x ∷ filter p xs) (filter p xs) ++ filter p ys
-    go true more = ap (λ l. x ∷ l) more
-    go false more = more
+pub unheld_are : (a : Archive) (counts : ℕ → ℕ) → ((n : ℕ) → counts n ≡ hold_count a n) → (ds : List DueRecord) → filter (λ d. counts d.number == 0) ds ≡ filter (λ d. not (is_held a d.number)) ds
+unheld_are a counts are = filter_same _ _ (λ d. unheld_is a d.number (counts d.number) (are d.number))
 
-pub told_next : {V : Type 0} (a : Archive) (f : V → Due) (vs : List V) (v : V) (i : ℕ) → i < length vs → v ≡ get_or vs i v
-    → map (told a) (filter (unheld a) (map f (take i vs))) ++ map (told a) (filter (unheld a) (f v ∷ [])) ≡ map (told a) (filter (unheld a) (map f (take (i + 1) vs)))
-told_next a f vs v i low is =
-    let next : map f (take (i + 1) vs) ≡ map f (take i vs) ++ f v ∷ [] = ap (map f) (take_more vs i v low) ∙ map-append f (take i vs) _ ∙ ap (λ x. map f (take i vs) ++ f x ∷ []) (sym is) in
-    sym (ap (λ l. map (told a) (filter (unheld a) l)) next ∙ ap (map (told a)) (filter-append (unheld a) (map f (take i vs)) (f v ∷ [])) ∙ map-append (told a) (filter (unheld a) (map f (take i vs))) (filter (unheld a) (f v ∷ [])))
+-- ---- one due record after another
+
+abbrev pub lines_told : {V : Type 0} → (DueRecord → Bool) → (V → DueRecord) → List V → List Line
+lines_told p f vs = map told (filter p (map f vs))
+
+pub is_zero : (k : ℕ) → k ≡ 0 → (k == 0) ≡ true
+is_zero k h = grind arith
+
+pub is_not_zero : (k : ℕ) → (k ≡ 0 → ⊥) → (k == 0) ≡ false
+is_not_zero zero h = absurd (h refl)
+is_not_zero (suc k) h = positive k
+
+module _ {L V : Type 0} (view : L → Line) (f : V → DueRecord) (p : DueRecord → Bool) where
+  pub line_more : (lines : List L) (l : L) (v : V) (rest : List V) → view l ≡ told (f v) → p (f v) ≡ true
+      → map view (lines ++ l ∷ []) ++ lines_told p f rest ≡ map view lines ++ lines_told p f (v ∷ rest)
+  line_more lines l v rest is kept =
+      ap (λ k. k ++ lines_told p f rest) (map-append view lines (l ∷ [])) ∙ append_assoc (map view lines) (view l ∷ []) (lines_told p f rest)
+      ∙ ap (λ x. map view lines ++ x ∷ lines_told p f rest) is
+      ∙ sym (ap (λ b. map view lines ++ map told (cond b (f v ∷ filter p (map f rest)) (filter p (map f rest)))) kept)
+
+module _ {V : Type 0} (f : V → DueRecord) (p : DueRecord → Bool) where
+  pub line_none : (v : V) (rest : List V) → p (f v) ≡ false → lines_told p f rest ≡ lines_told p f (v ∷ rest)
+  line_none v rest out = sym (ap (λ b. map told (cond b (f v ∷ filter p (map f rest)) (filter p (map f rest)))) out)
+
+pub no_items : {X : Type 0} (xs : List X) (n : ℕ) → n ≡ length xs → n ≡ 0 → xs ≡ []
+no_items [] n is none = refl
+no_items (x ∷ xs) n is none = absurd (omega (arith, is, none))

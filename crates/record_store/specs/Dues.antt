@@ -1,14 +1,15 @@
--- What due days tell, of the records that no hold keeps.
-use Rattle.std.specs.Prelude.{ℕ, Bool, not, List, [], Some, option_map, unwrap_or}
-use Rattle.record_tables.specs.Rows.{Record, Due}
-use Rattle.record_store.specs.Archive.{Archive, Line, record_at, is_held}
+-- The records that are due, and the lines that they tell.
+use Rattle.std.specs.Prelude.{ℕ, List, filter, Some}
+use Rattle.sqlite_keyed.specs.Lists.{sort_by}
+use Rattle.record_tables.specs.Reads.{due_cmp, is_by}
+use Rattle.record_tables.specs.DueRecords.{DueRecord, with_records}
+use Rattle.record_store.specs.Archive.{Archive, Line}
+use Rattle.record_store.specs.Stores.{due_rows}
 
-abbrev pub unheld : Archive → Due → Bool
-unheld a d = not (is_held a d.number)
+-- the live records that are due by a day, held ones too, by their due days and then by number
+abbrev pub due_records : Archive → ℕ → List DueRecord
+due_records a day = with_records a.records (sort_by due_cmp (filter (is_by day) (due_rows a)))
 
-abbrev pub path_at : Archive → ℕ → List ℕ
-path_at a n = unwrap_or (option_map (λ (r : Record). r.path) (record_at a n)) []
-
--- the line that a due day tells
-abbrev pub told : Archive → Due → Line
-told a d = record { number = d.number; path = path_at a d.number; due = Some d.day }
+-- the line of a record that is due
+abbrev pub told : DueRecord → Line
+told d = record { number = d.number; path = d.path; due = Some d.day }

@@ -1,37 +1,46 @@
 //! Due lists.
 
-ghost use Rattle.std.specs.Prelude.{◌≡◌, ◌++◌, map, pos, [], ◌∷◌, Ok, Err, Some, None, IsTrue, OnOk};
+ghost use Rattle.std.specs.Prelude.{◌≡◌, ◌==◌, map, pos, Ok, Err, Some, None, IfOk, IfErr, filter, true};
 ghost use Rattle.jiff.specs.Words.{IsBetween, epoch_day};
 ghost use Rattle.class_plan.specs.Calendar.{number_of_day};
-ghost use Rattle.sqlite.specs.State.{HasCleanDisk};
-ghost use Rattle.sqlite.specs.Held.{state};
-ghost use Rattle.sqlite_keyed.specs.Lists.{sort_by};
-ghost use Rattle.std.specs.Prelude.{filter};
-ghost use Rattle.record_tables.specs.Reads.{due_cmp, is_by};
-ghost use Rattle.record_tables.specs.Typed.{due_of};
+ghost use Rattle.record_tables.specs.DueRecords.{due_record_of};
 ghost use Rattle.record_store.specs.Archive.{Archive, due_list};
-ghost use Rattle.record_store.specs.Dues.{told, unheld};
-ghost use Rattle.record_store.specs.Stores.{StandsFor, Tells, LeavesAll, Falls, due_rows, line_view};
+ghost use Rattle.record_store.specs.Counts.{count_at};
+ghost use Rattle.record_store.specs.Dues.{due_records, told};
+ghost use Rattle.record_store.specs.Stores.{StandsFor, Tells, LeavesAll, Falls, line_view, is_trouble};
 
 use crate::captures::number_of;
 use crate::fault::StoreFault;
 use crate::store::{Line, Store};
 use class_plan::{Date, date_of};
+use record_tables::due_records::due_records_by;
 use record_tables::fault::Fault;
-use record_tables::lookup::record_by_number;
-use record_tables::read::dues_by;
-use record_tables::rows::DueRow;
+use record_tables::rows::DueRecordRow;
 use sqlite::Alter;
 
+/// The line of a record that is due.
+fn line_of(due: DueRecordRow) -> Result<Line, StoreFault>
+    ensures line { IfOk result (λ l. line_view l ≡ told (due_record_of due)) }
+    ensures trouble { IfErr result (λ f. is_trouble f ≡ true) }
+{
+    let Some(date) = date_of(i64::from(due.day)) else {
+        return Err(StoreFault::LOST);
+    };
+    Ok(Line {
+        number: due.record,
+        path: due.path,
+        due: Some(date),
+    })
+}
+
 impl<S: Alter> Store<S> {
-    /// The due days up to a day, by day and then by record.
-    fn due_days(&mut self, day: u32) -> Result<Vec<DueRow>, StoreFault>
-        ensures tells { Tells S.Store self.old self.new result (λ a rows. map due_of rows.items ≡ sort_by due_cmp (filter (is_by day) (due_rows a))) (λ a f. ⊥) }
+    /// The live records that are due by a day, by their due days and then by number.
+    fn due_records(&mut self, day: u32) -> Result<Vec<DueRecordRow>, StoreFault>
+        ensures tells { Tells S.Store self.old self.new result (λ a rows. map due_record_of rows.items ≡ due_records a day) (λ a f. ⊥) }
         ensures falls { Falls S.Store self.old self.new }
-        ensures open { (a : Archive) → StandsFor S.Store self.old a → HasCleanDisk (state S.Store self.new.conn) → OnOk result (IsTrue (state S.Store self.new.conn).is_open) }
         ensures crash { LeavesAll S.Store self.old self.new }
     {
-        match dues_by(self.alloc, &mut self.conn, day) {
+        match due_records_by(self.alloc, &mut self.conn, day) {
             Ok(dues) => Ok(dues),
             Err(Fault::NoMemory) => Err(StoreFault::NoMemory),
             Err(Fault::Sqlite(error)) => Err(StoreFault::Sqlite(error)),
@@ -39,53 +48,15 @@ impl<S: Alter> Store<S> {
         }
     }
 
-    /// The line that a due day tells.
-    fn due_line(&mut self, due: &DueRow) -> Result<Line, StoreFault>
-        ensures tells { Tells S.Store self.old self.new result (λ a line. line_view line ≡ told a (due_of due.now)) (λ a f. ⊥) }
-        ensures falls { Falls S.Store self.old self.new }
-        ensures open { HasCleanDisk (state S.Store self.new.conn) → OnOk result (IsTrue (state S.Store self.new.conn).is_open) }
-        ensures crash { LeavesAll S.Store self.old self.new }
-    {
-        let Some(date) = date_of(i64::from(due.day)) else {
-            return Err(StoreFault::LOST);
-        };
-        match record_by_number(&mut self.conn, due.record) {
-            Ok(Some(record)) => Ok(Line {
-                number: due.record,
-                path: record.path,
-                due: Some(date),
-            }),
-            Ok(None) => Err(StoreFault::LOST),
-            Err(error) => Err(StoreFault::from(error)),
-        }
-    }
-
-    /// Adds the line that a due day tells, if no hold keeps its record.
-    fn push_due_line(&mut self, lines: &mut Vec<Line>, due: &DueRow) -> Result<(), StoreFault>
-        ensures tells { Tells S.Store self.old self.new result (λ a _. map line_view lines.new.items ≡ map line_view lines.old.items ++ map (told a) (filter (unheld a) (due_of due.now ∷ []))) (λ a f. ⊥) }
-        ensures falls { Falls S.Store self.old self.new }
-        ensures open { HasCleanDisk (state S.Store self.new.conn) → OnOk result (IsTrue (state S.Store self.old.conn).is_open → IsTrue (state S.Store self.new.conn).is_open) }
-        ensures crash { LeavesAll S.Store self.old self.new }
-    {
-        if self.held.count(due.record) > 0 {
-            return Ok(());
-        }
-        let line = self.due_line(due)?;
-        lines.push(line)?;
-        Ok(())
-    }
-
-    /// The lines of the due days whose records no hold keeps.
-    fn due_lines(&mut self, dues: &[DueRow]) -> Result<Vec<Line>, StoreFault>
-        ensures tells { Tells S.Store self.old self.new result (λ a lines. map line_view lines.items ≡ map (told a) (filter (unheld a) (map due_of dues.now))) (λ a f. ⊥) }
-        ensures falls { Falls S.Store self.old self.new }
-        ensures crash { LeavesAll S.Store self.old self.new }
+    /// The lines of the records that no hold keeps.
+    fn unheld_lines(&self, due: Vec<DueRecordRow>) -> Result<Vec<Line>, StoreFault>
+        ensures lines { IfOk result (λ lines. map line_view lines.items ≡ map told (filter (λ d. count_at self.now.held d.number == 0) (map due_record_of due.items))) }
+        ensures trouble { IfErr result (λ f. is_trouble f ≡ true) }
     {
         let mut lines = Vec::new(self.alloc);
-        for due in dues {
-            match self.push_due_line(&mut lines, due) {
-                Ok(()) => {}
-                Err(fault) => return Err(fault),
+        for record in due {
+            if self.held.count(record.record) == 0 {
+                lines.push(line_of(record)?)?;
             }
         }
         Ok(lines)
@@ -100,8 +71,8 @@ impl<S: Alter> Store<S> {
         ensures falls { Falls S.Store self.old self.new }
         ensures crash { LeavesAll S.Store self.old self.new }
     {
-        let dues = self.due_days(number_of(day))?;
-        let lines = self.due_lines(dues.as_slice())?;
+        let due = self.due_records(number_of(day))?;
+        let lines = self.unheld_lines(due)?;
         Ok(lines)
     }
 }

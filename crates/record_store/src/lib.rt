@@ -9,6 +9,7 @@ mod dues;
 mod fault;
 mod holds;
 mod messages;
+mod paths;
 mod plan_days;
 mod revisions;
 mod store;
@@ -16,4 +17,5 @@ mod transactions;
 
 pub use counts::Counts;
 pub use fault::StoreFault;
+pub use paths::are_classes;
 pub use store::{Line, Store};

@@ -2,6 +2,7 @@
 #![tactic(auto)]
 
 mod cells;
+pub mod due_records;
 pub mod fault;
 pub mod lay;
 pub mod layout;

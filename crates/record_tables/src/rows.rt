@@ -58,3 +58,13 @@ pub struct DueRow {
     /// The day, in days since 1970-01-01.
     pub day: u32,
 }
+
+/// A record that has a due day, as a query joins it.
+#[derive(Debug, Drop)]
+pub struct DueRecordRow {
+    pub record: u32,
+    /// The day, in days since 1970-01-01.
+    pub day: u32,
+    /// The path of its class.
+    pub path: Vec<u8>,
+}
