@@ -12,3 +12,4 @@ pub mod LayoutLemmas
 pub mod TypedLemmas
 pub mod ReadLemmas
 pub mod LookupLemmas
+pub mod StoredDueLemmas

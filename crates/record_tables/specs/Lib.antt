@@ -9,3 +9,4 @@ pub mod Shapes
 pub mod Layout
 pub mod Faults
 pub mod Lookups
+pub mod StoredDues
