@@ -6,3 +6,9 @@ pub mod CaptureLemmas
 pub mod CaptureStands
 pub mod MessageLemmas
 pub mod DueLemmas
+pub mod AdoptHolds
+pub mod AdoptRows
+pub mod AdoptPlan
+pub mod AdoptReads
+pub mod AdoptSettled
+pub mod AdoptLayouts

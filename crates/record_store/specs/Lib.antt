@@ -4,3 +4,4 @@ pub mod Faults
 pub mod Counts
 pub mod Captures
 pub mod Dues
+pub mod Adoption

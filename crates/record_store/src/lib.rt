@@ -1,13 +1,18 @@
 //! An archive of messages and records.
 #![tactic(auto)]
 
+mod adopt;
 mod captures;
 mod counts;
 mod dues;
 mod fault;
+mod found;
 mod holds;
 mod messages;
+mod plan_rows;
 mod store;
+mod tallies;
+mod text_rows;
 mod transactions;
 
 pub use counts::Counts;
