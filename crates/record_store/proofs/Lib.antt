@@ -11,3 +11,9 @@ pub mod DestroyLemmas
 pub mod ReviseLemmas
 pub mod ClassLemmas
 pub mod PathLemmas
+pub mod AdoptHolds
+pub mod AdoptRows
+pub mod AdoptPlan
+pub mod AdoptReads
+pub mod AdoptSettled
+pub mod AdoptLayouts
