@@ -5,6 +5,7 @@
 #![tactic(auto)]
 
 mod baselines;
+mod command_memory;
 mod filings;
 mod includes;
 mod inputs;
@@ -13,6 +14,7 @@ mod memory;
 mod plans;
 mod rows;
 mod settings;
+mod stages;
 mod timing;
 mod trees;
 
