@@ -1,6 +1,6 @@
 //! A plan: the root's schedule and the classes, each with a path, open or closed, and with a
 //! schedule of its own or none.
-ghost use Rattle.std.specs.Prelude.{◌≡◌, ◌≢◌, ◌≤◌, Bool, true, false, is_some, Option, Some, None, option_map, Ok, Err, IfOk, IfErr, OnOk, OnErr, MatchResult, map};
+ghost use Rattle.std.specs.Prelude.{◌≡◌, ◌≢◌, ◌≤◌, Bool, true, false, is_some, Option, Some, None, option_map, Ok, Err, IfOk, IfErr, OnOk, OnErr, MatchResult, IfSome, map};
 ghost use Rattle.class_plan.specs.Paths.{has_parent_in};
 ghost use Rattle.class_plan.specs.Plans.{found, has, is_among, is_open_in, open_paths_of, first_plan};
 ghost use Rattle.class_plan.specs.Fields.{rows_in};
@@ -91,7 +91,8 @@ impl Plan {
 
     /// What speaks against one more class at the path.
     fn fault_at(&self, path: &[u8]) -> Option<PlanFault>
-        ensures { result ≡ first_fault (speaks_against self.now path.now) }
+        ensures first { result ≡ first_fault (speaks_against self.now path.now) }
+        ensures told { IfSome result (λ f. f ≢ NoMemory) }
     {
         if !fits_path(path) {
             return Some(PlanFault::BadPath);
@@ -111,12 +112,13 @@ impl Plan {
     /// Adds an open class without a schedule of its own.
     ///
     /// Refused by the smallest of 52 (the path is not well made), 53 (its parent is no class), 54
-    /// (it is there) and 56 (there are 4,096 classes) that holds, or by 99; the plan is then as
-    /// before.
+    /// (it is there) and 56 (there are 4,096 classes) that holds, or by 99 where none of these
+    /// does; the plan is then as before.
     pub fn add(&mut self, path: &[u8]) -> Result<(), PlanFault>
         ensures ok { OnOk result (added self.old path.now ≡ Ok self.new) }
         ensures refused { IfErr result (λ f. f ≢ NoMemory → added self.old path.now ≡ Err f) }
         ensures smallest { MatchResult result (λ _. HoldsNone (speaks_against self.old path.now)) (λ f. f ≢ NoMemory → IsSmallest (speaks_against self.old path.now) f) }
+        ensures memory { result ≡ Err NoMemory → HoldsNone (speaks_against self.old path.now) }
         ensures unchanged { OnErr result (self.new ≡ self.old) }
     {
         if let Some(fault) = self.fault_at(path) {

@@ -10,7 +10,6 @@ mod EmittedTests
 mod Jumps
 mod Turns
 mod Chains
-mod Written
 mod WeightLemmas
 mod Includes
 mod IncludesTypes

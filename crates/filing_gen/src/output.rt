@@ -20,17 +20,17 @@ pub struct Output {
 }
 
 impl Output {
-    /// Nothing; takes no memory.
-    pub fn new(alloc: Global) -> Output
-        ensures texts { result.texts ≡ [] }
-        ensures numbers { result.numbers ≡ [] }
-        ensures code { result.code.items ≡ [] }
+    /// Nothing, with room for so many operations.
+    pub fn with_room(alloc: Global, operations: u32) -> Result<Output, AllocError>
+        ensures texts { IfOk result (λ o. o.texts ≡ []) }
+        ensures numbers { IfOk result (λ o. o.numbers ≡ []) }
+        ensures code { IfOk result (λ o. o.code.items ≡ []) }
     {
-        Output {
+        Ok(Output {
             texts: TextPool::new(alloc),
             numbers: NumberPool::new(alloc),
-            code: Vec::new(alloc),
-        }
+            code: Vec::with_capacity(alloc, operations as usize)?,
+        })
     }
 }
 

@@ -8,8 +8,6 @@ ghost use Rattle.sieve_meaning.specs.Reading.{program_of};
 ghost use Rattle.sieve_meaning.specs.Weight.{linked_weight};
 ghost use Rattle.script_library.specs.Lent.{scripts_of};
 ghost use Rattle.script_library.specs.Libraries.{library_of};
-ghost use Rattle.filing_image.specs.Program.{instruction_of};
-ghost use Rattle.filing_verify.specs.Well.{IsWell};
 ghost use Rattle.filing_flow.specs.Structure.{size};
 ghost use Rattle.filing_flow.specs.Types.{HasType};
 ghost use Rattle.filing_gen.specs.Structured.{script_flow};
@@ -28,8 +26,8 @@ use crate::linker::Linker;
 use crate::output::{Output, put};
 use crate::slots::slot_count;
 use crate::weight::script_weight;
-use filing_image::{Image, Instruction, Operation};
-use filing_verify::{Verified, VerifyFault, verify};
+use filing_image::{Image, Operation};
+use filing_verify::Verified;
 use script_library::{Library, Shelves};
 use sieve_check::Checked;
 use sieve_syntax::{Command, Script};
@@ -39,65 +37,37 @@ use std::marker::PhantomData;
 /// The greatest weight of a script that is run.
 const GREATEST_WEIGHT: u32 = 60_000;
 
-/// A script, and the end of the run behind it, to which a `return` of the script goes.
+/// A script, and the end of the run behind it, to which a `return` of the script goes. Room is taken at once for so many
+/// operations.
 fn emit_program<L: Linker>(
     alloc: Global,
     linker: &L,
     main: &Vec<Command>,
+    operations: u32,
 ) -> Result<Output, AllocError>
     requires room { commands_long (λ i. size (L.flow_of linker.now i)) (program_of (commands_of (map command_of main.now.items))) + 1 < 2 ^ 16 }
     requires typed { HasType (script_flow (L.flow_of linker.now) (program_of (commands_of (map command_of main.now.items)))) ([] ∷ []) [] [] }
     ensures { IfOk result (λ o. IsCode o (script_flow (L.flow_of linker.now) (program_of (commands_of (map command_of main.now.items))))) }
 {
-    let mut out = Output::new(alloc);
+    let mut out = Output::with_room(alloc, operations)?;
     emit_commands(alloc, linker, &mut out, main, NO_PLACE)?;
     end_block(&mut out, 0);
     put(&mut out, Operation::Stop)?;
     Ok(out)
 }
 
-/// The operations as they are written.
-fn instructions(alloc: Global, code: &[Operation]) -> Result<Vec<Instruction>, AllocError>
-    ensures { IfOk result (λ v. v.items ≡ map instruction_of code.now) }
-{
-    let mut instructions = Vec::with_capacity(alloc, code.len())?;
-    for operation in code {
-        instructions.push(operation.instruction())?;
-    }
-    Ok(instructions)
-}
-
 /// The image of what was written, with so many slots. It has a form unless a string is too long for it.
-fn image_of(alloc: Global, budget: u32, slots: u16, out: Output) -> Result<Image, GenFault>
+fn image_of(budget: u32, slots: u16, mut out: Output) -> Result<Image, GenFault>
     ensures made { IfOk result (λ i. IsImageOf budget slots out i) }
     ensures once { IfOk result (λ i. NamesOnce i) }
     ensures refused { IfErr result (λ f. f ≡ NoMemory) }
 {
-    let instructions = instructions(alloc, &out.code)?;
     let texts = out.texts.into_texts()?;
     let numbers = out.numbers.into_numbers()?;
-    match Image::new(alloc, budget, texts, numbers, slots, instructions) {
+    out.code.shrink_to_fit();
+    match Image::from_code(budget, texts, numbers, slots, out.code) {
         Ok(image) => Ok(image),
         Err(_) => Err(GenFault::NoMemory),
-    }
-}
-
-/// An image that may run, of one that is known to be well formed.
-fn verified(alloc: Global, image: Image) -> Result<Verified, GenFault>
-    requires { IsWell image }
-    ensures same { IfOk result (λ v. v ≡ image) }
-    ensures refused { IfErr result (λ f. f ≡ NoMemory) }
-{
-    match verify(alloc, image) {
-        Ok(verified) => Ok(verified),
-        Err((fault, _)) => match fault {
-            VerifyFault::NoMemory => Err(GenFault::NoMemory),
-            VerifyFault::Operand
-            | VerifyFault::Backward
-            | VerifyFault::Stack
-            | VerifyFault::RunsOff
-            | VerifyFault::Budget => unreachable!(),
-        },
     }
 }
 
@@ -123,10 +93,9 @@ fn build(
         below: PhantomData,
     };
     let slots = slot_count(scope.shelves);
-    let out = emit_program(alloc, &includes, &script.commands)?;
-    let image = image_of(alloc, weight, slots, out)?;
-    let verified = verified(alloc, image)?;
-    Ok(verified)
+    let out = emit_program(alloc, &includes, &script.commands, weight)?;
+    let image = image_of(weight, slots, out)?;
+    Ok(Verified::known(image))
 }
 
 /// The weight of a script and all that it includes; none where it is above 60,000.

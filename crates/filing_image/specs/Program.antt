@@ -56,3 +56,7 @@ parts p = record { budget = p.budget; texts = p.texts; numbers = p.numbers; slot
 -- the same from what holds each
 abbrev pub parts_from : (budget : ℕ) (texts : List (Vec ℕ Global)) (numbers : List ℕ) (slots : ℕ) (instructions : List Instruction) → Parts
 parts_from budget texts numbers slots instructions = record { budget = budget; texts = map (λ t. t.items) texts; numbers = numbers; slots = slots; instructions = instructions }
+
+-- a program from what holds each of its parts
+abbrev pub program_from : (budget : ℕ) (texts : List (Vec ℕ Global)) (numbers : List ℕ) (slots : ℕ) (code : List Operation) → Program
+program_from budget texts numbers slots code = record { budget = budget; texts = map (λ t. t.items) texts; numbers = numbers; slots = slots; code = code }

@@ -1,7 +1,7 @@
 //! An image: the parts of a filing program, of which the format has a spelling.
 
-ghost use Rattle.std.specs.Prelude.{◌≡◌, ◌<◌, ◌^◌, length, map, All, slice_get, IfOk, Err, Some, IsTrue, ◌↔◌};
-ghost use Rattle.filing_image.specs.Program.{Program, parts, parts_from, instruction_of};
+ghost use Rattle.std.specs.Prelude.{◌≡◌, ◌<◌, ◌^◌, length, map, All, slice_get, IfOk, IfErr, Err, true, false, Some, IsTrue, ◌↔◌};
+ghost use Rattle.filing_image.specs.Program.{Program, parts, parts_from, program_from, instruction_of};
 ghost use Rattle.filing_image.specs.Spelling.{IsShort, IsProgram, FitsInstruction, Fits};
 
 use crate::fault::FormFault;
@@ -62,6 +62,35 @@ impl Image {
         };
         image.fits();
         Ok(image)
+    }
+
+    /// The image of these parts, whose code is at hand as operations; it takes no memory. `BadForm`, 60, exactly where the
+    /// format has no spelling of them: more than 65,535 texts, numbers or operations, or a text of more than 65,535
+    /// octets. It answers nothing else.
+    pub fn from_code(
+        budget: u32,
+        texts: Vec<Vec<u8>>,
+        numbers: Vec<u64>,
+        slots: u16,
+        code: Vec<Operation>,
+    ) -> Result<Image, FormFault>
+        ensures made { IfOk result (λ i. i ≡ program_from budget texts.items numbers.items slots code.items) }
+        ensures refused { IfErr result (λ f. (f ≡ FormFault.BadForm) × (IsShort (parts (program_from budget texts.items numbers.items slots code.items)) → ⊥)) }
+    {
+        if texts.len() > 65_535 || numbers.len() > 65_535 || code.len() > 65_535 {
+            return Err(FormFault::BadForm);
+        }
+        if has_long(&texts) {
+            return Err(FormFault::BadForm);
+        }
+        all_fit(&code);
+        Ok(Image {
+            budget,
+            texts,
+            numbers,
+            slots,
+            code,
+        })
     }
 
     /// The budget that the image declares, in steps.
@@ -132,6 +161,23 @@ fn are_short(texts: &[Vec<u8>]) -> bool
     ensures { IsTrue result ↔ All (λ t. length t.items < 2 ^ 16) texts.now }
 {
     texts.iter().all(|text| text.len() <= 65_535)
+}
+
+/// Whether a text has more than 65,535 octets.
+fn has_long(texts: &[Vec<u8>]) -> bool
+    ensures long { result ≡ true → All (λ t. length t.items < 2 ^ 16) texts.now → ⊥ }
+    ensures short { result ≡ false → All (λ t. length t.items < 2 ^ 16) texts.now }
+{
+    !are_short(texts)
+}
+
+/// Nothing happens: each operation fits its octets.
+fn all_fit(code: &[Operation])
+    ensures { All (λ o. FitsInstruction (instruction_of o)) code.now }
+{
+    for operation in code {
+        operation.fits();
+    }
 }
 
 /// The operations that the instructions write, where each writes one.

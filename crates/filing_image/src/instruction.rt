@@ -128,4 +128,11 @@ impl Operation {
         };
         Instruction { op, a, b }
     }
+
+    /// Nothing happens: an operation fits its octets.
+    pub(crate) fn fits(self)
+        ensures { FitsInstruction (instruction_of self) }
+    {
+        let _instruction = self.instruction();
+    }
 }

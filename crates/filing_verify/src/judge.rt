@@ -30,6 +30,14 @@ impl Model for Verified {
 }
 
 impl Verified {
+    /// An image that is known to be one that may run. The caller proves it, so that nothing is judged or allocated here.
+    pub fn known(image: Image) -> Verified
+        requires { IsWell image }
+        ensures { result ≡ image }
+    {
+        Verified { image }
+    }
+
     /// The image that was verified.
     pub fn image(&self) -> &Image
         ensures is { result.now ≡ self.now }

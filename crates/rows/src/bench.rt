@@ -4,6 +4,7 @@
 //! repository runs the built program and writes the table.
 
 mod baselines;
+mod command_memory;
 mod filings;
 mod includes;
 mod inputs;
@@ -12,6 +13,7 @@ pub mod memory;
 mod plans;
 mod rows;
 mod settings;
+mod stages;
 mod timing;
 mod trees;
 

@@ -1,3 +1,4 @@
+pub mod FoundLemmas
 pub mod Judging
 pub mod Known
 pub mod Least

@@ -1,5 +1,6 @@
 pub mod Context
 pub mod Faults
+pub mod Findings
 pub mod Lookup
 pub mod PieceViews
 pub mod Pieces

@@ -12,12 +12,10 @@ ghost use Rattle.sieve_check.specs.Walk.{first_broken};
 
 use crate::context::{Context, names_unknown};
 use crate::fault::CheckFault;
+use crate::findings::gather;
 use crate::lookup::find_test;
 use crate::named::Named;
-use crate::rules::{
-    has_tag_twice, has_unknown_comparator, has_wrong_arguments, has_wrong_tag, has_wrong_tests,
-    lacks_capability,
-};
+use crate::rules::has_wrong_tests;
 use crate::table::{CommandRow, Form};
 use sieve_syntax::{Arguments, Command, Ending, Test, Tests};
 
@@ -36,15 +34,16 @@ fn lesser(fault: Option<CheckFault>, other: Option<CheckFault>) -> Option<CheckF
 fn form_fault(named: Named, form: &Form, arguments: &Arguments, tests: &Tests) -> Option<CheckFault>
     ensures { option_map number_of result ≡ first_broken (form_rules (has_of named) (form_view form.now) (pieces (form_view form.now).tags arguments.now) (inner_of tests.now)) }
 {
-    if lacks_capability(named, form, arguments) {
+    let found = gather(named, form, arguments);
+    if found.lacks_capability(named, form) {
         Some(CheckFault::CapabilityNotRequired)
-    } else if has_wrong_tag(form, arguments) {
+    } else if found.has_wrong_tag() {
         Some(CheckFault::TagNotAllowed)
-    } else if has_tag_twice(form, arguments) {
+    } else if found.has_tag_twice(form, arguments) {
         Some(CheckFault::TagTwice)
-    } else if has_wrong_arguments(form, arguments) {
+    } else if found.has_wrong_arguments(form, arguments) {
         Some(CheckFault::WrongArguments)
-    } else if has_unknown_comparator(form, arguments) {
+    } else if found.unknown_comparator {
         Some(CheckFault::UnknownComparator)
     } else if has_wrong_tests(form, tests) {
         Some(CheckFault::Tests)

@@ -4,8 +4,8 @@
 //!
 //! What commands, tests and tags there are stands in one table, in `table.rt`; the definitions have the same table in
 //! `specs/Tables.antt`, and `specs/Rules.antt` has a definition for each rule and the refusal of a script. The modules
-//! from the bottom: `table` and `lookup` (the row of a name), `pieces` (arguments, each tag with its string), `rules`
-//! (one function for each rule on what stands behind a name), `named` and `context` (what the commands before say),
+//! from the bottom: `table` and `lookup` (the row of a name), `pieces` (arguments, each tag with its string), `findings`
+//! (what one pass over the pieces shows), `rules` (one function for each rule on what stands behind a name), `named` and `context` (what the commands before say),
 //! `judge` (the least rule that a command breaks), `walk` (the first faulty command), `checked`.
 //!
 //! # Adding a command, a test or a tag
@@ -21,6 +21,7 @@
 mod checked;
 mod context;
 mod fault;
+mod findings;
 mod judge;
 mod laws;
 mod lookup;

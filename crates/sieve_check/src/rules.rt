@@ -1,6 +1,6 @@
 //! The rules on what stands behind the name of a command or a test, one function each.
 
-ghost use Rattle.std.specs.Prelude.{◌≡◌, map};
+ghost use Rattle.std.specs.Prelude.{◌≡◌, ◌||◌, false, map};
 ghost use Rattle.std.specs.List.{list_any};
 ghost use Rattle.sieve_check.specs.Context.{has_of};
 ghost use Rattle.sieve_check.specs.Views.{form_view};
@@ -11,6 +11,7 @@ ghost use Rattle.sieve_check.specs.Lookup.{same_text};
 ghost use Rattle.sieve_check.specs.Tables.{comparator_table};
 ghost use Rattle.sieve_syntax.specs.View.{inner_of};
 
+use crate::findings::Findings;
 use crate::lookup::is_same_text;
 use crate::named::Named;
 use crate::pieces::{Piece, Pieces};
@@ -52,7 +53,7 @@ fn lacks(named: Named, needs: Option<Capability>) -> bool
 
 impl<'a> Piece<'a> {
     /// Whether it is a tag whose capability is not named.
-    fn lacks_capability(self, named: Named) -> bool
+    pub fn lacks_capability(self, named: Named) -> bool
         ensures { result ≡ piece_lacks (has_of named) (piece_view self.entry) }
     {
         match self {
@@ -62,14 +63,14 @@ impl<'a> Piece<'a> {
     }
 
     /// Whether it is a tag.
-    fn is_tag(self) -> bool
+    pub fn is_tag(self) -> bool
         ensures { result ≡ is_tagged (piece_view self.entry) }
     {
         matches!(self, Piece::Tagged(_, _))
     }
 
     /// Whether it is a tag that the table does not have here.
-    fn is_unknown_tag(self) -> bool
+    pub fn is_unknown_tag(self) -> bool
         ensures { result ≡ is_unknown_tag (piece_view self.entry) }
     {
         matches!(self, Piece::Tagged(None, _))
@@ -86,7 +87,7 @@ impl<'a> Piece<'a> {
     }
 
     /// Whether it is a tag without the string that belongs to it.
-    fn lacks_string(self) -> bool
+    pub fn lacks_string(self) -> bool
         ensures { result ≡ lacks_string (piece_view self.entry) }
     {
         match self {
@@ -96,7 +97,7 @@ impl<'a> Piece<'a> {
     }
 
     /// Whether it is a tag with a comparator that there is not.
-    fn is_unknown_comparator(self) -> bool
+    pub fn is_unknown_comparator(self) -> bool
         ensures { result ≡ is_unknown_comparator (piece_view self.entry) }
     {
         match self {
@@ -118,43 +119,6 @@ fn is_comparator(text: &[u8]) -> bool
     false
 }
 
-/// Whether one of the tags needs a capability that is not named.
-fn tag_lacks_capability(named: Named, form: &Form, arguments: &Arguments) -> bool
-    ensures { result ≡ list_any (piece_lacks (has_of named)) (pieces (form_view form.now).tags arguments.now) }
-{
-    Pieces::new(form, arguments).any(|piece| piece.lacks_capability(named))
-}
-
-/// 34: whether the command or one of its tags needs a capability that is not named.
-pub fn lacks_capability(named: Named, form: &Form, arguments: &Arguments) -> bool
-    ensures { result ≡ lacks_capability (has_of named) (form_view form.now) (pieces (form_view form.now).tags arguments.now) }
-{
-    lacks(named, form.needs) || tag_lacks_capability(named, form, arguments)
-}
-
-/// Whether a tag is not the form's.
-fn has_unknown_tag(form: &Form, arguments: &Arguments) -> bool
-    ensures { result ≡ list_any is_unknown_tag (pieces (form_view form.now).tags arguments.now) }
-{
-    Pieces::new(form, arguments).any(|piece| piece.is_unknown_tag())
-}
-
-/// Whether a tag stands behind a positional argument.
-fn has_tag_behind(form: &Form, arguments: &Arguments) -> bool
-    ensures { result ≡ tag_behind (pieces (form_view form.now).tags arguments.now) }
-{
-    Pieces::new(form, arguments)
-        .skip_while(|piece| piece.is_tag())
-        .any(|piece| piece.is_tag())
-}
-
-/// 35: whether a tag is not the form's, or stands behind a positional argument.
-pub fn has_wrong_tag(form: &Form, arguments: &Arguments) -> bool
-    ensures { result ≡ has_wrong_tag (pieces (form_view form.now).tags arguments.now) }
-{
-    has_unknown_tag(form, arguments) || has_tag_behind(form, arguments)
-}
-
 /// Whether two tags are of this kind.
 fn has_kind_twice(kind: TagKind, form: &Form, arguments: &Arguments) -> bool
     ensures { result ≡ stands_twice kind (pieces (form_view form.now).tags arguments.now) }
@@ -165,8 +129,8 @@ fn has_kind_twice(kind: TagKind, form: &Form, arguments: &Arguments) -> bool
         .any(|piece| piece.has_kind(kind))
 }
 
-/// 36: whether two tags are of one kind.
-pub fn has_tag_twice(form: &Form, arguments: &Arguments) -> bool
+/// Whether two tags are of one kind.
+fn has_tag_twice(form: &Form, arguments: &Arguments) -> bool
     ensures { result ≡ has_tag_twice (form_view form.now) (pieces (form_view form.now).tags arguments.now) }
 {
     for row in form.tags {
@@ -193,13 +157,6 @@ fn fits(form: &Form, arguments: &Arguments) -> bool
     expected.is_empty()
 }
 
-/// Whether a tag that names a comparator stands without it.
-fn lacks_comparator(form: &Form, arguments: &Arguments) -> bool
-    ensures { result ≡ list_any lacks_string (pieces (form_view form.now).tags arguments.now) }
-{
-    Pieces::new(form, arguments).any(|piece| piece.lacks_string())
-}
-
 /// Whether a tag of this kind is there.
 fn has_tag(kind: TagKind, form: &Form, arguments: &Arguments) -> bool
     ensures { result ≡ list_any (has_kind kind) (pieces (form_view form.now).tags arguments.now) }
@@ -217,18 +174,36 @@ fn lacks_tag(form: &Form, arguments: &Arguments) -> bool
     }
 }
 
-/// 37: whether the positional arguments are not the form's, or a tag lacks its string, or one is missing.
-pub fn has_wrong_arguments(form: &Form, arguments: &Arguments) -> bool
-    ensures { result ≡ has_wrong_arguments (form_view form.now) (pieces (form_view form.now).tags arguments.now) }
-{
-    !fits(form, arguments) || lacks_comparator(form, arguments) || lacks_tag(form, arguments)
-}
+impl Findings {
+    /// 34: whether the command or one of its tags needs a capability that is not named.
+    pub fn lacks_capability(self, named: Named, form: &Form) -> bool
+        ensures { result ≡ (lacks (has_of named) (form_view form.now).needs || self.lacks_capability) }
+    {
+        lacks(named, form.needs) || self.lacks_capability
+    }
 
-/// 38: whether a comparator is none of this profile.
-pub fn has_unknown_comparator(form: &Form, arguments: &Arguments) -> bool
-    ensures { result ≡ list_any is_unknown_comparator (pieces (form_view form.now).tags arguments.now) }
-{
-    Pieces::new(form, arguments).any(|piece| piece.is_unknown_comparator())
+    /// 35: whether a tag is not the form's, or stands after a positional argument.
+    pub fn has_wrong_tag(self) -> bool
+        ensures { result ≡ (self.unknown_tag || self.tag_behind) }
+    {
+        self.unknown_tag || self.tag_behind
+    }
+
+    /// 36: whether two tags are of one kind. The tags are compared only where there are two.
+    pub fn has_tag_twice(self, form: &Form, arguments: &Arguments) -> bool
+        requires { self.two_tags ≡ false → has_tag_twice (form_view form.now) (pieces (form_view form.now).tags arguments.now) ≡ false }
+        ensures { result ≡ has_tag_twice (form_view form.now) (pieces (form_view form.now).tags arguments.now) }
+    {
+        self.two_tags && has_tag_twice(form, arguments)
+    }
+
+    /// 37: whether the positional arguments are not the form's, or a tag lacks its string, or one is missing.
+    pub fn has_wrong_arguments(self, form: &Form, arguments: &Arguments) -> bool
+        requires { self.lacks_string ≡ list_any lacks_string (pieces (form_view form.now).tags arguments.now) }
+        ensures { result ≡ has_wrong_arguments (form_view form.now) (pieces (form_view form.now).tags arguments.now) }
+    {
+        !fits(form, arguments) || self.lacks_string || lacks_tag(form, arguments)
+    }
 }
 
 /// Which tests stand there.

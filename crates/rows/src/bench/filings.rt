@@ -103,6 +103,17 @@ pub fn session_of_classes(alloc: Global, octets: usize) -> Result<Vec<u8>, Alloc
     Ok(session)
 }
 
+/// A session that opens the class of a script of header tests, and files a message by it.
+pub fn session_of_tests(alloc: Global, script: &[u8]) -> Result<Vec<u8>, AllocError> {
+    let message = message(alloc)?;
+    let (script_len, message_len) = (script.len(), message.len());
+    let lines = format!(in alloc; "CLASS finance\nFILE {script_len} {message_len}\n")?;
+    let mut session = lines.into_bytes();
+    session.extend_from_slice(script)?;
+    session.extend_from_slice(&message)?;
+    Ok(session)
+}
+
 /// The program of an image, or none where it may not run.
 pub fn judged(alloc: Global, image: &[u8]) -> Option<Verified> {
     let image = decode(alloc, image).ok()?;

@@ -8,6 +8,7 @@ use crate::bench::includes::Texts;
 use crate::bench::inputs::{image_of_code, image_of_steps, image_of_texts, repeated};
 use crate::bench::plans::{class_path, plan_text, schedules, taken_over};
 use crate::bench::settings::Setting;
+use crate::bench::stages::Stage;
 use crate::bench::trees::octets_of_tree;
 use mail_head::{HeadReader, read_head};
 use mail_words::value_of;
@@ -70,6 +71,8 @@ pub enum Measure {
     HalfScript,
     /// The same of a script of up to 2,000 header tests.
     LongScript,
+    /// A stage of the way of a script of up to 2,000 header tests, or the whole way.
+    Way(Stage),
     /// `compile` of a script of weight 48,885, of ten includes a script over four levels.
     TenIncludes,
     /// `compile` of a script of weight 49,793, of eight scripts that include each other inside `if`s.
@@ -199,6 +202,7 @@ impl Measure {
             Measure::ShortScript => Vec::from_slice(alloc, INVOICE_SCRIPT),
             Measure::HalfScript => script_of_tests(alloc, octets / 2, 1_000),
             Measure::LongScript => script_of_tests(alloc, octets, 2_000),
+            Measure::Way(stage) => stage.input(alloc, octets),
             Measure::TenIncludes => Texts::of_ten(alloc)?.joined(alloc),
             Measure::IncludesInIfs => Texts::of_ifs(alloc)?.joined(alloc),
             Measure::AllIncludes => Texts::of_all(alloc)?.joined(alloc),
@@ -254,6 +258,7 @@ impl Measure {
             Measure::Cases => fields_of_cases(alloc, input, TIMES),
             Measure::ShortScript => Ok(weights_of(alloc, input, TIMES)),
             Measure::HalfScript | Measure::LongScript => Ok(weight_of(alloc, input)),
+            Measure::Way(stage) => setting.stage(alloc, stage, input),
             Measure::TenIncludes | Measure::IncludesInIfs | Measure::AllIncludes => {
                 Ok(setting.weight(alloc))
             }

@@ -1,5 +1,6 @@
 //! The memory that the cases of messages take, by the most that the process has had at once.
 
+use crate::bench::command_memory;
 use crate::bench::filings::message;
 use crate::bench::inputs::repeated;
 use anyhow::{Context, Result};
@@ -40,11 +41,14 @@ const HOSTILE_HEADERS: [HostileHeader; 5] = [
     },
 ];
 
+/// How many rows tell the memory of cases: one for each hostile header, and one for messages as people send them.
+const CASE_ROWS: usize = 6;
+
 /// How many messages of 2 KB are kept at once.
 const MESSAGES: usize = 4_000;
 
 /// The most octets that the process had since this was asked for the last time, or since it began.
-fn peak(rt: &(impl Files + AllocGlobal)) -> Result<usize> {
+pub fn peak(rt: &(impl Files + AllocGlobal)) -> Result<usize> {
     let status = fs::read_to_string(rt, "/proc/self/status")?;
     let (_, rest) = status
         .as_str()
@@ -107,9 +111,12 @@ fn tell_row<R: Files + Clock + Print + AllocGlobal>(
     Ok(())
 }
 
-/// Tells the memory of the hostile header `index`, in a message of 8 MiB, or behind the last one that of messages as people
-/// send them.
+/// Tells the memory of the hostile header `index`, in a message of 8 MiB, after the last one that of messages as people send
+/// them, and then that of commands.
 pub fn tell<R: Files + Clock + Print + AllocGlobal>(rt: &R, index: usize) -> Result<()> {
+    if let Some(index) = index.checked_sub(CASE_ROWS) {
+        return command_memory::tell(rt, index);
+    }
     let Some(header) = HOSTILE_HEADERS.get(index) else {
         let input = message(rt.alloc())?;
         return tell_row(rt, "4,000 messages of 2 KB", "1.5", &input, MESSAGES);

@@ -2,13 +2,14 @@
 
 use crate::bench::baselines::Baseline;
 use crate::bench::measures::{AcceptedText, HostileText, Measure};
+use crate::bench::stages::Stage;
 
 /// What was asked of a measure.
 #[derive(Clone, Copy)]
 pub enum Asked {
     /// At least so many millions of octets a second.
     Rate(u32),
-    /// At most so many milliseconds a run.
+    /// At most so many microseconds a run.
     Time(u32),
     /// At most so many tenths of the time of a run on half the octets.
     Growth(u32),
@@ -41,7 +42,7 @@ pub struct Row {
 }
 
 /// Each row, in the order of a message's way.
-pub const ROWS: [Row; 46] = [
+pub const ROWS: [Row; 53] = [
     Row {
         measure: Measure::Header,
         title: "`read_head`, a header in fields of 80 octets",
@@ -207,25 +208,25 @@ pub const ROWS: [Row; 46] = [
     Row {
         measure: Measure::HardOctet,
         title: "`contains`, 1,000 `a` and a `b` in `a`, `i;octet`",
-        asked: Asked::Time(20),
+        asked: Asked::Time(20_000),
         baseline: Baseline::Search,
     },
     Row {
         measure: Measure::HardCasemap,
         title: "`contains`, the same, `i;ascii-casemap`",
-        asked: Asked::Time(20),
+        asked: Asked::Time(20_000),
         baseline: Baseline::Sum,
     },
     Row {
         measure: Measure::Stars,
         title: "`matches`, `*a*a*a*a*b` in `a`",
-        asked: Asked::Time(20),
+        asked: Asked::Time(20_000),
         baseline: Baseline::Sum,
     },
     Row {
         measure: Measure::PlanFile,
         title: "`Plan::from_toml` and `revise`, 4,096 classes",
-        asked: Asked::Time(100),
+        asked: Asked::Time(100_000),
         baseline: Baseline::Words,
     },
     Row {
@@ -243,7 +244,7 @@ pub const ROWS: [Row; 46] = [
     Row {
         measure: Measure::ImageCode,
         title: "`decode` and `verify`, 65,535 instructions",
-        asked: Asked::Time(10),
+        asked: Asked::Time(10_000),
         baseline: Baseline::Copy,
     },
     Row {
@@ -255,13 +256,13 @@ pub const ROWS: [Row; 46] = [
     Row {
         measure: Measure::Steps,
         title: "`run`, 59,991 steps without `VALUES` and `MATCH`",
-        asked: Asked::Time(1),
+        asked: Asked::Time(1_000),
         baseline: Baseline::Sum,
     },
     Row {
         measure: Measure::Runs,
         title: "`run` of the script below, 1,000 times, message of 2 KB",
-        asked: Asked::Time(3),
+        asked: Asked::Time(3_000),
         baseline: Baseline::Sum,
     },
     Row {
@@ -273,7 +274,7 @@ pub const ROWS: [Row; 46] = [
     Row {
         measure: Measure::ShortScript,
         title: "`parse`, `check` and `compile` of the script, 1,000 times",
-        asked: Asked::Time(20),
+        asked: Asked::Time(20_000),
         baseline: Baseline::Words,
     },
     Row {
@@ -285,31 +286,73 @@ pub const ROWS: [Row; 46] = [
     Row {
         measure: Measure::LongScript,
         title: "the same, once, 2,000 header tests of weight 34,005",
-        asked: Asked::Time(5),
+        asked: Asked::Time(5_000),
+        baseline: Baseline::Words,
+    },
+    Row {
+        measure: Measure::Way(Stage::Scan),
+        title: "`scan`, 2,000 header tests",
+        asked: Asked::Nothing,
+        baseline: Baseline::Words,
+    },
+    Row {
+        measure: Measure::Way(Stage::Parse),
+        title: "`parse`, the same",
+        asked: Asked::Nothing,
+        baseline: Baseline::Words,
+    },
+    Row {
+        measure: Measure::Way(Stage::Check),
+        title: "`parse` and `check`, the same",
+        asked: Asked::Nothing,
+        baseline: Baseline::Words,
+    },
+    Row {
+        measure: Measure::Way(Stage::Compile),
+        title: "`compile`, the same",
+        asked: Asked::Nothing,
+        baseline: Baseline::Words,
+    },
+    Row {
+        measure: Measure::Way(Stage::Verify),
+        title: "`decode` and `verify` of the image of the same",
+        asked: Asked::Nothing,
+        baseline: Baseline::Words,
+    },
+    Row {
+        measure: Measure::Way(Stage::Run),
+        title: "`run` of that image, message of ten fields",
+        asked: Asked::Time(400),
+        baseline: Baseline::Words,
+    },
+    Row {
+        measure: Measure::Way(Stage::File),
+        title: "`serve`, a `FILE` of that script with that message",
+        asked: Asked::Time(3_000),
         baseline: Baseline::Words,
     },
     Row {
         measure: Measure::TenIncludes,
         title: "`compile`, ten includes a script over four levels, weight 48,885",
-        asked: Asked::Time(5),
+        asked: Asked::Time(5_000),
         baseline: Baseline::Words,
     },
     Row {
         measure: Measure::IncludesInIfs,
         title: "`compile`, eight scripts, each include inside 31 `if`s, weight 49,793",
-        asked: Asked::Time(5),
+        asked: Asked::Time(5_000),
         baseline: Baseline::Words,
     },
     Row {
         measure: Measure::AllIncludes,
         title: "`compile`, 64 scripts that include each other, too heavy",
-        asked: Asked::Time(20),
+        asked: Asked::Time(20_000),
         baseline: Baseline::Words,
     },
     Row {
         measure: Measure::Filings,
         title: "`serve`, 10,000 `FILE` of the script with that message",
-        asked: Asked::Time(200),
+        asked: Asked::Time(200_000),
         baseline: Baseline::Copy,
     },
     Row {

@@ -4,6 +4,7 @@ use crate::bench::filings::{INVOICE_SCRIPT, case_of, compiled, judged, message};
 use crate::bench::includes::{Linked, Texts};
 use crate::bench::measures::Measure;
 use crate::bench::plans::{MOST_CLASSES, plan_of};
+use crate::bench::stages::{Results, Stage};
 use class_plan::Plan;
 use filing_machine::{WholeCase, run};
 use filing_verify::Verified;
@@ -19,6 +20,8 @@ pub struct Setting {
     case: Option<WholeCase>,
     /// The scripts that include each other and are compiled.
     linked: Option<Linked>,
+    /// What stands before the stages of the script.
+    results: Option<Results>,
 }
 
 impl Setting {
@@ -40,12 +43,17 @@ impl Setting {
             Measure::AllIncludes => Texts::of_all(alloc)?.linked(alloc),
             _ => None,
         };
+        let results = match measure {
+            Measure::Way(_) => Some(Results::of(alloc, input)?),
+            _ => None,
+        };
         let case = case_of(alloc, &message(alloc)?)?;
         Ok(Setting {
             plan,
             program,
             case,
             linked,
+            results,
         })
     }
 
@@ -67,6 +75,14 @@ impl Setting {
         match &self.linked {
             Some(linked) => linked.weight(alloc),
             None => 0,
+        }
+    }
+
+    /// What a stage answers, or 0 where the script is refused.
+    pub fn stage(&self, alloc: Global, stage: Stage, input: &[u8]) -> Result<usize, AllocError> {
+        match &self.results {
+            Some(results) => stage.run(alloc, input, results),
+            None => Ok(0),
         }
     }
 }

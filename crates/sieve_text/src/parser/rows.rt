@@ -6,13 +6,14 @@ use std::alloc::AllocError;
 
 /// Adds a row at the end; the only error is want of memory.
 ///
-/// Room grows by a fifth, so that lists that are read at the same time never have much more room than rows.
+/// There is room for four rows at first, and it grows by a fifth and four, so that lists that are read at the same time never
+/// have much more room than rows.
 pub fn push<T: Drop>(rows: &mut Vec<T>, row: T) -> Result<(), AllocError>
     ensures ok { OnOk result (rows.new.items ≡ rows.old.items ++ row ∷ []) }
 {
     let count = rows.len();
     if count == rows.capacity() {
-        rows.reserve_exact(count / 5 + count.clamp(1, 4))?;
+        rows.reserve_exact(count / 5 + 4)?;
     }
     rows.push(row)?;
     Ok(())

@@ -1,7 +1,6 @@
 use Rattle.std.proofs.Common.{ℕ, List, [], ◌∷◌, Option, Bor, refl, sym, subst, arith}
 use Rattle.std.specs.Option.{option_map}
 use Rattle.filing_image.specs.Program.{Program}
-use Rattle.filing_verify.specs.Well.{IsWell}
 use Rattle.sieve_syntax.specs.View.{tree_of}
 use Rattle.sieve_meaning.specs.Meaning.{main_names}
 use Rattle.sieve_meaning.specs.Reading.{program_of}
@@ -26,15 +25,13 @@ emit_program-requires-clause-typed c =
     let known : Option (List ℕ) = option_map (λ (s : Bor (List ℕ)). s.now) c.args.scope.main.known_as in
     flow_typed (linked_flow (library_of l) (slots_of l) known) (included_typed (library_of l) (slots_of l) (main_names known) 7 (main_names known)) 0 (program_of (tree_of c.args.script.now)) ([] ∷ []) refl
 
-pub verified-requires : goal.verified-requires
-verified-requires c =
+pub known-requires : goal.known-requires
+known-requires c =
     let l = scripts_of c.args.scope.shelves in
     built_well (library_of l) (slots_of l) c.slot_count-slots.result c.slot_count-slots.ensures.enough (option_map (λ (s : Bor (List ℕ)). s.now) c.args.scope.main.known_as) (program_of (tree_of c.args.script.now)) c.in_ok-out.out c.in_ok-image.image c.args.weight c.in_ok-out.ensures c.in_ok-image.ensures.made c.requires.weight c.requires.small
 
 pub returns-clause-compiled : goal.returns-clause-compiled
 returns-clause-compiled c =
     let l = scripts_of c.args.scope.shelves in
-    let good : IsWell c.in_ok-image.image =
-    built_well (library_of l) (slots_of l) c.slot_count-slots.result c.slot_count-slots.ensures.enough (option_map (λ (s : Bor (List ℕ)). s.now) c.args.scope.main.known_as) (program_of (tree_of c.args.script.now)) c.in_ok-out.out c.in_ok-image.image c.args.weight c.in_ok-out.ensures c.in_ok-image.ensures.made c.requires.weight c.requires.small in
-    subst (λ (p : Program). IsCompiled (library_of l) (option_map (λ (s : Bor (List ℕ)). s.now) c.args.scope.main.known_as) (program_of (tree_of c.args.script.now)) p) (sym c.in_ok-verified.ensures.same)
-    (built (library_of l) (slots_of l) c.slot_count-slots.result c.slot_count-slots.ensures.enough (option_map (λ (s : Bor (List ℕ)). s.now) c.args.scope.main.known_as) (program_of (tree_of c.args.script.now)) c.in_ok-out.out c.in_ok-image.image c.args.weight c.in_ok-out.ensures c.in_ok-image.ensures.made good c.requires.weight)
+    subst (λ (p : Program). IsCompiled (library_of l) (option_map (λ (s : Bor (List ℕ)). s.now) c.args.scope.main.known_as) (program_of (tree_of c.args.script.now)) p) (sym c.known.ensures)
+    (built (library_of l) (slots_of l) c.slot_count-slots.result c.slot_count-slots.ensures.enough (option_map (λ (s : Bor (List ℕ)). s.now) c.args.scope.main.known_as) (program_of (tree_of c.args.script.now)) c.in_ok-out.out c.in_ok-image.image c.args.weight c.in_ok-out.ensures c.in_ok-image.ensures.made (known-requires c.before) c.requires.weight)

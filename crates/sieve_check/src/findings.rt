@@ -1,0 +1,94 @@
+//! What the tags of arguments show, gathered in one pass over them.
+
+ghost use Rattle.std.specs.Prelude.{◌≡◌, false, ◌||◌};
+ghost use Rattle.std.specs.List.{list_any};
+ghost use Rattle.sieve_check.specs.Context.{has_of};
+ghost use Rattle.sieve_check.specs.Findings.{nothing_found, found_with, found_in};
+ghost use Rattle.sieve_check.specs.Pieces.{pieces};
+ghost use Rattle.sieve_check.specs.PieceViews.{piece_view};
+ghost use Rattle.sieve_check.specs.Rules.{piece_lacks, has_wrong_tag, has_tag_twice, lacks_string, is_unknown_comparator};
+ghost use Rattle.sieve_check.specs.Views.{form_view};
+
+use crate::named::Named;
+use crate::pieces::{Piece, Pieces};
+use crate::table::Form;
+use sieve_syntax::Arguments;
+
+/// What the pieces of arguments show.
+#[derive(Clone, Copy)]
+pub struct Findings {
+    /// A tag needs a capability that is not named.
+    pub lacks_capability: bool,
+    /// A tag is not the form's.
+    pub unknown_tag: bool,
+    /// A tag stands without the string that belongs to it.
+    pub lacks_string: bool,
+    /// A tag names a comparator that there is not.
+    pub unknown_comparator: bool,
+    /// There is a positional argument.
+    pub positional: bool,
+    /// A tag stands after a positional argument.
+    pub tag_behind: bool,
+    /// There is a tag.
+    pub tag: bool,
+    /// There are two tags.
+    pub two_tags: bool,
+}
+
+impl Findings {
+    /// Of no piece.
+    fn nothing() -> Findings
+        ensures { result ≡ nothing_found }
+    {
+        Findings {
+            lacks_capability: false,
+            unknown_tag: false,
+            lacks_string: false,
+            unknown_comparator: false,
+            positional: false,
+            tag_behind: false,
+            tag: false,
+            two_tags: false,
+        }
+    }
+
+    /// These, and what one more piece shows.
+    fn with(self, named: Named, piece: Piece<'_>) -> Findings
+        ensures { result ≡ found_with (has_of named) self (piece_view piece.entry) }
+    {
+        let is_tag = piece.is_tag();
+        Findings {
+            lacks_capability: self.lacks_capability || piece.lacks_capability(named),
+            unknown_tag: self.unknown_tag || piece.is_unknown_tag(),
+            lacks_string: self.lacks_string || piece.lacks_string(),
+            unknown_comparator: self.unknown_comparator || piece.is_unknown_comparator(),
+            positional: self.positional || !is_tag,
+            tag_behind: self.tag_behind || (self.positional && is_tag),
+            tag: self.tag || is_tag,
+            two_tags: self.two_tags || (self.tag && is_tag),
+        }
+    }
+}
+
+/// What all pieces show.
+fn go_over(named: Named, form: &Form, arguments: &Arguments) -> Findings
+    ensures { result ≡ found_in (has_of named) nothing_found (pieces (form_view form.now).tags arguments.now) }
+{
+    let mut found = Findings::nothing();
+    for piece in Pieces::new(form, arguments) {
+        found = found.with(named, piece);
+    }
+    found
+}
+
+/// What the pieces of arguments show, behind a name of this form, where these capabilities are named. Fewer than two tags
+/// are none of one kind.
+pub fn gather(named: Named, form: &Form, arguments: &Arguments) -> Findings
+    ensures capability { result.lacks_capability ≡ list_any (piece_lacks (has_of named)) (pieces (form_view form.now).tags arguments.now) }
+    ensures tag { (result.unknown_tag || result.tag_behind) ≡ has_wrong_tag (pieces (form_view form.now).tags arguments.now) }
+    ensures twice { result.two_tags ≡ false → has_tag_twice (form_view form.now) (pieces (form_view form.now).tags arguments.now) ≡ false }
+    ensures string { result.lacks_string ≡ list_any lacks_string (pieces (form_view form.now).tags arguments.now) }
+    ensures comparator { result.unknown_comparator ≡ list_any is_unknown_comparator (pieces (form_view form.now).tags arguments.now) }
+{
+    go_over(named, form, arguments)
+}
