@@ -183,6 +183,7 @@ impl Desk {
     /// Adds a class that is open and has no schedule of its own. It is refused with the smallest of 52 (no path),
     /// 53 (no parent), 54 (there already) and 56 (4,096 classes are there); 99 is want of memory. The plan is then as
     /// before.
+    #[tactic(auto, using(crate::proofs::StepLemmas::calls_by), unfolding(crate::specs::Steps::Step))]
     pub fn add_class(&mut self, path: &[u8]) -> Result<(), DeskFault>
         ensures { Calls IsClean StandsFor self.old (add_class path.now) (settled result) self.new }
     {
@@ -193,6 +194,7 @@ impl Desk {
     /// Takes over the plan of a text (a TOML document). It is refused by its length (58), by the smallest of 50 to 56
     /// that holds of its text, or where it drops a path of the plan so far (57); 99 is want of memory. The plan is then
     /// as before.
+    #[tactic(auto, using(crate::proofs::StepLemmas::calls_by), unfolding(crate::specs::Steps::Step))]
     pub fn set_plan(&mut self, text: &Payload) -> Result<(), DeskFault>
         ensures { (t : List ℕ) → IsOf greatest_plan text.now t → Calls IsClean StandsFor self.old (set_plan t) (settled result) self.new }
     {
@@ -207,6 +209,7 @@ impl Desk {
     /// Keeps a script under a name, for scripts that include it by `:global`; it takes the place of the one that has the
     /// name, if there is one. It is refused by its text (10 to 16, 20, 21), then by the check (30 to 41), then where
     /// thirty-two global scripts have other names (96); 99 is want of memory. The global scripts are then as before.
+    #[tactic(auto, using(crate::proofs::StepLemmas::calls_by), unfolding(crate::specs::Steps::Step))]
     pub fn set_global(&mut self, name: &[u8], text: &Payload) -> Result<(), DeskFault>
         ensures { (t : List ℕ) → IsOf greatest_script text.now t → Calls IsClean StandsFor self.old (set_global name.now t) (settled result) self.new }
     {
@@ -219,6 +222,7 @@ impl Desk {
     /// What an image captures a message in: a dry run that stores nothing. An image is refused by its length (61: more
     /// than 16,777,216 octets), its form (60) and its code (62 to 66); then a message over 8,388,608 octets by 95; 99
     /// is want of memory.
+    #[tactic(auto, using(crate::proofs::StepLemmas::calls_by), unfolding(crate::specs::Steps::Step))]
     pub fn try_image(&self, image: &Payload, message: &Payload) -> Result<Outcome, DeskFault>
         ensures { (i m : List ℕ) → IsOf greatest_image image.now i → IsOf greatest_message message.now m → Calls IsClean StandsFor self.now (try_image i m) (filed result) self.now }
     {
@@ -231,6 +235,7 @@ impl Desk {
     /// What a script captures a message in: a dry run that stores nothing. A script is refused by its text (10 to 16,
     /// 20, 21), then by the check (30 to 41); then a message over 8,388,608 octets by 95; 99 is want of memory. It
     /// can include the global scripts, and no others. A script of weight above 60,000 has the outcome fault 5.
+    #[tactic(auto, using(crate::proofs::StepLemmas::calls_by), unfolding(crate::specs::Steps::Step))]
     pub fn file(&self, script: &Payload, message: &Payload) -> Result<Outcome, DeskFault>
         ensures { (s m : List ℕ) → IsOf greatest_script script.now s → IsOf greatest_message message.now m → Calls IsClean StandsFor self.now (file s m) (filed result) self.now }
     {

@@ -4,18 +4,6 @@ use Rattle.filing_desk.specs.Steps.{Step}
 use Rattle.filing_desk.proofs.StepLemmas.{calls_by, filed_by}
 use Rattle.filing_desk.proofs.desk.Desk.file.Goals as goal
 
-pub returns-in_err-checked : goal.returns-in_err-checked
-unfolding Step
-returns-in_err-checked c = λ s m s_is m_is. calls_by _ _ _ _ (search rules)
-
-pub returns-in_err-case : goal.returns-in_err-case
-unfolding Step
-returns-in_err-case c = λ s m s_is m_is. calls_by _ _ _ _ (search rules)
-
-pub returns-in_err-outcome : goal.returns-in_err-outcome
-unfolding Step
-returns-in_err-outcome c = λ s m s_is m_is. calls_by _ _ _ _ (search rules)
-
 pub returns : goal.returns
 unfolding Step
 returns c = λ s m s_is m_is.

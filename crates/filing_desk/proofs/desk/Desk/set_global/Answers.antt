@@ -10,10 +10,6 @@ pub returns-in_err-script : goal.returns-in_err-script
 unfolding Step
 returns-in_err-script c = λ t is. calls_by _ _ _ _ (search rules)
 
-pub returns-in_err-script-2 : goal.returns-in_err-script-2
-unfolding Step
-returns-in_err-script-2 c = λ t is. calls_by _ _ _ _ (search rules)
-
 pub returns-in_err-put : goal.returns-in_err-put
 returns-in_err-put c = λ t is.
     let result = c.from_residual-in_err-put.ensures in

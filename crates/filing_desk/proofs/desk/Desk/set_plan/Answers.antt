@@ -3,14 +3,6 @@ use Rattle.filing_desk.specs.Steps.{Step}
 use Rattle.filing_desk.proofs.StepLemmas.{calls_by}
 use Rattle.filing_desk.proofs.desk.Desk.set_plan.Goals as goal
 
-pub returns-in_err-octets : goal.returns-in_err-octets
-unfolding Step
-returns-in_err-octets c = λ t is. calls_by _ _ _ _ (search rules)
-
-pub returns-in_err-plan : goal.returns-in_err-plan
-unfolding Step
-returns-in_err-plan c = λ t is. calls_by _ _ _ _ (search rules)
-
 pub returns : goal.returns
 unfolding Step
 returns c = λ t is. calls_by _ _ _ _ (search rules)

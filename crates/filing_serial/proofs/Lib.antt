@@ -1,0 +1,5 @@
+mod Rows
+pub mod Verdicts
+pub mod CommandOnce
+pub mod Sessions
+pub mod Lines
