@@ -5,8 +5,13 @@ use Rattle.sqlite.specs.Effect.{Database}
 use Rattle.record_tables.specs.Tables.{no_schema, first_schema, dated_schema, IsArchiveSchema, HasCommonTables}
 use Rattle.record_tables.specs.declared.layout.Layout.{Layout}
 use Rattle.record_tables.specs.declared.layout.Layout.TheVariants.{Empty, First, FirstWithDues, Second, Other}
+use Rattle.std.proofs.Common.{List}
+use Rattle.record_tables.specs.Rows.{Tables}
+use Rattle.record_tables.specs.Changes.{Listed, Rule}
+use Rattle.record_tables.specs.Reads.{Pair}
 use Rattle.record_store.specs.Archive.{Archive, IsArchive}
-use Rattle.record_store.specs.Adoption.{Finds, FindsRows, FindsSecond, FindsFirst, FindsNothing, HasNoArchive, IsKeyed, IsLaidSchema}
+use Rattle.record_store.specs.Adoption.{Finds, FindsRows, FindsSecond, FindsFirst, FindsNothing, HasNoArchive, HasRows, IsKeyed, IsLaidSchema, ReadsSecond, ReadsFirst}
+use Rattle.record_store.specs.Stores.{StoresArchive}
 use Rattle.record_store.proofs.AdoptReads.{archive_common, first_common}
 
 -- what is known of a layout that was found
@@ -69,3 +74,22 @@ first_laid schema l lays is (inl e) = absurd (first_not_empty l is (lays.empty e
 first_laid schema l lays is (inr (inl e)) = first_common schema (inl e)
 first_laid schema l lays is (inr (inr (inl e))) = first_common schema (inr e)
 first_laid schema l lays is (inr (inr (inr h))) = archive_common schema h
+
+-- ---- rows of any kind
+
+pub no_reads : (db : Database) (l : Layout) → Lays db.schema l → l ≡ Empty → HasRows db → ⊥
+no_reads db l lays is (inl h) = let k : l ≡ Second = lays.second h.4.stored.schema in cc
+no_reads db l lays is (inr h) = first_not_empty l (first_apart db.schema l lays h.3.stored.schema) is
+
+pub second_reads : (db : Database) (l : Layout) → Lays db.schema l → l ≡ Second → HasRows db → (t : Tables) × (ps : List Pair) × (rs : List Rule) × (cs : List Listed) × ReadsSecond db t ps rs cs
+second_reads db l lays is (inl h) = h
+second_reads db l lays is (inr h) = absurd (first_not_second l (first_apart db.schema l lays h.3.stored.schema) is)
+
+pub first_reads : (db : Database) (l : Layout) → Lays db.schema l → IsFirst l → HasRows db → (t : Tables) × (ps : List Pair) × (cs : List Listed) × ReadsFirst db t ps cs
+first_reads db l lays is (inl h) = absurd (first_not_second l is (lays.second h.4.stored.schema))
+first_reads db l lays is (inr h) = h
+
+-- ---- what a store left
+
+pub rows_left : (db : Database) (a : Archive) → StoresArchive db a → FindsRows db a
+rows_left db a h = inl (record { tables = h.tables; stored = h.stored; keyed = h.keyed; keeps = h.keeps })

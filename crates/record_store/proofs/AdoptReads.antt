@@ -10,7 +10,16 @@ use Rattle.sqlite.proofs.StateLemmas.{survives_then, survives_weaker}
 use Rattle.record_tables.specs.Tables.{scheduled, none, dated, HasCommonTables, IsArchiveSchema, first_schema, dated_schema}
 use Rattle.record_tables.specs.Rows.{Tables, Stores, StoresFirst, StoresCommon}
 use Rattle.record_store.specs.Archive.{Archive}
-use Rattle.record_store.specs.Adoption.{FindsSecond, FindsFirst, FindsCommon, Sees}
+use Rattle.std.proofs.Common.{IsPermutation, length}
+use Rattle.std.proofs.lemmas.List.Elements.{All-from_recursion, recursion_from_All}
+use Rattle.std.proofs.lemmas.List.Sorted.{IsPermutation-sym, length_permutation, All-permutation}
+use Rattle.class_plan.specs.Plans.{Listing}
+use Rattle.record_tables.specs.Changes.{Listed, Rule}
+use Rattle.record_tables.specs.Reads.{Pair, paired, listed, rule}
+use Rattle.record_store.specs.Adoption.{FindsSecond, FindsFirst, FindsCommon, ReadsSecond, ReadsFirst, TellsPlan, TellsTexts, ToldPlan, ToldTexts, first_pairs, Sees}
+use Rattle.record_store.specs.Stores.{hold_of}
+use Rattle.record_store.specs.declared.plan_rows.PlanRows.{PlanRows}
+use Rattle.record_store.specs.declared.text_rows.TextRows.{TextRows}
 
 pub unchanged_then : (a b c : State) → IsUnchanged a b → IsUnchanged b c → IsUnchanged a c
 unchanged_then a b c one two = (
@@ -51,6 +60,70 @@ archive_common schema h = record { foreign = scheduled h.foreign; is = h.is }
 pub first_common : (schema : Schema) → (schema ≡ first_schema) ⊎ (schema ≡ dated_schema) → HasCommonTables schema
 first_common schema (inl e) = record { foreign = none; is = e }
 first_common schema (inr e) = record { foreign = dated; is = e }
+
+pub stores_common : (db : Database) (t : Tables) → Stores db t → StoresCommon db t
+stores_common db t h = record {
+  schema = archive_common db.schema h.schema;
+  messages = h.messages;
+  records = h.records;
+  holds = h.holds;
+  settings = h.settings;
+  classes = h.classes;
+}
+
+pub stores_first_common : (db : Database) (t : Tables) → StoresFirst db t → StoresCommon db t
+stores_first_common db t h = record {
+  schema = first_common db.schema h.schema;
+  messages = h.messages;
+  records = h.records;
+  holds = h.holds;
+  settings = h.settings;
+  classes = h.classes;
+}
+
+pub reads_after : (old new : State) (t : Tables) (ps : List Pair) (rs : List Rule) (cs : List Listed) → ReadsSecond old.now t ps rs cs → IsUnchanged old new → ReadsSecond new.now t ps rs cs
+reads_after old new t ps rs cs h kept = subst (λ (db : Database). ReadsSecond db t ps rs cs) (sym kept.0.now_is) h
+
+pub reads_first_after : (old new : State) (t : Tables) (ps : List Pair) (cs : List Listed) → ReadsFirst old.now t ps cs → IsUnchanged old new → ReadsFirst new.now t ps cs
+reads_first_after old new t ps cs h kept = subst (λ (db : Database). ReadsFirst db t ps cs) (sym kept.0.now_is) h
+
+-- the archive of rows with a plan
+abbrev pub archive_of : Tables → Listing → Archive
+archive_of t p = record { plan = p; messages = t.messages; records = t.records; holds = map hold_of t.holds }
+
+one_left : (xs : List Pair) (p : Pair) → IsPermutation xs (p ∷ []) → xs ≡ p ∷ []
+one_left [] p same = absurd (omega (arith, length_permutation [] (p ∷ []) same))
+one_left (x ∷ []) p same = ap (λ z. z ∷ []) (recursion_from_All (λ z. z ≡ p) (x ∷ []) (All-permutation (λ z. z ≡ p) (p ∷ []) (x ∷ []) (IsPermutation-sym (x ∷ []) (p ∷ []) same) (All-from_recursion (λ z. z ≡ p) (p ∷ []) (refl, tt)))).0
+one_left (x ∷ y ∷ xs) p same = absurd (omega (arith, length_permutation (x ∷ y ∷ xs) (p ∷ []) same))
+
+pub second_told : (db : Database) (t : Tables) (ps : List Pair) (rs : List Rule) (cs : List Listed) (r : PlanRows) (p : Listing) → ReadsSecond db t ps rs cs → ToldPlan r ps rs cs → TellsPlan r p → FindsSecond db (archive_of t p)
+second_told db t ps rs cs r p d told tells = record {
+  tables = t;
+  stored = d.stored;
+  keyed = d.keyed;
+  keeps = record {
+    messages = refl;
+    records = refl;
+    holds = refl;
+    settings = one_left (map paired t.settings) _ (subst (IsPermutation (map paired t.settings)) told.settings d.settings.same);
+    classes = subst (IsPermutation (map listed t.classes)) (sym told.classes ∙ tells.classes) d.classes.same;
+    schedules = subst (IsPermutation (map rule t.schedules)) (sym told.rules ∙ tells.rules) d.schedules.same;
+  };
+}
+
+pub first_told : (db : Database) (t : Tables) (ps : List Pair) (cs : List Listed) (r : TextRows) (p : Listing) → ReadsFirst db t ps cs → ToldTexts r ps cs → TellsTexts r p → FindsFirst db (archive_of t p)
+first_told db t ps cs r p d told tells = record {
+  tables = t;
+  stored = d.stored;
+  keyed = d.keyed;
+  keeps = record {
+    messages = refl;
+    records = refl;
+    holds = refl;
+    settings = subst (IsPermutation (map paired t.settings)) (told.settings ∙ ap first_pairs tells.root) d.settings.same;
+    classes = subst (IsPermutation (map listed t.classes)) (sym told.classes ∙ tells.classes) d.classes.same;
+  };
+}
 
 pub second_stores : (db : Database) (a : Archive) (h : FindsSecond db a) → StoresCommon db h.tables
 second_stores db a h = record {

@@ -20,10 +20,11 @@ use Rattle.record_tables.specs.declared.rows.RecordRow.{RecordRow}
 use Rattle.record_rows.specs.Judged as judged
 use Rattle.record_rows.specs.Judged.{is_one_of, IsSound, AreRows}
 use Rattle.record_store.specs.Archive.{Archive, Hold, IsArchive, IsRecord, is_live, is_named, has_message, has_number, due_of, past_all, is_hold}
-use Rattle.record_store.specs.Adoption.{TellsRows, IsFound, IsKeyed, named_hold, sorted_holds, day_by, days_by}
+use Rattle.record_store.specs.Adoption.{TellsRows, IsFound, IsJudged, IsKeyed, named_hold, sorted_holds, day_by, days_by}
 use Rattle.record_store.specs.Captures.{due_before}
 use Rattle.record_store.specs.Counts.{count_at, tally}
 use Rattle.record_store.specs.Stores.{has_due, due_row, due_rows, hold_count, live_count}
+use Rattle.record_store.specs.declared.found.ArchiveRows.{ArchiveRows}
 use Rattle.record_store.specs.declared.found.Found.{Found}
 use Rattle.record_store.proofs.AdoptHolds.{holds_permuted, holds_sorted, numbers_sorted, numbers_rise, tally-map, tally-permutation}
 
@@ -311,3 +312,15 @@ is_found f a plan rs ms hs same keyed records messages holds rows own next small
       dues = dues ∙ (λ i. days_by (same i) (records i)) ∙ days_due a;
       archive = archive;
     }
+
+pub judged_at : (plan : Listing) (r : ArchiveRows) (rs : List RecordRow) (ms : List ℕ) (hs : List HoldRow) (next : ℕ) → rs ≡ r.records.items → ms ≡ r.messages.items → hs ≡ r.holds.items
+    → AreRows plan (map record_of rs) ms (map named_of hs) → next ≡ past_all 1 (map record_of rs) → next ≤ 2 ^ 32 → IsJudged plan r
+judged_at plan r rs ms hs next records messages holds rows is small = record {
+  rows = subst (λ l. AreRows plan (map record_of l) r.messages.items (map named_of r.holds.items)) records (subst (λ l. AreRows plan (map record_of rs) l (map named_of r.holds.items)) messages (subst (λ l. AreRows plan (map record_of rs) ms (map named_of l)) holds rows));
+  small = subst (λ l. AllByRecursion (λ (x : Record). x.number < 2 ^ 32) (map record_of l)) records (small_below next (map record_of rs) is small);
+}
+
+pub judged_archive : (a : Archive) (r : ArchiveRows) → IsKeyed a → TellsRows r a → IsJudged a.plan r → IsArchive a
+judged_archive a r keyed tells judged =
+    rows-archive a keyed (subst (AllByRecursion (λ (x : Record). x.number < 2 ^ 32)) tells.records judged.small)
+    (rows_back a a.plan r.records.items r.messages.items r.holds.items refl tells.records tells.messages tells.holds judged.rows)

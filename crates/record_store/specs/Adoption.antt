@@ -1,5 +1,6 @@
 -- What a database holds of an archive when a store is opened over it, and what is read of it.
-use Rattle.std.specs.Prelude.{◌≡◌, ◌≢◌, ◌⊎◌, ℕ, ◌-◌, if◌then◌else◌, false, List, [], ◌∷◌, map, Option, None, codes, IsPermutation}
+use Rattle.std.specs.Prelude.{◌<◌, ◌^◌, ◌≡◌, ◌≢◌, ◌⊎◌, ℕ, ◌-◌, if◌then◌else◌, false, List, [], ◌∷◌, map, Option, None, codes, IsPermutation}
+use Rattle.std.specs.List.{AllByRecursion}
 use Rattle.sqlite.specs.Store.{Ghosts}
 use Rattle.sqlite.specs.Schema.{Schema}
 use Rattle.sqlite.specs.Tree.{Trees}
@@ -13,9 +14,11 @@ use Rattle.class_plan.specs.Calendar.{due_on}
 use Rattle.class_plan.specs.Texts.{text_of}
 use Rattle.record_tables.specs.Tables.{IsArchiveSchema, no_schema, first_schema, dated_schema}
 use Rattle.record_tables.specs.Rows.{Tables, Message, Record, Due, Stores, StoresFirst, StoresCommon, AreKeyed}
-use Rattle.record_tables.specs.Reads.{Named, Pair, listed, paired, named_cmp}
+use Rattle.record_tables.specs.Changes.{Listed, Rule}
+use Rattle.record_tables.specs.Reads.{Named, Pair, listed, paired, named_cmp, ArePaired, AreListed, AreRules}
 use Rattle.record_tables.specs.Typed.{record_of, named_of, listed_of, rule_of, due_of}
 use Rattle.record_tables.specs.Steps.{IsIdle, Falls, IsStill, CommitsNothingOf}
+use Rattle.record_rows.specs.Judged.{AreRows}
 use Rattle.record_rows.specs.Rules.{rules_of, classes_of}
 use Rattle.record_rows.specs.Texts.{text_row}
 use Rattle.record_store.specs.Archive.{Archive, Hold, IsArchive, empty_archive, is_hold, next_number}
@@ -59,10 +62,14 @@ pub record FindsFirst (db : Database) (a : Archive) : Type 0 where
 abbrev pub FindsRows : Database → Archive → Type 0
 FindsRows db a = FindsSecond db a ⊎ FindsFirst db a
 
+-- each hold is there once
+abbrev pub AreOnce : List Hold → Type 0
+AreOnce hs = IsAscending (λ (x y : Hold). is_hold x.name x.number y ≡ false) hs
+
 -- the plan is one, and each hold is there once, as the keys of the tables have it
 pub record IsKeyed (a : Archive) : Type 0 where
   pub plan : IsPlan a.plan
-  pub once : IsAscending (λ (x y : Hold). is_hold x.name x.number y ≡ false) a.holds
+  pub once : AreOnce a.holds
 
 -- the messages, records and holds, which both versions keep alike
 pub record FindsCommon (db : Database) (a : Archive) : Type 0 where
@@ -83,6 +90,37 @@ Finds db a = (FindsRows db a × IsKeyed a) ⊎ FindsNothing db a
 -- no archive has these rows
 abbrev pub HasNoArchive : Database → Type 0
 HasNoArchive db = (db.schema ≢ no_schema) × ((a : Archive) → FindsRows db a → IsArchive a → ⊥)
+
+-- the rows are an archive's
+pub record HasArchive (db : Database) : Type 0 where
+  pub archive : Archive
+  pub rows : FindsRows db archive
+  pub is : IsArchive archive
+
+-- ---- rows of any kind
+
+-- rows of version 2, whatever they say; each key is there once
+pub record ReadsSecond (db : Database) (t : Tables) (ps : List Pair) (rs : List Rule) (cs : List Listed) : Type 0 where
+  pub stored : Stores db t
+  pub keyed : AreKeyed t
+  pub settings : ArePaired t ps
+  pub schedules : AreRules t rs
+  pub classes : AreListed t cs
+  pub holds : AreOnce (map hold_of t.holds)
+
+-- rows of version 1, whatever they say; each key is there once
+pub record ReadsFirst (db : Database) (t : Tables) (ps : List Pair) (cs : List Listed) : Type 0 where
+  pub stored : StoresFirst db t
+  pub keyed : AreKeyed t
+  pub settings : ArePaired t ps
+  pub classes : AreListed t cs
+  pub holds : AreOnce (map hold_of t.holds)
+
+-- the rows of either version
+abbrev pub HasRows : Database → Type 0
+HasRows db =
+    ((t : Tables) × (ps : List Pair) × (rs : List Rule) × (cs : List Listed) × ReadsSecond db t ps rs cs)
+    ⊎ ((t : Tables) × (ps : List Pair) × (cs : List Listed) × ReadsFirst db t ps cs)
 
 -- a schema as a store lays it, in version 1 or 2, or none yet
 abbrev pub IsLaidSchema : Schema → Type 0
@@ -105,6 +143,21 @@ pub record TellsRows (r : ArchiveRows) (a : Archive) : Type 0 where
 pub record TellsPlan (r : PlanRows) (p : Listing) : Type 0 where
   pub rules : map rule_of r.rules.items ≡ rules_of p
   pub classes : map listed_of r.classes.items ≡ classes_of p
+
+-- what is read of rows that may be no plan's
+pub record ToldPlan (r : PlanRows) (ps : List Pair) (rs : List Rule) (cs : List Listed) : Type 0 where
+  pub settings : ps ≡ record { key = codes "version"; value = codes "2" } ∷ []
+  pub rules : map rule_of r.rules.items ≡ rs
+  pub classes : map listed_of r.classes.items ≡ cs
+
+pub record ToldTexts (r : TextRows) (ps : List Pair) (cs : List Listed) : Type 0 where
+  pub settings : ps ≡ first_pairs r.root.items
+  pub classes : map listed_of r.classes.items ≡ cs
+
+-- the rows that were judged are an archive's, and the numbers of the records have 32 bits
+pub record IsJudged (p : Listing) (r : ArchiveRows) : Type 0 where
+  pub rows : AreRows p (map record_of r.records.items) r.messages.items (map named_of r.holds.items)
+  pub small : AllByRecursion (λ (x : Record). x.number < 2 ^ 32) (map record_of r.records.items)
 
 pub record TellsTexts (r : TextRows) (p : Listing) : Type 0 where
   pub root : r.root.items ≡ text_of p.root

@@ -1,16 +1,18 @@
 //! A store over a database that may have an archive's tables.
 
-ghost use Rattle.std.specs.Prelude.{◌≡◌, false, true, map, Err, IfOk, IfErr, OnOk, OnErr, IsTrue};
+ghost use Rattle.std.specs.Prelude.{◌≡◌, false, true, List, map, Err, IfOk, IfErr, OnOk, OnErr, IsTrue};
 ghost use Rattle.sqlite.specs.State.{HasCleanDisk};
 ghost use Rattle.sqlite.specs.Held.{state};
 ghost use Rattle.record_tables.specs.Tables.{no_schema, HasCommonTables, IsArchiveSchema};
-ghost use Rattle.record_tables.specs.Changes.{AreAscending};
+ghost use Rattle.record_tables.specs.Rows.{Tables};
+ghost use Rattle.record_tables.specs.Changes.{AreAscending, Listed, Rule};
+ghost use Rattle.record_tables.specs.Reads.{Pair};
 ghost use Rattle.record_tables.specs.Layout.{IsLayout};
 ghost use Rattle.record_tables.specs.Steps.{ReadsAlone};
 ghost use Rattle.record_tables.specs.Typed.{due_of};
 ghost use Rattle.record_store.specs.Archive.{Archive, IsArchive, empty_archive};
 ghost use Rattle.record_store.specs.Stores.{StandsFor, StoresArchive, due_rows, is_trouble};
-ghost use Rattle.record_store.specs.Adoption.{Finds, FindsRows, FindsSecond, FindsFirst, HasNoArchive, IsKeyed, IsLaidSchema, TellsPlan, IsFound, Sees, LeavesArchive};
+ghost use Rattle.record_store.specs.Adoption.{Finds, FindsRows, FindsSecond, FindsFirst, HasNoArchive, HasArchive, HasRows, IsKeyed, IsLaidSchema, ReadsSecond, ReadsFirst, TellsPlan, IsFound, Sees, LeavesArchive};
 
 use crate::fault::StoreFault;
 use crate::found::{Found, archive_rows, gather};
@@ -77,6 +79,7 @@ fn move_over<S: Alter>(
 
 /// Reads version 2: the rows of its plan in version 2, and what a store keeps beside the connection.
 fn read_second<S: Alter>(alloc: Global, conn: &mut Connection<S>) -> Result<Contents, Fault>
+    ensures sound { HasCleanDisk (state S.Store conn.new) → IfOk result (λ r. (t : Tables) (ps : List Pair) (rs : List Rule) (cs : List Listed) → ReadsSecond (state S.Store conn.old).now t ps rs cs → HasArchive (state S.Store conn.old).now) }
     ensures found { HasCleanDisk (state S.Store conn.new) → IfOk result (λ r. (a : Archive) → FindsSecond (state S.Store conn.old).now a → IsKeyed a → TellsPlan r.plan_rows a.plan × IsFound r.found a) }
     ensures ascending { IfOk result (λ r. AreAscending (map due_of r.found.dues.items)) }
     ensures none { HasCleanDisk (state S.Store conn.new) → result ≡ Err Fault.NoArchive → (a : Archive) → FindsSecond (state S.Store conn.old).now a → IsArchive a → ⊥ }
@@ -92,6 +95,7 @@ fn read_second<S: Alter>(alloc: Global, conn: &mut Connection<S>) -> Result<Cont
 
 /// Reads version 1: the rows of its plan in version 2, and what a store keeps beside the connection.
 fn read_first<S: Alter>(alloc: Global, conn: &mut Connection<S>) -> Result<Contents, Fault>
+    ensures sound { HasCleanDisk (state S.Store conn.new) → IfOk result (λ r. (t : Tables) (ps : List Pair) (cs : List Listed) → ReadsFirst (state S.Store conn.old).now t ps cs → HasArchive (state S.Store conn.old).now) }
     ensures found { HasCleanDisk (state S.Store conn.new) → IfOk result (λ r. (a : Archive) → FindsFirst (state S.Store conn.old).now a → IsKeyed a → TellsPlan r.plan_rows a.plan × IsFound r.found a) }
     ensures ascending { IfOk result (λ r. AreAscending (map due_of r.found.dues.items)) }
     ensures none { HasCleanDisk (state S.Store conn.new) → result ≡ Err Fault.NoArchive → (a : Archive) → FindsFirst (state S.Store conn.old).now a → IsArchive a → ⊥ }
@@ -110,6 +114,7 @@ fn read_first<S: Alter>(alloc: Global, conn: &mut Connection<S>) -> Result<Conte
 fn settle_second<S: Alter>(alloc: Global, conn: &mut Connection<S>) -> Result<Found, Fault>
     requires { conn.old.in_transaction ≡ false }
     ensures idle { conn.new.in_transaction ≡ false }
+    ensures sound { HasCleanDisk (state S.Store conn.new) → IfOk result (λ f. (t : Tables) (ps : List Pair) (rs : List Rule) (cs : List Listed) → ReadsSecond (state S.Store conn.old).now t ps rs cs → HasArchive (state S.Store conn.old).now) }
     ensures found { HasCleanDisk (state S.Store conn.new) → IfOk result (λ f. (a : Archive) → FindsSecond (state S.Store conn.old).now a → IsKeyed a → IsFound f a × StoresArchive (state S.Store conn.new).now a) }
     ensures none { HasCleanDisk (state S.Store conn.new) → result ≡ Err Fault.NoArchive → (a : Archive) → FindsSecond (state S.Store conn.old).now a → IsArchive a → ⊥ }
     ensures err { (IsTrue (state S.Store conn.old).is_open → IsArchiveSchema (state S.Store conn.old).now.schema) → HasCleanDisk (state S.Store conn.new) → IsTrue (state S.Store conn.new).is_open
@@ -125,6 +130,7 @@ fn settle_second<S: Alter>(alloc: Global, conn: &mut Connection<S>) -> Result<Fo
 fn settle_first<S: Alter>(alloc: Global, conn: &mut Connection<S>) -> Result<Found, Fault>
     requires { conn.old.in_transaction ≡ false }
     ensures idle { conn.new.in_transaction ≡ false }
+    ensures sound { HasCleanDisk (state S.Store conn.new) → IfOk result (λ f. (t : Tables) (ps : List Pair) (cs : List Listed) → ReadsFirst (state S.Store conn.old).now t ps cs → HasArchive (state S.Store conn.old).now) }
     ensures found { HasCleanDisk (state S.Store conn.new) → IfOk result (λ f. (a : Archive) → FindsFirst (state S.Store conn.old).now a → IsKeyed a → IsFound f a × StoresArchive (state S.Store conn.new).now a) }
     ensures none { HasCleanDisk (state S.Store conn.new) → result ≡ Err Fault.NoArchive → (a : Archive) → FindsFirst (state S.Store conn.old).now a → IsArchive a → ⊥ }
     ensures err { (IsTrue (state S.Store conn.old).is_open → HasCommonTables (state S.Store conn.old).now.schema) → HasCleanDisk (state S.Store conn.new) → IsTrue (state S.Store conn.new).is_open
@@ -180,6 +186,7 @@ impl<S: Alter> Store<S> {
         mut conn: Connection<S>,
     ) -> Result<Store<S>, (StoreFault, Connection<S>)>
         requires { conn.in_transaction ≡ false }
+        ensures sound { IfOk result (λ s. HasCleanDisk (state S.Store s.conn) → (t : Tables) (ps : List Pair) (rs : List Rule) (cs : List Listed) → ReadsSecond (state S.Store conn).now t ps rs cs → HasArchive (state S.Store conn).now) }
         ensures found { IfOk result (λ s. HasCleanDisk (state S.Store s.conn) → (a : Archive) → FindsSecond (state S.Store conn).now a → IsKeyed a → StandsFor S.Store s a) }
         ensures no_archive { IfErr result (λ e. e.0 ≡ StoreFault.NoArchive → HasCleanDisk (state S.Store e.1) → (a : Archive) → FindsSecond (state S.Store conn).now a → IsArchive a → ⊥) }
         ensures trouble { IfErr result (λ e. is_trouble e.0 ≡ false → e.0 ≡ StoreFault.NoArchive) }
@@ -204,6 +211,7 @@ impl<S: Alter> Store<S> {
         mut conn: Connection<S>,
     ) -> Result<Store<S>, (StoreFault, Connection<S>)>
         requires { conn.in_transaction ≡ false }
+        ensures sound { IfOk result (λ s. HasCleanDisk (state S.Store s.conn) → (t : Tables) (ps : List Pair) (cs : List Listed) → ReadsFirst (state S.Store conn).now t ps cs → HasArchive (state S.Store conn).now) }
         ensures found { IfOk result (λ s. HasCleanDisk (state S.Store s.conn) → (a : Archive) → FindsFirst (state S.Store conn).now a → IsKeyed a → StandsFor S.Store s a) }
         ensures no_archive { IfErr result (λ e. e.0 ≡ StoreFault.NoArchive → HasCleanDisk (state S.Store e.1) → (a : Archive) → FindsFirst (state S.Store conn).now a → IsArchive a → ⊥) }
         ensures trouble { IfErr result (λ e. is_trouble e.0 ≡ false → e.0 ≡ StoreFault.NoArchive) }
@@ -234,6 +242,8 @@ impl<S: Alter> Store<S> {
         requires { conn.in_transaction ≡ false }
         ensures empty { IfOk result (λ s. HasCleanDisk (state S.Store s.conn) → (state S.Store conn).now.schema ≡ no_schema → StandsFor S.Store s empty_archive) }
         ensures found { IfOk result (λ s. HasCleanDisk (state S.Store s.conn) → (a : Archive) → FindsRows (state S.Store conn).now a → IsKeyed a → StandsFor S.Store s a) }
+        ensures reopened { IfOk result (λ s. HasCleanDisk (state S.Store s.conn) → (a : Archive) → StoresArchive (state S.Store conn).now a → IsArchive a → StandsFor S.Store s a) }
+        ensures sound { IfOk result (λ s. HasCleanDisk (state S.Store s.conn) → HasRows (state S.Store conn).now → HasArchive (state S.Store conn).now) }
         ensures no_archive { IfErr result (λ e. e.0 ≡ StoreFault.NoArchive → HasCleanDisk (state S.Store e.1) → HasNoArchive (state S.Store conn).now) }
         ensures trouble { IfErr result (λ e. is_trouble e.0 ≡ false → e.0 ≡ StoreFault.NoArchive) }
         ensures unchanged { IfErr result (λ e. IsLaidSchema (state S.Store conn).now.schema → HasCleanDisk (state S.Store e.1) → IsTrue (state S.Store e.1).is_open

@@ -9,7 +9,7 @@ ghost use Rattle.record_tables.specs.Changes.{AreAscending};
 ghost use Rattle.record_tables.specs.Steps.{ReadsAlone};
 ghost use Rattle.record_tables.specs.Typed.{record_of, due_of};
 ghost use Rattle.record_store.specs.Archive.{Archive, IsArchive};
-ghost use Rattle.record_store.specs.Adoption.{FindsCommon, IsKeyed, TellsRows, IsFound, Sees, day_by, days_by};
+ghost use Rattle.record_store.specs.Adoption.{FindsCommon, AreOnce, IsKeyed, TellsRows, IsFound, IsJudged, Sees, day_by, days_by};
 
 use crate::captures::number_of;
 use crate::counts::Counts;
@@ -46,7 +46,7 @@ pub(crate) fn archive_rows<S: Alter>(
     alloc: Global,
     conn: &mut Connection<S>,
 ) -> Result<ArchiveRows, Fault>
-    ensures tells { HasCleanDisk (state S.Store conn.new) → IfOk result (λ r. (a : Archive) → FindsCommon (state S.Store conn.old).now a → IsKeyed a → TellsRows r a) }
+    ensures tells { HasCleanDisk (state S.Store conn.new) → IfOk result (λ r. (a : Archive) → FindsCommon (state S.Store conn.old).now a → AreOnce a.holds → TellsRows r a) }
     ensures none { HasCleanDisk (state S.Store conn.new) → result ≡ Err Fault.NoArchive → (a : Archive) → FindsCommon (state S.Store conn.old).now a → IsArchive a → ⊥ }
     ensures same { ReadsAlone S.Store conn.old conn.new result (HasCommonTables (state S.Store conn.old).now.schema) }
     ensures sees { Sees S.Store HasCommonTables conn.old conn.new }
@@ -62,17 +62,17 @@ pub(crate) fn archive_rows<S: Alter>(
 }
 
 /// The due day of a live record.
-fn due_day(plan: &Plan, record: &RecordRow) -> Option<u32>
-    requires { record.now.day ≤ 84005 }
-    ensures { result ≡ day_by plan.now (record_of record.now) }
+fn due_day(plan: &Plan, row: &RecordRow) -> Option<u32>
+    requires { row.now.day ≤ 84005 }
+    ensures { result ≡ day_by plan.now (record_of row.now) }
 {
-    if record.destroyed {
+    if row.destroyed {
         return None;
     }
-    let Some(day) = date_of(i64::from(record.day)) else {
+    let Some(day) = date_of(i64::from(row.day)) else {
         return None;
     };
-    match plan.due_of(record.path.as_slice(), day) {
+    match plan.due_of(row.path.as_slice(), day) {
         Some(date) => Some(number_of(date)),
         None => None,
     }
@@ -98,6 +98,7 @@ fn due_days(alloc: Global, plan: &Plan, records: &[RecordRow]) -> Result<Vec<Due
 /// What a store over rows with a plan keeps beside the connection, where they are an archive's.
 pub(crate) fn gather(alloc: Global, plan: Plan, rows: &ArchiveRows) -> Result<Found, Fault>
     ensures found { IfOk result (λ f. (a : Archive) → plan ≡ a.plan → IsKeyed a → TellsRows rows.now a → IsFound f a) }
+    ensures sound { IfOk result (λ f. IsJudged plan rows.now) }
     ensures ascending { IfOk result (λ f. AreAscending (map due_of f.dues.items)) }
     ensures none { result ≡ Err Fault.NoArchive → (a : Archive) → plan ≡ a.plan → TellsRows rows.now a → IsArchive a → ⊥ }
 {

@@ -1,14 +1,17 @@
 //! The rows of a plan in version 2.
 
-ghost use Rattle.std.specs.Prelude.{◌≡◌, ◌↔◌, ◌∷◌, [], map, codes, Err, IfOk, IsTrue};
+ghost use Rattle.std.specs.Prelude.{◌≡◌, ◌↔◌, ◌∷◌, [], List, map, codes, Err, IfOk, IsTrue};
 ghost use Rattle.sqlite.specs.State.{HasCleanDisk};
 ghost use Rattle.sqlite.specs.Held.{state};
 ghost use Rattle.class_plan.specs.Plans.{Listing, IsPlan};
 ghost use Rattle.record_tables.specs.Tables.{IsArchiveSchema};
+ghost use Rattle.record_tables.specs.Rows.{Tables};
+ghost use Rattle.record_tables.specs.Changes.{Listed, Rule};
+ghost use Rattle.record_tables.specs.Reads.{Pair};
 ghost use Rattle.record_tables.specs.Steps.{ReadsAlone};
 ghost use Rattle.record_tables.specs.Typed.{pair_of};
 ghost use Rattle.record_store.specs.Archive.{Archive};
-ghost use Rattle.record_store.specs.Adoption.{FindsSecond, IsKeyed, TellsPlan, Sees};
+ghost use Rattle.record_store.specs.Adoption.{FindsSecond, IsKeyed, ReadsSecond, TellsPlan, ToldPlan, Sees};
 
 use class_plan::Plan;
 use record_rows::{classes_of, plan_of_rows, rules_of};
@@ -48,6 +51,7 @@ pub(crate) fn plan_rows<S: Alter>(
     conn: &mut Connection<S>,
 ) -> Result<PlanRows, Fault>
     ensures tells { HasCleanDisk (state S.Store conn.new) → IfOk result (λ r. (a : Archive) → FindsSecond (state S.Store conn.old).now a → IsKeyed a → TellsPlan r a.plan) }
+    ensures sound { HasCleanDisk (state S.Store conn.new) → IfOk result (λ r. (t : Tables) (ps : List Pair) (rs : List Rule) (cs : List Listed) → ReadsSecond (state S.Store conn.old).now t ps rs cs → ToldPlan r ps rs cs) }
     ensures none { HasCleanDisk (state S.Store conn.new) → result ≡ Err Fault.NoArchive → (a : Archive) → FindsSecond (state S.Store conn.old).now a → IsKeyed a → ⊥ }
     ensures same { ReadsAlone S.Store conn.old conn.new result (IsArchiveSchema (state S.Store conn.old).now.schema) }
     ensures sees { Sees S.Store IsArchiveSchema conn.old conn.new }
@@ -64,6 +68,7 @@ pub(crate) fn plan_rows<S: Alter>(
 /// The plan of rows.
 pub(crate) fn plan_in(alloc: Global, rows: &PlanRows) -> Result<Plan, Fault>
     ensures plan { IfOk result (λ p. (q : Listing) → IsPlan q → TellsPlan rows.now q → p ≡ q) }
+    ensures sound { IfOk result (λ p. IsPlan p × TellsPlan rows.now p) }
     ensures none { result ≡ Err Fault.NoArchive → (q : Listing) → IsPlan q → TellsPlan rows.now q → ⊥ }
 {
     match plan_of_rows(alloc, rows.rules.as_slice(), rows.classes.as_slice())? {

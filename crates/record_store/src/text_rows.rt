@@ -5,10 +5,13 @@ ghost use Rattle.sqlite.specs.State.{HasCleanDisk};
 ghost use Rattle.sqlite.specs.Held.{state};
 ghost use Rattle.class_plan.specs.Plans.{Listing, IsPlan};
 ghost use Rattle.record_tables.specs.Tables.{HasCommonTables};
+ghost use Rattle.record_tables.specs.Rows.{Tables};
+ghost use Rattle.record_tables.specs.Changes.{Listed};
+ghost use Rattle.record_tables.specs.Reads.{Pair};
 ghost use Rattle.record_tables.specs.Steps.{ReadsAlone};
 ghost use Rattle.record_tables.specs.Typed.{pair_of};
 ghost use Rattle.record_store.specs.Archive.{Archive};
-ghost use Rattle.record_store.specs.Adoption.{FindsFirst, IsKeyed, TellsTexts, Sees, first_pairs};
+ghost use Rattle.record_store.specs.Adoption.{FindsFirst, IsKeyed, ReadsFirst, TellsTexts, ToldTexts, Sees, first_pairs};
 
 use crate::plan_rows::is_setting;
 use class_plan::Plan;
@@ -60,6 +63,7 @@ pub(crate) fn text_rows<S: Alter>(
     conn: &mut Connection<S>,
 ) -> Result<TextRows, Fault>
     ensures tells { HasCleanDisk (state S.Store conn.new) → IfOk result (λ r. (a : Archive) → FindsFirst (state S.Store conn.old).now a → IsKeyed a → TellsTexts r a.plan) }
+    ensures sound { HasCleanDisk (state S.Store conn.new) → IfOk result (λ r. (t : Tables) (ps : List Pair) (cs : List Listed) → ReadsFirst (state S.Store conn.old).now t ps cs → ToldTexts r ps cs) }
     ensures none { HasCleanDisk (state S.Store conn.new) → result ≡ Err Fault.NoArchive → (a : Archive) → FindsFirst (state S.Store conn.old).now a → IsKeyed a → ⊥ }
     ensures same { ReadsAlone S.Store conn.old conn.new result (HasCommonTables (state S.Store conn.old).now.schema) }
     ensures sees { Sees S.Store HasCommonTables conn.old conn.new }
@@ -73,6 +77,7 @@ pub(crate) fn text_rows<S: Alter>(
 /// The plan of texts.
 pub(crate) fn plan_in_texts(alloc: Global, texts: &TextRows) -> Result<Plan, Fault>
     ensures plan { IfOk result (λ p. (q : Listing) → IsPlan q → TellsTexts texts.now q → p ≡ q) }
+    ensures sound { IfOk result (λ p. IsPlan p × TellsTexts texts.now p) }
     ensures none { result ≡ Err Fault.NoArchive → (q : Listing) → IsPlan q → TellsTexts texts.now q → ⊥ }
 {
     match plan_of_texts(alloc, texts.root.as_slice(), texts.classes.as_slice())? {

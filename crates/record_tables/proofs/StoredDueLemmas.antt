@@ -84,21 +84,3 @@ dues-told (d ∷ ds) (e ∷ es) =
       λ h. head_is d e (shows_due (shown_due d) e) (one_told d e).0 ds es (pointwise shows_due (map shown_due ds) es) rest.0 h,
       λ h. let one : d ≡ e = cc in let more : ds ≡ es = cc in rw ((one_told d e).1 one, rest.1 more) refl,
     )
-
--- ---- rows that are compared one after another
-
-pub shown-length : (xs : List Row) (ys : List DueRow) → pointwise shows_due xs (map due_of ys) ≡ true → length xs ≡ length ys
-shown-length [] [] e = refl
-shown-length [] (y ∷ ys) e = absurd (cc)
-shown-length (x ∷ xs) [] e = absurd (cc)
-shown-length (x ∷ xs) (y ∷ ys) e = elim (cases_Bool (shows_due x (due_of y))) [
-  | inl is ↦ let rest = shown-length xs ys (rw is at e) in omega arith
-  | inr other ↦ let k : false ≡ true = rw other at e in absurd (cc)
-]
-
-pub shown-more : (xs : List Row) (ys : List DueRow) (i : ℕ) (a : Row) (b : DueRow) → i < length xs → i < length ys
-    → pointwise shows_due (drop i xs) (map due_of (drop i ys)) ≡ (shows_due (get_or xs i a) (due_of (get_or ys i b)) && pointwise shows_due (drop (i + 1) xs) (map due_of (drop (i + 1) ys)))
-shown-more xs ys i a b h k = λ j. pointwise shows_due (drop_more xs i a h j) (map due_of (drop_more ys i b k j))
-
-pub shown-end : (xs : List Row) (ys : List DueRow) (i : ℕ) → length xs ≤ i → length ys ≤ i → pointwise shows_due (drop i xs) (map due_of (drop i ys)) ≡ true
-shown-end xs ys i h k = λ j. pointwise shows_due (drop_all i xs h j) (map due_of (drop_all i ys k j))

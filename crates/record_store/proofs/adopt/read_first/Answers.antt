@@ -9,7 +9,8 @@ use Rattle.record_tables.specs.Typed.{rule_of, listed_of, due_of}
 use Rattle.record_store.specs.Archive.{Archive}
 use Rattle.record_store.specs.Stores.{due_rows, StoresArchive}
 use Rattle.record_store.specs.Adoption.{FindsSecond, FindsFirst, FindsCommon, IsKeyed, TellsPlan, Sees}
-use Rattle.record_store.proofs.AdoptReads.{sees_as, sees_then, kept_then, unchanged_then, second_after, first_after, common_after, archive_common, first_common, second_common, first_found}
+use Rattle.record_store.proofs.AdoptReads.{sees_as, sees_then, kept_then, unchanged_then, second_after, first_after, common_after, archive_common, first_common, second_common, first_found, archive_of, second_told, first_told}
+use Rattle.record_store.proofs.AdoptRows.{judged_archive}
 use Rattle.record_store.proofs.AdoptSettled.{handed_on, keyed_of, stores_settled, stores_moved, leaves_read, leaves_after, leaves_made}
 use Rattle.record_tables.proofs.TypedLemmas.{never_none}
 use Rattle.record_store.proofs.adopt.read_first.Goals as goal
@@ -64,7 +65,7 @@ returns-in_err-found-clause-none g c clean is = λ (a : Archive) h archive.
     let keyed = keyed_of a archive in
     let e = handed_on c.from_residual-in_err-found.result c.in_err-found.field-0.0 c.from_residual-in_err-found.ensures.1 is in
     let same = c.in_ok-plan.ensures.plan a.plan archive.plan (c.in_ok-texts.ensures.tells clean1 a h keyed) in
-    c.in_err-found.ensures.none (ap (λ f. Err f) e) a same (c.in_ok-rows.ensures.tells clean a k keyed) archive
+    c.in_err-found.ensures.none (ap (λ f. Err f) e) a same (c.in_ok-rows.ensures.tells clean a k keyed.once) archive
 
 pub returns-clause-found : goal.returns-clause-found
 returns-clause-found g c clean = λ (a : Archive) h keyed.
@@ -74,4 +75,17 @@ returns-clause-found g c clean = λ (a : Archive) h keyed.
     let k = common_after old mid a (first_found old.now a h) (c.in_ok-texts.ensures.same clean1 (first_common old.now.schema h.stored.schema)) in
     let tells = c.in_ok-texts.ensures.tells clean1 a h keyed in
     let same = c.in_ok-plan.ensures.plan a.plan keyed.plan tells in
-    (subst (TellsPlan c.in_ok-plan_rows.plan_rows) same c.in_ok-plan_rows.ensures, c.in_ok-found.ensures.found a same keyed (c.in_ok-rows.ensures.tells clean a k keyed))
+    (subst (TellsPlan c.in_ok-plan_rows.plan_rows) same c.in_ok-plan_rows.ensures, c.in_ok-found.ensures.found a same keyed (c.in_ok-rows.ensures.tells clean a k keyed.once))
+
+pub returns-clause-sound : goal.returns-clause-sound
+returns-clause-sound g c clean = λ t ps cs d.
+    let old = state g.S.Store c.args.conn.now in
+    let mid = state g.S.Store c.text_rows.new.conn in
+    let clean1 : HasCleanDisk mid = c.archive_rows.ensures.sees.falls clean in
+    let p = c.in_ok-plan.plan in
+    let a = archive_of t p in
+    let told = c.in_ok-texts.ensures.sound clean1 t ps cs d in
+    let finds : FindsFirst old.now a = first_told old.now t ps cs c.in_ok-texts.texts p d told c.in_ok-plan.ensures.sound.1 in
+    let k = common_after old mid a (first_found old.now a finds) (c.in_ok-texts.ensures.same clean1 (first_common old.now.schema d.stored.schema)) in
+    let keyed : IsKeyed a = record { plan = c.in_ok-plan.ensures.sound.0; once = d.holds } in
+    record { archive = a; rows = inr finds; is = judged_archive a c.in_ok-rows.rows keyed (c.in_ok-rows.ensures.tells clean a k d.holds) c.in_ok-found.ensures.sound }

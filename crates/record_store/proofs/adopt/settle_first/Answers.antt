@@ -67,3 +67,6 @@ returns-in_err-move_over-clause-crash g c =
     let it = c.in_ok-contents.ensures.found clean a is.0 is.1 in
     made a (subst (λ (d : Database). FindsFirst d a) (sym now) is.0, it.0, ap (map due_of) c.as_slice.ensures.value ∙ it.1.dues))
     c.move_over.ensures.crash
+
+pub returns-clause-sound : goal.returns-clause-sound
+returns-clause-sound g c clean = λ t ps cs d. c.in_ok-contents.ensures.sound (c.move_over.ensures.falls clean) t ps cs d

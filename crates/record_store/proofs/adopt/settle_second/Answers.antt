@@ -69,3 +69,6 @@ returns-in_err-settle_dues-clause-crash g c =
     let it = c.in_ok-contents.ensures.found clean a is.0 is.1 in
     made a (subst (λ (d : Database). FindsSecond d a) (sym now) is.0, it.0, ap (map due_of) c.as_slice.ensures.value ∙ it.1.dues))
     c.settle_dues.ensures.crash
+
+pub returns-clause-sound : goal.returns-clause-sound
+returns-clause-sound g c clean = λ t ps rs cs d. c.in_ok-contents.ensures.sound (c.settle_dues.ensures.falls clean) t ps rs cs d

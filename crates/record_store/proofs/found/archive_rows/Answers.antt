@@ -57,7 +57,7 @@ returns-clause-sees g c =
     (kept_then g.S.Store HasCommonTables old mid last c.in_ok-records.ensures.same c.message_numbers.ensures.falls c.in_ok-messages.ensures.same) three
 
 pub returns-clause-tells : goal.returns-clause-tells
-returns-clause-tells g c clean = λ (a : Archive) h keyed.
+returns-clause-tells g c clean = λ (a : Archive) h once.
     let old = state g.S.Store c.args.conn.now in
     let mid = state g.S.Store c.records.new.conn in
     let last = state g.S.Store c.message_numbers.new.conn in
@@ -68,5 +68,5 @@ returns-clause-tells g c clean = λ (a : Archive) h keyed.
     record {
       records = c.in_ok-records.ensures.all clean1 h.tables h.stored h.keyed ∙ h.records;
       messages = c.in_ok-messages.ensures.all clean2 k.tables k.stored k.keyed ∙ ap (map (λ (m : Message). m.number)) k.messages;
-      holds = c.in_ok-holds.ensures.all clean l.tables (sorted_holds a) (are_named l.tables a l.holds keyed.once) l.stored l.keyed;
+      holds = c.in_ok-holds.ensures.all clean l.tables (sorted_holds a) (are_named l.tables a l.holds once) l.stored l.keyed;
     }

@@ -10,3 +10,9 @@ returns-in-Some-clause-plan c = λ (q : Listing) is tells.
     let has : HasRows c.in-Some.plan (map rule_of c.as_slice.result.now) (map listed_of c.as_slice-2.result.now) = rw c.in-Some.is at c.in_ok-plan.ensures.plan in
     let sound : IsPlan c.in-Some.plan = rw c.in-Some.is at c.in_ok-plan.ensures.sound in
     one_plan c.in-Some.plan q sound (has.same_rules ∙ ap (map rule_of) c.as_slice.ensures.value ∙ tells.rules) (has.same_classes ∙ ap (map listed_of) c.as_slice-2.ensures.value ∙ tells.classes)
+
+pub returns-in-Some-clause-sound : goal.returns-in-Some-clause-sound
+returns-in-Some-clause-sound c =
+    let has : HasRows c.in-Some.plan (map rule_of c.as_slice.result.now) (map listed_of c.as_slice-2.result.now) = rw c.in-Some.is at c.in_ok-plan.ensures.plan in
+    let sound : IsPlan c.in-Some.plan = rw c.in-Some.is at c.in_ok-plan.ensures.sound in
+    (sound, record { rules = sym (has.same_rules ∙ ap (map rule_of) c.as_slice.ensures.value); classes = sym (has.same_classes ∙ ap (map listed_of) c.as_slice-2.ensures.value) })

@@ -5,7 +5,7 @@ use Rattle.record_tables.specs.Tables.{HasCommonTables, IsArchiveSchema}
 use Rattle.record_store.specs.Archive.{Archive}
 use Rattle.record_store.specs.Adoption.{Sees}
 use Rattle.record_rows.specs.Rules.{rules_of, classes_of}
-use Rattle.record_store.proofs.AdoptReads.{sees_as, sees_then, kept_then, second_after, archive_common, second_stores}
+use Rattle.record_store.proofs.AdoptReads.{sees_as, sees_then, kept_then, second_after, reads_after, stores_common, archive_common, second_stores}
 use Rattle.record_store.proofs.AdoptPlan.{version_paired, rules_listed, classes_listed, rules_fit}
 use Rattle.record_store.proofs.AdoptSettled.{handed_on}
 use Rattle.record_store.proofs.plan_rows.plan_rows.Goals as goal
@@ -114,4 +114,19 @@ returns-clause-tells g c clean = λ (a : Archive) h keyed.
     record {
       rules = c.in_ok-rules.ensures.all clean2 k.tables (rules_of a.plan) (rules_listed k.tables a.plan keyed.plan k.keeps.schedules) k.stored k.keyed;
       classes = c.in_ok-classes.ensures.all clean l.tables (classes_of a.plan) (classes_listed l.tables a.plan keyed.plan l.keeps.classes) (second_stores last.now a l) l.keyed;
+    }
+
+pub returns-clause-sound : goal.returns-clause-sound
+returns-clause-sound g c clean = λ t ps rs cs d.
+    let old = state g.S.Store c.args.conn.now in
+    let mid = state g.S.Store c.settings.new.conn in
+    let last = state g.S.Store c.schedules.new.conn in
+    let clean2 : HasCleanDisk last = c.classes.ensures.falls clean in
+    let clean1 : HasCleanDisk mid = c.schedules.ensures.falls clean2 in
+    let k = reads_after old mid t ps rs cs d (c.in_ok-settings.ensures.same clean1 (archive_common old.now.schema d.stored.schema)) in
+    let l = reads_after mid last t ps rs cs k (c.in_ok-rules.ensures.same clean2 k.stored.schema) in
+    record {
+      settings = sym (c.in_ok-settings.ensures.all clean1 t ps d.settings (stores_common old.now t d.stored) d.keyed) ∙ ap (map Rattle.record_tables.specs.Typed.pair_of) (sym c.as_slice.ensures.value) ∙ c.is_second.ensures.0 c.if-not-is_second.false;
+      rules = c.in_ok-rules.ensures.all clean2 t rs k.schedules k.stored k.keyed;
+      classes = c.in_ok-classes.ensures.all clean t cs l.classes (stores_common last.now t l.stored) l.keyed;
     }

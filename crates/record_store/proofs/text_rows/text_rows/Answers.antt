@@ -6,7 +6,7 @@ use Rattle.record_store.specs.Archive.{Archive}
 use Rattle.record_store.specs.Adoption.{Sees, first_pairs}
 use Rattle.class_plan.specs.Texts.{text_of}
 use Rattle.record_rows.specs.Texts.{text_row}
-use Rattle.record_store.proofs.AdoptReads.{sees_then, kept_then, first_after, first_stores, first_common}
+use Rattle.record_store.proofs.AdoptReads.{sees_then, kept_then, first_after, reads_first_after, stores_first_common, first_stores, first_common}
 use Rattle.record_store.proofs.AdoptPlan.{first_paired, texts_listed}
 use Rattle.record_store.proofs.AdoptSettled.{handed_on, same_text}
 use Rattle.record_store.proofs.text_rows.text_rows.Goals as goal
@@ -63,4 +63,15 @@ returns-clause-tells g c clean = λ (a : Archive) h keyed.
     record {
       root = same_text _ _ (sym c.in_ok-root.ensures.root ∙ ap (map Rattle.record_tables.specs.Typed.pair_of) c.as_slice.ensures.value ∙ pairs);
       classes = c.in_ok-classes.ensures.all clean k.tables (map text_row a.plan.rows) (texts_listed k.tables a.plan keyed.plan k.keeps.classes) (first_stores mid.now a k) k.keyed;
+    }
+
+pub returns-clause-sound : goal.returns-clause-sound
+returns-clause-sound g c clean = λ t ps cs d.
+    let old = state g.S.Store c.args.conn.now in
+    let mid = state g.S.Store c.settings.new.conn in
+    let clean1 : HasCleanDisk mid = c.classes.ensures.falls clean in
+    let k = reads_first_after old mid t ps cs d (c.in_ok-settings.ensures.same clean1 (first_common old.now.schema d.stored.schema)) in
+    record {
+      settings = sym (c.in_ok-settings.ensures.all clean1 t ps d.settings (stores_first_common old.now t d.stored) d.keyed) ∙ ap (map Rattle.record_tables.specs.Typed.pair_of) (sym c.as_slice.ensures.value) ∙ c.in_ok-root.ensures.root;
+      classes = c.in_ok-classes.ensures.all clean t cs k.classes (stores_first_common mid.now t k.stored) k.keyed;
     }

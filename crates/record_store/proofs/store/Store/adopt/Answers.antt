@@ -3,8 +3,8 @@ use Rattle.std.proofs.lemmas.Result.{IfOk-weaker, IfErr-weaker}
 use Rattle.sqlite.specs.Held.{state}
 use Rattle.record_store.specs.Archive.{Archive}
 use Rattle.record_store.specs.Adoption.{Finds, FindsSecond, FindsFirst, FindsNothing, IsKeyed}
-use Rattle.record_store.proofs.AdoptLayouts.{Lays, lays_at, no_rows, second_rows, first_rows, finds_nothing, finds_second, finds_first, first_none, first_laid}
-use Rattle.record_store.proofs.AdoptSettled.{leaves_weaker}
+use Rattle.record_store.proofs.AdoptLayouts.{Lays, lays_at, rows_left, no_reads, second_reads, first_reads, no_rows, second_rows, first_rows, finds_nothing, finds_second, finds_first, first_none, first_laid}
+use Rattle.record_store.proofs.AdoptSettled.{keyed_of, leaves_weaker}
 use Rattle.record_store.proofs.store.Store.adopt.Goals as goal
 
 pub returns-in-Empty-clause-found : goal.returns-in-Empty-clause-found
@@ -83,3 +83,45 @@ returns-in-First-clause-unchanged g c =
     let l = c.layout_of.result in
     let lays = lays_at c.schema.result.now db.schema l c.schema.ensures.value c.layout_of.ensures.empty c.layout_of.ensures.first c.layout_of.ensures.first_with_dues c.layout_of.ensures.second in
     IfErr-weaker c.adopt_first.result _ _ (λ e h laid. h (first_laid db.schema l lays c.in-First.is laid)) c.adopt_first.ensures.unchanged
+
+pub returns-in-Empty-clause-sound : goal.returns-in-Empty-clause-sound
+returns-in-Empty-clause-sound g c =
+    let db = (state g.S.Store c.args.conn).now in
+    let l = c.layout_of.result in
+    let lays = lays_at c.schema.result.now db.schema l c.schema.ensures.value c.layout_of.ensures.empty c.layout_of.ensures.first c.layout_of.ensures.first_with_dues c.layout_of.ensures.second in
+    IfOk-weaker c.create.result _ _ (λ s h clean has. absurd (no_reads db l lays c.in-Empty.is has)) c.create.ensures.ok
+
+pub returns-in-Second-clause-sound : goal.returns-in-Second-clause-sound
+returns-in-Second-clause-sound g c =
+    let db = (state g.S.Store c.args.conn).now in
+    let l = c.layout_of.result in
+    let lays = lays_at c.schema.result.now db.schema l c.schema.ensures.value c.layout_of.ensures.empty c.layout_of.ensures.first c.layout_of.ensures.first_with_dues c.layout_of.ensures.second in
+    IfOk-weaker c.adopt_second.result _ _ (λ s h clean has. let d = second_reads db l lays c.in-Second.is has in h clean d.0 d.1 d.2 d.3 d.4) c.adopt_second.ensures.sound
+
+pub returns-in-First-clause-sound : goal.returns-in-First-clause-sound
+returns-in-First-clause-sound g c =
+    let db = (state g.S.Store c.args.conn).now in
+    let l = c.layout_of.result in
+    let lays = lays_at c.schema.result.now db.schema l c.schema.ensures.value c.layout_of.ensures.empty c.layout_of.ensures.first c.layout_of.ensures.first_with_dues c.layout_of.ensures.second in
+    IfOk-weaker c.adopt_first.result _ _ (λ s h clean has. let d = first_reads db l lays c.in-First.is has in h clean d.0 d.1 d.2 d.3) c.adopt_first.ensures.sound
+
+pub returns-in-Empty-clause-reopened : goal.returns-in-Empty-clause-reopened
+returns-in-Empty-clause-reopened g c =
+    let db = (state g.S.Store c.args.conn).now in
+    let l = c.layout_of.result in
+    let lays = lays_at c.schema.result.now db.schema l c.schema.ensures.value c.layout_of.ensures.empty c.layout_of.ensures.first c.layout_of.ensures.first_with_dues c.layout_of.ensures.second in
+    IfOk-weaker c.create.result _ _ (λ s h clean (a : Archive) left archive. absurd (no_rows db a l lays c.in-Empty.is (rows_left db a left))) c.create.ensures.ok
+
+pub returns-in-Second-clause-reopened : goal.returns-in-Second-clause-reopened
+returns-in-Second-clause-reopened g c =
+    let db = (state g.S.Store c.args.conn).now in
+    let l = c.layout_of.result in
+    let lays = lays_at c.schema.result.now db.schema l c.schema.ensures.value c.layout_of.ensures.empty c.layout_of.ensures.first c.layout_of.ensures.first_with_dues c.layout_of.ensures.second in
+    IfOk-weaker c.adopt_second.result _ _ (λ s h clean (a : Archive) left archive. h clean a (second_rows db a l lays c.in-Second.is (rows_left db a left)) (keyed_of a archive)) c.adopt_second.ensures.found
+
+pub returns-in-First-clause-reopened : goal.returns-in-First-clause-reopened
+returns-in-First-clause-reopened g c =
+    let db = (state g.S.Store c.args.conn).now in
+    let l = c.layout_of.result in
+    let lays = lays_at c.schema.result.now db.schema l c.schema.ensures.value c.layout_of.ensures.empty c.layout_of.ensures.first c.layout_of.ensures.first_with_dues c.layout_of.ensures.second in
+    IfOk-weaker c.adopt_first.result _ _ (λ s h clean (a : Archive) left archive. h clean a (first_rows db a l lays c.in-First.is (rows_left db a left)) (keyed_of a archive)) c.adopt_first.ensures.found
