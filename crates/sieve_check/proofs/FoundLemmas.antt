@@ -38,11 +38,11 @@ nothing_behind true q = refl
 nothing_behind false true = refl
 nothing_behind false false = refl
 
-behind_found : (has : Capability → Bool) (f : Findings) (ps : List PieceWord) → (found_in has f ps).tag_behind ≡ (f.tag_behind || behind_from f.positional ps)
-behind_found has f [] = nothing_behind f.tag_behind f.positional
-behind_found has f (p ∷ ps) = behind_found has (found_with has f p) ps ∙ behind_turn f.tag_behind f.positional p ps
+behind_found : (has : Capability → Bool) (f : Findings) (ps : List PieceWord) → (found_in has f ps).late_tag ≡ (f.late_tag || behind_from f.positional ps)
+behind_found has f [] = nothing_behind f.late_tag f.positional
+behind_found has f (p ∷ ps) = behind_found has (found_with has f p) ps ∙ behind_turn f.late_tag f.positional p ps
 
-pub tag_behind_found : (has : Capability → Bool) (ps : List PieceWord) → (found_in has nothing_found ps).tag_behind ≡ tag_behind ps
+pub tag_behind_found : (has : Capability → Bool) (ps : List PieceWord) → (found_in has nothing_found ps).late_tag ≡ tag_behind ps
 unfolding behind_from
 tag_behind_found has ps = behind_found has nothing_found ps
 

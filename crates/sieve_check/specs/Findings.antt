@@ -6,7 +6,7 @@ use Rattle.sieve_check.specs.Pieces.{PieceWord, is_tagged}
 use Rattle.sieve_check.specs.Rules.{piece_lacks, is_unknown_tag, lacks_string, is_unknown_comparator}
 
 abbrev pub nothing_found : Findings
-nothing_found = record { lacks_capability = false; unknown_tag = false; lacks_string = false; unknown_comparator = false; positional = false; tag_behind = false; tag = false; two_tags = false }
+nothing_found = record { lacks_capability = false; unknown_tag = false; lacks_string = false; unknown_comparator = false; positional = false; late_tag = false; tag = false; two_tags = false }
 
 -- these, and what one more piece shows
 abbrev pub found_with : (Capability → Bool) → Findings → PieceWord → Findings
@@ -16,7 +16,7 @@ found_with has f p = record {
   lacks_string = f.lacks_string || lacks_string p;
   unknown_comparator = f.unknown_comparator || is_unknown_comparator p;
   positional = f.positional || not (is_tagged p);
-  tag_behind = f.tag_behind || (f.positional && is_tagged p);
+  late_tag = f.late_tag || (f.positional && is_tagged p);
   tag = f.tag || is_tagged p;
   two_tags = f.two_tags || (f.tag && is_tagged p);
 }

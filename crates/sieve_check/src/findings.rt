@@ -28,7 +28,7 @@ pub struct Findings {
     /// There is a positional argument.
     pub positional: bool,
     /// A tag stands after a positional argument.
-    pub tag_behind: bool,
+    pub late_tag: bool,
     /// There is a tag.
     pub tag: bool,
     /// There are two tags.
@@ -46,7 +46,7 @@ impl Findings {
             lacks_string: false,
             unknown_comparator: false,
             positional: false,
-            tag_behind: false,
+            late_tag: false,
             tag: false,
             two_tags: false,
         }
@@ -63,7 +63,7 @@ impl Findings {
             lacks_string: self.lacks_string || piece.lacks_string(),
             unknown_comparator: self.unknown_comparator || piece.is_unknown_comparator(),
             positional: self.positional || !is_tag,
-            tag_behind: self.tag_behind || (self.positional && is_tag),
+            late_tag: self.late_tag || (self.positional && is_tag),
             tag: self.tag || is_tag,
             two_tags: self.two_tags || (self.tag && is_tag),
         }
@@ -85,7 +85,7 @@ fn go_over(named: Named, form: &Form, arguments: &Arguments) -> Findings
 /// are none of one kind.
 pub fn gather(named: Named, form: &Form, arguments: &Arguments) -> Findings
     ensures capability { result.lacks_capability ≡ list_any (piece_lacks (has_of named)) (pieces (form_view form.now).tags arguments.now) }
-    ensures tag { (result.unknown_tag || result.tag_behind) ≡ has_wrong_tag (pieces (form_view form.now).tags arguments.now) }
+    ensures tag { (result.unknown_tag || result.late_tag) ≡ has_wrong_tag (pieces (form_view form.now).tags arguments.now) }
     ensures twice { result.two_tags ≡ false → has_tag_twice (form_view form.now) (pieces (form_view form.now).tags arguments.now) ≡ false }
     ensures string { result.lacks_string ≡ list_any lacks_string (pieces (form_view form.now).tags arguments.now) }
     ensures comparator { result.unknown_comparator ≡ list_any is_unknown_comparator (pieces (form_view form.now).tags arguments.now) }

@@ -5,8 +5,8 @@ ghost use Rattle.std.specs.List.{list_any};
 ghost use Rattle.sieve_check.specs.Context.{has_of};
 ghost use Rattle.sieve_check.specs.Views.{form_view};
 ghost use Rattle.sieve_check.specs.PieceViews.{piece_view};
-ghost use Rattle.sieve_check.specs.Pieces.{pieces, is_tagged, positional_arguments};
-ghost use Rattle.sieve_check.specs.Rules.{lacks, piece_lacks, lacks_capability, is_unknown_tag, tag_behind, has_wrong_tag, same_kind, has_kind, stands_twice, has_tag_twice, takes, fits, lacks_string, lacks_tag, has_wrong_arguments, is_unknown_comparator, tests_there, same_tests, has_wrong_tests};
+ghost use Rattle.sieve_check.specs.Pieces.{pieces, is_tagged};
+ghost use Rattle.sieve_check.specs.Rules.{lacks, piece_lacks, is_unknown_tag, same_kind, has_kind, stands_twice, has_tag_twice, takes, fits, lacks_string, lacks_tag, has_wrong_arguments, is_unknown_comparator, tests_there, same_tests, has_wrong_tests};
 ghost use Rattle.sieve_check.specs.Lookup.{same_text};
 ghost use Rattle.sieve_check.specs.Tables.{comparator_table};
 ghost use Rattle.sieve_syntax.specs.View.{inner_of};
@@ -184,9 +184,9 @@ impl Findings {
 
     /// 35: whether a tag is not the form's, or stands after a positional argument.
     pub fn has_wrong_tag(self) -> bool
-        ensures { result ≡ (self.unknown_tag || self.tag_behind) }
+        ensures { result ≡ (self.unknown_tag || self.late_tag) }
     {
-        self.unknown_tag || self.tag_behind
+        self.unknown_tag || self.late_tag
     }
 
     /// 36: whether two tags are of one kind. The tags are compared only where there are two.

@@ -1,6 +1,4 @@
-use Rattle.std.proofs.Common.{◌≡◌, refl, ap, ◌∙◌}
-use Rattle.std.specs.Prelude.{◌||◌, Bool}
-use Rattle.sieve_check.specs.declared.findings.Findings.{Findings}
+use Rattle.std.proofs.Common.{refl}
 use Rattle.sieve_check.specs.Context.{has_of}
 use Rattle.sieve_check.specs.Findings.{nothing_found}
 use Rattle.sieve_check.specs.Pieces.{pieces}
