@@ -7,3 +7,7 @@ pub mod CaptureStands
 pub mod MessageLemmas
 pub mod DueLemmas
 pub mod PathLemmas
+pub mod AllowedLemmas
+pub mod DestroyLemmas
+pub mod ReviseLemmas
+pub mod ClassLemmas

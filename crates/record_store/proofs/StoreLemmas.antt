@@ -16,15 +16,15 @@ use Rattle.record_store.specs.Counts.{count_at}
 use Rattle.record_store.specs.Stores.{StoresArchive, StandsFor}
 use Rattle.record_store.specs.declared.store.Store.{Store}
 
-listed-numbered : (id : ℤ) (cs : List Listed) → map listed (numbered id cs) ≡ cs
+pub listed-numbered : (id : ℤ) (cs : List Listed) → map listed (numbered id cs) ≡ cs
 listed-numbered id [] = refl
 listed-numbered id (c ∷ cs) = ap (λ l. c ∷ l) (listed-numbered (id +ℤ pos 1) cs)
 
-rules-numbered : (id : ℤ) (rs : List Rule) → map rule (numbered_schedules id rs) ≡ rs
+pub rules-numbered : (id : ℤ) (rs : List Rule) → map rule (numbered_schedules id rs) ≡ rs
 rules-numbered id [] = refl
 rules-numbered id (r ∷ rs) = ap (λ l. r ∷ l) (rules-numbered (id +ℤ pos 1) rs)
 
-same_list : {X : Type 0} (xs ys : List X) → xs ≡ ys → IsPermutation xs ys
+pub same_list : {X : Type 0} (xs ys : List X) → xs ≡ ys → IsPermutation xs ys
 same_list xs ys e = subst (IsPermutation xs) e (IsPermutation-refl xs)
 
 -- the tables as they are laid keep the empty archive

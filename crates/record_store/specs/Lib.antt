@@ -4,3 +4,5 @@ pub mod Faults
 pub mod Counts
 pub mod Captures
 pub mod Dues
+pub mod Destruction
+pub mod Revisions

@@ -119,6 +119,11 @@ abbrev pub LeavesMade : {S : Type 0} → Ghosts S → (old new : Store S) → (A
 LeavesMade g old new command change = (a : Archive) → StandsFor g old a → Survives (state g old.conn) (state g new.conn)
     (λ (trees : Trees). (db : Database) × (IsTrue (state g old.conn).is_open → command a ≡ Ok (change a) → StoresArchive db (change a)) × (trees ≡ db.trees))
 
+-- the same of a change that more is asked of than the command says
+abbrev pub LeavesAllowed : {S : Type 0} → Ghosts S → (old new : Store S) → (Archive → Type 0) → (Archive → Archive) → Type 0
+LeavesAllowed g old new Allowed change = (a : Archive) → StandsFor g old a → Survives (state g old.conn) (state g new.conn)
+    (λ (trees : Trees). (db : Database) × (IsTrue (state g old.conn).is_open → Allowed a → StoresArchive db (change a)) × (trees ≡ db.trees))
+
 -- no fault of the disk is forgotten
 abbrev pub Falls : {S : Type 0} → Ghosts S → (old new : Store S) → Type 0
 Falls g old new = HasCleanDisk (state g new.conn) → HasCleanDisk (state g old.conn)

@@ -2,12 +2,16 @@
 #![tactic(auto)]
 
 mod captures;
+mod classes;
 mod counts;
+mod destruction;
 mod dues;
 mod fault;
 mod holds;
 mod messages;
 mod paths;
+mod plan_days;
+mod revisions;
 mod store;
 mod transactions;
 

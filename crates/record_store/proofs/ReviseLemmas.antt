@@ -1,0 +1,181 @@
+-- Another plan: the rows of it, and the due days by it.
+use Rattle.std.proofs.Common.{◌≡◌, ◌<◌, ◌+◌, ◌-◌, ℕ, zero, suc, pos, slice_get, Bool, true, false, not, cond, ◌&&◌, is_some, unwrap_or, List, [], ◌∷◌, ◌++◌, map, filter, take, length, get_or, Option, Some, None, Ok, refl, sym, ap, subst, ◌∙◌, arith, rules, IsTrue}
+use Rattle.std.specs.Str.{bytes_eq}
+use Rattle.std.specs.List.{AllByRecursion, list_all}
+use Rattle.std.proofs.lemmas.List.{take_more, map-append}
+use Rattle.sqlite_keyed.proofs.ListLemmas.{all_weaker, ascending-append}
+use Rattle.sqlite.specs.Store.{Ghosts}
+use Rattle.sqlite.specs.Effect.{Database}
+use Rattle.sqlite.specs.State.{HasCleanDisk, Survives}
+use Rattle.sqlite.specs.Held.{Held, state}
+use Rattle.sqlite.proofs.StateLemmas.{survives_weaker}
+use Rattle.class_plan.specs.Calendar.{due_on}
+use Rattle.class_plan.specs.Plans as plans
+use Rattle.class_plan.specs.Plans.{Listing, IsPlan, keeps, has}
+use Rattle.record_tables.specs.Lookups.{Looks}
+use Rattle.record_tables.specs.Tables.{HasCommonTables, IsArchiveSchema, scheduled}
+use Rattle.record_tables.specs.Rows.{Tables, Record, Due, Stores, StoresCommon}
+use Rattle.record_tables.specs.Changes.{Listed, Rule, IsRevised, AreAscending}
+use Rattle.record_tables.specs.Changes as tables
+use Rattle.record_rows.specs.Rules.{rules_of, classes_of}
+use Rattle.record_store.specs.Archive.{Archive, IsArchive, revise}
+use Rattle.record_store.specs.Stores.{StandsFor, StoresArchive, has_due, due_row}
+use Rattle.record_store.specs.Revisions.{IsRevision, with_plan, dues_in}
+use Rattle.record_store.specs.declared.store.Store.{Store}
+use Rattle.record_store.proofs.StoreLemmas.{listed-numbered, rules-numbered, same_list}
+
+-- ---- the archive
+
+same_path : (q r : List ℕ) → bytes_eq q r ≡ true → q ≡ r
+same_path q r h = search rules
+
+has_kept : (K : List ℕ → Bool) (rows : List plans.Row) (q : List ℕ) → has rows q ≡ true → list_all (λ (r : plans.Row). K r.path) rows ≡ true → K q ≡ true
+has_kept K [] q h all = absurd cc
+has_kept K (x ∷ rows) q h all = go (bytes_eq q x.path) refl h (has_kept K rows q)
+  where
+    both : (a b : Bool) → (a && b) ≡ true → (a ≡ true) × (b ≡ true)
+    both true true e = (refl, refl)
+    both true false e = absurd cc
+    both false b e = absurd cc
+
+    go : (b : Bool) → bytes_eq q x.path ≡ b → is_some (cond b (Some x) (plans.found q rows)) ≡ true
+        → (has rows q ≡ true → list_all (λ (r : plans.Row). K r.path) rows ≡ true → K q ≡ true) → K q ≡ true
+    go true e found more = subst (λ z. K z ≡ true) (sym (same_path q x.path e)) (both (K x.path) _ all).0
+    go false e found more = more found (both (K x.path) _ all).1
+
+pub revised_is_archive : (a : Archive) (p : Listing) → IsArchive a → IsPlan p → keeps a.plan p ≡ true → IsArchive (with_plan a p)
+revised_is_archive a p is plan kept = record {
+  plan = plan;
+  records = λ i d low. let r = is.records i d low in record { number = r.number; message = r.message; day = r.day; class = has_kept (has p.rows) a.plan.rows _ r.class kept; stored = r.stored };
+  in_order = is.in_order;
+  messages = is.messages;
+  named = is.named;
+  held = is.held;
+  once = is.once;
+}
+
+pub is_revised : (a : Archive) (p : Listing) → keeps a.plan p ≡ true → revise a p ≡ Ok (with_plan a p)
+is_revised a p h = rw h refl
+
+-- ---- the tables
+
+pub stores_revised : (a : Archive) (p : Listing) (rules : List Rule) (classes : List Listed) (dues : List Due) → rules ≡ rules_of p → classes ≡ classes_of p → dues ≡ dues_in p a.records
+    → (was db : Database) → StoresArchive was a → IsRevised rules classes dues was db → StoresArchive db (with_plan a p)
+stores_revised a p rules classes dues same_rules same_classes same_dues was db s turns =
+    let made = turns.stored s.tables s.stored s.keyed tt in
+    record {
+      tables = tables.with_plan rules classes dues s.tables;
+      stored = made.0;
+      keyed = made.1;
+      keeps = record {
+        messages = s.keeps.messages;
+        records = s.keeps.records;
+        holds = s.keeps.holds;
+        settings = s.keeps.settings;
+        classes = same_list _ _ (listed-numbered (pos 1) classes ∙ same_classes);
+        schedules = same_list _ _ (rules-numbered (pos 1) rules ∙ same_rules);
+      };
+      dues = same_dues;
+    }
+
+-- ---- the tables that both versions have
+
+pub common_schema : (schema : Rattle.sqlite.specs.Schema.Schema) → IsArchiveSchema schema → HasCommonTables schema
+common_schema schema is = record { foreign = scheduled is.foreign; is = is.is }
+
+pub common_of : (db : Database) (t : Tables) → Stores db t → StoresCommon db t
+common_of db t s = record { schema = common_schema db.schema s.schema; messages = s.messages; records = s.records; holds = s.holds; settings = s.settings; classes = s.classes }
+
+-- a read of them is a look at ours
+pub looks_common : {S : Type 0} (g : Ghosts S) (old new : Held S) → (old.in_transaction ≡ false → new.in_transaction ≡ false) → (HasCleanDisk (state g new) → HasCleanDisk (state g old))
+    → (old.in_transaction ≡ false → (IsTrue (state g old).is_open → HasCommonTables (state g old).now.schema) → HasCleanDisk (state g new) → IsTrue (state g new).is_open
+    → IsTrue (state g old).is_open × ((state g new).now ≡ (state g old).now))
+    → Survives (state g old) (state g new) (λ _. HasCommonTables (state g old).now.schema → ⊥) → Looks g old new
+looks_common g old new idle falls still survives = record {
+  idle = idle;
+  falls = falls;
+  still = λ was are. still was (λ is_open. common_schema (state g old).now.schema (are is_open));
+  survives = survives_weaker (state g old) (state g new) _ _ (λ clean db none is. none (common_schema (state g old).now.schema is)) survives;
+}
+
+-- ---- due days, one record after another
+
+filter-append : {X : Type 0} (p : X → Bool) (xs ys : List X) → filter p (xs ++ ys) ≡ filter p xs ++ filter p ys
+filter-append p [] ys = refl
+filter-append p (x ∷ xs) ys = go (p x) (filter-append p xs ys)
+  where
+    go : (b : Bool) → filter p (xs ++ ys) ≡ filter p xs ++ filter p ys → cond b (x ∷ filter p (xs ++ ys)) (filter p (xs ++ ys)) ≡ cond b (x ∷ filter p xs) (filter p xs) ++ filter p ys
+    go true more = ap (λ l. x ∷ l) more
+    go false more = more
+
+abbrev alone : Listing → Archive
+alone p = record { plan = p; messages = []; records = []; holds = [] }
+
+pub dues_next : {V : Type 0} (p : Listing) (f : V → Record) (vs : List V) (v : V) (i : ℕ) → i < length vs → v ≡ get_or vs i v
+    → dues_in p (map f (take i vs)) ++ dues_in p (f v ∷ []) ≡ dues_in p (map f (take (i + 1) vs))
+dues_next p f vs v i low is =
+    let next : map f (take (i + 1) vs) ≡ map f (take i vs) ++ f v ∷ [] = ap (map f) (take_more vs i v low) ∙ map-append f (take i vs) _ ∙ ap (λ x. map f (take i vs) ++ f x ∷ []) (sym is) in
+    sym (ap (dues_in p) next ∙ ap (map (due_row (alone p))) (filter-append (has_due (alone p)) (map f (take i vs)) (f v ∷ [])) ∙ map-append (due_row (alone p)) (filter (has_due (alone p)) (map f (take i vs))) (filter (has_due (alone p)) (f v ∷ [])))
+
+-- ---- a due day after the last of those that rise
+
+below_last : {V : Type 0} (f : V → Due) (vs : List V) (v : V) (n i : ℕ) → AreAscending (map f vs) → i + 1 ≡ length vs → Some v ≡ slice_get vs i → (f v).number < n → AllByRecursion (λ (d : Due). d.number < n) (map f vs)
+below_last f [] v n i up long at low = tt
+below_last f (x ∷ []) v n zero up long at low = let same : v ≡ x = cc in (subst (λ y. (f y).number < n) same low, tt)
+below_last f (x ∷ []) v n (suc i) up long at low = absurd (omega arith)
+below_last f (x ∷ y ∷ vs) v n zero up long at low = absurd (omega arith)
+below_last f (x ∷ y ∷ vs) v n (suc i) up long at low =
+    let more = below_last f (y ∷ vs) v n i up.1 (omega arith) at low in
+    let first = up.0.0 in
+    (omega (arith, first, more.0), more)
+
+pub after_last : {V : Type 0} (f : V → Due) (vs : List V) (v : V) (n : ℕ) → AreAscending (map f vs) → Some v ≡ slice_get vs (length vs - 1) → (f v).number < n → AllByRecursion (λ (d : Due). d.number < n) (map f vs)
+after_last f [] v n up at low = tt
+after_last f (x ∷ vs) v n up at low = below_last f (x ∷ vs) v n (length (x ∷ vs) - 1) up (omega arith) at low
+
+is_got : {V : Type 0} (vs : List V) (i : ℕ) → i < length vs → None ≡ slice_get vs i → ⊥
+is_got [] i low none = absurd (omega arith)
+is_got (x ∷ vs) zero low none = absurd cc
+is_got (x ∷ vs) (suc i) low none = is_got vs i (omega arith) none
+
+pub after_none : {V : Type 0} (f : V → Due) (vs : List V) (n : ℕ) → None ≡ slice_get vs (length vs - 1) → AllByRecursion (λ (d : Due). d.number < n) (map f vs)
+after_none f [] n none = tt
+after_none f (x ∷ vs) n none = absurd (is_got (x ∷ vs) (length (x ∷ vs) - 1) (omega arith) none)
+
+pub rises_after : {V : Type 0} (f : V → Due) (vs : List V) (v : V) → AreAscending (map f vs) → AllByRecursion (λ (d : Due). d.number < (f v).number) (map f vs) → AreAscending (map f (vs ++ v ∷ []))
+rises_after f vs v up below =
+    subst AreAscending (sym (map-append f vs (v ∷ [])))
+    (ascending-append (λ (x y : Due). x.number < y.number) (map f vs) (f v ∷ []) up (tt, tt)
+    (all_weaker (λ (x : Due). x.number < (f v).number) (λ (x : Due). AllByRecursion (λ (y : Due). x.number < y.number) (f v ∷ [])) (λ x h. (h, tt)) (map f vs) below))
+
+-- what one record adds
+pub none_of_destroyed : (p : Listing) (r : Record) → r.destroyed ≡ true → dues_in p (r ∷ []) ≡ []
+none_of_destroyed p r h = rw h refl
+
+pub none_without_day : (p : Listing) (r : Record) → due_on p r.path r.day ≡ None → dues_in p (r ∷ []) ≡ []
+none_without_day p r h = ap (λ o. map (due_row (alone p)) (cond (not r.destroyed && is_some o) (r ∷ []) [])) h ∙ go r.destroyed
+  where
+    go : (d : Bool) → map (due_row (alone p)) (cond (not d && false) (r ∷ []) []) ≡ []
+    go true = refl
+    go false = refl
+
+pub one_with_day : (p : Listing) (r : Record) (day : ℕ) → r.destroyed ≡ false → due_on p r.path r.day ≡ Some day → dues_in p (r ∷ []) ≡ record { number = r.number; day = day } ∷ []
+one_with_day p r day live h =
+    ap (λ d. map (due_row (alone p)) (cond (not d && is_some (due_on p r.path r.day)) (r ∷ []) [])) live
+    ∙ ap (λ b. map (due_row (alone p)) (cond b (r ∷ []) [])) (ap is_some h) ∙ ap (λ (o : Option ℕ). record { number = r.number; day = unwrap_or o 0 } ∷ []) h
+
+-- ---- the command
+
+-- the plan may take the place of the store's, and the due days are those by it
+pub judged_revision : {S : Type 0} (g : Ghosts S) (old mid : Store S) (p q : Listing) (rows : List Record) (ds : List Due) → keeps old.plan p ≡ true → q ≡ p → ds ≡ dues_in q rows
+    → ((a : Archive) → StandsFor g old a → StandsFor g mid a × (HasCleanDisk (state g mid.conn) → rows ≡ a.records))
+    → (a : Archive) → StandsFor g old a → StandsFor g mid a × (HasCleanDisk (state g mid.conn) → IsRevision a q ds × (revise a p ≡ Ok (with_plan a q)))
+judged_revision g old mid p q rows ds kept same days told a s =
+    let t = told a s in
+    let keeps_it : keeps a.plan p ≡ true = subst (λ l. keeps l p ≡ true) s.plan kept in (
+      t.0,
+      λ clean. (
+        record { kept = subst (λ l. keeps a.plan l ≡ true) (sym same) keeps_it; dues = days ∙ ap (dues_in q) (t.1 clean) },
+        subst (λ l. revise a p ≡ Ok (with_plan a l)) (sym same) (is_revised a p keeps_it),
+      ),
+    )

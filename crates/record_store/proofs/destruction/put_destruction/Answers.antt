@@ -1,0 +1,35 @@
+use Rattle.std.proofs.Common.{◌≡◌, subst, rules, true}
+use Rattle.sqlite.specs.Tree.{Trees}
+use Rattle.sqlite.specs.Effect.{Database}
+use Rattle.sqlite.specs.State.{HasCleanDisk, Survives}
+use Rattle.sqlite.specs.Held.{state}
+use Rattle.record_tables.specs.Changes.{Turns, Always}
+use Rattle.record_tables.proofs.Loops.{turned, survives_whole}
+use Rattle.record_store.specs.Destruction.{with_destruction}
+use Rattle.record_store.proofs.destruction.put_destruction.Goals as goal
+
+pub returns-clause-crash : goal.returns-clause-crash
+returns-clause-crash g c =
+    let old = c.args.conn.now in
+    let begun = c.transaction-tx.ensures.begun in
+    let last = c.delete_record.new.tx.conn.now in
+    let change = with_destruction c.args.number c.args.last in
+    let P = λ (trees : Trees). (db : Database) × Turns (state g.S.Store old).now db Always change × (trees ≡ db.trees) in
+    let ran : HasCleanDisk (state g.S.Store last) → Turns (state g.S.Store old).now (state g.S.Store last).now Always change =
+    λ clean. turned (state g.S.Store (record old { in_transaction = true })) (state g.S.Store last) Always change (rw begun at (c.in_ok-delete_record.ensures.ok clean (rw begun))) in
+    let whole = survives_whole g.S.Store old last c.commit.new.self.0 Always change ran (rw begun at c.delete_record.ensures.survives) c.commit.ensures.survives in
+    let same : c.commit.new.self.0 ≡ c.conn-2-1.given.0 = search rules in
+    subst (λ h. Survives (state g.S.Store old) (state g.S.Store h) P) same whole
+
+pub returns-in_err-commit-clause-crash : goal.returns-in_err-commit-clause-crash
+returns-in_err-commit-clause-crash g c =
+    let old = c.args.conn.now in
+    let begun = c.transaction-tx.ensures.begun in
+    let last = c.delete_record.new.tx.conn.now in
+    let change = with_destruction c.args.number c.args.last in
+    let P = λ (trees : Trees). (db : Database) × Turns (state g.S.Store old).now db Always change × (trees ≡ db.trees) in
+    let ran : HasCleanDisk (state g.S.Store last) → Turns (state g.S.Store old).now (state g.S.Store last).now Always change =
+    λ clean. turned (state g.S.Store (record old { in_transaction = true })) (state g.S.Store last) Always change (rw begun at (c.in_ok-delete_record.ensures.ok clean (rw begun))) in
+    let whole = survives_whole g.S.Store old last c.commit.new.self.0 Always change ran (rw begun at c.delete_record.ensures.survives) c.commit.ensures.survives in
+    let same : c.commit.new.self.0 ≡ c.conn-2-1.given.0 = search rules in
+    subst (λ h. Survives (state g.S.Store old) (state g.S.Store h) P) same whole

@@ -1,0 +1,38 @@
+use Rattle.std.proofs.Common.{◌∙◌, refl, sym, true≢false}
+use Rattle.record_store.specs.Archive.{Archive}
+use Rattle.record_store.proofs.CommandLemmas.{stands_looked, leaves_looked}
+use Rattle.record_store.proofs.ReviseLemmas.{looks_common, common_of, common_schema}
+use Rattle.record_store.proofs.store.Store.all_records.Goals as goal
+
+pub returns-in-Ok-clause-tells : goal.returns-in-Ok-clause-tells
+returns-in-Ok-clause-tells g c = λ (a : Archive) s.
+    let made = c.records.ensures in
+    let looks = looks_common g.S.Store c.args.self.now.conn c.records.new.conn made.idle made.falls made.still made.survives in (
+      stands_looked g.S.Store c.args.self.now _ a s looks refl refl (λ n. refl) (λ m. refl),
+      λ clean.
+          let kept = s.rows (made.falls clean) (c.in-Ok.ensures.was_open clean) in
+          c.in-Ok.ensures.all clean kept.tables (common_of _ kept.tables kept.stored) kept.keyed ∙ kept.keeps.records,
+    )
+
+pub returns-in-Ok-clause-open : goal.returns-in-Ok-clause-open
+returns-in-Ok-clause-open g c = λ (a : Archive) s clean.
+    let kept = s.rows (c.records.ensures.falls clean) (c.in-Ok.ensures.was_open clean) in
+    (c.in-Ok.ensures.same clean (common_schema _ kept.stored.schema)).0.is_open
+
+pub returns-in-Ok-clause-crash : goal.returns-in-Ok-clause-crash
+returns-in-Ok-clause-crash g c = λ (a : Archive) s.
+    let made = c.records.ensures in
+    let looks = looks_common g.S.Store c.args.self.now.conn c.records.new.conn made.idle made.falls made.still made.survives in
+    leaves_looked g.S.Store c.args.self.now (record c.args.self.now { conn = c.records.new.conn }) a s looks
+
+pub returns-in-Err-clause-tells : goal.returns-in-Err-clause-tells
+returns-in-Err-clause-tells g c = λ (a : Archive) s.
+    let made = c.records.ensures in
+    let looks = looks_common g.S.Store c.args.self.now.conn c.records.new.conn made.idle made.falls made.still made.survives in
+    (stands_looked g.S.Store c.args.self.now _ a s looks refl refl (λ n. refl) (λ m. refl), λ real clean. absurd (true≢false (sym c.read_fault.ensures ∙ real)))
+
+pub returns-in-Err-clause-crash : goal.returns-in-Err-clause-crash
+returns-in-Err-clause-crash g c = λ (a : Archive) s.
+    let made = c.records.ensures in
+    let looks = looks_common g.S.Store c.args.self.now.conn c.records.new.conn made.idle made.falls made.still made.survives in
+    leaves_looked g.S.Store c.args.self.now (record c.args.self.now { conn = c.records.new.conn }) a s looks

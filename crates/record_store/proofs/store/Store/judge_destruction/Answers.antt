@@ -1,0 +1,40 @@
+use Rattle.std.proofs.Common.{◌≡◌, ◌==◌, arith, subst, Some, None}
+use Rattle.record_tables.specs.Typed.{record_of}
+use Rattle.record_store.specs.Archive.{Archive}
+use Rattle.record_store.specs.Destruction.{against_destruction}
+use Rattle.record_store.proofs.DueLemmas.{held_if, free_if}
+use Rattle.record_store.proofs.DestroyLemmas.{refused_held, refused_by_plan, may_go}
+use Rattle.record_store.proofs.store.Store.judge_destruction.Goals as goal
+
+pub returns-then-count-gt0-clause-tells : goal.returns-then-count-gt0-clause-tells
+returns-then-count-gt0-clause-tells g c = λ (a : Archive) s.
+    let t = c.in_ok-record.ensures.tells a s in (
+      t.0,
+      λ _ clean.
+          refused_held a c.args.number c.args.day (record_of c.in_ok-record.record) (t.1 clean) c.if-record.false
+          (held_if (λ h. h.number == c.args.number) a.holds (omega (arith, c.count.ensures, t.0.held c.args.number, c.if-count-gt0.true))),
+    )
+
+pub returns-in-Err-clause-tells : goal.returns-in-Err-clause-tells
+returns-in-Err-clause-tells g c = λ (a : Archive) s.
+    let t = c.in_ok-record.ensures.tells a s in
+    let n = c.args.number in
+    let r = record_of c.in_ok-record.record in
+    let free = free_if (λ h. h.number == n) a.holds (omega (arith, c.count.ensures, t.0.held n, c.if-count-gt0.false)) in (
+      t.0,
+      λ real clean.
+          refused_by_plan a n c.args.day r c.in-Err.fault (t.1 clean) c.if-record.false free (subst (λ p. against_destruction p c.args.day r ≡ Some c.in-Err.fault) t.0.plan (c.in-Err.ensures.err real)),
+    )
+
+pub returns-in-Ok-clause-tells : goal.returns-in-Ok-clause-tells
+returns-in-Ok-clause-tells g c = λ (a : Archive) s.
+    let t = c.in_ok-record.ensures.tells a s in
+    let n = c.args.number in
+    let r = record_of c.in_ok-record.record in
+    let free = free_if (λ h. h.number == n) a.holds (omega (arith, c.count.ensures, t.0.held n, c.if-count-gt0.false)) in (
+      t.0,
+      λ clean. (
+        record { found = t.1 clean; live = c.if-record.false; free = free },
+        may_go a n c.args.day r (t.1 clean) c.if-record.false free (subst (λ p. against_destruction p c.args.day r ≡ None) t.0.plan c.in-Ok.ensures.ok),
+      ),
+    )

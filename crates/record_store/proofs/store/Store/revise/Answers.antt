@@ -1,0 +1,41 @@
+use Rattle.std.proofs.Common.{◌∙◌, ap, map}
+use Rattle.record_tables.specs.Typed.{due_of, record_of}
+use Rattle.record_store.specs.Archive as archive
+use Rattle.record_store.specs.Archive.{Archive}
+use Rattle.record_store.specs.Revisions.{IsRevision, dues_in, with_plan}
+use Rattle.record_store.proofs.AllowedLemmas.{obeys_allowed, leaves_allowed}
+use Rattle.record_store.proofs.ReviseLemmas.{judged_revision}
+use Rattle.record_store.proofs.store.Store.revise.Goals as goal
+
+pub returns-clause-obeys : goal.returns-clause-obeys
+returns-clause-obeys g c =
+    let old = c.args.self.now in
+    let mid = c.all_records.new.self in
+    let q = c.in_ok-kept.kept in
+    let ds = map due_of c.as_slice-2.result.now in
+    obeys_allowed g.S.Store old mid c.place_plan.new.self (λ (a : Archive). archive.revise a c.args.plan) (λ (a : Archive). IsRevision a q ds) (λ (a : Archive). with_plan a q)
+    (judged_revision g.S.Store old mid c.args.plan q (map record_of c.in_ok-rows.rows.items) ds c.in_ok-kept.ensures.0 c.in_ok-kept.ensures.1
+    (ap (map due_of) c.as_slice-2.ensures.value ∙ c.in_ok-dues.ensures.rows ∙ ap (λ l. dues_in q (map record_of l)) c.as_slice.ensures.value) c.in_ok-rows.ensures.tells)
+    c.in_ok-place_plan.ensures.ok c.place_plan.ensures.falls
+
+pub returns-clause-crash : goal.returns-clause-crash
+returns-clause-crash g c = λ (a : Archive) s.
+    let old = c.args.self.now in
+    let mid = c.all_records.new.self in
+    let q = c.in_ok-kept.kept in
+    let ds = map due_of c.as_slice-2.result.now in
+    leaves_allowed g.S.Store old mid c.place_plan.new.self (λ (b : Archive). archive.revise b c.args.plan) (λ (b : Archive). IsRevision b q ds) (λ (b : Archive). with_plan b q)
+    (judged_revision g.S.Store old mid c.args.plan q (map record_of c.in_ok-rows.rows.items) ds c.in_ok-kept.ensures.0 c.in_ok-kept.ensures.1
+    (ap (map due_of) c.as_slice-2.ensures.value ∙ c.in_ok-dues.ensures.rows ∙ ap (λ l. dues_in q (map record_of l)) c.as_slice.ensures.value) c.in_ok-rows.ensures.tells)
+    c.all_records.ensures.crash (c.in_ok-rows.ensures.open a s) c.place_plan.ensures.crash a s
+
+pub returns-in_err-place_plan-clause-crash : goal.returns-in_err-place_plan-clause-crash
+returns-in_err-place_plan-clause-crash g c = λ (a : Archive) s.
+    let old = c.args.self.now in
+    let mid = c.all_records.new.self in
+    let q = c.in_ok-kept.kept in
+    let ds = map due_of c.as_slice-2.result.now in
+    leaves_allowed g.S.Store old mid c.place_plan.new.self (λ (b : Archive). archive.revise b c.args.plan) (λ (b : Archive). IsRevision b q ds) (λ (b : Archive). with_plan b q)
+    (judged_revision g.S.Store old mid c.args.plan q (map record_of c.in_ok-rows.rows.items) ds c.in_ok-kept.ensures.0 c.in_ok-kept.ensures.1
+    (ap (map due_of) c.as_slice-2.ensures.value ∙ c.in_ok-dues.ensures.rows ∙ ap (λ l. dues_in q (map record_of l)) c.as_slice.ensures.value) c.in_ok-rows.ensures.tells)
+    c.all_records.ensures.crash (c.in_ok-rows.ensures.open a s) c.place_plan.ensures.crash a s

@@ -1,0 +1,35 @@
+-- Which record may be destroyed, and what its destruction makes of the tables.
+use Rattle.std.specs.Prelude.{◌≡◌, ℕ, false, not, if◌then◌else◌, Option, Some, None}
+use Rattle.sqlite.specs.Effect.{Database}
+use Rattle.class_plan.specs.Calendar.{due_on}
+use Rattle.class_plan.specs.Plans.{Listing, schedule_at}
+use Rattle.record_tables.specs.Rows.{Tables, Record}
+use Rattle.record_tables.specs.Changes.{Turns, Always, with_destroyed, without_due, without_message}
+use Rattle.record_store.specs.Archive.{Archive, record_at, is_held, is_by, destroys}
+use Rattle.record_store.specs.declared.fault.StoreFault.{StoreFault}
+use Rattle.record_store.specs.declared.fault.StoreFault.TheVariants as fault
+
+-- a live record that no hold keeps
+pub record IsFree (a : Archive) (n : ℕ) (r : Record) : Type 0 where
+  pub found : record_at a n ≡ Some r
+  pub live : r.destroyed ≡ false
+  pub free : is_held a n ≡ false
+
+-- what the plan says against the destruction of a record by a day
+abbrev pub against_destruction : Listing → ℕ → Record → Option StoreFault
+against_destruction p day r =
+    if not (destroys (schedule_at p r.path)) then Some fault.NotForDestruction
+    else if not (is_by day (due_on p r.path r.day)) then Some fault.NotDue
+    else None
+
+-- without a message, if there is one to go
+abbrev pub without_body : Option ℕ → Tables → Tables
+without_body None t = t
+without_body (Some m) t = without_message m t
+
+-- the record is destroyed and has no due day, and a message goes, if there is one to go
+abbrev pub with_destruction : ℕ → Option ℕ → Tables → Tables
+with_destruction n last t = without_body last (with_destroyed n (without_due n t))
+
+abbrev pub IsDestruction : ℕ → Option ℕ → Database → Database → Type 0
+IsDestruction n last old new = Turns old new Always (with_destruction n last)

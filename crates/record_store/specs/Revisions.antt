@@ -1,0 +1,25 @@
+-- Another plan for an archive, the due days by it, and a class that is added.
+use Rattle.std.specs.Prelude.{◌≡◌, ℕ, [], List, true, None}
+use Rattle.sqlite.specs.Effect.{Database}
+use Rattle.class_plan.specs.Plans.{Listing, keeps}
+use Rattle.record_tables.specs.Rows.{Record, Due}
+use Rattle.record_tables.specs.Changes.{Turns, Always, with_class}
+use Rattle.record_store.specs.Archive.{Archive}
+use Rattle.record_store.specs.Stores.{due_rows}
+
+-- the archive with another plan
+abbrev pub with_plan : Archive → Listing → Archive
+with_plan a p = record a { plan = p }
+
+-- the due days by a plan of those records that are live and have one
+abbrev pub dues_in : Listing → List Record → List Due
+dues_in p rs = due_rows (record { plan = p; messages = []; records = rs; holds = [] })
+
+-- a plan that drops no path of an archive's, and the due days by it
+pub record IsRevision (a : Archive) (p : Listing) (ds : List Due) : Type 0 where
+  pub kept : keeps a.plan p ≡ true
+  pub dues : ds ≡ dues_in p a.records
+
+-- an open class without a schedule of its own is added
+abbrev pub IsClassAdded : List ℕ → Database → Database → Type 0
+IsClassAdded path old new = Turns old new Always (with_class path true None)

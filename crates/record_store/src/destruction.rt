@@ -1,0 +1,187 @@
+//! Destruction: a record that is due for it stays as a number, a path and a day.
+
+ghost use Rattle.std.specs.Prelude.{◌≡◌, ◌<◌, pos, true, false, Ok, Err, Some, None, IsTrue, IfErr, OnOk, OnErr, MatchOption};
+ghost use Rattle.jiff.specs.Words.{IsBetween, epoch_day};
+ghost use Rattle.class_plan.specs.Calendar.{number_of_day};
+ghost use Rattle.sqlite.specs.State.{HasCleanDisk};
+ghost use Rattle.sqlite.specs.Held.{state};
+ghost use Rattle.record_tables.specs.Changes.{Always};
+ghost use Rattle.record_tables.specs.Steps.{PutsIn, KeepsIn, CommitsNothing, CommitsWhole, Makes, IsUndone, WasOpen};
+ghost use Rattle.record_tables.specs.Typed.{record_of};
+ghost use Rattle.record_store.specs.Archive as archive;
+ghost use Rattle.record_store.specs.Archive.{Archive};
+ghost use Rattle.record_store.specs.Counts.{count_at};
+ghost use Rattle.record_store.specs.Destruction.{IsFree, IsDestruction, against_destruction, with_destruction, without_body};
+ghost use Rattle.record_store.specs.Stores.{StandsFor, ObeysRows, Tells, Leaves, LeavesAll, LeavesAllowed, Falls, Quietly, is_trouble};
+
+use crate::captures::number_of;
+use crate::fault::StoreFault;
+use crate::plan_days::{LAST_CAPTURE_DAY, due_day_of};
+use crate::store::Store;
+use class_plan::{Action, Date, Plan, Schedule};
+use record_tables::rows::RecordRow;
+use record_tables::writes::{delete_due, delete_message, set_destroyed};
+use sqlite::{Alter, Connection, Error, Transaction};
+
+/// Takes a message out, if there is one to go.
+fn delete_body<S: Alter>(tx: &mut Transaction<'_, S>, last: Option<u32>) -> Result<(), Error>
+    ensures same_reference { tx.new.conn.ghost_name ≡ tx.old.conn.ghost_name }
+    ensures ok { OnOk result (PutsIn S.Store tx.old.conn.now tx.new.conn.now Always (without_body last)) }
+    ensures err { KeepsIn S.Store tx.old.conn.now tx.new.conn.now result }
+    ensures survives { CommitsNothing S.Store tx.old.conn.now tx.new.conn.now }
+{
+    match last {
+        Some(message) => delete_message(tx, message),
+        None => Ok(()),
+    }
+}
+
+/// Marks a record destroyed, and takes its due day out, and a message, if there is one to go.
+fn delete_record<S: Alter>(
+    tx: &mut Transaction<'_, S>,
+    number: u32,
+    last: Option<u32>,
+) -> Result<(), Error>
+    ensures same_reference { tx.new.conn.ghost_name ≡ tx.old.conn.ghost_name }
+    ensures ok { OnOk result (PutsIn S.Store tx.old.conn.now tx.new.conn.now Always (with_destruction number last)) }
+    ensures err { KeepsIn S.Store tx.old.conn.now tx.new.conn.now result }
+    ensures survives { CommitsNothing S.Store tx.old.conn.now tx.new.conn.now }
+{
+    delete_due(tx, number)?;
+    set_destroyed(tx, number)?;
+    delete_body(tx, last)?;
+    Ok(())
+}
+
+/// Destroys a record in one transaction: all or nothing, also over a crash.
+fn put_destruction<S: Alter>(
+    conn: &mut Connection<S>,
+    number: u32,
+    last: Option<u32>,
+) -> Result<(), Error>
+    requires idle { conn.old.in_transaction ≡ false }
+    ensures idle { conn.new.in_transaction ≡ false }
+    ensures ok { Makes S.Store conn.old conn.new result (IsDestruction number last) }
+    ensures err { IsUndone S.Store conn.old conn.new result }
+    ensures was_open { WasOpen S.Store conn.old conn.new }
+    ensures crash { CommitsWhole S.Store conn.old conn.new (IsDestruction number last) }
+{
+    let _settled = conn.is_autocommit();
+    let mut tx = conn.transaction();
+    delete_record(&mut tx, number, last)?;
+    tx.commit()?;
+    Ok(())
+}
+
+/// Whether a schedule's action is to destroy.
+fn destroys(schedule: Option<Schedule>) -> bool
+    ensures { result ≡ archive.destroys schedule }
+{
+    matches!(
+        schedule,
+        Some(Schedule::After {
+            action: Action::Destroy,
+            ..
+        })
+    )
+}
+
+/// Whether a day has come.
+fn is_by(day: u32, due: Option<u32>) -> bool
+    ensures { result ≡ archive.is_by day due }
+{
+    match due {
+        Some(due) => due <= day,
+        None => false,
+    }
+}
+
+/// Whether the plan lets a record go by a day: 83 and 82 in this order.
+fn judge_plan(plan: &Plan, row: &RecordRow, day: u32) -> Result<(), StoreFault>
+    ensures ok { OnOk result (against_destruction plan.now day (record_of row.now) ≡ None) }
+    ensures err { IfErr result (λ f. is_trouble f ≡ false → against_destruction plan.now day (record_of row.now) ≡ Some f) }
+{
+    let path = row.path.as_slice();
+    if row.day > LAST_CAPTURE_DAY {
+        return Err(StoreFault::LOST);
+    }
+    if !destroys(plan.schedule_of(path)) {
+        return Err(StoreFault::NotForDestruction);
+    }
+    if !is_by(day, due_day_of(plan, path, row.day)) {
+        return Err(StoreFault::NotDue);
+    }
+    Ok(())
+}
+
+impl<S: Alter> Store<S> {
+    /// The record that may be destroyed by a day: 80, 84, 81, 83 and 82 in this order.
+    fn judge_destruction(&mut self, number: u32, day: u32) -> Result<RecordRow, StoreFault>
+        ensures tells { Tells S.Store self.old self.new result
+            (λ a r. IsFree a number (record_of r) × (archive.destroy a number day ≡ Ok (archive.without a (record_of r))))
+            (λ a f. archive.destroy a number day ≡ Err f) }
+        ensures falls { Falls S.Store self.old self.new }
+        ensures open { HasCleanDisk (state S.Store self.new.conn) → OnOk result (IsTrue (state S.Store self.new.conn).is_open) }
+        ensures crash { LeavesAll S.Store self.old self.new }
+    {
+        let record = self.record_at(number)?;
+        if record.destroyed {
+            return Err(StoreFault::Destroyed);
+        }
+        if self.held.count(number) > 0 {
+            return Err(StoreFault::Held);
+        }
+        match judge_plan(&self.plan, &record, day) {
+            Ok(()) => Ok(record),
+            Err(fault) => Err(fault),
+        }
+    }
+
+    /// The message, where one live record has it and no other.
+    fn last_body(&self, message: u32) -> Option<u32>
+        ensures { MatchOption result (0 < count_at self.now.others message) (λ m. (m ≡ message) × (count_at self.now.others message ≡ 0)) }
+    {
+        if self.others.count(message) == 0 {
+            Some(message)
+        } else {
+            None
+        }
+    }
+
+    /// Destroys a live record that no hold keeps.
+    fn remove_record(&mut self, number: u32, row: &RecordRow) -> Result<(), StoreFault>
+        ensures ok { OnOk result ((a : Archive) → StandsFor S.Store self.old a → IsFree a number (record_of row.now) → StandsFor S.Store self.new (archive.without a (record_of row.now))) }
+        ensures err { OnErr result ((a : Archive) → StandsFor S.Store self.old a → StandsFor S.Store self.new a) }
+        ensures trouble { IfErr result (λ f. is_trouble f ≡ true) }
+        ensures falls { Falls S.Store self.old self.new }
+        ensures crash { LeavesAllowed S.Store self.old self.new (λ a. IsFree a number (record_of row.now)) (λ a. archive.without a (record_of row.now)) }
+    {
+        if !self.conn.is_autocommit() {
+            return Err(StoreFault::BUSY);
+        }
+        let last = self.last_body(row.message);
+        match put_destruction(&mut self.conn, number, last) {
+            Ok(()) => {
+                self.others.take(row.message, 1);
+                Ok(())
+            }
+            Err(error) => Err(StoreFault::from(error)),
+        }
+    }
+
+    /// Destroys a record that is due by a day: it stays as a number, a path and a day, and its message goes with the last live
+    /// record of it. 80 where there is no such record, 84 where it is destroyed, 81 where a hold keeps it, 83 where its
+    /// schedule's action is not to destroy, 82 where it is due later than the day; the first of these in this order.
+    ///
+    /// The caller gives a day of 1970 to 9999.
+    pub fn destroy(&mut self, number: u32, day: Date) -> Result<(), StoreFault>
+        requires { IsBetween (pos 0) (pos 2932896) (epoch_day day) }
+        ensures obeys { ObeysRows S.Store self.old self.new result (λ a. archive.destroy a number (number_of_day day)) Quietly }
+        ensures falls { Falls S.Store self.old self.new }
+        ensures crash { Leaves S.Store self.old self.new (λ a. archive.destroy a number (number_of_day day)) }
+    {
+        let record = self.judge_destruction(number, number_of(day))?;
+        self.remove_record(number, &record)?;
+        Ok(())
+    }
+}

@@ -1,0 +1,100 @@
+//! Due days by a plan.
+
+ghost use Rattle.std.specs.Prelude.{◌≡◌, ◌≤◌, ◌<◌, ◌++◌, [], ◌∷◌, map, true, IfOk, IfErr, OnOk};
+ghost use Rattle.std.specs.List.{AllByRecursion};
+ghost use Rattle.class_plan.specs.Calendar.{due_on};
+ghost use Rattle.record_tables.specs.Changes.{AreAscending};
+ghost use Rattle.record_tables.specs.Typed.{record_of, due_of};
+ghost use Rattle.record_store.specs.Revisions.{dues_in};
+ghost use Rattle.record_store.specs.Stores.{is_trouble};
+
+use crate::captures::number_of;
+use crate::fault::StoreFault;
+use class_plan::{Plan, date_of};
+use record_tables::rows::{DueRow, RecordRow};
+use std::alloc::Global;
+
+/// The number of the last day on which a record may be captured, 2199-12-31.
+pub(crate) const LAST_CAPTURE_DAY: u32 = 84_005;
+
+/// The day by which a record of a class falls due that was captured on a day, both in days since 1970-01-01: `None` where the
+/// class's schedule is permanent, and where the path is no class.
+///
+/// The caller gives a day of 1970 to 2199.
+pub(crate) fn due_day_of(plan: &Plan, path: &[u8], day: u32) -> Option<u32>
+    requires { day ≤ 84005 }
+    ensures { result ≡ due_on plan.now path.now day }
+{
+    let captured = date_of(i64::from(day))?;
+    let due = plan.due_of(path, captured)?;
+    Some(number_of(due))
+}
+
+/// Whether a number comes after those of these records.
+fn is_after(dues: &[DueRow], number: u32) -> bool
+    requires { AreAscending (map due_of dues.now) }
+    ensures { result ≡ true → AllByRecursion (λ d. d.number < number) (map due_of dues.now) }
+{
+    match dues.last() {
+        Some(last) => last.record < number,
+        None => true,
+    }
+}
+
+/// Adds a due day after those of records with smaller numbers.
+fn push_in_order(dues: &mut Vec<DueRow>, due: DueRow) -> Result<(), StoreFault>
+    requires { AreAscending (map due_of dues.old.items) }
+    ensures items { OnOk result (dues.new.items ≡ dues.old.items ++ due ∷ []) }
+    ensures ascending { OnOk result (AreAscending (map due_of dues.new.items)) }
+    ensures trouble { IfErr result (λ f. is_trouble f ≡ true) }
+{
+    if is_after(dues.as_slice(), due.record) {
+        dues.push(due)?;
+        Ok(())
+    } else {
+        Err(StoreFault::LOST)
+    }
+}
+
+/// Adds the due day of a record by a plan, if it is live and has one.
+fn push_due_row(dues: &mut Vec<DueRow>, plan: &Plan, row: &RecordRow) -> Result<(), StoreFault>
+    requires { AreAscending (map due_of dues.old.items) }
+    ensures rows { OnOk result (map due_of dues.new.items ≡ map due_of dues.old.items ++ dues_in plan.now (record_of row.now ∷ [])) }
+    ensures ascending { OnOk result (AreAscending (map due_of dues.new.items)) }
+    ensures trouble { IfErr result (λ f. is_trouble f ≡ true) }
+{
+    if row.destroyed {
+        return Ok(());
+    }
+    if row.day > LAST_CAPTURE_DAY {
+        return Err(StoreFault::LOST);
+    }
+    match due_day_of(plan, row.path.as_slice(), row.day) {
+        Some(day) => push_in_order(
+            dues,
+            DueRow {
+                record: row.number,
+                day,
+            },
+        ),
+        None => Ok(()),
+    }
+}
+
+/// The due days of the live records by a plan, in the order of the records. Records that are out of order, or were captured after
+/// 2199, are refused by 89, as no archive has them.
+pub(crate) fn due_rows_by(
+    alloc: Global,
+    plan: &Plan,
+    records: &[RecordRow],
+) -> Result<Vec<DueRow>, StoreFault>
+    ensures rows { IfOk result (λ v. map due_of v.items ≡ dues_in plan.now (map record_of records.now)) }
+    ensures ascending { IfOk result (λ v. AreAscending (map due_of v.items)) }
+    ensures trouble { IfErr result (λ f. is_trouble f ≡ true) }
+{
+    let mut dues = Vec::new(alloc);
+    for row in records {
+        push_due_row(&mut dues, plan, row)?;
+    }
+    Ok(dues)
+}

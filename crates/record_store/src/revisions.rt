@@ -1,0 +1,97 @@
+//! Changes of the plan: the due days follow it at once.
+
+ghost use Rattle.std.specs.Prelude.{◌≡◌, true, false, map, Ok, Err, IsTrue, IfOk, IfErr, OnOk, OnErr, MatchResult};
+ghost use Rattle.sqlite.specs.State.{HasCleanDisk};
+ghost use Rattle.sqlite.specs.Held.{state};
+ghost use Rattle.class_plan.specs.Plans.{keeps};
+ghost use Rattle.class_plan.specs.declared.faults.PlanFault.TheVariants.{PathDropped};
+ghost use Rattle.record_tables.specs.Changes.{AreAscending};
+ghost use Rattle.record_tables.specs.Typed.{record_of, due_of};
+ghost use Rattle.record_store.specs.Archive as archive;
+ghost use Rattle.record_store.specs.Archive.{Archive};
+ghost use Rattle.record_store.specs.Revisions.{IsRevision, with_plan};
+ghost use Rattle.record_store.specs.Stores.{StandsFor, ObeysRows, Tells, Leaves, LeavesAll, LeavesAllowed, Falls, Quietly, is_trouble};
+
+use crate::fault::StoreFault;
+use crate::plan_days::due_rows_by;
+use crate::store::Store;
+use class_plan::{Plan, PlanFault};
+use record_rows::{classes_of, rules_of};
+use record_tables::fault::Fault;
+use record_tables::read::records;
+use record_tables::renew::replace_plan;
+use record_tables::rows::{DueRow, RecordRow};
+use sqlite::Alter;
+
+/// Why a read was refused of tables that are an archive's: a row that is none of those is lost.
+fn read_fault(fault: Fault) -> StoreFault
+    ensures { is_trouble result ≡ true }
+{
+    match fault {
+        Fault::NoMemory => StoreFault::NoMemory,
+        Fault::Sqlite(error) => StoreFault::Sqlite(error),
+        Fault::NoArchive => StoreFault::LOST,
+    }
+}
+
+impl<S: Alter> Store<S> {
+    /// The new plan, if it drops no path of the plan (57).
+    fn judge_plan(&self, plan: Plan) -> Result<Plan, StoreFault>
+        ensures { MatchResult result (λ p. (keeps self.now.plan plan ≡ true) × (p ≡ plan)) (λ f. is_trouble f ≡ false → (keeps self.now.plan plan ≡ false) × (f ≡ StoreFault.Plan PathDropped)) }
+    {
+        let mut kept = self.plan.copy()?;
+        match kept.revise(plan) {
+            Ok(()) => Ok(kept),
+            Err(_) => Err(StoreFault::Plan(PlanFault::PathDropped)),
+        }
+    }
+
+    /// The records, in the order of their numbers.
+    fn all_records(&mut self) -> Result<Vec<RecordRow>, StoreFault>
+        ensures tells { Tells S.Store self.old self.new result (λ a rows. map record_of rows.items ≡ a.records) (λ a f. ⊥) }
+        ensures falls { Falls S.Store self.old self.new }
+        ensures open { (a : Archive) → StandsFor S.Store self.old a → HasCleanDisk (state S.Store self.new.conn) → OnOk result (IsTrue (state S.Store self.new.conn).is_open) }
+        ensures crash { LeavesAll S.Store self.old self.new }
+    {
+        match records(self.alloc, &mut self.conn) {
+            Ok(all) => Ok(all),
+            Err(fault) => Err(read_fault(fault)),
+        }
+    }
+
+    /// Puts a plan in place of the plan, with the due days by it.
+    fn place_plan(&mut self, plan: Plan, dues: &[DueRow]) -> Result<(), StoreFault>
+        requires { AreAscending (map due_of dues.now) }
+        ensures ok { OnOk result ((a : Archive) → StandsFor S.Store self.old a → IsRevision a plan (map due_of dues.now) → StandsFor S.Store self.new (with_plan a plan)) }
+        ensures err { OnErr result ((a : Archive) → StandsFor S.Store self.old a → StandsFor S.Store self.new a) }
+        ensures trouble { IfErr result (λ f. is_trouble f ≡ true) }
+        ensures falls { Falls S.Store self.old self.new }
+        ensures crash { LeavesAllowed S.Store self.old self.new (λ a. IsRevision a plan (map due_of dues.now)) (λ a. with_plan a plan) }
+    {
+        if !self.conn.is_autocommit() {
+            return Err(StoreFault::BUSY);
+        }
+        let rules = rules_of(self.alloc, &plan)?;
+        let classes = classes_of(self.alloc, &plan)?;
+        match replace_plan(&mut self.conn, rules.as_slice(), classes.as_slice(), dues) {
+            Ok(()) => {
+                self.plan = plan;
+                Ok(())
+            }
+            Err(error) => Err(StoreFault::from(error)),
+        }
+    }
+
+    /// Takes over a new plan: from then on each due date is that by the new plan. 57 where it drops a path of the plan.
+    pub fn revise(&mut self, plan: Plan) -> Result<(), StoreFault>
+        ensures obeys { ObeysRows S.Store self.old self.new result (λ a. archive.revise a plan) Quietly }
+        ensures falls { Falls S.Store self.old self.new }
+        ensures crash { Leaves S.Store self.old self.new (λ a. archive.revise a plan) }
+    {
+        let kept = self.judge_plan(plan)?;
+        let rows = self.all_records()?;
+        let dues = due_rows_by(self.alloc, &kept, rows.as_slice())?;
+        self.place_plan(kept, dues.as_slice())?;
+        Ok(())
+    }
+}
