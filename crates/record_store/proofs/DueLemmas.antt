@@ -30,7 +30,7 @@ module _ {X : Type 0} (cmp : X → X → Ordering) (total : IsTotalOrder cmp) wh
   all-sort P [] all = tt
   all-sort P (x ∷ xs) all = all-insert P x _ all.0 (all-sort P xs all.1)
 
-  abbrev Rises : List X → Type 0
+  abbrev pub Rises : List X → Type 0
   Rises = IsAscending (λ a b. cmp a b ≡ Less)
 
   abbrev pub IsUntied : List X → Type 0
@@ -45,7 +45,7 @@ module _ {X : Type 0} (cmp : X → X → Ordering) (total : IsTotalOrder cmp) wh
       go Equal e more = absurd (true≢false (sym (ap is_eq e) ∙ apart.0))
       go Greater e more = (all-insert _ new xs (total.antisymm x new ∙ ap ordering_reverse e) up.0, more)
 
-  rises-sort : (xs : List X) → IsUntied xs → Rises (sort_by cmp xs)
+  pub rises-sort : (xs : List X) → IsUntied xs → Rises (sort_by cmp xs)
   rises-sort [] apart = tt
   rises-sort (x ∷ xs) apart = rises-insert x _ (all-sort _ xs apart.0) (rises-sort xs apart.1)
 

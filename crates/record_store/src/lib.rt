@@ -1,18 +1,23 @@
 //! An archive of messages and records.
 #![tactic(auto)]
 
+mod adopt;
 mod captures;
 mod classes;
 mod counts;
 mod destruction;
 mod dues;
 mod fault;
+mod found;
 mod holds;
 mod messages;
 mod paths;
 mod plan_days;
+mod plan_rows;
 mod revisions;
 mod store;
+mod tallies;
+mod text_rows;
 mod transactions;
 
 pub use counts::Counts;

@@ -7,6 +7,7 @@ ghost use Rattle.record_tables.specs.Tables.{no_schema};
 ghost use Rattle.record_tables.specs.Typed.{record_of};
 ghost use Rattle.record_store.specs.Archive as archive;
 ghost use Rattle.record_store.specs.Archive.{Archive, empty_archive};
+ghost use Rattle.record_store.specs.Adoption.{FindsNothing, LeavesArchive};
 ghost use Rattle.record_store.specs.Stores.{StandsFor, is_trouble, Tells, LeavesAll, Falls};
 
 use crate::counts::Counts;
@@ -50,6 +51,8 @@ impl<S: Alter> Store<S> {
         ensures trouble { IfErr result (λ e. is_trouble e.0 ≡ true) }
         ensures unchanged { IfErr result (λ e. HasCleanDisk (state S.Store e.1) → IsTrue (state S.Store e.1).is_open
             → ((state S.Store e.1).now ≡ (state S.Store conn).now) × ((state S.Store e.1).committed ≡ (state S.Store conn).committed)) }
+        ensures crash { IfOk result (λ s. LeavesArchive S.Store conn s.conn (FindsNothing (state S.Store conn).now)) }
+        ensures crash_refused { IfErr result (λ e. LeavesArchive S.Store conn e.1 (FindsNothing (state S.Store conn).now)) }
     {
         let Ok(plan) = Plan::new(alloc) else {
             return Err((StoreFault::NoMemory, conn));

@@ -13,3 +13,4 @@ pub mod TypedLemmas
 pub mod ReadLemmas
 pub mod LookupLemmas
 pub mod DueRecords
+pub mod StoredDueLemmas

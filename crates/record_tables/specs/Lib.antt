@@ -10,3 +10,4 @@ pub mod Layout
 pub mod Faults
 pub mod Lookups
 pub mod DueRecords
+pub mod StoredDues

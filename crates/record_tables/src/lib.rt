@@ -11,5 +11,6 @@ mod query;
 pub mod read;
 pub mod renew;
 pub mod rows;
+pub mod stored_dues;
 mod typed;
 pub mod writes;

@@ -1,7 +1,8 @@
-use Rattle.std.proofs.Common.{map, refl, subst, rules, ◌∙◌}
+use Rattle.std.proofs.Common.{map, ap, refl, subst, rules, ◌∙◌}
 use Rattle.class_plan.specs.Plans.{first_plan, IsPlan}
 use Rattle.record_tables.specs.Typed.{listed_of, rule_of}
 use Rattle.record_rows.specs.Rules as rows
+use Rattle.record_store.proofs.AdoptSettled.{leaves_laid}
 use Rattle.record_store.proofs.StoreLemmas.{stands_laid}
 use Rattle.record_store.proofs.store.Store.create.Goals as goal
 
@@ -13,3 +14,15 @@ returns-in-Ok-lay-clause-ok g c clean empty =
     (c.in-Ok-rules_of.ensures ∙ (λ i. rows.rules_of (c.in-Ok.ensures i))) (c.in-Ok-classes_of.ensures ∙ (λ i. rows.classes_of (c.in-Ok.ensures i)))
     c.lay.ensures.idle c.in-Ok.ensures refl c.new-held.ensures c.new-others.ensures empty
     (λ _. rw (c.as_slice.ensures.value, c.as_slice-2.ensures.value) at (c.in-Ok-lay.ensures.ok clean))
+
+pub returns-in-Ok-lay-clause-crash : goal.returns-in-Ok-lay-clause-crash
+returns-in-Ok-lay-clause-crash g c =
+    leaves_laid g.S.Store c.args.conn c.lay.new.conn (map rule_of c.as_slice.result.now) (map listed_of c.as_slice-2.result.now)
+    (ap (map rule_of) c.as_slice.ensures.value ∙ c.in-Ok-rules_of.ensures ∙ (λ i. rows.rules_of (c.in-Ok.ensures i))) (ap (map listed_of) c.as_slice-2.ensures.value ∙ c.in-Ok-classes_of.ensures ∙ (λ i. rows.classes_of (c.in-Ok.ensures i)))
+    c.lay.ensures.crash
+
+pub returns-in-Err-clause-crash_refused : goal.returns-in-Err-clause-crash_refused
+returns-in-Err-clause-crash_refused g c =
+    leaves_laid g.S.Store c.args.conn c.lay.new.conn (map rule_of c.as_slice.result.now) (map listed_of c.as_slice-2.result.now)
+    (ap (map rule_of) c.as_slice.ensures.value ∙ c.in-Ok-rules_of.ensures ∙ (λ i. rows.rules_of (c.in-Ok.ensures i))) (ap (map listed_of) c.as_slice-2.ensures.value ∙ c.in-Ok-classes_of.ensures ∙ (λ i. rows.classes_of (c.in-Ok.ensures i)))
+    c.lay.ensures.crash

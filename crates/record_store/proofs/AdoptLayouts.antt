@@ -1,0 +1,71 @@
+-- Which version's rows a layout may have.
+use Rattle.std.proofs.Common.{◌≡◌, ◌≢◌, ◌⊎◌, inl, inr, sym, ◌∙◌, subst}
+use Rattle.sqlite.specs.Schema.{Schema}
+use Rattle.sqlite.specs.Effect.{Database}
+use Rattle.record_tables.specs.Tables.{no_schema, first_schema, dated_schema, IsArchiveSchema, HasCommonTables}
+use Rattle.record_tables.specs.declared.layout.Layout.{Layout}
+use Rattle.record_tables.specs.declared.layout.Layout.TheVariants.{Empty, First, FirstWithDues, Second, Other}
+use Rattle.record_store.specs.Archive.{Archive, IsArchive}
+use Rattle.record_store.specs.Adoption.{Finds, FindsRows, FindsSecond, FindsFirst, FindsNothing, HasNoArchive, IsKeyed, IsLaidSchema}
+use Rattle.record_store.proofs.AdoptReads.{archive_common, first_common}
+
+-- what is known of a layout that was found
+pub record Lays (schema : Schema) (l : Layout) : Type 0 where
+  pub empty : schema ≡ no_schema → l ≡ Empty
+  pub first : schema ≡ first_schema → l ≡ First
+  pub dated : schema ≡ dated_schema → l ≡ FirstWithDues
+  pub second : IsArchiveSchema schema → l ≡ Second
+
+pub lays_at : (s t : Schema) (l : Layout) → s ≡ t → (s ≡ no_schema → l ≡ Empty) → (s ≡ first_schema → l ≡ First) → (s ≡ dated_schema → l ≡ FirstWithDues) → (IsArchiveSchema s → l ≡ Second) → Lays t l
+lays_at s t l e empty first dated second = subst (λ x. Lays x l) e (record { empty = empty; first = first; dated = dated; second = second })
+
+abbrev pub IsFirst : Layout → Type 0
+IsFirst l = (l ≡ First) ⊎ (l ≡ FirstWithDues)
+
+first_not_second : (l : Layout) → IsFirst l → l ≡ Second → ⊥
+first_not_second l (inl e) k = cc
+first_not_second l (inr e) k = cc
+
+first_not_empty : (l : Layout) → IsFirst l → l ≡ Empty → ⊥
+first_not_empty l (inl e) k = cc
+first_not_empty l (inr e) k = cc
+
+first_apart : (schema : Schema) (l : Layout) → Lays schema l → (schema ≡ first_schema) ⊎ (schema ≡ dated_schema) → IsFirst l
+first_apart schema l lays (inl e) = inl (lays.first e)
+first_apart schema l lays (inr e) = inr (lays.dated e)
+
+pub no_rows : (db : Database) (a : Archive) (l : Layout) → Lays db.schema l → l ≡ Empty → FindsRows db a → ⊥
+no_rows db a l lays is (inl h) = let k : l ≡ Second = lays.second h.stored.schema in cc
+no_rows db a l lays is (inr h) = first_not_empty l (first_apart db.schema l lays h.stored.schema) is
+
+pub second_rows : (db : Database) (a : Archive) (l : Layout) → Lays db.schema l → l ≡ Second → FindsRows db a → FindsSecond db a
+second_rows db a l lays is (inl h) = h
+second_rows db a l lays is (inr h) = absurd (first_not_second l (first_apart db.schema l lays h.stored.schema) is)
+
+pub first_rows : (db : Database) (a : Archive) (l : Layout) → Lays db.schema l → IsFirst l → FindsRows db a → FindsFirst db a
+first_rows db a l lays is (inl h) = absurd (first_not_second l is (lays.second h.stored.schema))
+first_rows db a l lays is (inr h) = h
+
+pub finds_nothing : (db : Database) (a : Archive) (l : Layout) → Lays db.schema l → l ≡ Empty → Finds db a → FindsNothing db a
+finds_nothing db a l lays is (inl h) = absurd (no_rows db a l lays is h.0)
+finds_nothing db a l lays is (inr h) = h
+
+pub finds_second : (db : Database) (a : Archive) (l : Layout) → Lays db.schema l → l ≡ Second → Finds db a → FindsSecond db a × IsKeyed a
+finds_second db a l lays is (inl h) = (second_rows db a l lays is h.0, h.1)
+finds_second db a l lays is (inr h) = absurd (let k : l ≡ Empty = lays.empty h.0 in cc)
+
+pub finds_first : (db : Database) (a : Archive) (l : Layout) → Lays db.schema l → IsFirst l → Finds db a → FindsFirst db a × IsKeyed a
+finds_first db a l lays is (inl h) = (first_rows db a l lays is h.0, h.1)
+finds_first db a l lays is (inr h) = absurd (first_not_empty l is (lays.empty h.0))
+
+pub second_none : (db : Database) (l : Layout) → Lays db.schema l → l ≡ Second → ((a : Archive) → FindsSecond db a → IsArchive a → ⊥) → HasNoArchive db
+second_none db l lays is none = ((λ e. let k : l ≡ Empty = lays.empty e in cc), λ a rows archive. none a (second_rows db a l lays is rows) archive)
+
+pub first_none : (db : Database) (l : Layout) → Lays db.schema l → IsFirst l → ((a : Archive) → FindsFirst db a → IsArchive a → ⊥) → HasNoArchive db
+first_none db l lays is none = ((λ e. first_not_empty l is (lays.empty e)), λ a rows archive. none a (first_rows db a l lays is rows) archive)
+
+pub first_laid : (schema : Schema) (l : Layout) → Lays schema l → IsFirst l → IsLaidSchema schema → HasCommonTables schema
+first_laid schema l lays is (inl e) = absurd (first_not_empty l is (lays.empty e))
+first_laid schema l lays is (inr (inl e)) = first_common schema (inl e)
+first_laid schema l lays is (inr (inr (inl e))) = first_common schema (inr e)
+first_laid schema l lays is (inr (inr (inr h))) = archive_common schema h

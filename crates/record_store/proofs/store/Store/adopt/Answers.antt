@@ -1,0 +1,85 @@
+use Rattle.std.proofs.Common.{◌≡◌, sym, ◌∙◌, IfOk, IfErr}
+use Rattle.std.proofs.lemmas.Result.{IfOk-weaker, IfErr-weaker}
+use Rattle.sqlite.specs.Held.{state}
+use Rattle.record_store.specs.Archive.{Archive}
+use Rattle.record_store.specs.Adoption.{Finds, FindsSecond, FindsFirst, FindsNothing, IsKeyed}
+use Rattle.record_store.proofs.AdoptLayouts.{Lays, lays_at, no_rows, second_rows, first_rows, finds_nothing, finds_second, finds_first, first_none, first_laid}
+use Rattle.record_store.proofs.AdoptSettled.{leaves_weaker}
+use Rattle.record_store.proofs.store.Store.adopt.Goals as goal
+
+pub returns-in-Empty-clause-found : goal.returns-in-Empty-clause-found
+returns-in-Empty-clause-found g c =
+    let db = (state g.S.Store c.args.conn).now in
+    let l = c.layout_of.result in
+    let lays = lays_at c.schema.result.now db.schema l c.schema.ensures.value c.layout_of.ensures.empty c.layout_of.ensures.first c.layout_of.ensures.first_with_dues c.layout_of.ensures.second in
+    IfOk-weaker c.create.result _ _ (λ s h clean (a : Archive) rows keyed. absurd (no_rows db a l lays c.in-Empty.is rows)) c.create.ensures.ok
+
+pub returns-in-Empty-clause-crash : goal.returns-in-Empty-clause-crash
+returns-in-Empty-clause-crash g c =
+    let db = (state g.S.Store c.args.conn).now in
+    let l = c.layout_of.result in
+    let lays = lays_at c.schema.result.now db.schema l c.schema.ensures.value c.layout_of.ensures.empty c.layout_of.ensures.first c.layout_of.ensures.first_with_dues c.layout_of.ensures.second in
+    IfOk-weaker c.create.result _ _ (λ s h. leaves_weaker g.S.Store c.args.conn s.conn (FindsNothing db) (Finds db) (λ a f. finds_nothing db a l lays c.in-Empty.is f) h) c.create.ensures.crash
+
+pub returns-in-Empty-clause-crash_refused : goal.returns-in-Empty-clause-crash_refused
+returns-in-Empty-clause-crash_refused g c =
+    let db = (state g.S.Store c.args.conn).now in
+    let l = c.layout_of.result in
+    let lays = lays_at c.schema.result.now db.schema l c.schema.ensures.value c.layout_of.ensures.empty c.layout_of.ensures.first c.layout_of.ensures.first_with_dues c.layout_of.ensures.second in
+    IfErr-weaker c.create.result _ _ (λ e h. leaves_weaker g.S.Store c.args.conn e.1 (FindsNothing db) (Finds db) (λ a f. finds_nothing db a l lays c.in-Empty.is f) h) c.create.ensures.crash_refused
+
+pub returns-in-Second-clause-found : goal.returns-in-Second-clause-found
+returns-in-Second-clause-found g c =
+    let db = (state g.S.Store c.args.conn).now in
+    let l = c.layout_of.result in
+    let lays = lays_at c.schema.result.now db.schema l c.schema.ensures.value c.layout_of.ensures.empty c.layout_of.ensures.first c.layout_of.ensures.first_with_dues c.layout_of.ensures.second in
+    IfOk-weaker c.adopt_second.result _ _ (λ s h clean (a : Archive) rows keyed. h clean a (second_rows db a l lays c.in-Second.is rows) keyed) c.adopt_second.ensures.found
+
+pub returns-in-Second-clause-crash : goal.returns-in-Second-clause-crash
+returns-in-Second-clause-crash g c =
+    let db = (state g.S.Store c.args.conn).now in
+    let l = c.layout_of.result in
+    let lays = lays_at c.schema.result.now db.schema l c.schema.ensures.value c.layout_of.ensures.empty c.layout_of.ensures.first c.layout_of.ensures.first_with_dues c.layout_of.ensures.second in
+    IfOk-weaker c.adopt_second.result _ _ (λ s h. leaves_weaker g.S.Store c.args.conn s.conn (λ (a : Archive). FindsSecond db a × IsKeyed a) (Finds db) (λ a f. finds_second db a l lays c.in-Second.is f) h) c.adopt_second.ensures.crash
+
+pub returns-in-Second-clause-crash_refused : goal.returns-in-Second-clause-crash_refused
+returns-in-Second-clause-crash_refused g c =
+    let db = (state g.S.Store c.args.conn).now in
+    let l = c.layout_of.result in
+    let lays = lays_at c.schema.result.now db.schema l c.schema.ensures.value c.layout_of.ensures.empty c.layout_of.ensures.first c.layout_of.ensures.first_with_dues c.layout_of.ensures.second in
+    IfErr-weaker c.adopt_second.result _ _ (λ e h. leaves_weaker g.S.Store c.args.conn e.1 (λ (a : Archive). FindsSecond db a × IsKeyed a) (Finds db) (λ a f. finds_second db a l lays c.in-Second.is f) h) c.adopt_second.ensures.crash_refused
+
+pub returns-in-First-clause-found : goal.returns-in-First-clause-found
+returns-in-First-clause-found g c =
+    let db = (state g.S.Store c.args.conn).now in
+    let l = c.layout_of.result in
+    let lays = lays_at c.schema.result.now db.schema l c.schema.ensures.value c.layout_of.ensures.empty c.layout_of.ensures.first c.layout_of.ensures.first_with_dues c.layout_of.ensures.second in
+    IfOk-weaker c.adopt_first.result _ _ (λ s h clean (a : Archive) rows keyed. h clean a (first_rows db a l lays c.in-First.is rows) keyed) c.adopt_first.ensures.found
+
+pub returns-in-First-clause-crash : goal.returns-in-First-clause-crash
+returns-in-First-clause-crash g c =
+    let db = (state g.S.Store c.args.conn).now in
+    let l = c.layout_of.result in
+    let lays = lays_at c.schema.result.now db.schema l c.schema.ensures.value c.layout_of.ensures.empty c.layout_of.ensures.first c.layout_of.ensures.first_with_dues c.layout_of.ensures.second in
+    IfOk-weaker c.adopt_first.result _ _ (λ s h. leaves_weaker g.S.Store c.args.conn s.conn (λ (a : Archive). FindsFirst db a × IsKeyed a) (Finds db) (λ a f. finds_first db a l lays c.in-First.is f) h) c.adopt_first.ensures.crash
+
+pub returns-in-First-clause-crash_refused : goal.returns-in-First-clause-crash_refused
+returns-in-First-clause-crash_refused g c =
+    let db = (state g.S.Store c.args.conn).now in
+    let l = c.layout_of.result in
+    let lays = lays_at c.schema.result.now db.schema l c.schema.ensures.value c.layout_of.ensures.empty c.layout_of.ensures.first c.layout_of.ensures.first_with_dues c.layout_of.ensures.second in
+    IfErr-weaker c.adopt_first.result _ _ (λ e h. leaves_weaker g.S.Store c.args.conn e.1 (λ (a : Archive). FindsFirst db a × IsKeyed a) (Finds db) (λ a f. finds_first db a l lays c.in-First.is f) h) c.adopt_first.ensures.crash_refused
+
+pub returns-in-First-clause-no_archive : goal.returns-in-First-clause-no_archive
+returns-in-First-clause-no_archive g c =
+    let db = (state g.S.Store c.args.conn).now in
+    let l = c.layout_of.result in
+    let lays = lays_at c.schema.result.now db.schema l c.schema.ensures.value c.layout_of.ensures.empty c.layout_of.ensures.first c.layout_of.ensures.first_with_dues c.layout_of.ensures.second in
+    IfErr-weaker c.adopt_first.result _ _ (λ e h is clean. first_none db l lays c.in-First.is (h is clean)) c.adopt_first.ensures.no_archive
+
+pub returns-in-First-clause-unchanged : goal.returns-in-First-clause-unchanged
+returns-in-First-clause-unchanged g c =
+    let db = (state g.S.Store c.args.conn).now in
+    let l = c.layout_of.result in
+    let lays = lays_at c.schema.result.now db.schema l c.schema.ensures.value c.layout_of.ensures.empty c.layout_of.ensures.first c.layout_of.ensures.first_with_dues c.layout_of.ensures.second in
+    IfErr-weaker c.adopt_first.result _ _ (λ e h laid. h (first_laid db.schema l lays c.in-First.is laid)) c.adopt_first.ensures.unchanged

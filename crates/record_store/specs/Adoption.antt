@@ -1,0 +1,142 @@
+-- What a database holds of an archive when a store is opened over it, and what is read of it.
+use Rattle.std.specs.Prelude.{◌≡◌, ◌≢◌, ◌⊎◌, ℕ, ◌-◌, if◌then◌else◌, false, List, [], ◌∷◌, map, Option, None, codes, IsPermutation}
+use Rattle.sqlite.specs.Store.{Ghosts}
+use Rattle.sqlite.specs.Schema.{Schema}
+use Rattle.sqlite.specs.Tree.{Trees}
+use Rattle.sqlite.specs.Effect.{Database}
+use Rattle.sqlite.specs.State.{Survives}
+use Rattle.sqlite.specs.Held.{Held, state}
+use Rattle.sqlite_keyed.specs.Lists.{sort_by}
+use Rattle.sqlite_trees.specs.Tree.{IsAscending}
+use Rattle.class_plan.specs.Plans.{Listing, IsPlan}
+use Rattle.class_plan.specs.Calendar.{due_on}
+use Rattle.class_plan.specs.Texts.{text_of}
+use Rattle.record_tables.specs.Tables.{IsArchiveSchema, no_schema, first_schema, dated_schema}
+use Rattle.record_tables.specs.Rows.{Tables, Message, Record, Due, Stores, StoresFirst, StoresCommon, AreKeyed}
+use Rattle.record_tables.specs.Reads.{Named, Pair, listed, paired, named_cmp}
+use Rattle.record_tables.specs.Typed.{record_of, named_of, listed_of, rule_of, due_of}
+use Rattle.record_tables.specs.Steps.{IsIdle, Falls, IsStill, CommitsNothingOf}
+use Rattle.record_rows.specs.Rules.{rules_of, classes_of}
+use Rattle.record_rows.specs.Texts.{text_row}
+use Rattle.record_store.specs.Archive.{Archive, Hold, IsArchive, empty_archive, is_hold, next_number}
+use Rattle.record_store.specs.Captures.{due_before}
+use Rattle.record_store.specs.Counts.{count_at}
+use Rattle.record_store.specs.Stores.{Keeps, StoresArchive, hold_of, hold_count, live_count, due_rows}
+use Rattle.record_store.specs.declared.found.ArchiveRows.{ArchiveRows}
+use Rattle.record_store.specs.declared.found.Found.{Found}
+use Rattle.record_store.specs.declared.plan_rows.PlanRows.{PlanRows}
+use Rattle.record_store.specs.declared.text_rows.TextRows.{TextRows}
+
+-- ---- the rows of a database
+
+-- the rows of version 2 are those of the archive, whatever the due days
+pub record FindsSecond (db : Database) (a : Archive) : Type 0 where
+  pub tables : Tables
+  pub stored : Stores db tables
+  pub keyed : AreKeyed tables
+  pub keeps : Keeps tables a
+
+-- the settings of version 1: the text of the root's schedule, and the version
+abbrev pub first_pairs : List ℕ → List Pair
+first_pairs root = record { key = codes "root"; value = root } ∷ record { key = codes "version"; value = codes "1" } ∷ []
+
+-- the rows of version 1, in which schedules are texts
+pub record KeepsFirst (t : Tables) (a : Archive) : Type 0 where
+  pub messages : t.messages ≡ a.messages
+  pub records : t.records ≡ a.records
+  pub holds : map hold_of t.holds ≡ a.holds
+  pub settings : IsPermutation (map paired t.settings) (first_pairs (text_of a.plan.root))
+  pub classes : IsPermutation (map listed t.classes) (map text_row a.plan.rows)
+
+-- the rows of version 1 are those of the archive, with any due days or without the table of them
+pub record FindsFirst (db : Database) (a : Archive) : Type 0 where
+  pub tables : Tables
+  pub stored : StoresFirst db tables
+  pub keyed : AreKeyed tables
+  pub keeps : KeepsFirst tables a
+
+-- the rows of either version are those of the archive
+abbrev pub FindsRows : Database → Archive → Type 0
+FindsRows db a = FindsSecond db a ⊎ FindsFirst db a
+
+-- the plan is one, and each hold is there once, as the keys of the tables have it
+pub record IsKeyed (a : Archive) : Type 0 where
+  pub plan : IsPlan a.plan
+  pub once : IsAscending (λ (x y : Hold). is_hold x.name x.number y ≡ false) a.holds
+
+-- the messages, records and holds, which both versions keep alike
+pub record FindsCommon (db : Database) (a : Archive) : Type 0 where
+  pub tables : Tables
+  pub stored : StoresCommon db tables
+  pub keyed : AreKeyed tables
+  pub messages : tables.messages ≡ a.messages
+  pub records : tables.records ≡ a.records
+  pub holds : map hold_of tables.holds ≡ a.holds
+
+-- there is no table, as of the empty archive before it is laid
+abbrev pub FindsNothing : Database → Archive → Type 0
+FindsNothing db a = (db.schema ≡ no_schema) × (a ≡ empty_archive)
+
+abbrev pub Finds : Database → Archive → Type 0
+Finds db a = (FindsRows db a × IsKeyed a) ⊎ FindsNothing db a
+
+-- no archive has these rows
+abbrev pub HasNoArchive : Database → Type 0
+HasNoArchive db = (db.schema ≢ no_schema) × ((a : Archive) → FindsRows db a → IsArchive a → ⊥)
+
+-- a schema as a store lays it, in version 1 or 2, or none yet
+abbrev pub IsLaidSchema : Schema → Type 0
+IsLaidSchema schema = (schema ≡ no_schema) ⊎ (schema ≡ first_schema) ⊎ (schema ≡ dated_schema) ⊎ IsArchiveSchema schema
+
+-- ---- what is read
+
+abbrev pub named_hold : Hold → Named
+named_hold h = record { name = h.name; number = h.number }
+
+-- the holds by record and then by name
+abbrev pub sorted_holds : Archive → List Named
+sorted_holds a = sort_by named_cmp (map named_hold a.holds)
+
+pub record TellsRows (r : ArchiveRows) (a : Archive) : Type 0 where
+  pub records : map record_of r.records.items ≡ a.records
+  pub messages : r.messages.items ≡ map (λ (m : Message). m.number) a.messages
+  pub holds : map named_of r.holds.items ≡ sorted_holds a
+
+pub record TellsPlan (r : PlanRows) (p : Listing) : Type 0 where
+  pub rules : map rule_of r.rules.items ≡ rules_of p
+  pub classes : map listed_of r.classes.items ≡ classes_of p
+
+pub record TellsTexts (r : TextRows) (p : Listing) : Type 0 where
+  pub root : r.root.items ≡ text_of p.root
+  pub classes : map listed_of r.classes.items ≡ map text_row p.rows
+
+-- the due day of a live record
+abbrev pub day_by : Listing → Record → Option ℕ
+day_by p r = if r.destroyed then None else due_on p r.path r.day
+
+-- the due days of live records by a plan, in the order of the records
+abbrev pub days_by : Listing → List Record → List Due
+days_by p [] = []
+days_by p (r ∷ rs) = due_before r.number (day_by p r) (days_by p rs)
+
+-- what a store over the archive keeps beside the connection, and the due days
+pub record IsFound (f : Found) (a : Archive) : Type 0 where
+  pub plan : f.plan ≡ a.plan
+  pub next : f.next ≡ next_number a
+  pub held : (n : ℕ) → count_at f.held n ≡ hold_count a n
+  pub others : (m : ℕ) → count_at f.others m ≡ live_count a m - 1
+  pub dues : map due_of f.dues.items ≡ due_rows a
+  pub archive : IsArchive a
+
+-- ---- calls
+
+-- Reads outside a transaction, of tables that are there: they change nothing, and a crash leaves what it might have left before.
+pub record Sees {S : Type 0} (g : Ghosts S) (Are : Schema → Type 0) (old new : Held S) : Type 0 where
+  pub idle : IsIdle g old new
+  pub falls : Falls g old new
+  pub still : IsStill g old new (Are (state g old).now.schema)
+  pub survives : CommitsNothingOf g old new (Are (state g old).now.schema)
+
+-- a crash leaves what it might have left before, or tables that keep each archive of these
+abbrev pub LeavesArchive : {S : Type 0} → Ghosts S → (old new : Held S) → (Archive → Type 0) → Type 0
+LeavesArchive g old new Is = Survives (state g old) (state g new) (λ (trees : Trees). (db : Database) × ((a : Archive) → Is a → StoresArchive db a) × (trees ≡ db.trees))

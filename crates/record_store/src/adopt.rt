@@ -1,0 +1,251 @@
+//! A store over a database that may have an archive's tables.
+
+ghost use Rattle.std.specs.Prelude.{◌≡◌, false, true, map, Err, IfOk, IfErr, OnOk, OnErr, IsTrue};
+ghost use Rattle.sqlite.specs.State.{HasCleanDisk};
+ghost use Rattle.sqlite.specs.Held.{state};
+ghost use Rattle.record_tables.specs.Tables.{no_schema, HasCommonTables, IsArchiveSchema};
+ghost use Rattle.record_tables.specs.Changes.{AreAscending};
+ghost use Rattle.record_tables.specs.Layout.{IsLayout};
+ghost use Rattle.record_tables.specs.Steps.{ReadsAlone};
+ghost use Rattle.record_tables.specs.Typed.{due_of};
+ghost use Rattle.record_store.specs.Archive.{Archive, IsArchive, empty_archive};
+ghost use Rattle.record_store.specs.Stores.{StandsFor, StoresArchive, due_rows, is_trouble};
+ghost use Rattle.record_store.specs.Adoption.{Finds, FindsRows, FindsSecond, FindsFirst, HasNoArchive, IsKeyed, IsLaidSchema, TellsPlan, IsFound, Sees, LeavesArchive};
+
+use crate::fault::StoreFault;
+use crate::found::{Found, archive_rows, gather};
+use crate::plan_rows::{PlanRows, plan_in, plan_rows, rows_of_plan};
+use crate::store::Store;
+use crate::text_rows::{plan_in_texts, text_rows};
+use record_tables::fault::Fault;
+use record_tables::lay::move_first;
+use record_tables::layout::{Layout, layout_of};
+use record_tables::renew::replace_plan;
+use record_tables::rows::DueRow;
+use record_tables::stored_dues::are_dues;
+use sqlite::{Alter, Connection, Error};
+use std::alloc::Global;
+
+/// What is read of a database.
+#[derive(Drop)]
+struct Contents {
+    /// The rows of the plan in version 2.
+    plan_rows: PlanRows,
+    found: Found,
+}
+
+/// Puts the due days in place of those that are stored, where they are others.
+fn settle_dues<S: Alter>(
+    conn: &mut Connection<S>,
+    plan: &PlanRows,
+    dues: &[DueRow],
+) -> Result<(), Error>
+    requires idle { conn.old.in_transaction ≡ false }
+    requires ascending { AreAscending (map due_of dues.now) }
+    ensures idle { conn.new.in_transaction ≡ false }
+    ensures ok { HasCleanDisk (state S.Store conn.new) → OnOk result ((a : Archive) → FindsSecond (state S.Store conn.old).now a → TellsPlan plan.now a.plan → map due_of dues.now ≡ due_rows a → StoresArchive (state S.Store conn.new).now a) }
+    ensures err { (IsTrue (state S.Store conn.old).is_open → IsArchiveSchema (state S.Store conn.old).now.schema) → HasCleanDisk (state S.Store conn.new) → IsTrue (state S.Store conn.new).is_open
+        → OnErr result (IsTrue (state S.Store conn.old).is_open × ((state S.Store conn.new).now ≡ (state S.Store conn.old).now)) }
+    ensures falls { HasCleanDisk (state S.Store conn.new) → HasCleanDisk (state S.Store conn.old) }
+    ensures crash { LeavesArchive S.Store conn.old conn.new (λ a. FindsSecond (state S.Store conn.old).now a × TellsPlan plan.now a.plan × (map due_of dues.now ≡ due_rows a)) }
+{
+    let are_stored = are_dues(conn, dues)?;
+    if are_stored {
+        return Ok(());
+    }
+    replace_plan(conn, plan.rules.as_slice(), plan.classes.as_slice(), dues)?;
+    Ok(())
+}
+
+/// Moves version 1 over to version 2, with these rows of its plan and these due days.
+fn move_over<S: Alter>(
+    conn: &mut Connection<S>,
+    plan: &PlanRows,
+    dues: &[DueRow],
+) -> Result<(), Error>
+    requires idle { conn.old.in_transaction ≡ false }
+    requires ascending { AreAscending (map due_of dues.now) }
+    ensures idle { conn.new.in_transaction ≡ false }
+    ensures ok { HasCleanDisk (state S.Store conn.new) → OnOk result ((a : Archive) → FindsFirst (state S.Store conn.old).now a → TellsPlan plan.now a.plan → map due_of dues.now ≡ due_rows a → StoresArchive (state S.Store conn.new).now a) }
+    ensures err { HasCleanDisk (state S.Store conn.new) → IsTrue (state S.Store conn.new).is_open → OnErr result (IsTrue (state S.Store conn.old).is_open × ((state S.Store conn.new).now ≡ (state S.Store conn.old).now)) }
+    ensures falls { HasCleanDisk (state S.Store conn.new) → HasCleanDisk (state S.Store conn.old) }
+    ensures crash { LeavesArchive S.Store conn.old conn.new (λ a. FindsFirst (state S.Store conn.old).now a × TellsPlan plan.now a.plan × (map due_of dues.now ≡ due_rows a)) }
+{
+    move_first(conn, plan.rules.as_slice(), plan.classes.as_slice(), dues)?;
+    Ok(())
+}
+
+/// Reads version 2: the rows of its plan in version 2, and what a store keeps beside the connection.
+fn read_second<S: Alter>(alloc: Global, conn: &mut Connection<S>) -> Result<Contents, Fault>
+    ensures found { HasCleanDisk (state S.Store conn.new) → IfOk result (λ r. (a : Archive) → FindsSecond (state S.Store conn.old).now a → IsKeyed a → TellsPlan r.plan_rows a.plan × IsFound r.found a) }
+    ensures ascending { IfOk result (λ r. AreAscending (map due_of r.found.dues.items)) }
+    ensures none { HasCleanDisk (state S.Store conn.new) → result ≡ Err Fault.NoArchive → (a : Archive) → FindsSecond (state S.Store conn.old).now a → IsArchive a → ⊥ }
+    ensures same { ReadsAlone S.Store conn.old conn.new result (IsArchiveSchema (state S.Store conn.old).now.schema) }
+    ensures sees { Sees S.Store IsArchiveSchema conn.old conn.new }
+{
+    let plan_rows = plan_rows(alloc, conn)?;
+    let rows = archive_rows(alloc, conn)?;
+    let plan = plan_in(alloc, &plan_rows)?;
+    let found = gather(alloc, plan, &rows)?;
+    Ok(Contents { plan_rows, found })
+}
+
+/// Reads version 1: the rows of its plan in version 2, and what a store keeps beside the connection.
+fn read_first<S: Alter>(alloc: Global, conn: &mut Connection<S>) -> Result<Contents, Fault>
+    ensures found { HasCleanDisk (state S.Store conn.new) → IfOk result (λ r. (a : Archive) → FindsFirst (state S.Store conn.old).now a → IsKeyed a → TellsPlan r.plan_rows a.plan × IsFound r.found a) }
+    ensures ascending { IfOk result (λ r. AreAscending (map due_of r.found.dues.items)) }
+    ensures none { HasCleanDisk (state S.Store conn.new) → result ≡ Err Fault.NoArchive → (a : Archive) → FindsFirst (state S.Store conn.old).now a → IsArchive a → ⊥ }
+    ensures same { ReadsAlone S.Store conn.old conn.new result (HasCommonTables (state S.Store conn.old).now.schema) }
+    ensures sees { Sees S.Store HasCommonTables conn.old conn.new }
+{
+    let texts = text_rows(alloc, conn)?;
+    let rows = archive_rows(alloc, conn)?;
+    let plan = plan_in_texts(alloc, &texts)?;
+    let plan_rows = rows_of_plan(alloc, &plan)?;
+    let found = gather(alloc, plan, &rows)?;
+    Ok(Contents { plan_rows, found })
+}
+
+/// Reads version 2, and sets its due days right.
+fn settle_second<S: Alter>(alloc: Global, conn: &mut Connection<S>) -> Result<Found, Fault>
+    requires { conn.old.in_transaction ≡ false }
+    ensures idle { conn.new.in_transaction ≡ false }
+    ensures found { HasCleanDisk (state S.Store conn.new) → IfOk result (λ f. (a : Archive) → FindsSecond (state S.Store conn.old).now a → IsKeyed a → IsFound f a × StoresArchive (state S.Store conn.new).now a) }
+    ensures none { HasCleanDisk (state S.Store conn.new) → result ≡ Err Fault.NoArchive → (a : Archive) → FindsSecond (state S.Store conn.old).now a → IsArchive a → ⊥ }
+    ensures err { (IsTrue (state S.Store conn.old).is_open → IsArchiveSchema (state S.Store conn.old).now.schema) → HasCleanDisk (state S.Store conn.new) → IsTrue (state S.Store conn.new).is_open
+        → OnErr result (IsTrue (state S.Store conn.old).is_open × ((state S.Store conn.new).now ≡ (state S.Store conn.old).now)) }
+    ensures crash { LeavesArchive S.Store conn.old conn.new (λ a. FindsSecond (state S.Store conn.old).now a × IsKeyed a) }
+{
+    let contents = read_second(alloc, conn)?;
+    settle_dues(conn, &contents.plan_rows, contents.found.dues.as_slice())?;
+    Ok(contents.found)
+}
+
+/// Reads version 1, and moves it over to version 2.
+fn settle_first<S: Alter>(alloc: Global, conn: &mut Connection<S>) -> Result<Found, Fault>
+    requires { conn.old.in_transaction ≡ false }
+    ensures idle { conn.new.in_transaction ≡ false }
+    ensures found { HasCleanDisk (state S.Store conn.new) → IfOk result (λ f. (a : Archive) → FindsFirst (state S.Store conn.old).now a → IsKeyed a → IsFound f a × StoresArchive (state S.Store conn.new).now a) }
+    ensures none { HasCleanDisk (state S.Store conn.new) → result ≡ Err Fault.NoArchive → (a : Archive) → FindsFirst (state S.Store conn.old).now a → IsArchive a → ⊥ }
+    ensures err { (IsTrue (state S.Store conn.old).is_open → HasCommonTables (state S.Store conn.old).now.schema) → HasCleanDisk (state S.Store conn.new) → IsTrue (state S.Store conn.new).is_open
+        → OnErr result (IsTrue (state S.Store conn.old).is_open × ((state S.Store conn.new).now ≡ (state S.Store conn.old).now)) }
+    ensures crash { LeavesArchive S.Store conn.old conn.new (λ a. FindsFirst (state S.Store conn.old).now a × IsKeyed a) }
+{
+    let contents = read_first(alloc, conn)?;
+    move_over(conn, &contents.plan_rows, contents.found.dues.as_slice())?;
+    Ok(contents.found)
+}
+
+/// The refusal that a fault is.
+fn told(fault: Fault) -> StoreFault
+    ensures no_archive { result ≡ StoreFault.NoArchive → fault ≡ Fault.NoArchive }
+    ensures trouble { is_trouble result ≡ false → result ≡ StoreFault.NoArchive }
+{
+    match fault {
+        Fault::NoMemory => StoreFault::NoMemory,
+        Fault::Sqlite(error) => StoreFault::Sqlite(error),
+        Fault::NoArchive => StoreFault::NoArchive,
+    }
+}
+
+/// The store over a connection, with what was found.
+fn store_over<S: Alter>(alloc: Global, conn: Connection<S>, found: Found) -> Store<S>
+    ensures conn { result.conn ≡ conn }
+    ensures plan { result.plan ≡ found.plan }
+    ensures next { result.next ≡ found.next }
+    ensures held { result.held ≡ found.held }
+    ensures others { result.others ≡ found.others }
+{
+    let Found {
+        plan,
+        next,
+        held,
+        others,
+        ..
+    } = found;
+    Store {
+        alloc,
+        conn,
+        plan,
+        next,
+        held,
+        others,
+    }
+}
+
+impl<S: Alter> Store<S> {
+    /// The store over version 2.
+    fn adopt_second(
+        alloc: Global,
+        mut conn: Connection<S>,
+    ) -> Result<Store<S>, (StoreFault, Connection<S>)>
+        requires { conn.in_transaction ≡ false }
+        ensures found { IfOk result (λ s. HasCleanDisk (state S.Store s.conn) → (a : Archive) → FindsSecond (state S.Store conn).now a → IsKeyed a → StandsFor S.Store s a) }
+        ensures no_archive { IfErr result (λ e. e.0 ≡ StoreFault.NoArchive → HasCleanDisk (state S.Store e.1) → (a : Archive) → FindsSecond (state S.Store conn).now a → IsArchive a → ⊥) }
+        ensures trouble { IfErr result (λ e. is_trouble e.0 ≡ false → e.0 ≡ StoreFault.NoArchive) }
+        ensures unchanged { IfErr result (λ e. IsArchiveSchema (state S.Store conn).now.schema → HasCleanDisk (state S.Store e.1) → IsTrue (state S.Store e.1).is_open
+            → ((state S.Store e.1).now ≡ (state S.Store conn).now) × ((state S.Store e.1).committed ≡ (state S.Store conn).committed)) }
+        ensures crash { IfOk result (λ s. LeavesArchive S.Store conn s.conn (λ a. FindsSecond (state S.Store conn).now a × IsKeyed a)) }
+        ensures crash_refused { IfErr result (λ e. LeavesArchive S.Store conn e.1 (λ a. FindsSecond (state S.Store conn).now a × IsKeyed a)) }
+    {
+        let _settled = conn.is_autocommit();
+        match settle_second(alloc, &mut conn) {
+            Ok(found) => Ok(store_over(alloc, conn, found)),
+            Err(fault) => {
+                let _still = conn.is_autocommit();
+                Err((told(fault), conn))
+            }
+        }
+    }
+
+    /// The store over version 1.
+    fn adopt_first(
+        alloc: Global,
+        mut conn: Connection<S>,
+    ) -> Result<Store<S>, (StoreFault, Connection<S>)>
+        requires { conn.in_transaction ≡ false }
+        ensures found { IfOk result (λ s. HasCleanDisk (state S.Store s.conn) → (a : Archive) → FindsFirst (state S.Store conn).now a → IsKeyed a → StandsFor S.Store s a) }
+        ensures no_archive { IfErr result (λ e. e.0 ≡ StoreFault.NoArchive → HasCleanDisk (state S.Store e.1) → (a : Archive) → FindsFirst (state S.Store conn).now a → IsArchive a → ⊥) }
+        ensures trouble { IfErr result (λ e. is_trouble e.0 ≡ false → e.0 ≡ StoreFault.NoArchive) }
+        ensures unchanged { IfErr result (λ e. HasCommonTables (state S.Store conn).now.schema → HasCleanDisk (state S.Store e.1) → IsTrue (state S.Store e.1).is_open
+            → ((state S.Store e.1).now ≡ (state S.Store conn).now) × ((state S.Store e.1).committed ≡ (state S.Store conn).committed)) }
+        ensures crash { IfOk result (λ s. LeavesArchive S.Store conn s.conn (λ a. FindsFirst (state S.Store conn).now a × IsKeyed a)) }
+        ensures crash_refused { IfErr result (λ e. LeavesArchive S.Store conn e.1 (λ a. FindsFirst (state S.Store conn).now a × IsKeyed a)) }
+    {
+        let _settled = conn.is_autocommit();
+        match settle_first(alloc, &mut conn) {
+            Ok(found) => Ok(store_over(alloc, conn, found)),
+            Err(fault) => {
+                let _still = conn.is_autocommit();
+                Err((told(fault), conn))
+            }
+        }
+    }
+
+    /// The store over a database: an empty one is laid, as by `create`; version 2 is taken; version 1, with or without due days, is
+    /// moved over to version 2 in one transaction. 88 where the tables or their rows are not an archive's. A refusal, 88, 89 or
+    /// 99, hands the connection back, and the database is as it was. Tables of other names count for nothing.
+    ///
+    /// Time and memory grow with the rows of the tables, messages counted by their numbers alone.
+    pub fn adopt(
+        alloc: Global,
+        conn: Connection<S>,
+    ) -> Result<Store<S>, (StoreFault, Connection<S>)>
+        requires { conn.in_transaction ≡ false }
+        ensures empty { IfOk result (λ s. HasCleanDisk (state S.Store s.conn) → (state S.Store conn).now.schema ≡ no_schema → StandsFor S.Store s empty_archive) }
+        ensures found { IfOk result (λ s. HasCleanDisk (state S.Store s.conn) → (a : Archive) → FindsRows (state S.Store conn).now a → IsKeyed a → StandsFor S.Store s a) }
+        ensures no_archive { IfErr result (λ e. e.0 ≡ StoreFault.NoArchive → HasCleanDisk (state S.Store e.1) → HasNoArchive (state S.Store conn).now) }
+        ensures trouble { IfErr result (λ e. is_trouble e.0 ≡ false → e.0 ≡ StoreFault.NoArchive) }
+        ensures unchanged { IfErr result (λ e. IsLaidSchema (state S.Store conn).now.schema → HasCleanDisk (state S.Store e.1) → IsTrue (state S.Store e.1).is_open
+            → ((state S.Store e.1).now ≡ (state S.Store conn).now) × ((state S.Store e.1).committed ≡ (state S.Store conn).committed)) }
+        ensures crash { IfOk result (λ s. LeavesArchive S.Store conn s.conn (Finds (state S.Store conn).now)) }
+        ensures crash_refused { IfErr result (λ e. LeavesArchive S.Store conn e.1 (Finds (state S.Store conn).now)) }
+    {
+        match layout_of(conn.schema()) {
+            Layout::Empty => Store::create(alloc, conn),
+            Layout::Second => Store::adopt_second(alloc, conn),
+            Layout::First | Layout::FirstWithDues => Store::adopt_first(alloc, conn),
+            Layout::Other => Err((StoreFault::NoArchive, conn)),
+        }
+    }
+}

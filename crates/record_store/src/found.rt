@@ -1,0 +1,121 @@
+//! The rows of messages, records and holds, and what a store keeps of them beside the connection.
+
+ghost use Rattle.std.specs.Prelude.{◌≡◌, ◌≤◌, map, Err, IfOk};
+ghost use Rattle.std.specs.List.{All};
+ghost use Rattle.sqlite.specs.State.{HasCleanDisk};
+ghost use Rattle.sqlite.specs.Held.{state};
+ghost use Rattle.record_tables.specs.Tables.{HasCommonTables};
+ghost use Rattle.record_tables.specs.Changes.{AreAscending};
+ghost use Rattle.record_tables.specs.Steps.{ReadsAlone};
+ghost use Rattle.record_tables.specs.Typed.{record_of, due_of};
+ghost use Rattle.record_store.specs.Archive.{Archive, IsArchive};
+ghost use Rattle.record_store.specs.Adoption.{FindsCommon, IsKeyed, TellsRows, IsFound, Sees, day_by, days_by};
+
+use crate::captures::number_of;
+use crate::counts::Counts;
+use crate::tallies::{held_counts, next_after, other_counts};
+use class_plan::{Plan, date_of};
+use record_rows::are_rows_of;
+use record_tables::fault::Fault;
+use record_tables::read::{holds, message_numbers, records};
+use record_tables::rows::{DueRow, HoldRow, RecordRow};
+use sqlite::{Alter, Connection};
+use std::alloc::{AllocError, Global};
+
+/// The rows of the tables that both versions keep alike, in the order of their keys.
+#[derive(Drop)]
+pub(crate) struct ArchiveRows {
+    pub(crate) records: Vec<RecordRow>,
+    /// The numbers of the messages.
+    pub(crate) messages: Vec<u32>,
+    pub(crate) holds: Vec<HoldRow>,
+}
+
+/// What a store keeps beside the connection, and the due days of its records.
+#[derive(Drop)]
+pub(crate) struct Found {
+    pub(crate) plan: Plan,
+    pub(crate) next: u64,
+    pub(crate) held: Counts,
+    pub(crate) others: Counts,
+    pub(crate) dues: Vec<DueRow>,
+}
+
+/// Reads the rows of messages, records and holds.
+pub(crate) fn archive_rows<S: Alter>(
+    alloc: Global,
+    conn: &mut Connection<S>,
+) -> Result<ArchiveRows, Fault>
+    ensures tells { HasCleanDisk (state S.Store conn.new) → IfOk result (λ r. (a : Archive) → FindsCommon (state S.Store conn.old).now a → IsKeyed a → TellsRows r a) }
+    ensures none { HasCleanDisk (state S.Store conn.new) → result ≡ Err Fault.NoArchive → (a : Archive) → FindsCommon (state S.Store conn.old).now a → IsArchive a → ⊥ }
+    ensures same { ReadsAlone S.Store conn.old conn.new result (HasCommonTables (state S.Store conn.old).now.schema) }
+    ensures sees { Sees S.Store HasCommonTables conn.old conn.new }
+{
+    let records = records(alloc, conn)?;
+    let messages = message_numbers(alloc, conn)?;
+    let holds = holds(alloc, conn)?;
+    Ok(ArchiveRows {
+        records,
+        messages,
+        holds,
+    })
+}
+
+/// The due day of a live record.
+fn due_day(plan: &Plan, record: &RecordRow) -> Option<u32>
+    requires { record.now.day ≤ 84005 }
+    ensures { result ≡ day_by plan.now (record_of record.now) }
+{
+    if record.destroyed {
+        return None;
+    }
+    let Some(day) = date_of(i64::from(record.day)) else {
+        return None;
+    };
+    match plan.due_of(record.path.as_slice(), day) {
+        Some(date) => Some(number_of(date)),
+        None => None,
+    }
+}
+
+/// The due days of live records by a plan.
+fn due_days(alloc: Global, plan: &Plan, records: &[RecordRow]) -> Result<Vec<DueRow>, AllocError>
+    requires { All (λ r. r.day ≤ 84005) records.now }
+    ensures { IfOk result (λ v. map due_of v.items ≡ days_by plan.now (map record_of records.now)) }
+{
+    let mut dues = Vec::new(alloc);
+    for record in records {
+        if let Some(day) = due_day(plan, record) {
+            dues.push(DueRow {
+                record: record.number,
+                day,
+            })?;
+        }
+    }
+    Ok(dues)
+}
+
+/// What a store over rows with a plan keeps beside the connection, where they are an archive's.
+pub(crate) fn gather(alloc: Global, plan: Plan, rows: &ArchiveRows) -> Result<Found, Fault>
+    ensures found { IfOk result (λ f. (a : Archive) → plan ≡ a.plan → IsKeyed a → TellsRows rows.now a → IsFound f a) }
+    ensures ascending { IfOk result (λ f. AreAscending (map due_of f.dues.items)) }
+    ensures none { result ≡ Err Fault.NoArchive → (a : Archive) → plan ≡ a.plan → TellsRows rows.now a → IsArchive a → ⊥ }
+{
+    let records = rows.records.as_slice();
+    let messages = rows.messages.as_slice();
+    let holds = rows.holds.as_slice();
+    let is_archive = are_rows_of(alloc, &plan, records, messages, holds)?;
+    if !is_archive {
+        return Err(Fault::NoArchive);
+    }
+    let held = held_counts(alloc, holds)?;
+    let others = other_counts(alloc, records, messages)?;
+    let dues = due_days(alloc, &plan, records)?;
+    Ok(Found {
+        plan,
+        next: next_after(records),
+        held,
+        others,
+        dues,
+    })
+}

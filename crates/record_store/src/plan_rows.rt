@@ -1,0 +1,82 @@
+//! The rows of a plan in version 2.
+
+ghost use Rattle.std.specs.Prelude.{◌≡◌, ◌↔◌, ◌∷◌, [], map, codes, Err, IfOk, IsTrue};
+ghost use Rattle.sqlite.specs.State.{HasCleanDisk};
+ghost use Rattle.sqlite.specs.Held.{state};
+ghost use Rattle.class_plan.specs.Plans.{Listing, IsPlan};
+ghost use Rattle.record_tables.specs.Tables.{IsArchiveSchema};
+ghost use Rattle.record_tables.specs.Steps.{ReadsAlone};
+ghost use Rattle.record_tables.specs.Typed.{pair_of};
+ghost use Rattle.record_store.specs.Archive.{Archive};
+ghost use Rattle.record_store.specs.Adoption.{FindsSecond, IsKeyed, TellsPlan, Sees};
+
+use class_plan::Plan;
+use record_rows::{classes_of, plan_of_rows, rules_of};
+use record_tables::fault::Fault;
+use record_tables::read::{classes, schedules, settings};
+use record_tables::rows::{ClassRow, ScheduleRow, SettingRow};
+use sqlite::{Alter, Connection};
+use std::alloc::{AllocError, Global};
+
+/// The rows of a plan, by their paths.
+#[derive(Drop)]
+pub(crate) struct PlanRows {
+    pub(crate) rules: Vec<ScheduleRow>,
+    pub(crate) classes: Vec<ClassRow>,
+}
+
+/// Whether a setting is this one.
+pub(crate) fn is_setting(setting: &SettingRow, key: &[u8], value: &[u8]) -> bool
+    ensures { IsTrue result ↔ (pair_of setting.now ≡ record { key = key.now; value = value.now }) }
+{
+    setting.key.as_slice() == key && setting.value.as_slice() == value
+}
+
+/// Whether the settings are those of version 2.
+fn is_second(settings: &[SettingRow]) -> bool
+    ensures { IsTrue result ↔ (map pair_of settings.now ≡ record { key = codes "version"; value = codes "2" } ∷ []) }
+{
+    match settings {
+        [setting] => is_setting(setting, b"version", b"2"),
+        _ => false,
+    }
+}
+
+/// Reads the rows of a plan, where the settings are those of version 2.
+pub(crate) fn plan_rows<S: Alter>(
+    alloc: Global,
+    conn: &mut Connection<S>,
+) -> Result<PlanRows, Fault>
+    ensures tells { HasCleanDisk (state S.Store conn.new) → IfOk result (λ r. (a : Archive) → FindsSecond (state S.Store conn.old).now a → IsKeyed a → TellsPlan r a.plan) }
+    ensures none { HasCleanDisk (state S.Store conn.new) → result ≡ Err Fault.NoArchive → (a : Archive) → FindsSecond (state S.Store conn.old).now a → IsKeyed a → ⊥ }
+    ensures same { ReadsAlone S.Store conn.old conn.new result (IsArchiveSchema (state S.Store conn.old).now.schema) }
+    ensures sees { Sees S.Store IsArchiveSchema conn.old conn.new }
+{
+    let settings = settings(alloc, conn)?;
+    if !is_second(settings.as_slice()) {
+        return Err(Fault::NoArchive);
+    }
+    let rules = schedules(alloc, conn)?;
+    let classes = classes(alloc, conn)?;
+    Ok(PlanRows { rules, classes })
+}
+
+/// The plan of rows.
+pub(crate) fn plan_in(alloc: Global, rows: &PlanRows) -> Result<Plan, Fault>
+    ensures plan { IfOk result (λ p. (q : Listing) → IsPlan q → TellsPlan rows.now q → p ≡ q) }
+    ensures none { result ≡ Err Fault.NoArchive → (q : Listing) → IsPlan q → TellsPlan rows.now q → ⊥ }
+{
+    match plan_of_rows(alloc, rows.rules.as_slice(), rows.classes.as_slice())? {
+        Some(plan) => Ok(plan),
+        None => Err(Fault::NoArchive),
+    }
+}
+
+/// The rows of a plan.
+pub(crate) fn rows_of_plan(alloc: Global, plan: &Plan) -> Result<PlanRows, AllocError>
+    ensures { IfOk result (λ r. TellsPlan r plan.now) }
+{
+    let rules = rules_of(alloc, plan)?;
+    let classes = classes_of(alloc, plan)?;
+    Ok(PlanRows { rules, classes })
+}
