@@ -10,3 +10,4 @@ pub mod AllowedLemmas
 pub mod DestroyLemmas
 pub mod ReviseLemmas
 pub mod ClassLemmas
+pub mod ChangeRows
