@@ -17,7 +17,7 @@ use std::alloc::Global;
 /// The number of the last day on which a record may be captured, 2199-12-31.
 pub(crate) const LAST_CAPTURE_DAY: u32 = 84_005;
 
-/// The day by which a record of a class falls due that was captured on a day, both in days since 1970-01-01: `None` where the
+/// The day on which a record of a class falls due that was captured on a day, both in days since 1970-01-01: `None` where the
 /// class's schedule is permanent, and where the path is no class.
 ///
 /// The caller gives a day of 1970 to 2199.

@@ -36,7 +36,7 @@ fn read_fault(fault: Fault) -> StoreFault
 
 impl<S: Alter> Store<S> {
     /// The new plan, if it drops no path of the plan (57).
-    fn judge_plan(&self, plan: Plan) -> Result<Plan, StoreFault>
+    fn judge_revision(&self, plan: Plan) -> Result<Plan, StoreFault>
         ensures { MatchResult result (λ p. (keeps self.now.plan plan ≡ true) × (p ≡ plan)) (λ f. is_trouble f ≡ false → (keeps self.now.plan plan ≡ false) × (f ≡ StoreFault.Plan PathDropped)) }
     {
         let mut kept = self.plan.copy()?;
@@ -88,7 +88,7 @@ impl<S: Alter> Store<S> {
         ensures falls { Falls S.Store self.old self.new }
         ensures crash { Leaves S.Store self.old self.new (λ a. archive.revise a plan) }
     {
-        let kept = self.judge_plan(plan)?;
+        let kept = self.judge_revision(plan)?;
         let rows = self.all_records()?;
         let dues = due_rows_by(self.alloc, &kept, rows.as_slice())?;
         self.place_plan(kept, dues.as_slice())?;
