@@ -16,7 +16,7 @@ use Rattle.std.proofs.lemmas.List.Sorted.{IsPermutation-sym, length_permutation,
 use Rattle.class_plan.specs.Plans.{Listing}
 use Rattle.record_tables.specs.Changes.{Listed, Rule}
 use Rattle.record_tables.specs.Reads.{Pair, paired, listed, rule}
-use Rattle.record_store.specs.Adoption.{FindsSecond, FindsFirst, FindsCommon, ReadsSecond, ReadsFirst, TellsPlan, TellsTexts, ToldPlan, ToldTexts, first_pairs, Sees}
+use Rattle.record_store.specs.Adoption.{FindsSecond, FindsFirst, FindsCommon, ReadsSecond, ReadsFirst, TellsPlan, TellsTexts, ShowsPlan, ShowsTexts, first_pairs, Sees}
 use Rattle.record_store.specs.Stores.{hold_of}
 use Rattle.record_store.specs.declared.plan_rows.PlanRows.{PlanRows}
 use Rattle.record_store.specs.declared.text_rows.TextRows.{TextRows}
@@ -96,7 +96,7 @@ one_left [] p same = absurd (omega (arith, length_permutation [] (p ∷ []) same
 one_left (x ∷ []) p same = ap (λ z. z ∷ []) (recursion_from_All (λ z. z ≡ p) (x ∷ []) (All-permutation (λ z. z ≡ p) (p ∷ []) (x ∷ []) (IsPermutation-sym (x ∷ []) (p ∷ []) same) (All-from_recursion (λ z. z ≡ p) (p ∷ []) (refl, tt)))).0
 one_left (x ∷ y ∷ xs) p same = absurd (omega (arith, length_permutation (x ∷ y ∷ xs) (p ∷ []) same))
 
-pub second_told : (db : Database) (t : Tables) (ps : List Pair) (rs : List Rule) (cs : List Listed) (r : PlanRows) (p : Listing) → ReadsSecond db t ps rs cs → ToldPlan r ps rs cs → TellsPlan r p → FindsSecond db (archive_of t p)
+pub second_told : (db : Database) (t : Tables) (ps : List Pair) (rs : List Rule) (cs : List Listed) (r : PlanRows) (p : Listing) → ReadsSecond db t ps rs cs → ShowsPlan r ps rs cs → TellsPlan r p → FindsSecond db (archive_of t p)
 second_told db t ps rs cs r p d told tells = record {
   tables = t;
   stored = d.stored;
@@ -111,7 +111,7 @@ second_told db t ps rs cs r p d told tells = record {
   };
 }
 
-pub first_told : (db : Database) (t : Tables) (ps : List Pair) (cs : List Listed) (r : TextRows) (p : Listing) → ReadsFirst db t ps cs → ToldTexts r ps cs → TellsTexts r p → FindsFirst db (archive_of t p)
+pub first_told : (db : Database) (t : Tables) (ps : List Pair) (cs : List Listed) (r : TextRows) (p : Listing) → ReadsFirst db t ps cs → ShowsTexts r ps cs → TellsTexts r p → FindsFirst db (archive_of t p)
 first_told db t ps cs r p d told tells = record {
   tables = t;
   stored = d.stored;

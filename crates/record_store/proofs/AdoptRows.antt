@@ -20,12 +20,12 @@ use Rattle.record_tables.specs.declared.rows.RecordRow.{RecordRow}
 use Rattle.record_rows.specs.Judged as judged
 use Rattle.record_rows.specs.Judged.{is_one_of, IsSound, AreRows}
 use Rattle.record_store.specs.Archive.{Archive, Hold, IsArchive, IsRecord, is_live, is_named, has_message, has_number, due_of, past_all, is_hold}
-use Rattle.record_store.specs.Adoption.{TellsRows, IsFound, IsJudged, IsKeyed, named_hold, sorted_holds, day_by, days_by}
+use Rattle.record_store.specs.Adoption.{TellsRows, IsOverview, IsJudged, IsKeyed, named_hold, sorted_holds, day_by, days_by}
 use Rattle.record_store.specs.Captures.{due_before}
 use Rattle.record_store.specs.Counts.{count_at, tally}
 use Rattle.record_store.specs.Stores.{has_due, due_row, due_rows, hold_count, live_count}
-use Rattle.record_store.specs.declared.found.ArchiveRows.{ArchiveRows}
-use Rattle.record_store.specs.declared.found.Found.{Found}
+use Rattle.record_store.specs.declared.overview.ArchiveRows.{ArchiveRows}
+use Rattle.record_store.specs.declared.overview.Overview.{Overview}
 use Rattle.record_store.proofs.AdoptHolds.{holds_permuted, holds_sorted, numbers_sorted, numbers_rise, tally-map, tally-permutation}
 
 all_weaker : {X : Type 0} (P Q : X → Type 0) → ((x : X) → P x → Q x) → (xs : List X) → AllByRecursion P xs → AllByRecursion Q xs
@@ -296,12 +296,12 @@ days_small p rs sound =
     All-from_recursion (λ (r : RecordRow). r.day ≤ 84005) rs
     (all_weaker (λ (r : RecordRow). IsSound p (record_of r)) (λ (r : RecordRow). r.day ≤ 84005) (λ r h. h.day) rs (all_unmap (IsSound p) record_of rs (recursion_from_All (IsSound p) (map record_of rs) sound)))
 
-pub is_found : (f : Found) (a : Archive) (plan : Listing) (rs : List RecordRow) (ms : List ℕ) (hs : List HoldRow) → plan ≡ a.plan → IsKeyed a → map record_of rs ≡ a.records → ms ≡ map (λ (m : Message). m.number) a.messages
+pub is_overview : (f : Overview) (a : Archive) (plan : Listing) (rs : List RecordRow) (ms : List ℕ) (hs : List HoldRow) → plan ≡ a.plan → IsKeyed a → map record_of rs ≡ a.records → ms ≡ map (λ (m : Message). m.number) a.messages
     → map named_of hs ≡ sorted_holds a → AreRows plan (map record_of rs) ms (map named_of hs) → f.plan ≡ plan → f.next ≡ past_all 1 (map record_of rs) → f.next ≤ 2 ^ 32
     → ((n : ℕ) → count_at f.held n ≡ tally (λ (h : HoldRow). h.record == n) hs)
     → ((m : ℕ) → count_at f.others m ≡ tally (λ (r : RecordRow). not r.destroyed && (r.message == m)) rs - tally (λ (k : ℕ). k == m) ms)
-    → map due_at f.dues.items ≡ days_by plan (map record_of rs) → IsFound f a
-is_found f a plan rs ms hs same keyed records messages holds rows own next small held others dues =
+    → map due_at f.dues.items ≡ days_by plan (map record_of rs) → IsOverview f a
+is_overview f a plan rs ms hs same keyed records messages holds rows own next small held others dues =
     let fit = small_below f.next a.records (next ∙ ap (past_all 1) records) small in
     let archive = rows-archive a keyed fit (rows_back a plan rs ms hs same records messages holds rows) in
     record {

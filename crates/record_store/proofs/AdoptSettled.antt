@@ -18,10 +18,10 @@ use Rattle.record_tables.specs.Reads.{Pair}
 use Rattle.record_tables.specs.Steps.{CommitsNothingOf}
 use Rattle.record_rows.specs.Rules.{rules_of, classes_of}
 use Rattle.record_store.specs.Archive.{Archive, IsArchive, empty_archive}
-use Rattle.record_store.specs.Adoption.{FindsSecond, FindsFirst, FindsNothing, IsFound, IsKeyed, LeavesArchive, first_pairs}
+use Rattle.record_store.specs.Adoption.{FindsSecond, FindsFirst, FindsNothing, IsOverview, IsKeyed, LeavesArchive, first_pairs}
 use Rattle.record_store.specs.Counts.{count_at}
 use Rattle.record_store.specs.Stores.{StoresArchive, StandsFor, due_rows, hold_count, live_count}
-use Rattle.record_store.specs.declared.found.Found.{Found}
+use Rattle.record_store.specs.declared.overview.Overview.{Overview}
 use Rattle.record_store.specs.declared.store.Store.{Store}
 use Rattle.record_store.proofs.StoreLemmas.{listed-numbered, rules-numbered, same_list, stores_laid}
 
@@ -133,8 +133,8 @@ leaves_laid g old new rules classes same_rules same_classes one =
 pub keyed_of : (a : Archive) → IsArchive a → IsKeyed a
 keyed_of a is = record { plan = is.plan; once = is.once }
 
-pub stands_found : {S : Type 0} (g : Ghosts S) (s : Store S) (conn : Held S) (f : Found) (a : Archive) → s.conn ≡ conn → s.plan ≡ f.plan → s.next ≡ f.next → s.held ≡ f.held → s.others ≡ f.others
-    → conn.in_transaction ≡ false → IsFound f a → StoresArchive (state g conn).now a → StandsFor g s a
+pub stands_found : {S : Type 0} (g : Ghosts S) (s : Store S) (conn : Held S) (f : Overview) (a : Archive) → s.conn ≡ conn → s.plan ≡ f.plan → s.next ≡ f.next → s.held ≡ f.held → s.others ≡ f.others
+    → conn.in_transaction ≡ false → IsOverview f a → StoresArchive (state g conn).now a → StandsFor g s a
 stands_found g s conn f a same plan next held others idle is stores = record {
   idle = ap (λ (h : Held _). h.in_transaction) same ∙ idle;
   plan = plan ∙ is.plan;

@@ -25,8 +25,8 @@ use Rattle.record_store.specs.Archive.{Archive, Hold, IsArchive, empty_archive, 
 use Rattle.record_store.specs.Captures.{due_before}
 use Rattle.record_store.specs.Counts.{count_at}
 use Rattle.record_store.specs.Stores.{Keeps, StoresArchive, hold_of, hold_count, live_count, due_rows}
-use Rattle.record_store.specs.declared.found.ArchiveRows.{ArchiveRows}
-use Rattle.record_store.specs.declared.found.Found.{Found}
+use Rattle.record_store.specs.declared.overview.ArchiveRows.{ArchiveRows}
+use Rattle.record_store.specs.declared.overview.Overview.{Overview}
 use Rattle.record_store.specs.declared.plan_rows.PlanRows.{PlanRows}
 use Rattle.record_store.specs.declared.text_rows.TextRows.{TextRows}
 
@@ -145,12 +145,12 @@ pub record TellsPlan (r : PlanRows) (p : Listing) : Type 0 where
   pub classes : map listed_of r.classes.items ≡ classes_of p
 
 -- what is read of rows that may be no plan's
-pub record ToldPlan (r : PlanRows) (ps : List Pair) (rs : List Rule) (cs : List Listed) : Type 0 where
+pub record ShowsPlan (r : PlanRows) (ps : List Pair) (rs : List Rule) (cs : List Listed) : Type 0 where
   pub settings : ps ≡ record { key = codes "version"; value = codes "2" } ∷ []
   pub rules : map rule_of r.rules.items ≡ rs
   pub classes : map listed_of r.classes.items ≡ cs
 
-pub record ToldTexts (r : TextRows) (ps : List Pair) (cs : List Listed) : Type 0 where
+pub record ShowsTexts (r : TextRows) (ps : List Pair) (cs : List Listed) : Type 0 where
   pub settings : ps ≡ first_pairs r.root.items
   pub classes : map listed_of r.classes.items ≡ cs
 
@@ -173,7 +173,7 @@ days_by p [] = []
 days_by p (r ∷ rs) = due_before r.number (day_by p r) (days_by p rs)
 
 -- what a store over the archive keeps beside the connection, and the due days
-pub record IsFound (f : Found) (a : Archive) : Type 0 where
+pub record IsOverview (f : Overview) (a : Archive) : Type 0 where
   pub plan : f.plan ≡ a.plan
   pub next : f.next ≡ next_number a
   pub held : (n : ℕ) → count_at f.held n ≡ hold_count a n

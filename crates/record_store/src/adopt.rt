@@ -12,10 +12,10 @@ ghost use Rattle.record_tables.specs.Steps.{ReadsAlone};
 ghost use Rattle.record_tables.specs.Typed.{due_of};
 ghost use Rattle.record_store.specs.Archive.{Archive, IsArchive, empty_archive};
 ghost use Rattle.record_store.specs.Stores.{StandsFor, StoresArchive, due_rows, is_trouble};
-ghost use Rattle.record_store.specs.Adoption.{Finds, FindsRows, FindsSecond, FindsFirst, HasNoArchive, HasArchive, HasRows, IsKeyed, IsLaidSchema, ReadsSecond, ReadsFirst, TellsPlan, IsFound, Sees, LeavesArchive};
+ghost use Rattle.record_store.specs.Adoption.{Finds, FindsRows, FindsSecond, FindsFirst, HasNoArchive, HasArchive, HasRows, IsKeyed, IsLaidSchema, ReadsSecond, ReadsFirst, TellsPlan, IsOverview, Sees, LeavesArchive};
 
 use crate::fault::StoreFault;
-use crate::found::{Found, archive_rows, gather};
+use crate::overview::{Overview, archive_rows, gather};
 use crate::plan_rows::{PlanRows, plan_in, plan_rows, rows_of_plan};
 use crate::store::Store;
 use crate::text_rows::{plan_in_texts, text_rows};
@@ -33,7 +33,7 @@ use std::alloc::Global;
 struct Contents {
     /// The rows of the plan in version 2.
     plan_rows: PlanRows,
-    found: Found,
+    overview: Overview,
 }
 
 /// Puts the due days in place of those that are stored, where they are others.
@@ -80,8 +80,8 @@ fn move_over<S: Alter>(
 /// Reads version 2: the rows of its plan in version 2, and what a store keeps beside the connection.
 fn read_second<S: Alter>(alloc: Global, conn: &mut Connection<S>) -> Result<Contents, Fault>
     ensures sound { HasCleanDisk (state S.Store conn.new) → IfOk result (λ r. (t : Tables) (ps : List Pair) (rs : List Rule) (cs : List Listed) → ReadsSecond (state S.Store conn.old).now t ps rs cs → HasArchive (state S.Store conn.old).now) }
-    ensures found { HasCleanDisk (state S.Store conn.new) → IfOk result (λ r. (a : Archive) → FindsSecond (state S.Store conn.old).now a → IsKeyed a → TellsPlan r.plan_rows a.plan × IsFound r.found a) }
-    ensures ascending { IfOk result (λ r. AreAscending (map due_of r.found.dues.items)) }
+    ensures found { HasCleanDisk (state S.Store conn.new) → IfOk result (λ r. (a : Archive) → FindsSecond (state S.Store conn.old).now a → IsKeyed a → TellsPlan r.plan_rows a.plan × IsOverview r.overview a) }
+    ensures ascending { IfOk result (λ r. AreAscending (map due_of r.overview.dues.items)) }
     ensures none { HasCleanDisk (state S.Store conn.new) → result ≡ Err Fault.NoArchive → (a : Archive) → FindsSecond (state S.Store conn.old).now a → IsArchive a → ⊥ }
     ensures same { ReadsAlone S.Store conn.old conn.new result (IsArchiveSchema (state S.Store conn.old).now.schema) }
     ensures sees { Sees S.Store IsArchiveSchema conn.old conn.new }
@@ -89,15 +89,18 @@ fn read_second<S: Alter>(alloc: Global, conn: &mut Connection<S>) -> Result<Cont
     let plan_rows = plan_rows(alloc, conn)?;
     let rows = archive_rows(alloc, conn)?;
     let plan = plan_in(alloc, &plan_rows)?;
-    let found = gather(alloc, plan, &rows)?;
-    Ok(Contents { plan_rows, found })
+    let overview = gather(alloc, plan, &rows)?;
+    Ok(Contents {
+        plan_rows,
+        overview,
+    })
 }
 
 /// Reads version 1: the rows of its plan in version 2, and what a store keeps beside the connection.
 fn read_first<S: Alter>(alloc: Global, conn: &mut Connection<S>) -> Result<Contents, Fault>
     ensures sound { HasCleanDisk (state S.Store conn.new) → IfOk result (λ r. (t : Tables) (ps : List Pair) (cs : List Listed) → ReadsFirst (state S.Store conn.old).now t ps cs → HasArchive (state S.Store conn.old).now) }
-    ensures found { HasCleanDisk (state S.Store conn.new) → IfOk result (λ r. (a : Archive) → FindsFirst (state S.Store conn.old).now a → IsKeyed a → TellsPlan r.plan_rows a.plan × IsFound r.found a) }
-    ensures ascending { IfOk result (λ r. AreAscending (map due_of r.found.dues.items)) }
+    ensures found { HasCleanDisk (state S.Store conn.new) → IfOk result (λ r. (a : Archive) → FindsFirst (state S.Store conn.old).now a → IsKeyed a → TellsPlan r.plan_rows a.plan × IsOverview r.overview a) }
+    ensures ascending { IfOk result (λ r. AreAscending (map due_of r.overview.dues.items)) }
     ensures none { HasCleanDisk (state S.Store conn.new) → result ≡ Err Fault.NoArchive → (a : Archive) → FindsFirst (state S.Store conn.old).now a → IsArchive a → ⊥ }
     ensures same { ReadsAlone S.Store conn.old conn.new result (HasCommonTables (state S.Store conn.old).now.schema) }
     ensures sees { Sees S.Store HasCommonTables conn.old conn.new }
@@ -106,44 +109,47 @@ fn read_first<S: Alter>(alloc: Global, conn: &mut Connection<S>) -> Result<Conte
     let rows = archive_rows(alloc, conn)?;
     let plan = plan_in_texts(alloc, &texts)?;
     let plan_rows = rows_of_plan(alloc, &plan)?;
-    let found = gather(alloc, plan, &rows)?;
-    Ok(Contents { plan_rows, found })
+    let overview = gather(alloc, plan, &rows)?;
+    Ok(Contents {
+        plan_rows,
+        overview,
+    })
 }
 
 /// Reads version 2, and sets its due days right.
-fn settle_second<S: Alter>(alloc: Global, conn: &mut Connection<S>) -> Result<Found, Fault>
+fn settle_second<S: Alter>(alloc: Global, conn: &mut Connection<S>) -> Result<Overview, Fault>
     requires { conn.old.in_transaction ≡ false }
     ensures idle { conn.new.in_transaction ≡ false }
     ensures sound { HasCleanDisk (state S.Store conn.new) → IfOk result (λ f. (t : Tables) (ps : List Pair) (rs : List Rule) (cs : List Listed) → ReadsSecond (state S.Store conn.old).now t ps rs cs → HasArchive (state S.Store conn.old).now) }
-    ensures found { HasCleanDisk (state S.Store conn.new) → IfOk result (λ f. (a : Archive) → FindsSecond (state S.Store conn.old).now a → IsKeyed a → IsFound f a × StoresArchive (state S.Store conn.new).now a) }
+    ensures found { HasCleanDisk (state S.Store conn.new) → IfOk result (λ f. (a : Archive) → FindsSecond (state S.Store conn.old).now a → IsKeyed a → IsOverview f a × StoresArchive (state S.Store conn.new).now a) }
     ensures none { HasCleanDisk (state S.Store conn.new) → result ≡ Err Fault.NoArchive → (a : Archive) → FindsSecond (state S.Store conn.old).now a → IsArchive a → ⊥ }
     ensures err { (IsTrue (state S.Store conn.old).is_open → IsArchiveSchema (state S.Store conn.old).now.schema) → HasCleanDisk (state S.Store conn.new) → IsTrue (state S.Store conn.new).is_open
         → OnErr result (IsTrue (state S.Store conn.old).is_open × ((state S.Store conn.new).now ≡ (state S.Store conn.old).now)) }
     ensures crash { LeavesArchive S.Store conn.old conn.new (λ a. FindsSecond (state S.Store conn.old).now a × IsKeyed a) }
 {
     let contents = read_second(alloc, conn)?;
-    settle_dues(conn, &contents.plan_rows, contents.found.dues.as_slice())?;
-    Ok(contents.found)
+    settle_dues(conn, &contents.plan_rows, contents.overview.dues.as_slice())?;
+    Ok(contents.overview)
 }
 
 /// Reads version 1, and moves it over to version 2.
-fn settle_first<S: Alter>(alloc: Global, conn: &mut Connection<S>) -> Result<Found, Fault>
+fn settle_first<S: Alter>(alloc: Global, conn: &mut Connection<S>) -> Result<Overview, Fault>
     requires { conn.old.in_transaction ≡ false }
     ensures idle { conn.new.in_transaction ≡ false }
     ensures sound { HasCleanDisk (state S.Store conn.new) → IfOk result (λ f. (t : Tables) (ps : List Pair) (cs : List Listed) → ReadsFirst (state S.Store conn.old).now t ps cs → HasArchive (state S.Store conn.old).now) }
-    ensures found { HasCleanDisk (state S.Store conn.new) → IfOk result (λ f. (a : Archive) → FindsFirst (state S.Store conn.old).now a → IsKeyed a → IsFound f a × StoresArchive (state S.Store conn.new).now a) }
+    ensures found { HasCleanDisk (state S.Store conn.new) → IfOk result (λ f. (a : Archive) → FindsFirst (state S.Store conn.old).now a → IsKeyed a → IsOverview f a × StoresArchive (state S.Store conn.new).now a) }
     ensures none { HasCleanDisk (state S.Store conn.new) → result ≡ Err Fault.NoArchive → (a : Archive) → FindsFirst (state S.Store conn.old).now a → IsArchive a → ⊥ }
     ensures err { (IsTrue (state S.Store conn.old).is_open → HasCommonTables (state S.Store conn.old).now.schema) → HasCleanDisk (state S.Store conn.new) → IsTrue (state S.Store conn.new).is_open
         → OnErr result (IsTrue (state S.Store conn.old).is_open × ((state S.Store conn.new).now ≡ (state S.Store conn.old).now)) }
     ensures crash { LeavesArchive S.Store conn.old conn.new (λ a. FindsFirst (state S.Store conn.old).now a × IsKeyed a) }
 {
     let contents = read_first(alloc, conn)?;
-    move_over(conn, &contents.plan_rows, contents.found.dues.as_slice())?;
-    Ok(contents.found)
+    move_over(conn, &contents.plan_rows, contents.overview.dues.as_slice())?;
+    Ok(contents.overview)
 }
 
 /// The refusal that a fault is.
-fn told(fault: Fault) -> StoreFault
+fn refusal_of(fault: Fault) -> StoreFault
     ensures no_archive { result ≡ StoreFault.NoArchive → fault ≡ Fault.NoArchive }
     ensures trouble { is_trouble result ≡ false → result ≡ StoreFault.NoArchive }
 {
@@ -154,21 +160,21 @@ fn told(fault: Fault) -> StoreFault
     }
 }
 
-/// The store over a connection, with what was found.
-fn store_over<S: Alter>(alloc: Global, conn: Connection<S>, found: Found) -> Store<S>
+/// The store over a connection, with what it keeps beside it.
+fn store_over<S: Alter>(alloc: Global, conn: Connection<S>, overview: Overview) -> Store<S>
     ensures conn { result.conn ≡ conn }
-    ensures plan { result.plan ≡ found.plan }
-    ensures next { result.next ≡ found.next }
-    ensures held { result.held ≡ found.held }
-    ensures others { result.others ≡ found.others }
+    ensures plan { result.plan ≡ overview.plan }
+    ensures next { result.next ≡ overview.next }
+    ensures held { result.held ≡ overview.held }
+    ensures others { result.others ≡ overview.others }
 {
-    let Found {
+    let Overview {
         plan,
         next,
         held,
         others,
         ..
-    } = found;
+    } = overview;
     Store {
         alloc,
         conn,
@@ -197,10 +203,10 @@ impl<S: Alter> Store<S> {
     {
         let _settled = conn.is_autocommit();
         match settle_second(alloc, &mut conn) {
-            Ok(found) => Ok(store_over(alloc, conn, found)),
+            Ok(overview) => Ok(store_over(alloc, conn, overview)),
             Err(fault) => {
                 let _still = conn.is_autocommit();
-                Err((told(fault), conn))
+                Err((refusal_of(fault), conn))
             }
         }
     }
@@ -222,10 +228,10 @@ impl<S: Alter> Store<S> {
     {
         let _settled = conn.is_autocommit();
         match settle_first(alloc, &mut conn) {
-            Ok(found) => Ok(store_over(alloc, conn, found)),
+            Ok(overview) => Ok(store_over(alloc, conn, overview)),
             Err(fault) => {
                 let _still = conn.is_autocommit();
-                Err((told(fault), conn))
+                Err((refusal_of(fault), conn))
             }
         }
     }

@@ -11,7 +11,7 @@ ghost use Rattle.record_tables.specs.Reads.{Pair};
 ghost use Rattle.record_tables.specs.Steps.{ReadsAlone};
 ghost use Rattle.record_tables.specs.Typed.{pair_of};
 ghost use Rattle.record_store.specs.Archive.{Archive};
-ghost use Rattle.record_store.specs.Adoption.{FindsSecond, IsKeyed, ReadsSecond, TellsPlan, ToldPlan, Sees};
+ghost use Rattle.record_store.specs.Adoption.{FindsSecond, IsKeyed, ReadsSecond, TellsPlan, ShowsPlan, Sees};
 
 use class_plan::Plan;
 use record_rows::{classes_of, plan_of_rows, rules_of};
@@ -51,7 +51,7 @@ pub(crate) fn plan_rows<S: Alter>(
     conn: &mut Connection<S>,
 ) -> Result<PlanRows, Fault>
     ensures tells { HasCleanDisk (state S.Store conn.new) → IfOk result (λ r. (a : Archive) → FindsSecond (state S.Store conn.old).now a → IsKeyed a → TellsPlan r a.plan) }
-    ensures sound { HasCleanDisk (state S.Store conn.new) → IfOk result (λ r. (t : Tables) (ps : List Pair) (rs : List Rule) (cs : List Listed) → ReadsSecond (state S.Store conn.old).now t ps rs cs → ToldPlan r ps rs cs) }
+    ensures sound { HasCleanDisk (state S.Store conn.new) → IfOk result (λ r. (t : Tables) (ps : List Pair) (rs : List Rule) (cs : List Listed) → ReadsSecond (state S.Store conn.old).now t ps rs cs → ShowsPlan r ps rs cs) }
     ensures none { HasCleanDisk (state S.Store conn.new) → result ≡ Err Fault.NoArchive → (a : Archive) → FindsSecond (state S.Store conn.old).now a → IsKeyed a → ⊥ }
     ensures same { ReadsAlone S.Store conn.old conn.new result (IsArchiveSchema (state S.Store conn.old).now.schema) }
     ensures sees { Sees S.Store IsArchiveSchema conn.old conn.new }

@@ -11,7 +11,7 @@ ghost use Rattle.record_tables.specs.Reads.{Pair};
 ghost use Rattle.record_tables.specs.Steps.{ReadsAlone};
 ghost use Rattle.record_tables.specs.Typed.{pair_of};
 ghost use Rattle.record_store.specs.Archive.{Archive};
-ghost use Rattle.record_store.specs.Adoption.{FindsFirst, IsKeyed, ReadsFirst, TellsTexts, ToldTexts, Sees, first_pairs};
+ghost use Rattle.record_store.specs.Adoption.{FindsFirst, IsKeyed, ReadsFirst, TellsTexts, ShowsTexts, Sees, first_pairs};
 
 use crate::plan_rows::is_setting;
 use class_plan::Plan;
@@ -63,7 +63,7 @@ pub(crate) fn text_rows<S: Alter>(
     conn: &mut Connection<S>,
 ) -> Result<TextRows, Fault>
     ensures tells { HasCleanDisk (state S.Store conn.new) → IfOk result (λ r. (a : Archive) → FindsFirst (state S.Store conn.old).now a → IsKeyed a → TellsTexts r a.plan) }
-    ensures sound { HasCleanDisk (state S.Store conn.new) → IfOk result (λ r. (t : Tables) (ps : List Pair) (cs : List Listed) → ReadsFirst (state S.Store conn.old).now t ps cs → ToldTexts r ps cs) }
+    ensures sound { HasCleanDisk (state S.Store conn.new) → IfOk result (λ r. (t : Tables) (ps : List Pair) (cs : List Listed) → ReadsFirst (state S.Store conn.old).now t ps cs → ShowsTexts r ps cs) }
     ensures none { HasCleanDisk (state S.Store conn.new) → result ≡ Err Fault.NoArchive → (a : Archive) → FindsFirst (state S.Store conn.old).now a → IsKeyed a → ⊥ }
     ensures same { ReadsAlone S.Store conn.old conn.new result (HasCommonTables (state S.Store conn.old).now.schema) }
     ensures sees { Sees S.Store HasCommonTables conn.old conn.new }

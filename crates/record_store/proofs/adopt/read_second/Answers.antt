@@ -21,8 +21,8 @@ returns-in_err-rows-clause-sees g c = sees_then g.S.Store IsArchiveSchema c.args
 pub returns-in_err-plan-clause-sees : goal.returns-in_err-plan-clause-sees
 returns-in_err-plan-clause-sees g c = sees_then g.S.Store IsArchiveSchema c.args.conn.now c.plan_rows.new.conn c.archive_rows.new.conn c.plan_rows.ensures.sees c.in_ok-plan_rows.ensures.same (sees_as g.S.Store HasCommonTables IsArchiveSchema c.plan_rows.new.conn c.archive_rows.new.conn archive_common c.archive_rows.ensures.sees)
 
-pub returns-in_err-found-clause-sees : goal.returns-in_err-found-clause-sees
-returns-in_err-found-clause-sees g c = sees_then g.S.Store IsArchiveSchema c.args.conn.now c.plan_rows.new.conn c.archive_rows.new.conn c.plan_rows.ensures.sees c.in_ok-plan_rows.ensures.same (sees_as g.S.Store HasCommonTables IsArchiveSchema c.plan_rows.new.conn c.archive_rows.new.conn archive_common c.archive_rows.ensures.sees)
+pub returns-in_err-overview-clause-sees : goal.returns-in_err-overview-clause-sees
+returns-in_err-overview-clause-sees g c = sees_then g.S.Store IsArchiveSchema c.args.conn.now c.plan_rows.new.conn c.archive_rows.new.conn c.plan_rows.ensures.sees c.in_ok-plan_rows.ensures.same (sees_as g.S.Store HasCommonTables IsArchiveSchema c.plan_rows.new.conn c.archive_rows.new.conn archive_common c.archive_rows.ensures.sees)
 
 pub returns-clause-sees : goal.returns-clause-sees
 returns-clause-sees g c = sees_then g.S.Store IsArchiveSchema c.args.conn.now c.plan_rows.new.conn c.archive_rows.new.conn c.plan_rows.ensures.sees c.in_ok-plan_rows.ensures.same (sees_as g.S.Store HasCommonTables IsArchiveSchema c.plan_rows.new.conn c.archive_rows.new.conn archive_common c.archive_rows.ensures.sees)
@@ -53,16 +53,16 @@ returns-in_err-plan-clause-none g c clean is = λ (a : Archive) h archive.
     let e = handed_on c.from_residual-in_err-plan.result c.in_err-plan.field-0.0 c.from_residual-in_err-plan.ensures.1 is in
     c.in_err-plan.ensures.none (ap (λ f. Err f) e) a.plan archive.plan (c.in_ok-plan_rows.ensures.tells clean1 a h (keyed_of a archive))
 
-pub returns-in_err-found-clause-none : goal.returns-in_err-found-clause-none
-returns-in_err-found-clause-none g c clean is = λ (a : Archive) h archive.
+pub returns-in_err-overview-clause-none : goal.returns-in_err-overview-clause-none
+returns-in_err-overview-clause-none g c clean is = λ (a : Archive) h archive.
     let old = state g.S.Store c.args.conn.now in
     let mid = state g.S.Store c.plan_rows.new.conn in
     let clean1 : HasCleanDisk mid = c.archive_rows.ensures.sees.falls clean in
     let k = common_after old mid a (second_common old.now a h) (c.in_ok-plan_rows.ensures.same clean1 h.stored.schema) in
     let keyed = keyed_of a archive in
-    let e = handed_on c.from_residual-in_err-found.result c.in_err-found.field-0.0 c.from_residual-in_err-found.ensures.1 is in
+    let e = handed_on c.from_residual-in_err-overview.result c.in_err-overview.field-0.0 c.from_residual-in_err-overview.ensures.1 is in
     let same = c.in_ok-plan.ensures.plan a.plan archive.plan (c.in_ok-plan_rows.ensures.tells clean1 a h keyed) in
-    c.in_err-found.ensures.none (ap (λ f. Err f) e) a same (c.in_ok-rows.ensures.tells clean a k keyed.once) archive
+    c.in_err-overview.ensures.none (ap (λ f. Err f) e) a same (c.in_ok-rows.ensures.tells clean a k keyed.once) archive
 
 pub returns-clause-found : goal.returns-clause-found
 returns-clause-found g c clean = λ (a : Archive) h keyed.
@@ -72,7 +72,7 @@ returns-clause-found g c clean = λ (a : Archive) h keyed.
     let k = common_after old mid a (second_common old.now a h) (c.in_ok-plan_rows.ensures.same clean1 h.stored.schema) in
     let tells = c.in_ok-plan_rows.ensures.tells clean1 a h keyed in
     let same = c.in_ok-plan.ensures.plan a.plan keyed.plan tells in
-    (tells, c.in_ok-found.ensures.found a same keyed (c.in_ok-rows.ensures.tells clean a k keyed.once))
+    (tells, c.in_ok-overview.ensures.found a same keyed (c.in_ok-rows.ensures.tells clean a k keyed.once))
 
 pub returns-clause-sound : goal.returns-clause-sound
 returns-clause-sound g c clean = λ t ps rs cs d.
@@ -85,4 +85,4 @@ returns-clause-sound g c clean = λ t ps rs cs d.
     let finds : FindsSecond old.now a = second_told old.now t ps rs cs c.in_ok-plan_rows.plan_rows p d told c.in_ok-plan.ensures.sound.1 in
     let k = common_after old mid a (second_common old.now a finds) (c.in_ok-plan_rows.ensures.same clean1 d.stored.schema) in
     let keyed : IsKeyed a = record { plan = c.in_ok-plan.ensures.sound.0; once = d.holds } in
-    record { archive = a; rows = inl finds; is = judged_archive a c.in_ok-rows.rows keyed (c.in_ok-rows.ensures.tells clean a k d.holds) c.in_ok-found.ensures.sound }
+    record { archive = a; rows = inl finds; is = judged_archive a c.in_ok-rows.rows keyed (c.in_ok-rows.ensures.tells clean a k d.holds) c.in_ok-overview.ensures.sound }

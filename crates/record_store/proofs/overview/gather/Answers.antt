@@ -3,8 +3,8 @@ use Rattle.record_tables.specs.Typed.{record_of, named_of}
 use Rattle.record_tables.specs.Changes.{AreAscending}
 use Rattle.record_rows.specs.Judged.{AreRows}
 use Rattle.record_store.specs.Archive.{Archive}
-use Rattle.record_store.proofs.AdoptRows.{is_found, judged_at, rows_told, days_small, days_ascend}
-use Rattle.record_store.proofs.found.gather.Goals as goal
+use Rattle.record_store.proofs.AdoptRows.{is_overview, judged_at, rows_told, days_small, days_ascend}
+use Rattle.record_store.proofs.overview.gather.Goals as goal
 
 pub returns-then-not-is_archive-clause-none : goal.returns-then-not-is_archive-clause-none
 returns-then-not-is_archive-clause-none c is = λ (a : Archive) same tells archive.
@@ -20,7 +20,7 @@ due_days-requires c =
 pub returns-clause-found : goal.returns-clause-found
 returns-clause-found c = λ (a : Archive) same keyed tells.
     let rows : AreRows c.args.plan (map record_of c.as_slice-records.result.now) c.as_slice-messages.result.now (map named_of c.as_slice-holds.result.now) = c.in_ok-is_archive.ensures.0 c.if-not-is_archive.false in
-    is_found _ a c.args.plan c.as_slice-records.result.now c.as_slice-messages.result.now c.as_slice-holds.result.now same keyed
+    is_overview _ a c.args.plan c.as_slice-records.result.now c.as_slice-messages.result.now c.as_slice-holds.result.now same keyed
     (ap (map record_of) c.as_slice-records.ensures.value ∙ tells.records) (c.as_slice-messages.ensures.value ∙ tells.messages) (ap (map named_of) c.as_slice-holds.ensures.value ∙ tells.holds) rows
     Rattle.std.proofs.Common.refl c.next_after.ensures.next c.next_after.ensures.small c.in_ok-held.ensures c.in_ok-others.ensures c.in_ok-dues.ensures
 

@@ -9,7 +9,7 @@ ghost use Rattle.record_tables.specs.Changes.{AreAscending};
 ghost use Rattle.record_tables.specs.Steps.{ReadsAlone};
 ghost use Rattle.record_tables.specs.Typed.{record_of, due_of};
 ghost use Rattle.record_store.specs.Archive.{Archive, IsArchive};
-ghost use Rattle.record_store.specs.Adoption.{FindsCommon, AreOnce, IsKeyed, TellsRows, IsFound, IsJudged, Sees, day_by, days_by};
+ghost use Rattle.record_store.specs.Adoption.{FindsCommon, AreOnce, IsKeyed, TellsRows, IsOverview, IsJudged, Sees, day_by, days_by};
 
 use crate::captures::number_of;
 use crate::counts::Counts;
@@ -33,7 +33,7 @@ pub(crate) struct ArchiveRows {
 
 /// What a store keeps beside the connection, and the due days of its records.
 #[derive(Drop)]
-pub(crate) struct Found {
+pub(crate) struct Overview {
     pub(crate) plan: Plan,
     pub(crate) next: u64,
     pub(crate) held: Counts,
@@ -96,8 +96,8 @@ fn due_days(alloc: Global, plan: &Plan, records: &[RecordRow]) -> Result<Vec<Due
 }
 
 /// What a store over rows with a plan keeps beside the connection, where they are an archive's.
-pub(crate) fn gather(alloc: Global, plan: Plan, rows: &ArchiveRows) -> Result<Found, Fault>
-    ensures found { IfOk result (λ f. (a : Archive) → plan ≡ a.plan → IsKeyed a → TellsRows rows.now a → IsFound f a) }
+pub(crate) fn gather(alloc: Global, plan: Plan, rows: &ArchiveRows) -> Result<Overview, Fault>
+    ensures found { IfOk result (λ f. (a : Archive) → plan ≡ a.plan → IsKeyed a → TellsRows rows.now a → IsOverview f a) }
     ensures sound { IfOk result (λ f. IsJudged plan rows.now) }
     ensures ascending { IfOk result (λ f. AreAscending (map due_of f.dues.items)) }
     ensures none { result ≡ Err Fault.NoArchive → (a : Archive) → plan ≡ a.plan → TellsRows rows.now a → IsArchive a → ⊥ }
@@ -112,7 +112,7 @@ pub(crate) fn gather(alloc: Global, plan: Plan, rows: &ArchiveRows) -> Result<Fo
     let held = held_counts(alloc, holds)?;
     let others = other_counts(alloc, records, messages)?;
     let dues = due_days(alloc, &plan, records)?;
-    Ok(Found {
+    Ok(Overview {
         plan,
         next: next_after(records),
         held,

@@ -11,7 +11,7 @@ use Rattle.record_store.proofs.AdoptReads.{sees_then, kept_then, common_after}
 use Rattle.record_store.proofs.AdoptRows.{numbers_fit, holds_fit}
 use Rattle.record_store.proofs.AdoptHolds.{are_named}
 use Rattle.record_store.proofs.AdoptSettled.{handed_on}
-use Rattle.record_store.proofs.found.archive_rows.Goals as goal
+use Rattle.record_store.proofs.overview.archive_rows.Goals as goal
 
 pub returns-in_err-messages-clause-none : goal.returns-in_err-messages-clause-none
 returns-in_err-messages-clause-none g c clean is = λ (a : Archive) h archive.
