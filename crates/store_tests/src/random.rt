@@ -7,7 +7,7 @@ use std::alloc::Global;
 use std::process::Abort;
 use std::test::Fail;
 
-/// How many commands are tried.
+/// How many commands are tried over memory, and over files in all.
 const COMMANDS: u32 = 10_000;
 
 /// The paths that may be classes, in byte order.
@@ -82,11 +82,17 @@ fn next_line(alloc: Global, chance: &mut Chance, model: &Model) -> Result<String
 }
 
 /// Gives both the same commands; now and then the store is closed and adopted again.
-fn compare<K: Kept>(rt: &impl Abort, alloc: Global, empty: K, seed: u64) -> Result<(), Fail> {
+fn compare<K: Kept>(
+    rt: &impl Abort,
+    alloc: Global,
+    empty: K,
+    seed: u64,
+    commands: u32,
+) -> Result<(), Fail> {
     let mut store = empty;
     let mut model = Model::new(alloc)?;
     let mut chance = Chance(seed);
-    for _ in 0..COMMANDS {
+    for _ in 0..commands {
         let line = next_line(alloc, &mut chance, &model)?;
         let expected = model.answer(line.as_str())?;
         let told = store.told(line.as_str())?;
@@ -101,11 +107,33 @@ fn compare<K: Kept>(rt: &impl Abort, alloc: Global, empty: K, seed: u64) -> Resu
 #[test]
 fn commands_over_memory(rt: HostRuntime) -> Result<(), Fail> {
     let alloc = rt.alloc();
-    compare(&rt, alloc, kept_in_memory(alloc, in_memory(alloc)?)?, 16)
+    let empty = kept_in_memory(alloc, in_memory(alloc)?)?;
+    compare(&rt, alloc, empty, 16, COMMANDS)
+}
+
+/// A quarter of the commands over files, from a seed of its own: a test has little time.
+fn quarter_over_files(rt: &(impl Abort + AllocGlobal), seed: u64) -> Result<(), Fail> {
+    let alloc = rt.alloc();
+    let empty = kept_in_files(alloc, in_files(alloc)?)?;
+    compare(rt, alloc, empty, seed, COMMANDS / 4)
 }
 
 #[test]
 fn commands_over_files(rt: HostRuntime) -> Result<(), Fail> {
-    let alloc = rt.alloc();
-    compare(&rt, alloc, kept_in_files(alloc, in_files(alloc)?)?, 17)
+    quarter_over_files(&rt, 17)
+}
+
+#[test]
+fn second_commands_over_files(rt: HostRuntime) -> Result<(), Fail> {
+    quarter_over_files(&rt, 18)
+}
+
+#[test]
+fn third_commands_over_files(rt: HostRuntime) -> Result<(), Fail> {
+    quarter_over_files(&rt, 19)
+}
+
+#[test]
+fn fourth_commands_over_files(rt: HostRuntime) -> Result<(), Fail> {
+    quarter_over_files(&rt, 20)
 }
