@@ -11,10 +11,10 @@ ghost use Rattle.record_tables.specs.Typed.{record_of, due_of};
 ghost use Rattle.record_store.specs.Archive.{Archive, IsArchive};
 ghost use Rattle.record_store.specs.Adoption.{FindsCommon, AreOnce, IsKeyed, TellsRows, IsOverview, IsJudged, Sees, day_by, days_by};
 
-use crate::captures::number_of;
 use crate::counts::Counts;
+use crate::plan_days::due_day_of;
 use crate::tallies::{held_counts, next_after, other_counts};
-use class_plan::{Plan, date_of};
+use class_plan::Plan;
 use record_rows::are_rows_of;
 use record_tables::fault::Fault;
 use record_tables::read::{holds, message_numbers, records};
@@ -67,14 +67,9 @@ fn due_day(plan: &Plan, row: &RecordRow) -> Option<u32>
     ensures { result ≡ day_by plan.now (record_of row.now) }
 {
     if row.destroyed {
-        return None;
-    }
-    let Some(day) = date_of(i64::from(row.day)) else {
-        return None;
-    };
-    match plan.due_of(row.path.as_slice(), day) {
-        Some(date) => Some(number_of(date)),
-        None => None,
+        None
+    } else {
+        due_day_of(plan, row.path.as_slice(), row.day)
     }
 }
 
