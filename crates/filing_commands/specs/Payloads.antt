@@ -1,10 +1,10 @@
 -- Payloads, and what is offered of them.
 use Rattle.std.specs.Prelude.{◌≡◌, ℕ, ◌<◌, ◌≤◌, ◌⊎◌, List, length, Result, Ok, Err}
 use denote.Ref.{Bor}
-use Rattle.filing_desk.specs.declared.fault.DeskFault.{DeskFault}
-use Rattle.filing_desk.specs.declared.fault.DeskFault.TheVariants as faults
-use Rattle.filing_desk.specs.declared.payload.Payload.{Payload}
-use Rattle.filing_desk.specs.declared.payload.Payload.TheVariants as payload
+use Rattle.filing_commands.specs.declared.fault.DeskFault.{DeskFault}
+use Rattle.filing_commands.specs.declared.fault.DeskFault.TheVariants as faults
+use Rattle.filing_commands.specs.declared.payload.Payload.{Payload}
+use Rattle.filing_commands.specs.declared.payload.Payload.TheVariants as payload
 
 -- what there is of a payload of these octets
 abbrev pub IsOf : (limit : ℕ) → Payload → (octets : List ℕ) → Type 0

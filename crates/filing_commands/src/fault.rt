@@ -1,11 +1,12 @@
 //! Why the desk refuses.
 
 ghost use Rattle.std.specs.Prelude.{◌≡◌};
-ghost use Rattle.filing_desk.specs.Faults.{refusal_of, has_place as has_place_of};
+ghost use Rattle.filing_commands.specs.Faults.{refusal_of, has_place as has_place_of, store_number as store_number_of};
 
 use class_plan::PlanFault;
 use filing_image::FormFault;
 use filing_verify::VerifyFault;
+use record_store::StoreFault;
 use script_library::LibraryFault;
 use sieve_check::CheckFault;
 use sieve_text::{TextFault, TextRefusal};
@@ -39,13 +40,27 @@ pub enum DeskFault {
     Image(VerifyFault),
     /// 95: the message has more than 8,388,608 octets.
     MessageTooLong,
-    /// 96: thirty-two global scripts have other names.
+    /// 96: thirty-two scripts of the location have other names.
     LibraryFull,
+    /// 80 to 88: the archive refuses; 89: its database does.
+    Store(StoreFault),
+    /// 90: sixty-four captures are in flight.
+    TooManyInFlight,
+    /// 91: no capture in flight has the ticket.
+    NoTicket,
+    /// 92: the capture has not come to its end.
+    NotEnded,
+    /// 93: the officer has no script of that name.
+    NoScript,
+    /// 94: the moment is after 2199.
+    BadMoment,
+    /// 97: ticket 4,294,967,295 was given.
+    TicketsUsedUp,
 }
 
 impl From<AllocError> for DeskFault {
     ghost use Rattle.std.specs.Prelude.{◌≡◌};
-    ghost use Rattle.filing_desk.specs.declared.fault.DeskFault.TheVariants.{NoMemory};
+    ghost use Rattle.filing_commands.specs.declared.fault.DeskFault.TheVariants.{NoMemory};
 
     ghost from_gives = { λ _ f. f ≡ NoMemory };
 
@@ -56,7 +71,7 @@ impl From<AllocError> for DeskFault {
 
 impl<T: Drop> From<AllocFailed<T>> for DeskFault {
     ghost use Rattle.std.specs.Prelude.{◌≡◌};
-    ghost use Rattle.filing_desk.specs.declared.fault.DeskFault.TheVariants.{NoMemory};
+    ghost use Rattle.filing_commands.specs.declared.fault.DeskFault.TheVariants.{NoMemory};
 
     ghost from_gives = { λ _ f. f ≡ NoMemory };
 
@@ -67,7 +82,7 @@ impl<T: Drop> From<AllocFailed<T>> for DeskFault {
 
 impl From<TextFault> for DeskFault {
     ghost use Rattle.std.specs.Prelude.{◌≡◌};
-    ghost use Rattle.filing_desk.specs.Faults.{text_fault};
+    ghost use Rattle.filing_commands.specs.Faults.{text_fault};
 
     ghost from_gives = { λ e f. f ≡ text_fault e };
 
@@ -81,7 +96,7 @@ impl From<TextFault> for DeskFault {
 
 impl From<CheckFault> for DeskFault {
     ghost use Rattle.std.specs.Prelude.{◌≡◌};
-    ghost use Rattle.filing_desk.specs.declared.fault.DeskFault.TheVariants.{Check};
+    ghost use Rattle.filing_commands.specs.declared.fault.DeskFault.TheVariants.{Check};
 
     ghost from_gives = { λ e f. f ≡ Check e };
 
@@ -92,7 +107,7 @@ impl From<CheckFault> for DeskFault {
 
 impl From<PlanFault> for DeskFault {
     ghost use Rattle.std.specs.Prelude.{◌≡◌};
-    ghost use Rattle.filing_desk.specs.Faults.{plan_fault};
+    ghost use Rattle.filing_commands.specs.Faults.{plan_fault};
 
     ghost from_gives = { λ e f. f ≡ plan_fault e };
 
@@ -106,7 +121,7 @@ impl From<PlanFault> for DeskFault {
 
 impl From<LibraryFault> for DeskFault {
     ghost use Rattle.std.specs.Prelude.{◌≡◌};
-    ghost use Rattle.filing_desk.specs.Faults.{library_fault};
+    ghost use Rattle.filing_commands.specs.Faults.{library_fault};
 
     ghost from_gives = { λ e f. f ≡ library_fault e };
 
@@ -120,7 +135,7 @@ impl From<LibraryFault> for DeskFault {
 
 impl From<FormFault> for DeskFault {
     ghost use Rattle.std.specs.Prelude.{◌≡◌};
-    ghost use Rattle.filing_desk.specs.Faults.{form_fault};
+    ghost use Rattle.filing_commands.specs.Faults.{form_fault};
 
     ghost from_gives = { λ e f. f ≡ form_fault e };
 
@@ -134,7 +149,7 @@ impl From<FormFault> for DeskFault {
 
 impl From<VerifyFault> for DeskFault {
     ghost use Rattle.std.specs.Prelude.{◌≡◌};
-    ghost use Rattle.filing_desk.specs.Faults.{verify_fault};
+    ghost use Rattle.filing_commands.specs.Faults.{verify_fault};
 
     ghost from_gives = { λ e f. f ≡ verify_fault e };
 
@@ -143,6 +158,41 @@ impl From<VerifyFault> for DeskFault {
             VerifyFault::NoMemory => DeskFault::NoMemory,
             fault => DeskFault::Image(fault),
         }
+    }
+}
+
+impl From<StoreFault> for DeskFault {
+    ghost use Rattle.std.specs.Prelude.{◌≡◌};
+    ghost use Rattle.filing_commands.specs.Faults.{store_fault};
+
+    ghost from_gives = { λ e f. f ≡ store_fault e };
+
+    fn from(fault: StoreFault) -> DeskFault {
+        match fault {
+            StoreFault::NoMemory => DeskFault::NoMemory,
+            StoreFault::Plan(fault) => DeskFault::from(fault),
+            fault => DeskFault::Store(fault),
+        }
+    }
+}
+
+/// The number of a refusal of the store.
+fn store_number(fault: StoreFault) -> u8
+    ensures { result ≡ store_number_of fault }
+{
+    match fault {
+        StoreFault::Plan(fault) => fault.number(),
+        StoreFault::NoRecord => 80,
+        StoreFault::Held => 81,
+        StoreFault::NotDue => 82,
+        StoreFault::NotForDestruction => 83,
+        StoreFault::Destroyed => 84,
+        StoreFault::NoHold => 85,
+        StoreFault::HoldThere => 86,
+        StoreFault::Full => 87,
+        StoreFault::NoArchive => 88,
+        StoreFault::Sqlite(_) => 89,
+        StoreFault::NoMemory => 99,
     }
 }
 
@@ -179,6 +229,13 @@ impl DeskFault {
             DeskFault::Image(fault) => fault.number(),
             DeskFault::MessageTooLong => 95,
             DeskFault::LibraryFull => 96,
+            DeskFault::Store(fault) => store_number(*fault),
+            DeskFault::TooManyInFlight => 90,
+            DeskFault::NoTicket => 91,
+            DeskFault::NotEnded => 92,
+            DeskFault::NoScript => 93,
+            DeskFault::BadMoment => 94,
+            DeskFault::TicketsUsedUp => 97,
         }
     }
 

@@ -14,10 +14,12 @@ use Rattle.filing_image.specs.declared.fault.FormFault.TheVariants as forms
 use Rattle.filing_verify.specs.declared.fault.VerifyFault.{VerifyFault}
 use Rattle.filing_verify.specs.declared.fault.VerifyFault.TheVariants as verify
 use Rattle.filing_verify.specs.Well.{verify_number}
-use Rattle.filing_desk.specs.declared.fault.Refusal.{Refusal}
-use Rattle.filing_desk.specs.declared.fault.DeskFault.{DeskFault}
-use Rattle.filing_desk.specs.declared.fault.DeskFault.TheVariants as faults
-use Rattle.filing_desk.specs.Answers.{Answer, refused}
+use Rattle.record_store.specs.declared.fault.StoreFault.{StoreFault}
+use Rattle.record_store.specs.declared.fault.StoreFault.TheVariants as stores
+use Rattle.filing_commands.specs.declared.fault.Refusal.{Refusal}
+use Rattle.filing_commands.specs.declared.fault.DeskFault.{DeskFault}
+use Rattle.filing_commands.specs.declared.fault.DeskFault.TheVariants as faults
+use Rattle.filing_commands.specs.Answers.{Answer, refused}
 
 -- the faults of the parts, as faults of the desk
 abbrev pub text_fault : TextFault → DeskFault
@@ -40,6 +42,26 @@ abbrev pub verify_fault : VerifyFault → DeskFault
 verify_fault verify.NoMemory = faults.NoMemory
 verify_fault f = faults.Image f
 
+abbrev pub store_fault : StoreFault → DeskFault
+store_fault stores.NoMemory = faults.NoMemory
+store_fault (stores.Plan f) = plan_fault f
+store_fault f = faults.Store f
+
+-- the number of a refusal of the store
+abbrev pub store_number : StoreFault → ℕ
+store_number (stores.Plan f) = plan.number_of f
+store_number stores.NoRecord = 80
+store_number stores.Held = 81
+store_number stores.NotDue = 82
+store_number stores.NotForDestruction = 83
+store_number stores.Destroyed = 84
+store_number stores.NoHold = 85
+store_number stores.HoldThere = 86
+store_number stores.Full = 87
+store_number stores.NoArchive = 88
+store_number (stores.Sqlite e) = 89
+store_number stores.NoMemory = 99
+
 -- whether a refusal with this number is shown with its offset
 abbrev pub has_place : ℕ → Bool
 has_place n = (nat_le 11 n && nat_le n 14) || ((n == 16) || ((n == 20) || (n == 21)))
@@ -55,6 +77,13 @@ refusal_of faults.ImageForm = record { number = 60; offset = None }
 refusal_of (faults.Image f) = record { number = verify_number f; offset = None }
 refusal_of faults.MessageTooLong = record { number = 95; offset = None }
 refusal_of faults.LibraryFull = record { number = 96; offset = None }
+refusal_of (faults.Store f) = record { number = store_number f; offset = None }
+refusal_of faults.TooManyInFlight = record { number = 90; offset = None }
+refusal_of faults.NoTicket = record { number = 91; offset = None }
+refusal_of faults.NotEnded = record { number = 92; offset = None }
+refusal_of faults.NoScript = record { number = 93; offset = None }
+refusal_of faults.BadMoment = record { number = 94; offset = None }
+refusal_of faults.TicketsUsedUp = record { number = 97; offset = None }
 
 abbrev pub refused_by : DeskFault → Answer
 refused_by f = refused (refusal_of f).number (refusal_of f).offset

@@ -1,7 +1,7 @@
 //! Payloads: what a command brings beside its line.
 
 ghost use Rattle.std.specs.Prelude.{ℕ, ◌≤◌, List, length, IfOk};
-ghost use Rattle.filing_desk.specs.Payloads.{IsOf, IsOffered};
+ghost use Rattle.filing_commands.specs.Payloads.{IsOf, IsOffered};
 
 use crate::fault::DeskFault;
 

@@ -1,0 +1,11 @@
+pub mod Answers
+pub mod Limits
+pub mod Faults
+pub mod Payloads
+pub mod Scripts
+pub mod Parts
+pub mod Pinning
+pub mod Office
+pub mod Standing
+pub mod Calls
+pub mod Told

@@ -1,0 +1,163 @@
+-- What a desk stands for, with the turns of each capture in flight, and what each command may be answered.
+use Rattle.std.specs.Prelude.{◌≡◌, ℕ, ◌+◌, ◌<◌, ◌/◌, ◌⊎◌, List, [], ◌∷◌, ◌++◌, length, Bool, true, false, ◌==◌, if◌then◌else◌, nat_lt, nat_le, Option, Some, None, Ok, Err}
+use Rattle.sieve_meaning.specs.Outcome.{Outcome}
+use Rattle.class_plan.specs.Plans.{is_open_in}
+use Rattle.filing_image.specs.Program.{Program}
+use Rattle.filing_verify.specs.Well.{IsWell}
+use Rattle.filing_table.specs.Machine.{State, At, after_steps}
+use Rattle.filing_table.specs.Ends.{HasOutcome}
+use Rattle.filing_machine.specs.Runs.{IsModestAt}
+use Rattle.record_store.specs.Archive.{Archive, Line, capture, captured_lines}
+use Rattle.record_store.specs.declared.fault.StoreFault.TheVariants.{Full}
+use Rattle.filing_commands.specs.Answers.{Answer, begun, running, ended, filed, refused}
+use Rattle.filing_commands.specs.Limits.{greatest_message, last_moment, last_ticket, most_in_flight}
+use Rattle.filing_commands.specs.Pinning.{Stood, case_in, IsAlone, Pins, chosen_by}
+use Rattle.filing_commands.specs.Office.{Office, opening_office, PlainCommand, OfficeStep, IsTrouble, with_archive}
+use Rattle.filing_commands.specs.Scripts.{library}
+
+pub data Command : Type 0 where
+  plain : PlainCommand → Command
+  -- begins a capture of a message by an officer's program; a moment is in seconds since 1970-01-01T00:00:00Z
+  begin : (officer : List ℕ) (moment : ℕ) (message : List ℕ) → Command
+  -- grants so many turns to a capture
+  turn : (ticket count : ℕ) → Command
+  -- makes the records of a capture that has come to its end
+  finish : (ticket : ℕ) → Command
+
+-- A capture in flight: what stood at its beginning, what is pinned and how long its run is, and the turns that it was
+-- granted so far.
+pub record Flight : Type 0 where
+  pub ticket : ℕ
+  pub stood : Stood
+  pub pinned : Program
+  pub run_length : ℕ
+  pub granted : ℕ
+
+pub record Standing : Type 0 where
+  pub office : Office
+  pub flights : List Flight
+  -- the last ticket given
+  pub last : ℕ
+
+abbrev pub opening : Archive → Standing
+opening a = record { office = opening_office a; flights = []; last = 0 }
+
+-- the first capture of this ticket
+abbrev pub flight_of : ℕ → List Flight → Option Flight
+flight_of t [] = None
+flight_of t (f ∷ fs) = if f.ticket == t then Some f else flight_of t fs
+
+-- the captures after a ticket was granted turns
+abbrev pub grant : ℕ → ℕ → List Flight → List Flight
+grant t k [] = []
+grant t k (f ∷ fs) = if f.ticket == t then record f { granted = f.granted + k } ∷ fs else f ∷ grant t k fs
+
+-- the captures without that ticket
+abbrev pub without : ℕ → List Flight → List Flight
+without t [] = []
+without t (f ∷ fs) = if f.ticket == t then fs else f ∷ without t fs
+
+abbrev pub granting : Standing → ℕ → ℕ → Standing
+granting s t k = record s { flights = grant t k s.flights }
+
+-- The first that speaks against one more capture: 94 for the moment, 95 for the message, 90 for the captures in flight, 97 for
+-- the tickets.
+abbrev pub begin_refusal : (count last moment size : ℕ) → Option ℕ
+begin_refusal count last moment size =
+    if nat_lt last_moment moment then Some 94
+    else if nat_lt greatest_message size then Some 95
+    else if nat_le most_in_flight count then Some 90
+    else if nat_le last_ticket last then Some 97
+    else None
+
+-- what stands at a beginning
+abbrev pub stood_at : Office → (officer : List ℕ) → (moment : ℕ) → (message : List ℕ) → Stood
+stood_at s officer moment message = record {
+  program = chosen_by (s.officers officer).active (s.officers officer).scripts;
+  library = library (s.officers officer).scripts s.globals;
+  message = message;
+  is_open = is_open_in s.archive.plan;
+  day = moment / 86400;
+}
+
+-- a run's length is that of what is pinned
+abbrev pub IsLength : Stood → Program → ℕ → Type 0
+IsLength s p n = (o : Outcome) × HasOutcome p (case_in s) n o
+
+-- A capture whose image is pinned for what stood, may run, and ends with the step of that number.
+pub record IsPinned (f : Flight) : Type 0 where
+  pub pins : Pins f.stood f.pinned
+  pub well : IsWell f.pinned
+  pub length : IsLength f.stood f.pinned f.run_length
+
+-- a capture begins under this ticket, and leaves this
+pub record Begins (s : Standing) (officer : List ℕ) (moment : ℕ) (message : List ℕ) (t b : ℕ) (new : Standing) : Type 0 where
+  pub allowed : begin_refusal (length s.flights) s.last moment (length message) ≡ None
+  pub flight : Flight
+  pub pinned : IsPinned flight
+  pub next : flight.ticket ≡ s.last + 1
+  pub stood : flight.stood ≡ stood_at s.office officer moment message
+  pub fresh : flight.granted ≡ 0
+  pub ticket : t ≡ s.last + 1
+  pub budget : b ≡ flight.pinned.budget
+  pub leaves : new ≡ record { office = s.office; flights = s.flights ++ flight ∷ []; last = s.last + 1 }
+
+-- A beginning is refused with this number: the first that speaks against it; or 99, and then nothing speaks against it.
+abbrev pub RefusesBegin : Standing → (moment size number : ℕ) → Type 0
+RefusesBegin s moment size n =
+    (begin_refusal (length s.flights) s.last moment size ≡ Some n) ⊎ ((begin_refusal (length s.flights) s.last moment size ≡ None) × (n ≡ 99))
+
+abbrev pub BeginStep : Standing → (officer : List ℕ) → (moment : ℕ) → (message : List ℕ) → Answer → Standing → Type 0
+BeginStep s officer moment message (begun t b) new = Begins s officer moment message t b new
+BeginStep s officer moment message (refused n at) new = (new ≡ s) × (at ≡ None) × RefusesBegin s moment (length message) n
+BeginStep s officer moment message _ new = ⊥
+
+-- what a capture answers after so many turns in all
+abbrev pub turned : Flight → ℕ → Answer
+turned f k = if nat_le f.run_length k then ended f.run_length else running k
+
+-- Want of memory comes after so many of the turns, where the machine stands before an instruction that takes memory.
+pub record IsInterrupted (f : Flight) (count made : ℕ) : Type 0 where
+  pub within : made < count
+  pub early : f.granted + made < f.run_length
+  pub state : State
+  pub stands : after_steps f.pinned (case_in f.stood) (f.granted + made) ≡ At state
+  pub takes_memory : IsModestAt f.pinned state.place → ⊥
+
+abbrev pub TurnStep : Standing → (t count : ℕ) → Option Flight → Answer → Standing → Type 0
+TurnStep s t k None a new = (a ≡ refused 91 None) × (new ≡ s)
+TurnStep s t k (Some f) a new =
+    ((a ≡ turned f (f.granted + k)) × (new ≡ granting s t k))
+    ⊎ ((a ≡ refused 99 None) × ((j : ℕ) × IsInterrupted f k j × (new ≡ granting s t j)))
+
+-- A whole capture is answered so, and leaves that archive: its outcome's fault and the lines of its records, or 87.
+abbrev pub Files : Archive → Stood → Answer → Archive → Type 0
+Files a stood (filed fault lines) new =
+    (o : Outcome) × IsAlone stood o × (fault ≡ o.fault) × (capture a stood.message stood.day o.classes ≡ Ok new) × (lines ≡ captured_lines a stood.day o.classes)
+Files a stood (refused n at) new = (n ≡ 87) × (at ≡ None) × (new ≡ a) × ((o : Outcome) × IsAlone stood o × (capture a stood.message stood.day o.classes ≡ Err Full))
+Files a stood _ new = ⊥
+
+-- a ticket is given up by an answer that is no refusal
+abbrev pub is_refusal : Answer → Bool
+is_refusal (refused n at) = true
+is_refusal _ = false
+
+abbrev pub filing : Standing → (t : ℕ) → Answer → Archive → Standing
+filing s t a b = record { office = with_archive s.office b; flights = if is_refusal a then s.flights else without t s.flights; last = s.last }
+
+abbrev pub FinishWhole : Standing → (t : ℕ) → (early : Bool) → Stood → Answer → Standing → Type 0
+FinishWhole s t true stood a new = (a ≡ refused 92 None) × (new ≡ s)
+FinishWhole s t false stood a new =
+    ((b : Archive) × Files s.office.archive stood a b × (new ≡ filing s t a b))
+    ⊎ ((n : ℕ) × IsTrouble n × (a ≡ refused n None) × (new ≡ s))
+
+abbrev pub FinishStep : Standing → (t : ℕ) → Option Flight → Answer → Standing → Type 0
+FinishStep s t None a new = (a ≡ refused 91 None) × (new ≡ s)
+FinishStep s t (Some f) a new = FinishWhole s t (nat_lt f.granted f.run_length) f.stood a new
+
+-- a command may be answered so, and leaves that
+unfoldable pub Step : Standing → Command → Answer → Standing → Type 0
+Step s (plain c) a new = (b : Office) × OfficeStep s.office c a b × (new ≡ record s { office = b })
+Step s (begin officer moment message) a new = BeginStep s officer moment message a new
+Step s (turn t k) a new = TurnStep s t k (flight_of t s.flights) a new
+Step s (finish t) a new = FinishStep s t (flight_of t s.flights) a new
