@@ -1,5 +1,8 @@
 mod Rows
 pub mod Verdicts
-pub mod CommandOnce
+pub mod OfficeOnce
 pub mod Sessions
-pub mod Lines
+pub mod SerialOnce
+pub mod Pinned
+pub mod TicketLemmas
+pub mod Changes

@@ -1,6 +1,5 @@
 -- What is found of a script or an image is found once.
 use Rattle.std.proofs.Common.{◌≡◌, ◌≢◌, [], ℕ, List, refl, arith, ap, ◌∙◌, sym, subst, inl, inr, Some, None}
-use Rattle.std.specs.Prelude.{◌⊎◌}
 use Rattle.std.proofs.lemmas.List.{append-nil}
 use Rattle.sieve_syntax.specs.Tree.{CommandTrees}
 use Rattle.sieve_text.specs.declared.fault.TextRefusal.{TextRefusal}
@@ -16,14 +15,10 @@ use Rattle.filing_image.proofs.OneProgram.{one_start}
 use Rattle.filing_verify.specs.declared.fault.VerifyFault.{VerifyFault}
 use Rattle.filing_verify.specs.declared.fault.VerifyFault.TheVariants.{NoMemory, Operand, Backward, Stack, RunsOff, Budget}
 use Rattle.filing_verify.specs.Well.{IsWell, Fails, verify_number}
-use Rattle.filing_desk.specs.Steps.{IsGood, IsNoScript, IsIllMade, IsGoodImage, IsNoImage, IsLongImage, IsUnfit, IsImageOf}
+use Rattle.filing_commands.specs.Parts.{IsGood, IsGoodImage, IsImageOf, RefusesImage, RefusesScript}
 use Rattle.filing_serial.specs.Alike.{AreSameNumber}
 
 -- ---- scripts
-
--- a text is no script, or is not well made
-abbrev pub IsBadScript : (text : List ℕ) (number : ℕ) → Type 0
-IsBadScript text n = IsNoScript text n ⊎ IsIllMade text n
 
 pub one_tree : (text : List ℕ) (t u : CommandTrees) → IsScript text t → IsScript text u → t ≡ u
 one_tree text t u h k = at_most_one t u (sym h.0.2 ∙ ap kinds (one_scan text h.0.0 k.0.0 h.0.1 k.0.1) ∙ k.0.2)
@@ -39,10 +34,10 @@ unexplained text t Nesting h e = e.1 t h
 some_none : {A : Type 0} (x : A) → Some x ≡ None → ⊥
 some_none x e = cc
 
-some_is : {A : Type 0} (x y : A) → Some x ≡ Some y → x ≡ y
+pub some_is : {A : Type 0} (x y : A) → Some x ≡ Some y → x ≡ y
 some_is x y e = cc
 
-pub script_or : (text : List ℕ) (t : CommandTrees) (n : ℕ) → IsGood text t → IsBadScript text n → ⊥
+pub script_or : (text : List ℕ) (t : CommandTrees) (n : ℕ) → IsGood text t → RefusesScript text n → ⊥
 script_or text t n h (inl k) = unexplained text t k.refusal h.is_script k.explains
 script_or text t n h (inr k) = some_none n (sym k.rule ∙ ap rules.refusal_of (one_tree text k.tree t k.is_script h.is_script) ∙ h.well_made)
 
@@ -57,17 +52,13 @@ one_reason text Syntax Nesting h k = inr (inl refl, inr refl)
 one_reason text Nesting Syntax h k = inr (inr refl, inl refl)
 one_reason text Nesting Nesting h k = inl refl
 
-pub one_refusal : (text : List ℕ) (m n : ℕ) → IsBadScript text m → IsBadScript text n → AreSameNumber m n
+pub one_refusal : (text : List ℕ) (m n : ℕ) → RefusesScript text m → RefusesScript text n → AreSameNumber m n
 one_refusal text m n (inl h) (inl k) = rw (h.is_number, k.is_number) (one_reason text h.refusal k.refusal h.explains k.explains)
 one_refusal text m n (inl h) (inr k) = absurd (unexplained text k.tree h.refusal k.is_script h.explains)
 one_refusal text m n (inr h) (inl k) = absurd (unexplained text h.tree k.refusal h.is_script k.explains)
 one_refusal text m n (inr h) (inr k) = inl (some_is m n (sym h.rule ∙ ap rules.refusal_of (one_tree text h.tree k.tree h.is_script k.is_script) ∙ k.rule))
 
 -- ---- images
-
--- octets are too many for an image, are none, or are one that may not run
-abbrev pub IsBadImage : (image : List ℕ) (number : ℕ) → Type 0
-IsBadImage image n = IsLongImage image n ⊎ (IsNoImage image n ⊎ IsUnfit image n)
 
 pub one_image : (octets : List ℕ) (p q : Program) → IsImageOf octets p → IsImageOf octets q → p ≡ q
 one_image octets p q h k = (one_start p q [] [] h.fits k.fits (append-nil _ ∙ sym h.spells ∙ k.spells ∙ sym (append-nil _))).0
@@ -117,12 +108,12 @@ fails_once p Budget Budget h k e d = refl
 number_not : (a b : ℕ) → a ≡ b → a ≢ 99 → b ≢ 99
 number_not a b e h x = h (e ∙ x)
 
-pub image_or : (octets : List ℕ) (p : Program) (n : ℕ) → IsGoodImage octets p → IsBadImage octets n → n ≢ 99 → ⊥
+pub image_or : (octets : List ℕ) (p : Program) (n : ℕ) → IsGoodImage octets p → RefusesImage octets n → n ≢ 99 → ⊥
 image_or octets p n h (inl k) e = omega (arith, h.is_image.short, k.long)
 image_or octets p n h (inr (inl k)) e = k.no_image p h.is_image.fits h.is_image.spells
 image_or octets p n h (inr (inr k)) e = well_fails k.program k.fault (subst IsWell (one_image octets p k.program h.is_image k.is_image) h.well) k.fails (number_not n _ k.is_number e)
 
-pub one_image_refusal : (octets : List ℕ) (m n : ℕ) → IsBadImage octets m → IsBadImage octets n → m ≢ 99 → n ≢ 99 → m ≡ n
+pub one_image_refusal : (octets : List ℕ) (m n : ℕ) → RefusesImage octets m → RefusesImage octets n → m ≢ 99 → n ≢ 99 → m ≡ n
 one_image_refusal octets m n (inl h) (inl k) d e = h.is_number ∙ sym k.is_number
 one_image_refusal octets m n (inl h) (inr (inl k)) d e = absurd (omega (arith, h.long, k.short))
 one_image_refusal octets m n (inl h) (inr (inr k)) d e = absurd (omega (arith, h.long, k.is_image.short))

@@ -1,6 +1,6 @@
 -- Answers that say the same, but for an offset, and for 20 in the place of 21.
 use Rattle.std.specs.Prelude.{◌≡◌, ℕ, ◌⊎◌, List, [], ◌∷◌}
-use Rattle.filing_desk.specs.Answers.{Answer, done, captured, refused}
+use Rattle.filing_commands.specs.Answers.{Answer, refused}
 
 -- a text that has no tree is refused with one of these
 abbrev pub IsNoTree : ℕ → Type 0
@@ -9,12 +9,10 @@ IsNoTree n = (n ≡ 20) ⊎ (n ≡ 21)
 abbrev pub AreSameNumber : ℕ → ℕ → Type 0
 AreSameNumber m n = (m ≡ n) ⊎ (IsNoTree m × IsNoTree n)
 
+-- refusals by the same number, or equal answers
 abbrev pub AreAlike : Answer → Answer → Type 0
-AreAlike done b = b ≡ done
-AreAlike (captured o) b = b ≡ captured o
 AreAlike (refused m x) (refused n y) = AreSameNumber m n
-AreAlike (refused m x) done = ⊥
-AreAlike (refused m x) (captured o) = ⊥
+AreAlike a b = a ≡ b
 
 abbrev pub AllAlike : List Answer → List Answer → Type 0
 AllAlike [] [] = Unit {0}

@@ -1,3 +1,6 @@
-pub mod Alike
+pub mod Runs
 pub mod Serial
-pub mod Items
+pub mod Alike
+pub mod Beginnings
+pub mod Turns
+pub mod Records

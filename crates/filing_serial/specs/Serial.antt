@@ -1,37 +1,92 @@
--- Sessions of commands, what is struck of them, and the serial session that is left.
-use Rattle.std.specs.Prelude.{◌≡◌, List, [], ◌∷◌, Bool, false, ◌==◌, if◌then◌else◌}
-use Rattle.filing_desk.specs.Answers.{Answer, done, captured, refused}
-use Rattle.filing_desk.specs.Steps.{Office, Command, Step}
+-- The serial session: a session without its turns and without the commands that were given up. Each capture is whole at its
+-- finish, and there is no machine, step or half-done capture.
+use Rattle.std.specs.Prelude.{◌≡◌, ℕ, ◌+◌, List, [], ◌∷◌, ◌++◌, length, map, Bool, true, false, ◌==◌, ◌||◌, if◌then◌else◌, Option, Some, None}
+use Rattle.record_store.specs.Archive.{Archive}
+use Rattle.filing_commands.specs.Answers.{Answer, done, captured, begun, running, ended, filed, listed, refused}
+use Rattle.filing_commands.specs.Pinning.{Stood, budget_of}
+use Rattle.filing_commands.specs.Office.{Office, OfficeRule, with_archive}
+use Rattle.filing_commands.specs.Standing.{Command, plain, begin, turn, finish, Flight, Standing, begin_refusal, stood_at, Files, is_refusal}
 
--- commands are answered so, one after the other, and leave that
-abbrev pub Run : Office → List Command → List Answer → Office → Type 0
-Run s [] [] new = new ≡ s
-Run s (c ∷ commands) (a ∷ answers) new = (mid : Office) × Step s c a mid × Run mid commands answers new
-Run s [] (a ∷ answers) new = ⊥
-Run s (c ∷ commands) [] new = ⊥
+-- a capture that has begun, with what stood at its beginning
+pub record Ticket : Type 0 where
+  pub number : ℕ
+  pub stood : Stood
 
--- want of memory
+pub record Serial : Type 0 where
+  pub office : Office
+  pub tickets : List Ticket
+  -- the last ticket given
+  pub last : ℕ
+
+-- a state without turns and machines
+abbrev pub ticket_of : Flight → Ticket
+ticket_of f = record { number = f.ticket; stood = f.stood }
+
+abbrev pub forget : Standing → Serial
+forget s = record { office = s.office; tickets = map ticket_of s.flights; last = s.last }
+
+-- what stood at the beginning of the first capture of this ticket
+abbrev pub stood_of : ℕ → List Ticket → Option Stood
+stood_of t [] = None
+stood_of t (x ∷ xs) = if x.number == t then Some x.stood else stood_of t xs
+
+-- the tickets without that one
+abbrev pub without_ticket : ℕ → List Ticket → List Ticket
+without_ticket t [] = []
+without_ticket t (x ∷ xs) = if x.number == t then xs else x ∷ without_ticket t xs
+
+-- a capture begins under the next ticket, and what stands is noted
+pub record IsNoted (s : Serial) (officer : List ℕ) (moment : ℕ) (message : List ℕ) (t b : ℕ) (new : Serial) : Type 0 where
+  pub allowed : begin_refusal (length s.tickets) s.last moment (length message) ≡ None
+  pub ticket : t ≡ s.last + 1
+  pub budget : b ≡ budget_of (stood_at s.office officer moment message)
+  pub leaves : new ≡ record { office = s.office; tickets = s.tickets ++ record { number = s.last + 1; stood = stood_at s.office officer moment message } ∷ []; last = s.last + 1 }
+
+abbrev pub SerialBegin : Serial → (officer : List ℕ) → (moment : ℕ) → (message : List ℕ) → Answer → Serial → Type 0
+SerialBegin s officer moment message (begun t b) new = IsNoted s officer moment message t b new
+SerialBegin s officer moment message (refused n at) new =
+    (new ≡ s) × (at ≡ None) × (begin_refusal (length s.tickets) s.last moment (length message) ≡ Some n)
+SerialBegin s officer moment message _ new = ⊥
+
+-- the records of a capture are made, and its ticket is given up by an answer that is no refusal
+abbrev pub giving_up : Serial → (t : ℕ) → Answer → Archive → Serial
+giving_up s t a b = record { office = with_archive s.office b; tickets = if is_refusal a then s.tickets else without_ticket t s.tickets; last = s.last }
+
+abbrev pub SerialFinish : Serial → (t : ℕ) → Option Stood → Answer → Serial → Type 0
+SerialFinish s t None a new = (a ≡ refused 91 None) × (new ≡ s)
+SerialFinish s t (Some stood) a new = (b : Archive) × Files s.office.archive stood a b × (new ≡ giving_up s t a b)
+
+-- a command of the serial session may be answered so, and leaves that
+abbrev pub SerialStep : Serial → Command → Answer → Serial → Type 0
+SerialStep s (plain c) a new = (b : Office) × OfficeRule s.office c a b × (new ≡ record s { office = b })
+SerialStep s (begin officer moment message) a new = SerialBegin s officer moment message a new
+SerialStep s (turn t k) a new = ⊥
+SerialStep s (finish t) a new = SerialFinish s t (stood_of t s.tickets) a new
+
+-- want of memory, a refusal of the database, and the refusal of a capture that has not come to its end
 abbrev pub is_passing : Answer → Bool
-is_passing (refused n at) = n == 99
-is_passing done = false
-is_passing (captured o) = false
+is_passing (refused n at) = (n == 89) || ((n == 92) || (n == 99))
+is_passing _ = false
 
--- what is struck: every command that was given up for want of memory
+-- what is struck of a session: every TURN, and every command that was answered 89, 92 or 99
 abbrev pub is_struck : Command → Answer → Bool
-is_struck c a = is_passing a
+is_struck (turn t k) a = true
+is_struck _ a = is_passing a
 
 -- commands are answered so, one after the other, and leave that; none of them is struck
-abbrev pub SerialRun : Office → List Command → List Answer → Office → Type 0
+abbrev pub SerialRun : Serial → List Command → List Answer → Serial → Type 0
 SerialRun s [] [] new = new ≡ s
-SerialRun s (c ∷ commands) (a ∷ answers) new = (mid : Office) × (is_struck c a ≡ false) × Step s c a mid × SerialRun mid commands answers new
+SerialRun s (c ∷ commands) (a ∷ answers) new = (mid : Serial) × (is_struck c a ≡ false) × SerialStep s c a mid × SerialRun mid commands answers new
 SerialRun s [] (a ∷ answers) new = ⊥
 SerialRun s (c ∷ commands) [] new = ⊥
 
+-- the commands that are not struck
 abbrev pub kept_commands : List Command → List Answer → List Command
 kept_commands (c ∷ commands) (a ∷ answers) = if is_struck c a then kept_commands commands answers else c ∷ kept_commands commands answers
 kept_commands [] answers = []
 kept_commands (c ∷ commands) [] = []
 
+-- their answers
 abbrev pub kept_answers : List Command → List Answer → List Answer
 kept_answers (c ∷ commands) (a ∷ answers) = if is_struck c a then kept_answers commands answers else a ∷ kept_answers commands answers
 kept_answers [] answers = []

@@ -1,29 +1,54 @@
-//! Laws of the definitions, each on a function with nothing to do.
+//! Laws of whole sessions, each on a function with nothing to do.
 
-ghost use Rattle.std.specs.Prelude.{◌≡◌, List};
-ghost use Rattle.filing_desk.specs.Answers.{Answer};
-ghost use Rattle.filing_desk.specs.Calls.{Calls};
-ghost use Rattle.filing_desk.specs.Standing.{IsClean, StandsFor};
-ghost use Rattle.filing_desk.specs.Steps.{Office, Command};
-ghost use Rattle.filing_desk.specs.declared.desk.Desk.{Desk};
-ghost use Rattle.filing_session.specs.Session as session;
+ghost use Rattle.std.specs.Prelude.{◌≡◌, ◌≤◌, ℕ, List, Some, All};
+ghost use Rattle.sieve_meaning.specs.Outcome.{Outcome};
+ghost use Rattle.filing_table.specs.Ends.{HasOutcome};
+ghost use Rattle.record_store.specs.Archive.{Archive};
+ghost use Rattle.filing_commands.specs.Answers.{Answer};
+ghost use Rattle.filing_commands.specs.Pinning.{case_in, budget_of, IsAlone};
+ghost use Rattle.filing_commands.specs.Standing.{Command, Flight, Standing, IsPinned, flight_of, opening};
 ghost use Rattle.filing_serial.specs.Alike.{AllAlike};
-ghost use Rattle.filing_serial.specs.Items.{kept_items, kept_replies};
-ghost use Rattle.filing_serial.specs.Serial.{Run, SerialRun, kept_commands, kept_answers};
+ghost use Rattle.filing_serial.specs.Beginnings.{HasBegun};
+ghost use Rattle.filing_serial.specs.Runs.{Run};
+ghost use Rattle.filing_serial.specs.Serial.{SerialRun, forget, kept_answers, kept_commands};
 
-/// A session is the serial one: what is struck of it does nothing.
-pub fn struck_commands_do_nothing()
-    ensures { (s : Office) (commands : List Command) (answers : List Answer) (new : Office) → Run s commands answers new → SerialRun s (kept_commands commands answers) (kept_answers commands answers) new }
+/// A session is the serial one, whatever turns are granted in it: the commands that are struck do nothing, and the others are
+/// answered as if each capture were made whole at its finish.
+pub fn turns_do_not_matter()
+    ensures {
+        (s : Standing) (commands : List Command) (answers : List Answer) (new : Standing) → Run s commands answers new
+        → SerialRun (forget s) (kept_commands commands answers) (kept_answers commands answers) (forget new)
+    }
 {}
 
-/// Two sessions that begin with one state, and are equal after striking, have the same answers and states, but for offsets
-/// and for 20 in the place of 21.
+/// Two sessions that are equal after striking have the same answers, but for offsets and for 20 in the place of 21, and leave
+/// the same archive, scripts and programs, and the same tickets with what stood at their beginnings. They begin in one state, or
+/// in two that differ in the turns of their captures in flight alone.
 pub fn equal_after_striking()
-    ensures { (s : Office) (commands others : List Command) (answers replies : List Answer) (x y : Office) → Run s commands answers x → Run s others replies y → kept_commands commands answers ≡ kept_commands others replies → AllAlike (kept_answers commands answers) (kept_answers others replies) × (x ≡ y) }
+    ensures {
+        (s t : Standing) (commands others : List Command) (answers replies : List Answer) (x y : Standing) → forget s ≡ forget t
+        → Run s commands answers x → Run t others replies y → kept_commands commands answers ≡ kept_commands others replies
+        → AllAlike (kept_answers commands answers) (kept_answers others replies) × (forget x ≡ forget y)
+    }
 {}
 
-/// The same of the lines that `serve` reads, at two desks that stand for one state: they end as desks that stand for one
-/// state.
-pub fn equal_lines_after_striking()
-    ensures { (s : Office) (old new first last : Desk) (items others : List session.Item) (answers replies : List Answer) → StandsFor old s → session.Run (Calls IsClean StandsFor) old items answers new → IsClean new → StandsFor first s → session.Run (Calls IsClean StandsFor) first others replies last → IsClean last → kept_items items answers ≡ kept_items others replies → AllAlike (kept_replies items answers) (kept_replies others replies) × ((to : Office) × StandsFor new to × StandsFor last to) }
+/// Of a session that begins with an archive:
+/// - what stood at the BEGIN of a capture in flight stands for it still: the officer's program, the library, the message, the open
+///   classes and the day of the moment;
+/// - for each capture in flight an image is pinned that means, in every case, what stood, and that may run;
+/// - the run of what is pinned takes at most as many steps as the budget that BEGIN told;
+/// - it ends with the outcome of the capture alone.
+pub fn captures_are_pinned()
+    ensures stood {
+        (archive : Archive) (commands : List Command) (answers : List Answer) (s : Standing) (t : ℕ) (f : Flight)
+        → Run (opening archive) commands answers s → flight_of t s.flights ≡ Some f → HasBegun (opening archive) commands answers f
+    }
+    ensures pinned {
+        (archive : Archive) (commands : List Command) (answers : List Answer) (s : Standing)
+        → Run (opening archive) commands answers s → All IsPinned s.flights
+    }
+    ensures budget { (f : Flight) → IsPinned f → (f.run_length ≤ f.pinned.budget) × (f.pinned.budget ≡ budget_of f.stood) }
+    ensures alone {
+        (f : Flight) (n : ℕ) (o : Outcome) → IsPinned f → HasOutcome f.pinned (case_in f.stood) n o → IsAlone f.stood o × (n ≡ f.run_length)
+    }
 {}

@@ -1,0 +1,61 @@
+-- What captures and due lists say of records.
+use Rattle.std.specs.Prelude.{◌≡◌, ℕ, ◌≤◌, List, [], ◌∷◌, ◌++◌, map, Bool, true, false, Option, Some, None, All, Contains}
+use Rattle.std.specs.List.{AllZip}
+use Rattle.class_plan.specs.Plans.{Listing, is_open_in}
+use Rattle.class_plan.specs.Calendar.{due_on}
+use Rattle.sieve_meaning.specs.Case.{Facts}
+use Rattle.sieve_meaning.specs.Outcome.{Outcome, unfiled}
+use Rattle.filing_image.specs.Program.{Program}
+use Rattle.filing_table.specs.Ends.{HasOutcome}
+use Rattle.record_tables.specs.Rows.{Message, Record}
+use Rattle.record_store.specs.Archive.{Archive, Line, is_held}
+use Rattle.filing_commands.specs.Pinning.{Stood, IsAlone}
+
+-- a capture that ended in a fault is in the default class alone
+abbrev pub IsFaultAlone : Outcome → Type 0
+IsFaultAlone o = (n : ℕ) → o.fault ≡ Some n → o.classes ≡ unfiled ∷ []
+
+-- the run of the program in the case ends within its budget, with this outcome
+pub record EndsWithinBudget (p : Program) (c : Facts) (o : Outcome) : Type 0 where
+  pub steps : ℕ
+  pub within : steps ≤ p.budget
+  pub outcome : HasOutcome p c steps o
+
+-- a line tells a record: its number, its class, and the day that comes the class's period after its own, if the period ends
+pub record IsLineOf (plan : Listing) (r : Record) (l : Line) : Type 0 where
+  pub number : l.number ≡ r.number
+  pub class : l.path ≡ r.path
+  pub due : l.due ≡ due_on plan r.path r.day
+
+-- A capture of what stood made a live record for each of its classes, and no other: of the message, and with the day that stood.
+-- The lines tell them in order. Plan and holds are as they were.
+pub record IsMadeWhole (old : Archive) (stood : Stood) (o : Outcome) (lines : List Line) (new : Archive) : Type 0 where
+  pub records : List Record
+  pub added : new.records ≡ old.records ++ records
+  pub classes : map (λ (r : Record). r.path) records ≡ o.classes
+  pub days : All (λ (r : Record). r.day ≡ stood.day) records
+  pub live : All (λ (r : Record). r.destroyed ≡ false) records
+  pub messages : All (λ (r : Record). Contains new.messages (record { number = r.message; body = stood.message })) records
+  pub told : AllZip (IsLineOf old.plan) records lines
+  pub plan : new.plan ≡ old.plan
+  pub holds : new.holds ≡ old.holds
+
+-- what a finish answers, and leaves: the records of the capture's own outcome, whose fault it tells
+pub record FilesAlone (old : Archive) (stood : Stood) (fault : Option ℕ) (lines : List Line) (new : Archive) : Type 0 where
+  pub outcome : Outcome
+  pub alone : IsAlone stood outcome
+  pub fault_alone : IsFaultAlone outcome
+  pub told : fault ≡ outcome.fault
+  pub whole : IsMadeWhole old stood outcome lines new
+
+-- a live record without a hold, whose class's period ends by the day
+pub record IsDueBy (a : Archive) (day : ℕ) (r : Record) : Type 0 where
+  pub live : r.destroyed ≡ false
+  pub free : is_held a r.number ≡ false
+  pub due : ℕ
+  pub ends : due_on a.plan r.path r.day ≡ Some due
+  pub reached : due ≤ day
+
+-- the line of a record that is due
+abbrev pub IsDueLine : Archive → (day : ℕ) → Line → Type 0
+IsDueLine a day l = (r : Record) × Contains a.records r × IsDueBy a day r × IsLineOf a.plan r l

@@ -1,0 +1,11 @@
+-- Sessions: commands, one after the other.
+use Rattle.std.specs.Prelude.{◌≡◌, List, [], ◌∷◌}
+use Rattle.filing_commands.specs.Answers.{Answer}
+use Rattle.filing_commands.specs.Standing.{Command, Standing, Step}
+
+-- commands may be answered so, one after the other, and leave that
+abbrev pub Run : Standing → List Command → List Answer → Standing → Type 0
+Run s [] [] new = new ≡ s
+Run s (c ∷ commands) (a ∷ answers) new = (mid : Standing) × Step s c a mid × Run mid commands answers new
+Run s [] (a ∷ answers) new = ⊥
+Run s (c ∷ commands) [] new = ⊥
