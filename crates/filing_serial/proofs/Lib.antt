@@ -6,3 +6,7 @@ pub mod SerialOnce
 pub mod Pinned
 pub mod TicketLemmas
 pub mod Changes
+pub mod Refusals
+pub mod Sources
+pub mod InFlight
+pub mod RecordLemmas

@@ -1,0 +1,8 @@
+use Rattle.filing_serial.proofs.Refusals.{no_ticket_to_finish, no_ticket_to_turn}
+use Rattle.filing_serial.proofs.turns.tickets_are_looked_up_exactly.Goals as goal
+
+pub returns-clause-turn : goal.returns-clause-turn
+returns-clause-turn c = no_ticket_to_turn
+
+pub returns-clause-finish : goal.returns-clause-finish
+returns-clause-finish c = no_ticket_to_finish
