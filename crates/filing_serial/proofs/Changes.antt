@@ -1,11 +1,11 @@
 -- What a step makes of the captures in flight.
-use Rattle.std.proofs.Common.{◌≡◌, ◌≢◌, ◌+◌, ◌<◌, ◌≤◌, ◌++◌, [], ◌∷◌, ℕ, List, length, refl, arith, ap, ◌∙◌, sym, subst, inl, inr, Bool, true, false, Option, Some, None}
-use Rattle.std.specs.Prelude.{◌⊎◌, ◌==◌, if◌then◌else◌, nat_le, nat_lt, MatchBool}
+use Rattle.std.proofs.Common.{◌≡◌, ◌+◌, ◌<◌, ◌++◌, [], ◌∷◌, ℕ, List, length, refl, ap, ◌∙◌, sym, inl, inr, Bool, true, false, Option, Some, None}
+use Rattle.std.specs.Prelude.{◌⊎◌, ◌==◌, if◌then◌else◌, nat_le, MatchBool}
 use Rattle.record_store.specs.Archive.{Archive}
 use Rattle.filing_commands.specs.Answers.{Answer, done, captured, begun, running, ended, filed, listed, refused}
 use Rattle.filing_commands.specs.Office.{Office, PlainCommand, OfficeRule, OfficeStep}
 use Rattle.filing_commands.specs.Pinning.{Stood}
-use Rattle.filing_commands.specs.Standing.{Command, plain, begin, turn, finish, Flight, Standing, Step, BeginStep, Begins, TurnStep, FinishStep, FinishWhole, Files, IsPinned, flight_of, grant, without, granting, filing, begin_refusal, stood_at, turned}
+use Rattle.filing_commands.specs.Standing.{Command, plain, begin, turn, finish, Flight, Standing, Step, BeginStep, TurnStep, FinishStep, FinishWhole, Files, IsPinned, flight_of, grant, without, filing, begin_refusal, stood_at, turned}
 use Rattle.filing_serial.specs.Beginnings.{tickets_given}
 use Rattle.filing_serial.specs.Turns.{Grants, TurnGrants}
 
@@ -127,7 +127,7 @@ turn_grants t k n a u h = go (t == u)
 no_ticket_grants : (t k : ℕ) (a : Answer) (u : ℕ) → a ≡ refused 91 None → Grants u (turn t k) a 0
 no_ticket_grants t k a u e = go (t == u)
   where
-    go : (b : Bool) → MatchBool b (TurnGrants k a 0) (0 ≡ 0)
+    go : (b : Bool) → MatchBool b (TurnGrants k a 0) (◌≡◌ {A = ℕ} 0 0)
     go true = rw e refl
     go false = refl
 

@@ -1,5 +1,5 @@
 -- What holds of all captures in flight, and of the tickets given.
-use Rattle.std.proofs.Common.{◌≡◌, ◌+◌, ◌<◌, ◌≤◌, ◌++◌, [], ◌∷◌, ℕ, List, length, refl, arith, ap, ◌∙◌, sym, subst, inl, inr, Bool, true, false, Option, Some, None}
+use Rattle.std.proofs.Common.{◌≡◌, ◌+◌, ◌≤◌, ◌++◌, [], ◌∷◌, ℕ, List, length, refl, arith, ap, ◌∙◌, sym, subst, inl, inr, Bool, true, false, Option, Some, None}
 use Rattle.std.specs.Prelude.{if◌then◌else◌, ◌==◌, All}
 use Rattle.std.specs.List.{AllByRecursion}
 use Rattle.std.proofs.lemmas.List.{length-append}
@@ -7,9 +7,9 @@ use Rattle.std.proofs.lemmas.List.Elements.{All-from_recursion}
 use Rattle.record_store.specs.Archive.{Archive}
 use Rattle.filing_commands.specs.Answers.{Answer, begun}
 use Rattle.filing_commands.specs.Limits.{last_ticket, most_in_flight}
-use Rattle.filing_commands.specs.Standing.{Command, Flight, Standing, Step, IsPinned, begin_refusal, flight_of, grant, without, opening}
+use Rattle.filing_commands.specs.Standing.{Command, Flight, Standing, IsPinned, flight_of, grant, without, opening}
 use Rattle.filing_serial.specs.Beginnings.{tickets_given, AreNumbersUpTo}
-use Rattle.filing_serial.specs.Runs.{Run}
+use Rattle.filing_serial.specs.Runs.{IsReached, Run}
 use Rattle.filing_serial.specs.Turns.{HasEnded}
 use Rattle.filing_serial.proofs.Changes.{Change, step_change}
 use Rattle.filing_serial.proofs.Pinned.{within_budget}
@@ -79,32 +79,30 @@ run_within s (c ∷ cs) (a ∷ answers) new h k = run_within h.0 cs answers new 
 run_within s [] (a ∷ answers) new h k = absurd h
 run_within s (c ∷ cs) [] new h k = absurd h
 
-opening_within : (archive : Archive) (cs : List Command) (answers : List Answer) (s : Standing) → Run (opening archive) cs answers s → IsWithinLimits s
-opening_within archive cs answers s h = run_within (opening archive) cs answers s h (record { pinned = tt; count = omega arith; last = omega arith })
+reached_within : (s : Standing) → IsReached s → IsWithinLimits s
+reached_within s h = run_within (opening h.archive) h.commands h.answers s h.run (record { pinned = tt; count = omega arith; last = omega arith })
 
--- ---- sessions that begin with an archive
+pub all_pinned : (s : Standing) → IsReached s → All IsPinned s.flights
+all_pinned s h = All-from_recursion IsPinned s.flights (reached_within s h).pinned
 
-pub all_pinned : (archive : Archive) (cs : List Command) (answers : List Answer) (s : Standing) → Run (opening archive) cs answers s → All IsPinned s.flights
-all_pinned archive cs answers s h = All-from_recursion IsPinned s.flights (opening_within archive cs answers s h).pinned
+pub most_flights : (s : Standing) → IsReached s → length s.flights ≤ most_in_flight
+most_flights s h = (reached_within s h).count
 
-pub most_flights : (archive : Archive) (cs : List Command) (answers : List Answer) (s : Standing) → Run (opening archive) cs answers s → length s.flights ≤ most_in_flight
-most_flights archive cs answers s h = (opening_within archive cs answers s h).count
-
-pub most_tickets : (archive : Archive) (cs : List Command) (answers : List Answer) (s : Standing) → Run (opening archive) cs answers s → s.last ≤ last_ticket
-most_tickets archive cs answers s h = (opening_within archive cs answers s h).last
+pub most_tickets : (s : Standing) → IsReached s → s.last ≤ last_ticket
+most_tickets s h = (reached_within s h).last
 
 pinned_of : (t : ℕ) (fs : List Flight) (f : Flight) → AllPinned fs → flight_of t fs ≡ Some f → IsPinned f
 pinned_of t [] f h e = absurd (let none : ◌≡◌ {A = Option Flight} None (Some f) = e in cc)
-pinned_of t (g ∷ fs) f h e = go (g.ticket == t) refl
+pinned_of t (g ∷ fs) f h e = go (g.ticket == t) refl (pinned_of t fs f h.1)
   where
-    go : (b : Bool) → (g.ticket == t) ≡ b → IsPinned f
-    go true is = let same : g ≡ f = let some : Some g ≡ Some f = rw is at e in cc in subst IsPinned same h.0
-    go false is = pinned_of t fs f h.1 (rw is at e)
+    go : (b : Bool) → (g.ticket == t) ≡ b → (flight_of t fs ≡ Some f → IsPinned f) → IsPinned f
+    go true is rest = let same : g ≡ f = let some : Some g ≡ Some f = rw is at e in cc in subst IsPinned same h.0
+    go false is rest = rest (rw is at e)
 
 -- a capture that was granted as many turns as its budget has come to its end
-pub enough_turns : (archive : Archive) (cs : List Command) (answers : List Answer) (s : Standing) (t : ℕ) (f : Flight) → Run (opening archive) cs answers s → flight_of t s.flights ≡ Some f → f.pinned.budget ≤ f.granted → HasEnded f
-enough_turns archive cs answers s t f h e enough =
-    let within = (within_budget f (pinned_of t s.flights f (opening_within archive cs answers s h).pinned e)).0 in
+pub enough_turns : (s : Standing) (t : ℕ) (f : Flight) → IsReached s → flight_of t s.flights ≡ Some f → f.pinned.budget ≤ f.granted → HasEnded f
+enough_turns s t f h e enough =
+    let within = (within_budget f (pinned_of t s.flights f (reached_within s h).pinned e)).0 in
     omega (arith, within, enough)
 
 -- ---- the tickets given

@@ -1,11 +1,9 @@
 -- A command has one answer by the rules of filing, and leaves one office.
-use Rattle.std.proofs.Common.{◌≡◌, ◌≢◌, [], ℕ, List, refl, arith, ap, ◌∙◌, sym, subst, inl, inr, Bool, true, false, Option, Some, None, Result, Ok, Err}
+use Rattle.std.proofs.Common.{◌≡◌, ◌≢◌, [], ℕ, List, refl, arith, ap, ◌∙◌, sym, subst, inl, inr, Bool, true, false, Option, None, Result, Ok, Err}
 use Rattle.std.specs.Prelude.{if◌then◌else◌}
-use Rattle.sieve_syntax.specs.Tree.{CommandTrees}
 use Rattle.sieve_meaning.specs.Program.{Commands}
 use Rattle.sieve_meaning.specs.Reading.{program_of}
 use Rattle.sieve_meaning.specs.Outcome as meaning
-use Rattle.class_plan.specs.declared.faults.PlanFault.{PlanFault}
 use Rattle.class_plan.specs.declared.faults.PlanFault.TheVariants.{PathDropped}
 use Rattle.class_plan.specs.Faults as plan
 use Rattle.class_plan.specs.Plans.{Listing, is_open_in, keeps}
@@ -16,8 +14,8 @@ use Rattle.filing_table.proofs.Once.{one_outcome}
 use Rattle.record_store.specs.Archive.{Archive, Line, revise}
 use Rattle.record_store.specs.declared.fault.StoreFault.{StoreFault}
 use Rattle.filing_commands.specs.Answers.{Answer, done, captured, begun, running, ended, filed, listed, refused}
-use Rattle.filing_commands.specs.Office.{Office, PlainCommand, OfficeRule, Settles, Captures, Lists, Refuses, IsFiled, IsMade, IsRefused, IsTooLong, IsTooLongToTry, IsTried, add_class, set_plan, set_script, set_global, activate, deactivate, set_image, file, try_image, hold, release, due, destroy, with_globals, with_officer, with_scripts, setting}
-use Rattle.filing_commands.specs.Parts.{IsKept, IsPlanOf, RefusesPlan, RefusesToKeep, RefusesScript, RefusesImage}
+use Rattle.filing_commands.specs.Office.{Office, PlainCommand, OfficeRule, Settles, Captures, Lists, Refuses, IsFiled, IsMade, IsRefused, IsTried, add_class, set_plan, set_script, set_global, activate, deactivate, set_image, file, try_image, hold, release, due, destroy, with_globals, with_officer, with_scripts, setting}
+use Rattle.filing_commands.specs.Parts.{IsKept, IsPlanOf, RefusesPlan, RefusesToKeep}
 use Rattle.filing_commands.specs.Pinning.{image}
 use Rattle.filing_commands.specs.Scripts.{library, put_script}
 use Rattle.filing_serial.specs.Alike.{AreSameNumber, AreAlike}

@@ -1,11 +1,9 @@
 -- The run of what is pinned ends with the outcome of the capture alone, within the budget.
-use Rattle.std.proofs.Common.{◌≡◌, ◌<◌, ◌≤◌, ℕ, zero, suc, List, [], refl, arith, ap, ◌∙◌, sym, subst, Bool, true, false, Option, Some, None}
-use Rattle.std.specs.Prelude.{nat_lt}
+use Rattle.std.proofs.Common.{◌≡◌, ◌<◌, ◌≤◌, ℕ, zero, suc, List, [], refl, arith, ◌∙◌, sym, subst, Bool, true, false, Some, None}
 use Rattle.sieve_meaning.specs.Case.{Facts}
 use Rattle.sieve_meaning.specs.Program.{Commands}
 use Rattle.sieve_meaning.specs.Meaning.{Library, meaning}
-use Rattle.sieve_meaning.specs.Outcome.{Outcome, outcome, outcome_of, outcome_at, greatest_weight}
-use Rattle.sieve_meaning.specs.Weight.{linked_weight}
+use Rattle.sieve_meaning.specs.Outcome.{Outcome, outcome, outcome_of, outcome_at}
 use Rattle.filing_image.specs.Program.{Program}
 use Rattle.filing_verify.specs.Well.{IsWell}
 use Rattle.filing_table.specs.Machine.{State, At, start, after_steps}
@@ -57,14 +55,17 @@ pinned_alone : (s : Stood) (p : Program) (n : ℕ) (o : Outcome) → Pins s p �
 pinned_alone s p n o h k = chosen_gives s.program (case_in s) s.library p n o h k
 
 -- a run that ends does so within the budget of a verified program
-pub budget_holds : (p : Program) (c : Facts) (n : ℕ) (o : Outcome) → IsWell p → HasOutcome p c n o → EndsWithinBudget p c o
-budget_holds p c n o w h =
+steps_within : (p : Program) (c : Facts) (n : ℕ) (o : Outcome) → IsWell p → HasOutcome p c n o → n ≤ p.budget
+steps_within p c n o w h =
     let ends = ends_within p c w in
     let same : n ≡ ends.0 = one_step p c n ends.0 o ends.1 h ends.3 in
-    record { steps = n; within = rw same ends.2; outcome = h }
+    rw same ends.2
+
+pub budget_holds : (p : Program) (c : Facts) (n : ℕ) (o : Outcome) → IsWell p → HasOutcome p c n o → EndsWithinBudget p c o
+budget_holds p c n o w h = record { steps = n; within = steps_within p c n o w h; outcome = h }
 
 pub within_budget : (f : Flight) → IsPinned f → (f.run_length ≤ f.pinned.budget) × (f.pinned.budget ≡ budget_of f.stood)
-within_budget f h = ((budget_holds f.pinned (case_in f.stood) f.run_length h.length.0 h.well h.length.1).within, pins_budget f.stood f.pinned h.pins)
+within_budget f h = (steps_within f.pinned (case_in f.stood) f.run_length h.length.0 h.well h.length.1, pins_budget f.stood f.pinned h.pins)
 
 pub alone : (f : Flight) (n : ℕ) (o : Outcome) → IsPinned f → HasOutcome f.pinned (case_in f.stood) n o → IsAlone f.stood o × (n ≡ f.run_length)
 alone f n o h k = (pinned_alone f.stood f.pinned n o h.pins k, one_step f.pinned (case_in f.stood) n f.run_length o h.length.0 k h.length.1)

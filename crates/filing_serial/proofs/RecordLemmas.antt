@@ -1,12 +1,12 @@
 -- What captures and due lists say of records.
-use Rattle.std.proofs.Common.{◌≡◌, ◌+◌, ◌≤◌, ◌++◌, [], ◌∷◌, ℕ, List, map, filter, refl, arith, ap, ◌∙◌, sym, subst, inl, inr, Bool, true, false, not, ◌&&◌, cond, Option, Some, None, Result, Ok, Err, Ordering, is_gt}
-use Rattle.std.specs.Prelude.{if◌then◌else◌, nat_lt, All, Contains}
+use Rattle.std.proofs.Common.{◌≡◌, ◌+◌, ◌<◌, ◌≤◌, [], ◌∷◌, ℕ, List, map, filter, refl, arith, ap, ◌∙◌, sym, subst, inl, inr, Bool, true, false, not, ◌&&◌, Option, Some, None, Result, Ok, Err, Ordering, is_gt}
+use Rattle.std.specs.Prelude.{if◌then◌else◌, max, nat_lt, All, Contains}
 use Rattle.std.specs.List.{AllByRecursion, AllZip}
 use Rattle.std.proofs.lemmas.Bool.Decides.{nat_tests}
 use Rattle.std.proofs.lemmas.List.{append-nil}
 use Rattle.std.proofs.lemmas.List.Elements.{All-from_recursion, recursion_from_All, All-contains_itself, Contains-push}
 use Rattle.sqlite_keyed.specs.Lists.{sort_by, insert_sorted}
-use Rattle.class_plan.specs.Plans.{Listing, is_open_in}
+use Rattle.class_plan.specs.Plans.{is_open_in}
 use Rattle.sieve_meaning.specs.Case.{Facts}
 use Rattle.sieve_meaning.specs.Program.{Commands}
 use Rattle.sieve_meaning.specs.Paths.{Paths}
@@ -16,16 +16,16 @@ use Rattle.sieve_meaning.specs.Weight.{linked_weight}
 use Rattle.filing_case.specs.Message.{case_of}
 use Rattle.filing_image.specs.Program.{Program}
 use Rattle.filing_table.specs.Ends.{HasOutcome}
-use Rattle.record_tables.specs.Rows.{Message, Record}
-use Rattle.record_store.specs.Archive.{Archive, Line, capture, captured, captured_lines, due_list, due_of, has_room, is_by, is_due, is_held, is_live, line_cmp, line_of, new_records, next_number, records_of}
+use Rattle.record_tables.specs.Rows.{Record}
+use Rattle.record_store.specs.Archive.{Archive, Line, capture, captured, captured_lines, due_list, due_of, has_room, is_by, is_due, is_held, line_cmp, line_of, new_records, next_number, past_all, records_of}
 use Rattle.record_store.specs.declared.fault.StoreFault.{StoreFault}
 use Rattle.record_store.specs.declared.fault.StoreFault.TheVariants.{Full}
 use Rattle.filing_commands.specs.Answers.{filed, listed, refused}
 use Rattle.filing_commands.specs.Answers as answers
-use Rattle.filing_commands.specs.Office.{Office, OfficeStep, IsFiled, IsTried, due, file, try_image}
+use Rattle.filing_commands.specs.Office.{Office, IsFiled, IsTried, due, file, try_image}
 use Rattle.filing_commands.specs.Parts.{IsGoodImage}
 use Rattle.filing_commands.specs.Pinning.{Stood, Chosen, nothing, script, image_of, GivesOutcome, IsAlone, case_in}
-use Rattle.filing_commands.specs.Standing.{Command, plain, finish, Flight, Standing, Step, FinishWhole, Files, flight_of}
+use Rattle.filing_commands.specs.Standing.{plain, finish, Flight, Standing, Step, FinishWhole, Files, flight_of}
 use Rattle.filing_serial.specs.Records.{EndsWithinBudget, FilesAlone, IsDueBy, IsDueLine, IsFaultAlone, IsLineOf, IsMadeWhole}
 use Rattle.filing_serial.proofs.Pinned.{budget_holds}
 use Rattle.filing_serial.proofs.Refusals.{finish_of}
@@ -83,6 +83,10 @@ try_says s octets message o new (b, inr h, e) = absurd (let other : answers.capt
 
 -- ---- records of a capture
 
+-- the message is stored under the number that the record names
+abbrev IsStored : Archive → (message : List ℕ) → Record → Type 0
+IsStored a message r = Contains a.messages (record { number = r.message; body = message })
+
 classes_of : (n message day : ℕ) (paths : List (List ℕ)) → map (λ (r : Record). r.path) (records_of n message day paths) ≡ paths
 classes_of n message day [] = refl
 classes_of n message day (q ∷ qs) = ap (λ x. q ∷ x) (classes_of (n + 1) message day qs)
@@ -95,6 +99,28 @@ all_new P n message day (q ∷ qs) h = (h n q, all_new P (n + 1) message day qs 
 each_new : (P : Record → Type 0) (n message day : ℕ) (paths : List (List ℕ)) → ((m : ℕ) (q : List ℕ) → P (record { number = m; message = message; path = q; day = day; destroyed = false })) → All P (records_of n message day paths)
 each_new P n message day paths h = All-from_recursion P (records_of n message day paths) (all_new P n message day paths h)
 
+-- ---- numbers
+
+past_least : (n : ℕ) (rs : List Record) → n ≤ past_all n rs
+past_least n [] = omega arith
+past_least n (r ∷ rs) = let rest = past_least (max n (r.number + 1)) rs in omega (arith, rest)
+
+past_each : (n : ℕ) (rs : List Record) → AllByRecursion (λ (x : Record). x.number < past_all n rs) rs
+past_each n [] = tt
+past_each n (r ∷ rs) = (let rest = past_least (max n (r.number + 1)) rs in omega (arith, rest), past_each (max n (r.number + 1)) rs)
+
+-- these numbers are below that one
+abbrev AreBelow : List Record → ℕ → Type 0
+AreBelow rs n = AllByRecursion (λ (x : Record). x.number < n) rs
+
+below_more : (rs : List Record) (n : ℕ) → AreBelow rs n → AreBelow rs (n + 1)
+below_more [] n h = tt
+below_more (r ∷ rs) n h = (omega (arith, h.0), below_more rs n h.1)
+
+new_above : (old : List Record) (n message day : ℕ) (paths : List (List ℕ)) → AreBelow old n → AllByRecursion (λ (r : Record). All (λ (x : Record). x.number < r.number) old) (records_of n message day paths)
+new_above old n message day [] h = tt
+new_above old n message day (q ∷ qs) h = (All-from_recursion (λ (x : Record). x.number < n) old h, new_above old (n + 1) message day qs (below_more old n h))
+
 lines_told : (a : Archive) (rs : List Record) → AllZip (IsLineOf a.plan) rs (map (line_of a) rs)
 lines_told a [] = tt
 lines_told a (r ∷ rs) = (record { number = refl; class = refl; due = refl }, lines_told a rs)
@@ -106,6 +132,7 @@ made_whole a stood o [] e = record {
   classes = sym e;
   days = All-from_recursion _ [] tt;
   live = All-from_recursion _ [] tt;
+  numbers = All-from_recursion _ [] tt;
   messages = All-from_recursion _ [] tt;
   told = tt;
   plan = refl;
@@ -118,9 +145,10 @@ made_whole a stood o (q ∷ qs) e =
       records = new_records a stood.day (q ∷ qs);
       added = refl;
       classes = classes_of n n stood.day (q ∷ qs) ∙ sym e;
-      days = each_new _ n n stood.day (q ∷ qs) (λ m p. refl);
-      live = each_new _ n n stood.day (q ∷ qs) (λ m p. refl);
-      messages = each_new _ n n stood.day (q ∷ qs) (λ m p. stored);
+      days = each_new (λ (r : Record). r.day ≡ stood.day) n n stood.day (q ∷ qs) (λ m p. refl);
+      live = each_new (λ (r : Record). r.destroyed ≡ false) n n stood.day (q ∷ qs) (λ m p. refl);
+      numbers = All-from_recursion (λ (r : Record). All (λ (x : Record). x.number < r.number) a.records) (new_records a stood.day (q ∷ qs)) (new_above a.records n n stood.day (q ∷ qs) (past_each 1 a.records));
+      messages = each_new (IsStored (captured a stood.message stood.day (q ∷ qs)) stood.message) n n stood.day (q ∷ qs) (λ m p. stored);
       told = lines_told a (new_records a stood.day (q ∷ qs));
       plan = refl;
       holds = refl;

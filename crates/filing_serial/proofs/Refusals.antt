@@ -8,7 +8,8 @@ use Rattle.filing_commands.specs.Answers.{Answer, done, captured, begun, running
 use Rattle.filing_commands.specs.Limits.{greatest_message, last_moment, last_ticket, most_in_flight}
 use Rattle.filing_commands.specs.Office.{IsTrouble}
 use Rattle.filing_commands.specs.Pinning.{Stood}
-use Rattle.filing_commands.specs.Standing.{Command, begin, turn, finish, Flight, Standing, Step, BeginStep, TurnStep, FinishStep, FinishWhole, Files, flight_of, granting, begin_refusal, turned}
+use Rattle.filing_commands.specs.Standing.{begin, turn, finish, Flight, Standing, Step, BeginStep, TurnStep, FinishStep, FinishWhole, Files, flight_of, begin_refusal, turned}
+use Rattle.filing_serial.specs.Beginnings.{MayBegin}
 use Rattle.filing_serial.specs.Turns.{TellsTurns}
 use Rattle.filing_serial.proofs.TicketLemmas.{granted_more, of_grant}
 use Rattle.filing_serial.proofs.Verdicts.{some_is}
@@ -191,30 +192,28 @@ verdict_of s officer moment message (listed ls) new n h e d = absurd h
 not_99 : (n : ℕ) → n < 99 → n ≢ 99
 not_99 n h e = omega (arith, h, e)
 
-begin_90 : (s : Standing) (officer : List ℕ) (moment : ℕ) (message : List ℕ) (a : Answer) (new : Standing) → length s.flights ≤ most_in_flight → BeginStep s officer moment message a new → (a ≡ refused 90 None) ↔ ((length s.flights ≡ most_in_flight) × (moment ≤ last_moment) × (length message ≤ greatest_message))
+begin_90 : (s : Standing) (officer : List ℕ) (moment : ℕ) (message : List ℕ) (a : Answer) (new : Standing) → length s.flights ≤ most_in_flight → BeginStep s officer moment message a new → (a ≡ refused 90 None) ↔ ((length s.flights ≡ most_in_flight) × MayBegin moment message)
 begin_90 s officer moment message a new most h =
     let count = length s.flights in
-    let size = length message in
-    (
+    let size = length message in (
       λ e. let says = says_90 count s.last moment size (says_of count s.last moment size (Some 90) (verdict_of s officer moment message a new 90 h e (not_99 90 (omega arith)))) in
-          (omega (arith, most, says.2), says.0, says.1),
-      λ x. refused_with s officer moment message a new 90 h (is_90 count s.last moment size (begin_refusal count s.last moment size) x.1 x.2 (omega (arith, x.0)) (verdict count s.last moment size))
+          (omega (arith, most, says.2), (says.0, says.1)),
+      λ x. refused_with s officer moment message a new 90 h (is_90 count s.last moment size (begin_refusal count s.last moment size) x.1.0 x.1.1 (omega (arith, x.0)) (verdict count s.last moment size)),
     )
 
-begin_97 : (s : Standing) (officer : List ℕ) (moment : ℕ) (message : List ℕ) (a : Answer) (new : Standing) → s.last ≤ last_ticket → BeginStep s officer moment message a new → (a ≡ refused 97 None) ↔ ((s.last ≡ last_ticket) × (length s.flights < most_in_flight) × (moment ≤ last_moment) × (length message ≤ greatest_message))
+begin_97 : (s : Standing) (officer : List ℕ) (moment : ℕ) (message : List ℕ) (a : Answer) (new : Standing) → s.last ≤ last_ticket → BeginStep s officer moment message a new → (a ≡ refused 97 None) ↔ ((s.last ≡ last_ticket) × (length s.flights < most_in_flight) × MayBegin moment message)
 begin_97 s officer moment message a new most h =
     let count = length s.flights in
-    let size = length message in
-    (
+    let size = length message in (
       λ e. let says = says_97 count s.last moment size (says_of count s.last moment size (Some 97) (verdict_of s officer moment message a new 97 h e (not_99 97 (omega arith)))) in
-          (omega (arith, most, says.3), says.2, says.0, says.1),
-      λ x. refused_with s officer moment message a new 97 h (is_97 count s.last moment size (begin_refusal count s.last moment size) x.2 x.3 x.1 (omega (arith, x.0)) (verdict count s.last moment size))
+          (omega (arith, most, says.3), says.2, (says.0, says.1)),
+      λ x. refused_with s officer moment message a new 97 h (is_97 count s.last moment size (begin_refusal count s.last moment size) x.2.0 x.2.1 x.1 (omega (arith, x.0)) (verdict count s.last moment size)),
     )
 
-pub too_many_in_flight : (s : Standing) (officer : List ℕ) (moment : ℕ) (message : List ℕ) (a : Answer) (new : Standing) → length s.flights ≤ most_in_flight → Step s (begin officer moment message) a new → (a ≡ refused 90 None) ↔ ((length s.flights ≡ most_in_flight) × (moment ≤ last_moment) × (length message ≤ greatest_message))
+pub too_many_in_flight : (s : Standing) (officer : List ℕ) (moment : ℕ) (message : List ℕ) (a : Answer) (new : Standing) → length s.flights ≤ most_in_flight → Step s (begin officer moment message) a new → (a ≡ refused 90 None) ↔ ((length s.flights ≡ most_in_flight) × MayBegin moment message)
 unfolding Step
 too_many_in_flight s officer moment message a new most h = begin_90 s officer moment message a new most h
 
-pub tickets_used_up : (s : Standing) (officer : List ℕ) (moment : ℕ) (message : List ℕ) (a : Answer) (new : Standing) → s.last ≤ last_ticket → Step s (begin officer moment message) a new → (a ≡ refused 97 None) ↔ ((s.last ≡ last_ticket) × (length s.flights < most_in_flight) × (moment ≤ last_moment) × (length message ≤ greatest_message))
+pub tickets_used_up : (s : Standing) (officer : List ℕ) (moment : ℕ) (message : List ℕ) (a : Answer) (new : Standing) → s.last ≤ last_ticket → Step s (begin officer moment message) a new → (a ≡ refused 97 None) ↔ ((s.last ≡ last_ticket) × (length s.flights < most_in_flight) × MayBegin moment message)
 unfolding Step
 tickets_used_up s officer moment message a new most h = begin_97 s officer moment message a new most h

@@ -1,12 +1,11 @@
 -- A serial session has one list of answers, and leaves one state.
-use Rattle.std.proofs.Common.{◌≡◌, [], ◌∷◌, ℕ, List, refl, ap, ◌∙◌, sym, subst, inl, inr, true, false, Bool, Option, Some, None, Result, Ok, Err}
+use Rattle.std.proofs.Common.{◌≡◌, [], ◌∷◌, ℕ, List, refl, ap, ◌∙◌, sym, subst, inl, false, Bool, Option, Some, None, Result, Ok, Err}
 use Rattle.std.specs.Prelude.{if◌then◌else◌}
 use Rattle.sieve_meaning.specs.Meaning.{Library}
 use Rattle.sieve_meaning.specs.Case.{Facts}
 use Rattle.sieve_meaning.specs.Outcome.{Outcome}
 use Rattle.filing_table.proofs.Once.{one_outcome}
-use Rattle.record_store.specs.Archive.{Archive, Line, capture, captured_lines}
-use Rattle.record_store.specs.declared.fault.StoreFault.{StoreFault}
+use Rattle.record_store.specs.Archive.{Archive, capture, captured_lines}
 use Rattle.record_store.specs.declared.fault.StoreFault.TheVariants.{Full}
 use Rattle.filing_commands.specs.Answers.{Answer, done, captured, begun, running, ended, filed, listed, refused}
 use Rattle.filing_commands.specs.Office.{with_archive}
@@ -14,7 +13,7 @@ use Rattle.filing_commands.specs.Pinning.{Stood, IsAlone, GivesOutcome, Chosen, 
 use Rattle.filing_commands.specs.Standing.{Command, plain, begin, turn, finish, Standing, Files, is_refusal}
 use Rattle.filing_serial.specs.Alike.{AreAlike, AllAlike}
 use Rattle.filing_serial.specs.Runs.{Run}
-use Rattle.filing_serial.specs.Serial.{Serial, SerialStep, SerialBegin, SerialFinish, SerialRun, stood_of, without_ticket, is_struck, kept_commands, kept_answers, forget, giving_up}
+use Rattle.filing_serial.specs.Serial.{Serial, SerialStep, SerialBegin, SerialFinish, SerialRun, stood_of, without_ticket, is_struck, kept_commands, kept_answers, forget}
 use Rattle.filing_serial.proofs.OfficeOnce.{office_once}
 use Rattle.filing_serial.proofs.Sessions.{sessions}
 use Rattle.filing_serial.proofs.Verdicts.{some_is}

@@ -1,5 +1,5 @@
 -- A session with turns is the serial one.
-use Rattle.std.proofs.Common.{◌≡◌, ◌+◌, ◌++◌, ◌∷◌, [], ℕ, List, length, map, refl, arith, ap, ◌∙◌, sym, subst, inl, inr, Bool, true, false, Option, Some, None}
+use Rattle.std.proofs.Common.{◌≡◌, ◌+◌, ◌++◌, ◌∷◌, [], ℕ, List, length, map, refl, arith, ap, ◌∙◌, subst, inl, inr, Bool, true, false, Option, Some, None}
 use Rattle.std.specs.Prelude.{if◌then◌else◌}
 use Rattle.std.specs.Option.{option_map}
 use Rattle.std.proofs.lemmas.Bool.Decides.{nat_tests}
@@ -14,7 +14,7 @@ use Rattle.filing_commands.specs.Office.{Office, PlainCommand, OfficeRule, Offic
 use Rattle.filing_commands.specs.Pinning.{Stood, Chosen, nothing, script, image_of, Pins, PinsChosen, PinsScript, budget_of, budget_by}
 use Rattle.filing_commands.specs.Standing.{Command, plain, begin, turn, finish, Flight, Standing, Step, BeginStep, TurnStep, FinishStep, FinishWhole, Files, flight_of, grant, without, granting, filing, begin_refusal, stood_at}
 use Rattle.filing_serial.specs.Runs.{Run}
-use Rattle.filing_serial.specs.Serial.{Serial, SerialStep, SerialRun, Ticket, ticket_of, stood_of, without_ticket, is_passing, is_struck, kept_commands, kept_answers, forget}
+use Rattle.filing_serial.specs.Serial.{Serial, SerialStep, SerialRun, Ticket, next_ticket, ticket_of, stood_of, without_ticket, is_passing, is_struck, kept_commands, kept_answers, forget}
 
 grant_shows : (t k : ℕ) (fs : List Flight) → map ticket_of (grant t k fs) ≡ map ticket_of fs
 grant_shows t k [] = refl
@@ -103,7 +103,7 @@ counted s = length-map s.flights ticket_of
 begin_follows : (s : Standing) (officer : List ℕ) (moment : ℕ) (message : List ℕ) (a : Answer) (new : Standing) → BeginStep s officer moment message a new → Follows (is_struck (begin officer moment message) a) (forget s) (begin officer moment message) a (forget new)
 begin_follows s officer moment message (begun t b) new h =
     let stood = stood_at s.office officer moment message in
-    let ticket : Ticket = record { number = s.last + 1; stood = stood } in
+    let ticket : Ticket = next_ticket (forget s) officer moment message in
     let one : ticket_of h.flight ≡ ticket = λ i. record { number = h.next i; stood = h.stood i } in
     let more : map ticket_of (s.flights ++ h.flight ∷ []) ≡ (forget s).tickets ++ ticket ∷ [] = map-append ticket_of s.flights _ ∙ ap (λ p. (forget s).tickets ++ p ∷ []) one in
     record {

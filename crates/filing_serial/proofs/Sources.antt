@@ -1,6 +1,6 @@
 -- Where a capture in flight comes from: it was there before, or it began.
-use Rattle.std.proofs.Common.{◌≡◌, ◌≢◌, ◌+◌, ◌<◌, ◌≤◌, ◌++◌, [], ◌∷◌, ℕ, List, length, refl, arith, ap, ◌∙◌, sym, subst, inl, inr, Bool, true, false, Option, Some, None}
-use Rattle.std.specs.Prelude.{◌⊎◌, ◌==◌, if◌then◌else◌, MatchBool}
+use Rattle.std.proofs.Common.{◌≡◌, ◌≢◌, ◌+◌, ◌<◌, ◌≤◌, [], ◌∷◌, ℕ, List, refl, arith, ap, ◌∙◌, sym, inl, inr, Bool, true, false, Option, Some, None}
+use Rattle.std.specs.Prelude.{◌⊎◌, ◌==◌, if◌then◌else◌}
 use Rattle.std.specs.Option.{option_map}
 use Rattle.std.proofs.lemmas.Bool.Decides.{nat_tests}
 use Rattle.record_store.specs.Archive.{Archive}
@@ -80,7 +80,7 @@ from_grant s c a new t f h e = go (h.ticket == t) refl (h.grants t)
         let same : h.ticket ≡ t = same_number h.ticket t is in
         let there : flight_of t s.flights ≡ Some h.flight = ap (λ n. flight_of n s.flights) (sym same) ∙ h.there in
         let after : flight_of t new.flights ≡ Some (granted_more h.turns h.flight) =
-                ap (flight_of t) (h.flights ∙ ap (λ n. grant n h.turns s.flights) same) ∙ of_grant t h.turns s.flights ∙ ap (option_map (granted_more h.turns)) there in
+        ap (flight_of t) (h.flights ∙ ap (λ n. grant n h.turns s.flights) same) ∙ of_grant t h.turns s.flights ∙ ap (option_map (granted_more h.turns)) there in
         let more : f ≡ granted_more h.turns h.flight = some_is f (granted_more h.turns h.flight) (sym e ∙ after) in
         inl (record {
           old = h.flight;

@@ -1,5 +1,5 @@
 -- Captures in flight by their tickets, which ascend up to the last one given.
-use Rattle.std.proofs.Common.{◌≡◌, ◌≢◌, ◌+◌, ◌<◌, ◌≤◌, ◌++◌, [], ◌∷◌, ℕ, List, length, refl, arith, ap, ◌∙◌, sym, Bool, true, false, Option, Some, None}
+use Rattle.std.proofs.Common.{◌≡◌, ◌≢◌, ◌+◌, ◌<◌, ◌≤◌, ◌++◌, [], ◌∷◌, ℕ, List, length, refl, arith, Bool, true, false, Some, None}
 use Rattle.std.specs.Prelude.{◌==◌, if◌then◌else◌}
 use Rattle.std.specs.Option.{option_map}
 use Rattle.std.proofs.lemmas.Bool.Decides.{nat_tests}
@@ -23,19 +23,19 @@ of_without_other t u (f ∷ fs) e = let rest = of_without_other t u fs e in grin
 
 pub of_more_old : (t : ℕ) (fs : List Flight) (f g : Flight) → flight_of t fs ≡ Some g → flight_of t (fs ++ f ∷ []) ≡ Some g
 of_more_old t [] f g e = absurd cc
-of_more_old t (x ∷ fs) f g e = go (x.ticket == t) refl
+of_more_old t (x ∷ fs) f g e = go (x.ticket == t) refl (of_more_old t fs f g)
   where
-    go : (b : Bool) → (x.ticket == t) ≡ b → flight_of t (x ∷ fs ++ f ∷ []) ≡ Some g
-    go true is = rw is (rw is at e)
-    go false is = rw is (of_more_old t fs f g (rw is at e))
+    go : (b : Bool) → (x.ticket == t) ≡ b → (flight_of t fs ≡ Some g → flight_of t (fs ++ f ∷ []) ≡ Some g) → flight_of t (x ∷ fs ++ f ∷ []) ≡ Some g
+    go true is rest = rw is (rw is at e)
+    go false is rest = rw is (rest (rw is at e))
 
 pub of_more_new : (t : ℕ) (fs : List Flight) (f : Flight) → flight_of t fs ≡ None → flight_of t (fs ++ f ∷ []) ≡ (if f.ticket == t then Some f else None)
 of_more_new t [] f e = refl
-of_more_new t (x ∷ fs) f e = go (x.ticket == t) refl
+of_more_new t (x ∷ fs) f e = go (x.ticket == t) refl (of_more_new t fs f)
   where
-    go : (b : Bool) → (x.ticket == t) ≡ b → flight_of t (x ∷ fs ++ f ∷ []) ≡ (if f.ticket == t then Some f else None)
-    go true is = absurd (let some : Some x ≡ None = rw is at e in cc)
-    go false is = rw is (of_more_new t fs f (rw is at e))
+    go : (b : Bool) → (x.ticket == t) ≡ b → (flight_of t fs ≡ None → flight_of t (fs ++ f ∷ []) ≡ (if f.ticket == t then Some f else None)) → flight_of t (x ∷ fs ++ f ∷ []) ≡ (if f.ticket == t then Some f else None)
+    go true is rest = absurd (let some : Some x ≡ None = rw is at e in cc)
+    go false is rest = rw is (rest (rw is at e))
 
 -- ---- tickets in order
 
@@ -89,11 +89,11 @@ none_above m l t (f ∷ fs) h e =
 -- a ticket that was given up is not there any more
 pub of_without : (m l t : ℕ) (fs : List Flight) → AreTickets m fs l → flight_of t (without t fs) ≡ None
 of_without m l t [] h = refl
-of_without m l t (f ∷ fs) h = go (f.ticket == t) refl
+of_without m l t (f ∷ fs) h = go (f.ticket == t) refl (of_without f.ticket l t fs h.1)
   where
-    go : (b : Bool) → (f.ticket == t) ≡ b → flight_of t (if f.ticket == t then fs else f ∷ without t fs) ≡ None
-    go true is = rw is (none_below f.ticket l t fs h.1 (grind (arith, nat_tests, is)))
-    go false is = rw is (rw is (of_without f.ticket l t fs h.1))
+    go : (b : Bool) → (f.ticket == t) ≡ b → flight_of t (without t fs) ≡ None → flight_of t (if b then fs else f ∷ without t fs) ≡ None
+    go true is rest = none_below f.ticket l t fs h.1 (grind (arith, nat_tests, is))
+    go false is rest = rw is rest
 
 -- ---- how many there are
 

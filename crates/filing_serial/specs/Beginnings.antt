@@ -1,6 +1,7 @@
 -- Where a capture in flight began.
-use Rattle.std.specs.Prelude.{◌≡◌, ℕ, ◌+◌, List, [], ◌∷◌, ◌++◌}
+use Rattle.std.specs.Prelude.{◌≡◌, ℕ, ◌+◌, ◌≤◌, List, [], ◌∷◌, ◌++◌, length}
 use Rattle.filing_commands.specs.Answers.{Answer, done, captured, begun, running, ended, filed, listed, refused}
+use Rattle.filing_commands.specs.Limits.{greatest_message, last_moment}
 use Rattle.filing_commands.specs.Standing.{Command, begin, Flight, Standing, stood_at}
 use Rattle.filing_serial.specs.Runs.{Run}
 
@@ -19,6 +20,10 @@ pub record HasBegun (old : Standing) (commands : List Command) (answers : List A
   pub state : Standing
   pub run : Run old earlier earlier_answers state
   pub stood : f.stood ≡ stood_at state.office officer moment message
+
+-- a BEGIN is refused neither for its moment (94) nor for its message (95)
+abbrev pub MayBegin : (moment : ℕ) → (message : List ℕ) → Type 0
+MayBegin moment message = (moment ≤ last_moment) × (length message ≤ greatest_message)
 
 -- the tickets that were given, in order
 abbrev pub tickets_given : List Answer → List ℕ

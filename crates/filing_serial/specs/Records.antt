@@ -1,13 +1,13 @@
 -- What captures and due lists say of records.
-use Rattle.std.specs.Prelude.{◌≡◌, ℕ, ◌≤◌, List, [], ◌∷◌, ◌++◌, map, Bool, true, false, Option, Some, None, All, Contains}
+use Rattle.std.specs.Prelude.{◌≡◌, ℕ, ◌<◌, ◌≤◌, List, [], ◌∷◌, ◌++◌, map, false, Option, Some, All, Contains}
 use Rattle.std.specs.List.{AllZip}
-use Rattle.class_plan.specs.Plans.{Listing, is_open_in}
+use Rattle.class_plan.specs.Plans.{Listing}
 use Rattle.class_plan.specs.Calendar.{due_on}
 use Rattle.sieve_meaning.specs.Case.{Facts}
 use Rattle.sieve_meaning.specs.Outcome.{Outcome, unfiled}
 use Rattle.filing_image.specs.Program.{Program}
 use Rattle.filing_table.specs.Ends.{HasOutcome}
-use Rattle.record_tables.specs.Rows.{Message, Record}
+use Rattle.record_tables.specs.Rows.{Record}
 use Rattle.record_store.specs.Archive.{Archive, Line, is_held}
 use Rattle.filing_commands.specs.Pinning.{Stood, IsAlone}
 
@@ -27,14 +27,15 @@ pub record IsLineOf (plan : Listing) (r : Record) (l : Line) : Type 0 where
   pub class : l.path ≡ r.path
   pub due : l.due ≡ due_on plan r.path r.day
 
--- A capture of what stood made a live record for each of its classes, and no other: of the message, and with the day that stood.
--- The lines tell them in order. Plan and holds are as they were.
+-- A capture of what stood made a live record for each of its classes, and no other: of the message, with the day that stood, and
+-- numbered above all earlier ones. The lines tell them in order. Plan and holds are as they were.
 pub record IsMadeWhole (old : Archive) (stood : Stood) (o : Outcome) (lines : List Line) (new : Archive) : Type 0 where
   pub records : List Record
   pub added : new.records ≡ old.records ++ records
   pub classes : map (λ (r : Record). r.path) records ≡ o.classes
   pub days : All (λ (r : Record). r.day ≡ stood.day) records
   pub live : All (λ (r : Record). r.destroyed ≡ false) records
+  pub numbers : All (λ (r : Record). All (λ (x : Record). x.number < r.number) old.records) records
   pub messages : All (λ (r : Record). Contains new.messages (record { number = r.message; body = stood.message })) records
   pub told : AllZip (IsLineOf old.plan) records lines
   pub plan : new.plan ≡ old.plan

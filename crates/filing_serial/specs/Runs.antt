@@ -1,7 +1,8 @@
 -- Sessions: commands, one after the other.
 use Rattle.std.specs.Prelude.{◌≡◌, List, [], ◌∷◌}
+use Rattle.record_store.specs.Archive.{Archive}
 use Rattle.filing_commands.specs.Answers.{Answer}
-use Rattle.filing_commands.specs.Standing.{Command, Standing, Step}
+use Rattle.filing_commands.specs.Standing.{Command, Standing, Step, opening}
 
 -- commands may be answered so, one after the other, and leave that
 abbrev pub Run : Standing → List Command → List Answer → Standing → Type 0
@@ -9,3 +10,10 @@ Run s [] [] new = new ≡ s
 Run s (c ∷ commands) (a ∷ answers) new = (mid : Standing) × Step s c a mid × Run mid commands answers new
 Run s [] (a ∷ answers) new = ⊥
 Run s (c ∷ commands) [] new = ⊥
+
+-- a session that begins with an archive comes to this state
+pub record IsReached (s : Standing) : Type 0 where
+  pub archive : Archive
+  pub commands : List Command
+  pub answers : List Answer
+  pub run : Run (opening archive) commands answers s

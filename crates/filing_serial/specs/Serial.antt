@@ -2,7 +2,7 @@
 -- finish, and there is no machine, step or half-done capture.
 use Rattle.std.specs.Prelude.{◌≡◌, ℕ, ◌+◌, List, [], ◌∷◌, ◌++◌, length, map, Bool, true, false, ◌==◌, ◌||◌, if◌then◌else◌, Option, Some, None}
 use Rattle.record_store.specs.Archive.{Archive}
-use Rattle.filing_commands.specs.Answers.{Answer, done, captured, begun, running, ended, filed, listed, refused}
+use Rattle.filing_commands.specs.Answers.{Answer, begun, refused}
 use Rattle.filing_commands.specs.Pinning.{Stood, budget_of}
 use Rattle.filing_commands.specs.Office.{Office, OfficeRule, with_archive}
 use Rattle.filing_commands.specs.Standing.{Command, plain, begin, turn, finish, Flight, Standing, begin_refusal, stood_at, Files, is_refusal}
@@ -35,12 +35,16 @@ abbrev pub without_ticket : ℕ → List Ticket → List Ticket
 without_ticket t [] = []
 without_ticket t (x ∷ xs) = if x.number == t then xs else x ∷ without_ticket t xs
 
+-- the next ticket, with what stands
+abbrev pub next_ticket : Serial → (officer : List ℕ) → (moment : ℕ) → (message : List ℕ) → Ticket
+next_ticket s officer moment message = record { number = s.last + 1; stood = stood_at s.office officer moment message }
+
 -- a capture begins under the next ticket, and what stands is noted
 pub record IsNoted (s : Serial) (officer : List ℕ) (moment : ℕ) (message : List ℕ) (t b : ℕ) (new : Serial) : Type 0 where
   pub allowed : begin_refusal (length s.tickets) s.last moment (length message) ≡ None
   pub ticket : t ≡ s.last + 1
   pub budget : b ≡ budget_of (stood_at s.office officer moment message)
-  pub leaves : new ≡ record { office = s.office; tickets = s.tickets ++ record { number = s.last + 1; stood = stood_at s.office officer moment message } ∷ []; last = s.last + 1 }
+  pub leaves : new ≡ record { office = s.office; tickets = s.tickets ++ next_ticket s officer moment message ∷ []; last = s.last + 1 }
 
 abbrev pub SerialBegin : Serial → (officer : List ℕ) → (moment : ℕ) → (message : List ℕ) → Answer → Serial → Type 0
 SerialBegin s officer moment message (begun t b) new = IsNoted s officer moment message t b new

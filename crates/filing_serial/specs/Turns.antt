@@ -1,7 +1,7 @@
 -- The turns that a session grants to a ticket, and what is told of them.
 use Rattle.std.specs.Prelude.{◌≡◌, ℕ, ◌+◌, ◌<◌, ◌≤◌, List, [], ◌∷◌, ◌==◌, MatchBool}
-use Rattle.filing_commands.specs.Answers.{Answer, done, captured, begun, running, ended, filed, listed, refused}
-use Rattle.filing_commands.specs.Standing.{Command, plain, begin, turn, finish, Flight}
+use Rattle.filing_commands.specs.Answers.{Answer, running, ended, refused}
+use Rattle.filing_commands.specs.Standing.{Command, turn, Flight}
 
 -- A TURN of that count, answered so, granted so many turns: all of them; fewer where it was answered 99; none where it was refused
 -- otherwise.

@@ -9,27 +9,23 @@ ghost use Rattle.filing_commands.specs.Pinning.{case_in, budget_of, IsAlone};
 ghost use Rattle.filing_commands.specs.Standing.{Command, Flight, Standing, IsPinned, flight_of, opening};
 ghost use Rattle.filing_serial.specs.Alike.{AllAlike};
 ghost use Rattle.filing_serial.specs.Beginnings.{HasBegun};
-ghost use Rattle.filing_serial.specs.Runs.{Run};
+ghost use Rattle.filing_serial.specs.Runs.{IsReached, Run};
 ghost use Rattle.filing_serial.specs.Serial.{SerialRun, forget, kept_answers, kept_commands};
 
 /// A session is the serial one, whatever turns are granted in it: the commands that are struck do nothing, and the others are
 /// answered as if each capture were made whole at its finish.
 pub fn turns_do_not_matter()
-    ensures {
-        (s : Standing) (commands : List Command) (answers : List Answer) (new : Standing) → Run s commands answers new
-        → SerialRun (forget s) (kept_commands commands answers) (kept_answers commands answers) (forget new)
-    }
+    ensures { (s : Standing) (commands : List Command) (answers : List Answer) (new : Standing) → Run s commands answers new
+        → SerialRun (forget s) (kept_commands commands answers) (kept_answers commands answers) (forget new) }
 {}
 
 /// Two sessions that are equal after striking have the same answers, but for offsets and for 20 in the place of 21, and leave
 /// the same archive, scripts and programs, and the same tickets with what stood at their beginnings. They begin in one state, or
 /// in two that differ in the turns of their captures in flight alone.
 pub fn equal_after_striking()
-    ensures {
-        (s t : Standing) (commands others : List Command) (answers replies : List Answer) (x y : Standing) → forget s ≡ forget t
+    ensures { (s t : Standing) (commands others : List Command) (answers replies : List Answer) (x y : Standing) → forget s ≡ forget t
         → Run s commands answers x → Run t others replies y → kept_commands commands answers ≡ kept_commands others replies
-        → AllAlike (kept_answers commands answers) (kept_answers others replies) × (forget x ≡ forget y)
-    }
+        → AllAlike (kept_answers commands answers) (kept_answers others replies) × (forget x ≡ forget y) }
 {}
 
 /// Of a session that begins with an archive:
@@ -39,16 +35,10 @@ pub fn equal_after_striking()
 /// - the run of what is pinned takes at most as many steps as the budget that BEGIN told;
 /// - it ends with the outcome of the capture alone.
 pub fn captures_are_pinned()
-    ensures stood {
-        (archive : Archive) (commands : List Command) (answers : List Answer) (s : Standing) (t : ℕ) (f : Flight)
-        → Run (opening archive) commands answers s → flight_of t s.flights ≡ Some f → HasBegun (opening archive) commands answers f
-    }
-    ensures pinned {
-        (archive : Archive) (commands : List Command) (answers : List Answer) (s : Standing)
-        → Run (opening archive) commands answers s → All IsPinned s.flights
-    }
+    ensures stood { (archive : Archive) (commands : List Command) (answers : List Answer) (s : Standing) (t : ℕ) (f : Flight)
+        → Run (opening archive) commands answers s → flight_of t s.flights ≡ Some f → HasBegun (opening archive) commands answers f }
+    ensures pinned { (s : Standing) → IsReached s → All IsPinned s.flights }
     ensures budget { (f : Flight) → IsPinned f → (f.run_length ≤ f.pinned.budget) × (f.pinned.budget ≡ budget_of f.stood) }
-    ensures alone {
-        (f : Flight) (n : ℕ) (o : Outcome) → IsPinned f → HasOutcome f.pinned (case_in f.stood) n o → IsAlone f.stood o × (n ≡ f.run_length)
-    }
+    ensures alone { (f : Flight) (n : ℕ) (o : Outcome) → IsPinned f → HasOutcome f.pinned (case_in f.stood) n o
+        → IsAlone f.stood o × (n ≡ f.run_length) }
 {}

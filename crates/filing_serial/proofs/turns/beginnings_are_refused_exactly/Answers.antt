@@ -6,7 +6,7 @@ pub returns-clause-tickets : goal.returns-clause-tickets
 returns-clause-tickets c = tickets_in_order
 
 pub returns-clause-in_flight : goal.returns-clause-in_flight
-returns-clause-in_flight c = λ archive commands answers s officer moment message a new run. too_many_in_flight s officer moment message a new (most_flights archive commands answers s run)
+returns-clause-in_flight c = λ s officer moment message a new reached. too_many_in_flight s officer moment message a new (most_flights s reached)
 
 pub returns-clause-used_up : goal.returns-clause-used_up
-returns-clause-used_up c = λ archive commands answers s officer moment message a new run. tickets_used_up s officer moment message a new (most_tickets archive commands answers s run)
+returns-clause-used_up c = λ s officer moment message a new reached. tickets_used_up s officer moment message a new (most_tickets s reached)
