@@ -103,7 +103,7 @@ finish_once s t (Some stood) a b x y h k =
     let f = files_once s.office.archive stood a b h.0 k.0 h.1 k.1 in
     (f.alike, h.2 ∙ given_up_once s t (is_refusal a) (is_refusal b) h.0 k.0 f.refusals f.archives ∙ sym k.2)
 
-step_once : (s : Serial) (c : Command) (a b : Answer) (x y : Serial) → is_struck c a ≡ false → is_struck c b ≡ false → SerialStep s c a x → SerialStep s c b y → AreAlike a b × (x ≡ y)
+pub step_once : (s : Serial) (c : Command) (a b : Answer) (x y : Serial) → is_struck c a ≡ false → is_struck c b ≡ false → SerialStep s c a x → SerialStep s c b y → AreAlike a b × (x ≡ y)
 step_once s (plain c) a b x y d e h k =
     let o = office_once s.office c a b h.0 k.0 h.1 k.1 d e in
     (o.0, h.2 ∙ ap (λ z. record s { office = z }) o.1 ∙ sym k.2)

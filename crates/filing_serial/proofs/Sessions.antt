@@ -45,7 +45,7 @@ pins_budget s p h = chosen_budget s.program s.library p h
 -- ---- steps
 
 -- what a step is to the serial session: none where it is struck
-abbrev Follows : (struck : Bool) → Serial → Command → Answer → Serial → Type 0
+abbrev pub Follows : (struck : Bool) → Serial → Command → Answer → Serial → Type 0
 Follows true s c a new = new ≡ s
 Follows false s c a new = SerialStep s c a new
 
@@ -158,7 +158,7 @@ finish_follows s t (Some f) a new e h =
     whole_follows s t _ f.stood a new (stood_shows t s.flights ∙ ap (option_map (λ x. x.stood)) e) h
 
 -- a step of the session is one of the serial session, or does nothing to it
-step_follows : (s : Standing) (c : Command) (a : Answer) (new : Standing) → Step s c a new → Follows (is_struck c a) (forget s) c a (forget new)
+pub step_follows : (s : Standing) (c : Command) (a : Answer) (new : Standing) → Step s c a new → Follows (is_struck c a) (forget s) c a (forget new)
 unfolding Step
 step_follows s (plain c) a new h = plain_follows s c a h.0 new h.1 h.2
 step_follows s (begin officer moment message) a new h = begin_follows s officer moment message a new h
