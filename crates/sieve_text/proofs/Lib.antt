@@ -26,6 +26,7 @@ pub mod ScriptLaws
 pub mod SkipLemmas
 pub mod Spelled
 pub mod StrayGrammar
+pub mod StrayLemmas
 pub mod StringLemmas
 pub mod TreeLaws
 mod TreeRows

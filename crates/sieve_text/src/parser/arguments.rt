@@ -56,7 +56,7 @@ fn other_strings(alloc: Global, text: &[u8]) -> Result<(Texts, &[u8]), Stop>
     let mut others = Vec::new(alloc);
     let mut rest = text;
     while let Some((next, after)) = next_string(alloc, rest)? {
-        rows::push(&mut others, next)?;
+        rows::push(&mut others, next, rows::SEVERAL)?;
         rest = after;
     }
     Ok((Texts::from_vec(alloc, others)?, rest))
@@ -125,7 +125,7 @@ fn some_arguments(alloc: Global, text: &[u8]) -> Result<(Arguments, &[u8]), Stop
     let mut arguments = Vec::new(alloc);
     let mut rest = text;
     while let Some((next, after)) = next_argument(alloc, rest)? {
-        rows::push(&mut arguments, next)?;
+        rows::push(&mut arguments, next, rows::SEVERAL)?;
         rest = after;
     }
     Ok((Arguments::from_vec(alloc, arguments)?, rest))

@@ -27,7 +27,7 @@ pub fn commands(alloc: Global, depth: u8, text: &[u8]) -> Result<(Vec<Command>, 
     let mut commands = Vec::new(alloc);
     let mut rest = text;
     while let Some((next, after)) = next_command(alloc, depth, rest)? {
-        rows::push(&mut commands, next)?;
+        rows::push(&mut commands, next, 1)?;
         rest = after;
     }
     commands.shrink_to_fit();

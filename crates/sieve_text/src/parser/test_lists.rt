@@ -117,7 +117,7 @@ fn other_tests(alloc: Global, depth: u8, text: &[u8]) -> Result<(Vec<Test>, &[u8
     let mut tests = Vec::new(alloc);
     let mut rest = text;
     while let Some((next, after)) = next_test(alloc, depth, rest)? {
-        rows::push(&mut tests, next)?;
+        rows::push(&mut tests, next, rows::SEVERAL)?;
         rest = after;
     }
     tests.shrink_to_fit();
