@@ -1,14 +1,17 @@
--- Where a semicolon stands first there is no argument, and no test.
-use Rattle.std.proofs.Common.{◌≡◌, List, [], ◌∷◌, Ok, refl}
-use Rattle.sieve_syntax.specs.Tree.{TestTree, no_tests}
-use Rattle.sieve_syntax.specs.declared.token.Mark.TheVariants.{Semicolon}
+-- Where one look tells that no argument stands first there is none.
+use Rattle.std.proofs.Common.{◌≡◌, ℕ, zero, suc, List, [], ◌∷◌, length, None, Ok, refl}
 use Rattle.sieve_syntax.specs.declared.token.TokenKind.{TokenKind}
 use Rattle.sieve_syntax.specs.declared.token.TokenKind.TheVariants as kinds
-use Rattle.sieve_text.specs.Reading.{Reads, many_at, argument_at, arguments_at, inner_with}
+use Rattle.sieve_text.specs.Reading.{many_at, argument_at, arguments_at}
 
-pub no_arguments : (ts rest : List TokenKind) → ts ≡ kinds.Mark Semicolon ∷ rest → arguments_at ts ≡ Ok ([], ts)
-unfolding many_at argument_at arguments_at
-no_arguments ts rest e = rw e refl
+pub name_no_argument : (ts rest : List TokenKind) (name : List ℕ) → ts ≡ kinds.Identifier name ∷ rest → argument_at ts ≡ Ok None
+unfolding argument_at
+name_no_argument ts rest name e = rw e refl
 
-pub no_inner : (read : Reads TestTree) (ts rest : List TokenKind) → ts ≡ kinds.Mark Semicolon ∷ rest → inner_with read ts ≡ Ok (no_tests, ts)
-no_inner read ts rest e = rw e refl
+pub no_arguments : (ts : List TokenKind) → argument_at ts ≡ Ok None → arguments_at ts ≡ Ok ([], ts)
+unfolding arguments_at many_at
+no_arguments ts e = from (length ts)
+  where
+    from : (n : ℕ) → many_at argument_at n ts ≡ Ok ([], ts)
+    from zero = refl
+    from (suc n) = rw e refl

@@ -3,6 +3,7 @@ pub mod Bare
 pub mod CutLaws
 pub mod CutLemmas
 pub mod Depths
+pub mod FrontLemmas
 pub mod GapGrammar
 pub mod FaultFound
 pub mod FaultKind
@@ -22,8 +23,10 @@ mod GrammarRows
 mod Rows
 pub mod ScanLemmas
 pub mod ScriptLaws
+pub mod SkipLemmas
 pub mod Spelled
 pub mod StrayGrammar
+pub mod StrayLemmas
 pub mod StringLemmas
 pub mod TreeLaws
 mod TreeRows

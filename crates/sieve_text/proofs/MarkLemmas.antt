@@ -6,7 +6,6 @@ use Rattle.sieve_syntax.specs.declared.token.Mark.{Mark}
 use Rattle.sieve_syntax.specs.declared.token.Mark.TheVariants.{Semicolon, OpenBrace, CloseBrace, OpenParen, CloseParen, OpenBracket, CloseBracket, Comma}
 use Rattle.sieve_syntax.specs.declared.token.TokenKind.{TokenKind}
 use Rattle.sieve_syntax.specs.declared.token.TokenKind.TheVariants as kinds
-use Rattle.sieve_text.specs.Octets.{begins_with}
 use Rattle.sieve_text.specs.Gaps.{gap_len, comment_len}
 use Rattle.sieve_text.specs.Lexemes.{kinds_in, left_in}
 use Rattle.sieve_text.specs.Tokens.{mark_of, kind_at}
@@ -56,7 +55,3 @@ mark_left b bs m e =
     let f = mark_first b m e bs in
     let read : kind_at (drop (gap_len 0 (b ∷ bs)) (b ∷ bs)) ≡ Ok (kinds.Mark m, 1) = rw f.0 f.1 in
     subst (λ (n : ℕ). left_in (b ∷ bs) ≡ left_in (drop 1 (drop n (b ∷ bs)))) f.0 (left_first (b ∷ bs) (kinds.Mark m, 1) read)
-
-pub semicolon_in : (bs : List ℕ) → begins_with 59 bs ≡ true → (rest : List TokenKind) × (kinds_in bs ≡ kinds.Mark Semicolon ∷ rest)
-semicolon_in [] e = absurd cc
-semicolon_in (b ∷ bs) e = (kinds_in bs, let is : mark_of b ≡ Some Semicolon = rw e refl in mark_in b bs Semicolon is)

@@ -161,30 +161,54 @@ fn split_mark(text: &[u8]) -> Option<(Mark, &[u8])>
     Some((mark(first)?, behind))
 }
 
-/// Whether a semicolon stands first, with no gap before it.
+/// The mark that a text begins with, with no gap before it.
 #[inline(always)]
-pub fn begins_with_semicolon(text: &[u8]) -> bool
-    ensures { result ≡ true → (rest : List TokenKind) × (kinds_in text.now ≡ kinds.Mark Semicolon ∷ rest) }
+pub fn first_mark(text: &[u8]) -> Option<Mark>
+    ensures { IfSome result (λ m. (rest : List TokenKind) × (kinds_in text.now ≡ kinds.Mark m ∷ rest)) }
 {
-    octets::starts_with(text, b';')
+    match text {
+        [first, ..] => mark(*first),
+        _ => None,
+    }
 }
 
-/// The first token of a text, as it is written, and the text behind it; `None` where no token stands first behind white
-/// space and comments.
+/// Whether a name stands first, with no gap before it.
+#[inline(always)]
+pub fn begins_with_name(text: &[u8]) -> bool
+    ensures { result ≡ true → (name : List ℕ) × (rest : List TokenKind) × (kinds_in text.now ≡ kinds.Identifier name ∷ rest) }
+{
+    match text {
+        [first, ..] => octets::starts_word(*first) && !multi_line::begins(text),
+        _ => false,
+    }
+}
+
+/// What `split_lexeme` gives, read without a look for a mark before all else.
+fn split_other(text: &[u8]) -> Option<(Lexeme<'_>, &[u8])>
+    ensures cases { MatchOption result (kinds_in text.now ≡ []) (λ x. kinds_in text.now ≡ kind_of x.0 ∷ kinds_in x.1.now) }
+    ensures fewer { IfSome result (λ x. length (kinds_in x.1.now) < length (kinds_in text.now)) }
+    ensures left { MatchOption result (left_in text.now ≡ drop (gap_len 0 text.now) text.now) (λ x. left_in x.1.now ≡ left_in text.now) }
+{
+    let rest = gap::behind_gap(text);
+    let Ok((lexeme, length)) = lexeme(rest, 0) else {
+        return None;
+    };
+    let (_, behind) = rest.split_at(length);
+    Some((lexeme, gap::behind_gap(behind)))
+}
+
+/// The first token of a text, as it is written, and the text behind it and behind the gap that follows it, so that the next
+/// token is known by one look; `None` where no token stands first behind white space and comments.
+#[inline(always)]
 pub fn split_lexeme(text: &[u8]) -> Option<(Lexeme<'_>, &[u8])>
     ensures cases { MatchOption result (kinds_in text.now ≡ []) (λ x. kinds_in text.now ≡ kind_of x.0 ∷ kinds_in x.1.now) }
     ensures fewer { IfSome result (λ x. length (kinds_in x.1.now) < length (kinds_in text.now)) }
     ensures left { MatchOption result (left_in text.now ≡ drop (gap_len 0 text.now) text.now) (λ x. left_in x.1.now ≡ left_in text.now) }
 {
     if let Some((mark, behind)) = split_mark(text) {
-        return Some((Lexeme::Mark(mark), behind));
+        return Some((Lexeme::Mark(mark), gap::behind_gap(behind)));
     }
-    let (_, rest) = text.split_at(gap_length(text));
-    let Ok((lexeme, length)) = lexeme(rest, 0) else {
-        return None;
-    };
-    let (_, behind) = rest.split_at(length);
-    Some((lexeme, behind))
+    split_other(text)
 }
 
 /// How many tokens a script has.

@@ -1,13 +1,13 @@
 //! Strings and arguments.
 
-ghost use Rattle.std.specs.Prelude.{◌≡◌, ◌≤◌, ◌<◌, length, IfOk, IfSome, option_map};
+ghost use Rattle.std.specs.Prelude.{◌≡◌, ◌≤◌, ◌<◌, length, true, Ok, None, IfOk, IfSome, option_map};
 ghost use Rattle.sieve_text.specs.Lexemes.{kinds_in, left_in};
 ghost use Rattle.sieve_text.specs.Reading.{Gives, string_at, behind_bracket, next_with, other_strings_at, string_list_at, argument_at, arguments_at};
 
 use crate::lexeme::Lexeme;
 use crate::parser::rows;
 use crate::parser::stop::{Stop, syntax};
-use crate::scanner::{begins_with_semicolon, split_lexeme, string_text};
+use crate::scanner::{begins_with_name, first_mark, split_lexeme, string_text};
 use sieve_syntax::{Argument, Arguments, Mark, StringList, Text, Texts};
 use std::alloc::Global;
 
@@ -56,7 +56,7 @@ fn other_strings(alloc: Global, text: &[u8]) -> Result<(Texts, &[u8]), Stop>
     let mut others = Vec::new(alloc);
     let mut rest = text;
     while let Some((next, after)) = next_string(alloc, rest)? {
-        rows::push(&mut others, next)?;
+        rows::push(&mut others, next, rows::SEVERAL)?;
         rest = after;
     }
     Ok((Texts::from_vec(alloc, others)?, rest))
@@ -75,6 +75,19 @@ fn string_list(alloc: Global, text: &[u8]) -> Result<(StringList, &[u8]), Stop>
     Ok((StringList::Listed(first, others), rest))
 }
 
+/// Whether no argument stands first, where one look tells it: a name or a mark does, with no gap before it.
+#[inline(always)]
+#[tactic(auto, unfolding(crate::specs::Reading::argument_at))]
+fn has_no_argument(text: &[u8]) -> bool
+    ensures { result ≡ true → argument_at (kinds_in text.now) ≡ Ok None }
+{
+    match first_mark(text) {
+        Some(Mark::OpenBracket) => false,
+        Some(_) => true,
+        None => begins_with_name(text),
+    }
+}
+
 /// An argument, where the tokens begin with one.
 #[tactic(auto, unfolding(crate::specs::Reading::argument_at))]
 fn next_argument(alloc: Global, text: &[u8]) -> Result<Option<(Argument, &[u8])>, Stop>
@@ -82,6 +95,9 @@ fn next_argument(alloc: Global, text: &[u8]) -> Result<Option<(Argument, &[u8])>
     ensures fewer { IfOk result (λ o. IfSome o (λ x. length (kinds_in x.1.now) < length (kinds_in text.now))) }
     ensures left { IfOk result (λ o. IfSome o (λ x. left_in x.1.now ≡ left_in text.now)) }
 {
+    if has_no_argument(text) {
+        return Ok(None);
+    }
     let Some((lexeme, rest)) = split_lexeme(text) else {
         return Ok(None);
     };
@@ -109,20 +125,20 @@ fn some_arguments(alloc: Global, text: &[u8]) -> Result<(Arguments, &[u8]), Stop
     let mut arguments = Vec::new(alloc);
     let mut rest = text;
     while let Some((next, after)) = next_argument(alloc, rest)? {
-        rows::push(&mut arguments, next)?;
+        rows::push(&mut arguments, next, rows::SEVERAL)?;
         rest = after;
     }
     Ok((Arguments::from_vec(alloc, arguments)?, rest))
 }
 
-/// The arguments, and the tokens behind them; none where a semicolon stands first.
+/// The arguments, and the tokens behind them; none where one look tells that none stands first.
 #[inline(always)]
 pub fn arguments(alloc: Global, text: &[u8]) -> Result<(Arguments, &[u8]), Stop>
     ensures value { Gives (λ x. (x.0, kinds_in x.1.now)) result (arguments_at (kinds_in text.now)) }
     ensures fewer { IfOk result (λ x. length (kinds_in x.1.now) ≤ length (kinds_in text.now)) }
     ensures left { IfOk result (λ x. left_in x.1.now ≡ left_in text.now) }
 {
-    if begins_with_semicolon(text) {
+    if has_no_argument(text) {
         return Ok((Arguments::none(), text));
     }
     some_arguments(alloc, text)

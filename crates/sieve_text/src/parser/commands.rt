@@ -9,8 +9,8 @@ use crate::lexeme::Lexeme;
 use crate::parser::arguments::arguments;
 use crate::parser::rows;
 use crate::parser::stop::{Misfit, Stop, left_from, syntax};
-use crate::parser::test_lists::inner_tests;
-use crate::scanner::{begins_with_semicolon, split_lexeme};
+use crate::parser::test_lists::{has_no_test, inner_tests};
+use crate::scanner::{first_mark, split_lexeme};
 use sieve_syntax::{Command, Ending, Mark, Tests, Text};
 use std::alloc::Global;
 
@@ -27,21 +27,21 @@ pub fn commands(alloc: Global, depth: u8, text: &[u8]) -> Result<(Vec<Command>, 
     let mut commands = Vec::new(alloc);
     let mut rest = text;
     while let Some((next, after)) = next_command(alloc, depth, rest)? {
-        rows::push(&mut commands, next)?;
+        rows::push(&mut commands, next, 1)?;
         rest = after;
     }
     commands.shrink_to_fit();
     Ok((commands, rest))
 }
 
-/// The tests of a command, and the tokens behind them; none where a semicolon stands first.
+/// The tests of a command, and the tokens behind them; none where one look tells that none stands first.
 #[inline(always)]
 fn command_tests(alloc: Global, text: &[u8]) -> Result<(Tests, &[u8]), Stop>
     ensures value { Gives (λ x. (inner_of x.0, kinds_in x.1.now)) result (inner_with (test_at 32) (kinds_in text.now)) }
     ensures fewer { IfOk result (λ x. length (kinds_in x.1.now) ≤ length (kinds_in text.now)) }
     ensures left { IfOk result (λ x. left_in x.1.now ≡ left_in text.now) }
 {
-    if begins_with_semicolon(text) {
+    if has_no_test(text) {
         return Ok((Tests::None, text));
     }
     inner_tests(alloc, TEST_DEPTH, text)
@@ -54,6 +54,9 @@ fn next_command(alloc: Global, depth: u8, text: &[u8]) -> Result<Option<(Command
     ensures fewer { IfOk result (λ o. IfSome o (λ x. length (kinds_in x.1.now) < length (kinds_in text.now))) }
     ensures left { IfOk result (λ o. IfSome o (λ x. left_in x.1.now ≡ left_in text.now)) }
 {
+    if first_mark(text).is_some() {
+        return Ok(None);
+    }
     let Some((Lexeme::Identifier(name), rest)) = split_lexeme(text) else {
         return Ok(None);
     };

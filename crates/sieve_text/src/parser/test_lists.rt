@@ -1,33 +1,41 @@
 //! Tests and test-lists.
 
-ghost use Rattle.std.specs.Prelude.{◌≡◌, ◌≤◌, ◌<◌, length, map, IfOk, IfSome, option_map};
+ghost use Rattle.std.specs.Prelude.{◌≡◌, ◌≤◌, ◌<◌, ◌∷◌, length, map, true, Ok, IfOk, IfSome, option_map};
+ghost use Rattle.sieve_syntax.specs.declared.token.TokenKind.TheVariants as kinds;
+ghost use Rattle.sieve_syntax.specs.Tree.{TestTree, no_tests};
 ghost use Rattle.sieve_syntax.specs.View.{test_of, inner_of};
 ghost use Rattle.sieve_text.specs.Lexemes.{kinds_in, left_in};
-ghost use Rattle.sieve_text.specs.Reading.{Gives, behind_paren, next_with, many_at, test_at, test_list_with, inner_with};
+ghost use Rattle.sieve_text.specs.Reading.{Gives, Reads, behind_paren, next_with, many_at, test_at, test_list_with, inner_with};
 
 use crate::lexeme::Lexeme;
 use crate::parser::arguments::arguments;
 use crate::parser::rows;
 use crate::parser::stop::{Misfit, Stop, left_from, syntax};
-use crate::scanner::split_lexeme;
+use crate::scanner::{first_mark, split_lexeme};
 use sieve_syntax::{Mark, Test, TestList, Tests, Text};
 use std::alloc::Global;
 
-/// A test, with no more than `depth` tests inside one another, itself counted.
+/// A test whose name stands first in a text, `behind` being the text behind the name, with no more than `depth` tests inside
+/// one another, itself counted.
 #[cycle(test_reader)]
 #[tactic(auto, unfolding(crate::specs::Reading::test_at))]
-fn read_test(alloc: Global, depth: u8, text: &[u8]) -> Result<(Test, &[u8]), Stop>
+fn named_test<'a>(
+    alloc: Global,
+    depth: u8,
+    text: &'a [u8],
+    name: &'a [u8],
+    behind: &'a [u8],
+) -> Result<(Test, &'a [u8]), Stop>
+    requires first { kinds_in text.now ≡ kinds.Identifier name.now ∷ kinds_in behind.now }
+    requires left { left_in behind.now ≡ left_in text.now }
     ensures value { Gives (λ x. (test_of x.0, kinds_in x.1.now)) result (test_at depth (kinds_in text.now)) }
     ensures fewer { IfOk result (λ x. length (kinds_in x.1.now) < length (kinds_in text.now)) }
     ensures left { IfOk result (λ x. left_in x.1.now ≡ left_in text.now) }
 {
-    let Some((Lexeme::Identifier(name), rest)) = split_lexeme(text) else {
-        return Err(syntax(text));
-    };
     if depth == 0 {
         return Err(Stop::Refused(Misfit::Nesting, left_from(text)));
     }
-    let (arguments, rest) = arguments(alloc, rest)?;
+    let (arguments, rest) = arguments(alloc, behind)?;
     let (tests, rest) = inner_tests(alloc, depth - 1, rest)?;
     let name = Text::from_slice(alloc, name)?;
     Ok((
@@ -40,6 +48,31 @@ fn read_test(alloc: Global, depth: u8, text: &[u8]) -> Result<(Test, &[u8]), Sto
     ))
 }
 
+/// A test, with no more than `depth` tests inside one another, itself counted.
+#[cycle(test_reader)]
+#[tactic(auto, unfolding(crate::specs::Reading::test_at))]
+fn read_test(alloc: Global, depth: u8, text: &[u8]) -> Result<(Test, &[u8]), Stop>
+    ensures value { Gives (λ x. (test_of x.0, kinds_in x.1.now)) result (test_at depth (kinds_in text.now)) }
+    ensures fewer { IfOk result (λ x. length (kinds_in x.1.now) < length (kinds_in text.now)) }
+    ensures left { IfOk result (λ x. left_in x.1.now ≡ left_in text.now) }
+{
+    match split_lexeme(text) {
+        Some((Lexeme::Identifier(name), behind)) => named_test(alloc, depth, text, name, behind),
+        _ => Err(syntax(text)),
+    }
+}
+
+/// Whether no test stands first, where one look tells it: a mark other than an opening bracket does, with no gap before it.
+#[inline(always)]
+pub fn has_no_test(text: &[u8]) -> bool
+    ensures { result ≡ true → (read : Reads TestTree) → inner_with read (kinds_in text.now) ≡ Ok (no_tests, kinds_in text.now) }
+{
+    match first_mark(text) {
+        Some(Mark::OpenParen) | None => false,
+        Some(_) => true,
+    }
+}
+
 /// The tests of a command or of a test, with no more than `depth` inside one another.
 #[cycle(test_reader)]
 pub fn inner_tests(alloc: Global, depth: u8, text: &[u8]) -> Result<(Tests, &[u8]), Stop>
@@ -47,9 +80,12 @@ pub fn inner_tests(alloc: Global, depth: u8, text: &[u8]) -> Result<(Tests, &[u8
     ensures fewer { IfOk result (λ x. length (kinds_in x.1.now) ≤ length (kinds_in text.now)) }
     ensures left { IfOk result (λ x. left_in x.1.now ≡ left_in text.now) }
 {
+    if has_no_test(text) {
+        return Ok((Tests::None, text));
+    }
     match split_lexeme(text) {
-        Some((Lexeme::Identifier(_), _)) => {
-            let (only, rest) = read_test(alloc, depth, text)?;
+        Some((Lexeme::Identifier(name), behind)) => {
+            let (only, rest) = named_test(alloc, depth, text, name, behind)?;
             Ok((Tests::One(Box::new(alloc, only)?), rest))
         }
         Some((Lexeme::Mark(Mark::OpenParen), rest)) => test_list(alloc, depth, rest),
@@ -81,7 +117,7 @@ fn other_tests(alloc: Global, depth: u8, text: &[u8]) -> Result<(Vec<Test>, &[u8
     let mut tests = Vec::new(alloc);
     let mut rest = text;
     while let Some((next, after)) = next_test(alloc, depth, rest)? {
-        rows::push(&mut tests, next)?;
+        rows::push(&mut tests, next, rows::SEVERAL)?;
         rest = after;
     }
     tests.shrink_to_fit();

@@ -1,6 +1,6 @@
 //! White space and comments (RFC 5228, sections 2.2 and 2.3).
 
-ghost use Rattle.std.specs.Prelude.{◌≡◌, ◌≤◌, false, length};
+ghost use Rattle.std.specs.Prelude.{◌≡◌, ◌≤◌, false, length, drop};
 ghost use Rattle.sieve_text.specs.Gaps.{bracketed_len, opens_bracketed as opens, comment_len, gap_len};
 
 use crate::scanner::octets;
@@ -65,4 +65,17 @@ pub fn gap_length(rest: &[u8]) -> usize
         }
     }
     at
+}
+
+/// A text from behind the white space and closed comments that it begins with.
+#[inline(always)]
+pub fn behind_gap(text: &[u8]) -> &[u8]
+    ensures { result.now ≡ drop (gap_len 0 text.now) text.now }
+{
+    let (_, rest) = text.split_at(octets::white_length(text));
+    if !octets::starts_with(rest, b'#') && !octets::starts_with(rest, b'/') {
+        return rest;
+    }
+    let (_, rest) = text.split_at(gap_length(text));
+    rest
 }

@@ -4,6 +4,8 @@ ghost use Rattle.std.specs.Prelude.{◌≡◌, ◌≤◌, length};
 ghost use Rattle.std.specs.List.{prefix_len};
 ghost use Rattle.sieve_text.specs.Octets.{is_blank, is_white, is_start, is_word, is_plain, not_lf, begins_with, line_end_len, stray_len};
 
+use memchr::memchr2;
+
 fn is_blank_octet(b: u8) -> bool
     ensures { result ≡ is_blank b }
 {
@@ -101,9 +103,9 @@ pub fn line_end_length(rest: &[u8]) -> usize
     }
 }
 
-/// How many octets stand before the first octet 0 or CR without LF, or all there are.
+/// What `stray_length` gives, octet by octet.
 #[tactic(auto, unfolding(crate::specs::Octets::stray_len))]
-pub fn stray_length(script: &[u8]) -> usize
+fn first_stray(script: &[u8]) -> usize
     ensures value { result ≡ stray_len script.now }
     ensures within { result ≤ length script.now }
 {
@@ -117,4 +119,16 @@ pub fn stray_length(script: &[u8]) -> usize
         rest = behind;
     }
     n
+}
+
+/// How many octets stand before the first octet 0 or CR without LF, or all there are. Where there is neither octet a search
+/// tells it.
+pub fn stray_length(script: &[u8]) -> usize
+    ensures value { result ≡ stray_len script.now }
+    ensures within { result ≤ length script.now }
+{
+    match memchr2(0, b'\r', script) {
+        None => script.len(),
+        Some(_) => first_stray(script),
+    }
 }

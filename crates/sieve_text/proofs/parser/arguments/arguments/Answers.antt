@@ -2,7 +2,6 @@ use Rattle.sieve_text.specs.Lexemes.{kinds_in}
 use Rattle.sieve_text.proofs.Bare.{no_arguments}
 use Rattle.sieve_text.proofs.parser.arguments.arguments.Goals as goal
 
-pub returns-then-begins_with_semicolon-clause-value : goal.returns-then-begins_with_semicolon-clause-value
-returns-then-begins_with_semicolon-clause-value c =
-    let first = c.begins_with_semicolon.ensures c.if-begins_with_semicolon.true in
-    rw c.none.ensures (no_arguments (kinds_in c.args.text.now) first.0 first.1)
+pub returns-then-has_no_argument-clause-value : goal.returns-then-has_no_argument-clause-value
+returns-then-has_no_argument-clause-value c =
+    rw c.none.ensures (no_arguments (kinds_in c.args.text.now) (c.has_no_argument.ensures c.if-has_no_argument.true))

@@ -2,6 +2,7 @@ use Rattle.std.proofs.Common.{◌∙◌, ◌≡◌, ◌<◌, ◌∷◌, ◌++◌
 use Rattle.std.proofs.lemmas.Result.{err_from_is_err_and}
 use Rattle.std.proofs.lemmas.List.{map_push}
 use Rattle.sieve_syntax.specs.View.{test_of}
+use Rattle.sieve_syntax.proofs.Views.{inner_of-None}
 use Rattle.sieve_text.specs.Lexemes.{kinds_in, left_in}
 use Rattle.sieve_text.specs.Reading.{next_with, many_at, test_at}
 use Rattle.sieve_text.proofs.Many.{goes_on_first, goes_on_more, goes_on_ends, goes_on_fails}
@@ -31,3 +32,6 @@ pub other_tests-returns-clause-value : goal.other_tests-returns-clause-value
 other_tests-returns-clause-value t c =
     let ts = kinds_in c.args.text.now in
     rw c.shrink_to_fit.ensures.items (goes_on_ends (next_with (test_at c.args.depth)) (map test_of c.loop-tests.tests.items) (kinds_in c.loop-tests.rest.now) (many_at (next_with (test_at c.args.depth)) (length ts) ts) c.loop-tests.invariant.0 (rw c.in_default.is at c.in_ok-next.ensures.value))
+
+pub inner_tests-returns-then-has_no_test-clause-value : goal.inner_tests-returns-then-has_no_test-clause-value
+inner_tests-returns-then-has_no_test-clause-value t c = rw inner_of-None (c.has_no_test.ensures c.if-has_no_test.true (test_at c.args.depth))
