@@ -1,0 +1,43 @@
+//! A store, and a database with the same rows.
+
+use crate::archive::{Size, laid};
+use crate::media::adopted;
+use anyhow::Result;
+use record_store::Store;
+use sqlite::{Alter, Connection};
+use std::alloc::Global;
+
+/// A store, and a database with the same rows, on which statements are made by themselves.
+#[derive(Drop)]
+pub struct Pair<S: Alter> {
+    pub size: Size,
+    pub store: Store<S>,
+    pub bare: Connection<S>,
+}
+
+impl<S: Alter + Drop> Pair<S> {
+    /// The same archive in two databases that have no tables.
+    pub fn laid(
+        alloc: Global,
+        size: Size,
+        conn: Connection<S>,
+        bare: Connection<S>,
+    ) -> Result<Pair<S>> {
+        let conn = laid(alloc, conn, size)?;
+        Ok(Pair {
+            size,
+            store: adopted(alloc, conn)?,
+            bare: laid(alloc, bare, size)?,
+        })
+    }
+
+    /// The same, with the store adopted again.
+    pub fn again(self, alloc: Global) -> Result<Pair<S>> {
+        let Pair { size, store, bare } = self;
+        Ok(Pair {
+            size,
+            store: adopted(alloc, store.into_connection())?,
+            bare,
+        })
+    }
+}
