@@ -1,0 +1,37 @@
+//! Lines and columns.
+
+ghost use Rattle.std.specs.Prelude.{◌≡◌, ◌≤◌, ◌-◌, length, take, drop, not};
+ghost use Rattle.std.specs.List.{take_while};
+ghost use Rattle.tool_texts.specs.Places.{line_of, column_of, octets_before, is_line_feed};
+
+/// Where an offset of a text stands. Both are counted from 1, and a column counts octets.
+#[derive(Clone, Copy, Debug, PartialEq, Eq)]
+pub struct Place {
+    pub line: usize,
+    pub column: usize,
+}
+
+/// How many octets stand between the last line feed of a text and the text's end; all of them where it has none.
+fn octets_after_last_line(text: &[u8]) -> usize
+    ensures value { result ≡ octets_before text.now (length text.now) }
+    ensures within { result ≤ length text.now }
+{
+    let mut start = text.len();
+    while start > 0 && text[start - 1] != b'\n' {
+        start -= 1;
+    }
+    text.len() - start
+}
+
+/// The line and the column of an offset in octets; an offset past the text's end stands where the end does.
+pub fn place_of(text: &[u8], offset: usize) -> Place
+    ensures line { result.line ≡ line_of text.now offset }
+    ensures column { result.column ≡ column_of text.now offset }
+{
+    let before = &text[..offset.min(text.len())];
+    let lines = before.iter().filter(|octet| **octet == b'\n').count();
+    Place {
+        line: lines + 1,
+        column: octets_after_last_line(before) + 1,
+    }
+}
