@@ -1,6 +1,6 @@
 -- Where an offset of a text stands.
-use Rattle.std.specs.Prelude.{ℕ, Bool, List, ◌+◌, ◌-◌, ◌==◌, not, count_by, take, drop}
-use Rattle.std.specs.List.{suffix_len, prefix_len}
+use Rattle.std.specs.Prelude.{ℕ, Bool, List, ◌+◌, ◌-◌, ◌==◌, not, count_by, length, take, drop}
+use Rattle.std.specs.List.{suffix_len, before_first}
 
 abbrev pub is_line_feed : ℕ → Bool
 is_line_feed b = b == 10
@@ -16,3 +16,7 @@ octets_before text offset = suffix_len (λ b. not (is_line_feed b)) (take offset
 -- one more than these
 abbrev pub column_of : List ℕ → ℕ → ℕ
 column_of text offset = octets_before text offset + 1
+
+-- what stands on the line of the offset: from its beginning up to the first line feed, or to the text's end
+abbrev pub line_text : List ℕ → ℕ → List ℕ
+line_text text offset = before_first is_line_feed (drop (length (take offset text) - octets_before text offset) text)
