@@ -1,5 +1,5 @@
 -- Where a payload's length stands in a command of a session, and where a moment.
-use Rattle.std.specs.Prelude.{◌≡◌, ℕ, Bool, List, [], ◌∷◌, ◌==◌, codes, map}
+use Rattle.std.specs.Prelude.{ℕ, Bool, List, ◌∷◌, ◌==◌, codes}
 use Rattle.std.specs.List.{slice_split}
 use Rattle.tool_texts.specs.declared.framing.Part.{Part}
 use Rattle.tool_texts.specs.declared.framing.Part.TheVariants.{Word, Moment, File, Here}
