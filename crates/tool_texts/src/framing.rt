@@ -1,0 +1,116 @@
+//! Commands as a person types them, with the paths of files in place of lengths.
+
+ghost use Rattle.std.specs.Prelude.{◌≡◌, map, IfOk};
+ghost use Rattle.tool_texts.specs.Framing.{word_of, words_of};
+
+use std::alloc::{AllocError, Global};
+use std::str;
+
+/// What a payload of a command is.
+#[derive(Clone, Copy, Debug, PartialEq, Eq)]
+pub enum Payload {
+    Script,
+    Message,
+    Image,
+    Plan,
+}
+
+impl Payload {
+    /// The greatest length of such a payload, in octets: a longer one is refused (15, 95, 61, 58).
+    pub fn limit(self) -> u64 {
+        match self {
+            Payload::Script => 262_144,
+            Payload::Message => 8_388_608,
+            Payload::Image => 16_777_216,
+            Payload::Plan => 1_048_576,
+        }
+    }
+}
+
+/// What a word after a command's name is.
+#[derive(Clone, Copy, Debug, PartialEq, Eq)]
+pub enum Slot {
+    Plain,
+    /// A moment, in seconds since 1970-01-01T00:00:00Z.
+    Moment,
+    /// The length of a payload, in octets.
+    Length(Payload),
+}
+
+/// What the words after a command's name are, up to the last one that is a moment or a length; none for a command that has
+/// neither.
+pub fn slots(command: &[u8]) -> &'static [Slot] {
+    match command {
+        b"PLAN" => &[Slot::Length(Payload::Plan)],
+        b"SCRIPT" => &[Slot::Plain, Slot::Plain, Slot::Length(Payload::Script)],
+        b"GLOBAL" => &[Slot::Plain, Slot::Length(Payload::Script)],
+        b"IMAGE" => &[Slot::Plain, Slot::Length(Payload::Image)],
+        b"FILE" => &[
+            Slot::Length(Payload::Script),
+            Slot::Length(Payload::Message),
+        ],
+        b"TRY" => &[Slot::Length(Payload::Image), Slot::Length(Payload::Message)],
+        b"BEGIN" => &[Slot::Plain, Slot::Moment, Slot::Length(Payload::Message)],
+        _ => &[],
+    }
+}
+
+/// A word of a command, and what stands for it in a session.
+#[derive(Clone, Copy, Debug, PartialEq, Eq)]
+pub enum Part<'a> {
+    /// The word itself.
+    Word(&'a [u8]),
+    /// `@now`: the seconds of the clock.
+    Moment,
+    /// `@PATH`: the length of the file at this path, whose octets follow the line.
+    File(Payload, &'a [u8]),
+    /// A length in octets, as it was typed: so many octets follow the line where it was typed.
+    Here(&'a [u8], u32),
+}
+
+/// The part that a word is, where it stands.
+fn read_word(slot: Slot, word: &[u8]) -> Part<'_>
+    ensures { word_of result ≡ word.now }
+{
+    match (slot, word) {
+        (Slot::Moment, b"@now") => Part::Moment,
+        (Slot::Length(payload), [b'@', path @ ..]) => Part::File(payload, path),
+        (Slot::Length(_), _) => match length(word) {
+            Some(count) => Part::Here(word, count),
+            None => Part::Word(word),
+        },
+        _ => Part::Word(word),
+    }
+}
+
+/// The number of a word, if it is the length of a payload: decimal, without leading zeros, at most 4,294,967,295.
+fn length(word: &[u8]) -> Option<u32> {
+    if matches!(word, [b'0', _, ..] | [b'+', ..]) {
+        return None;
+    }
+    str::from_utf8(word).ok()?.parse().ok()
+}
+
+/// The words of a line, which is without its line feed.
+fn words(alloc: Global, line: &[u8]) -> Result<Vec<&[u8]>, AllocError>
+    ensures { IfOk result (λ v. map (λ w. w.now) v.items ≡ words_of line.now) }
+{
+    line.split(|octet| *octet == b' ').collect(alloc)
+}
+
+/// The parts of a line, which is without its line feed: a part for each word, in order. The only error is want of memory.
+pub fn parts(alloc: Global, line: &[u8]) -> Result<Vec<Part<'_>>, AllocError>
+    ensures { IfOk result (λ v. map word_of v.items ≡ words_of line.now) }
+{
+    let words = words(alloc, line)?;
+    let slots = slots(words.first().copied().unwrap_or(b""));
+    let mut parts = Vec::new(alloc);
+    for (index, word) in words.iter().enumerate() {
+        let slot = match index.checked_sub(1) {
+            Some(after) => slots.get(after).copied().unwrap_or(Slot::Plain),
+            None => Slot::Plain,
+        };
+        parts.push(read_word(slot, *word))?;
+    }
+    Ok(parts)
+}

@@ -1,0 +1,11 @@
+//! The words in which a user of Mailfile is told things: a text for each number, places in a text by line and column, and
+//! commands as a person types them.
+#![tactic(auto)]
+
+mod framing;
+mod numbers;
+mod places;
+
+pub use framing::{Part, Payload, Slot, parts, slots};
+pub use numbers::{fault_text, refusal_text};
+pub use places::{Place, line_at, place_of};
