@@ -10,7 +10,8 @@ use Rattle.std.proofs.lemmas.Fmt.{IsAscii-from_digits}
 use Rattle.std.proofs.lemmas.Bool.{cases_lt}
 use Rattle.std.proofs.lemmas.Bool.Decides.{nat_tests}
 use Rattle.std.proofs.lemmas.Str.Parse.{IsDigitsTest, IsNumeralModel, numerals_by_value, parse_digits}
-use Rattle.filing_session.specs.Words.{are_digits, number_in}
+use Rattle.std.specs.Prelude.{if◌then◌else◌, nat_le}
+use Rattle.filing_session.specs.Words.{are_digits, number_in, greatest_number}
 
 is_test : IsDigitsTest (λ ds. list_all is_ascii_digit ds ≡ true)
 is_test = search rules
@@ -27,26 +28,35 @@ nonempty word d = grind (arith, nat_tests)
 pub digits_text : (word : List ℕ) → are_digits word ≡ true → IsUtf8 word
 digits_text word d = IsUtf8-from_ascii word (IsAscii-from_digits word (own.to word (all_digits word d)))
 
--- what 64 bits read is the number of the digits, and more digits are more
-pub digits_read : {E : Type 0} (word : List ℕ) (n : ℕ) (r : Result ℕ E) → are_digits word ≡ true → ParsesUnsigned 64 10 word r → r ≡ Ok n → digits_value 10 word ≡ n
-digits_read word n (Ok m) d p e = let there = parse_digits own 64 word (Ok m) p (all_digits word d) in let same = there.1 in grind (arith, same)
-digits_read word n (Err f) d p e = absurd (cc)
+abbrev Reads : {E : Type 0} → (word : List ℕ) → Result ℕ E → Type 0
+Reads word r = OkIff r ((0 < length word) × (digits_value 10 word < 2 ^ 64)) (digits_value 10 word)
 
-pub digits_unread : {E : Type 0} (word : List ℕ) (f : E) (r : Result ℕ E) → are_digits word ≡ true → ParsesUnsigned 64 10 word r → r ≡ Err f → 2 ^ 64 ≤ digits_value 10 word
-digits_unread word f (Ok m) d p e = absurd (cc)
-digits_unread word f (Err g) d p e =
-    let some = nonempty word d in
-    let not = parse_digits own 64 word (Err g) p (all_digits word d) in
-    elim (cases_lt (digits_value 10 word) (2 ^ 64)) [ inl l ↦ absurd (not (some, l)) | inr l ↦ l ]
+short : (word : List ℕ) → are_digits word ≡ true → digits_value 10 word < 2 ^ 64 → number_in greatest_number word ≡ Some (digits_value 10 word)
+unfolding number_in
+short word d h = grind (arith, nat_tests)
+
+long : (word : List ℕ) → 2 ^ 64 ≤ digits_value 10 word → number_in greatest_number word ≡ None
+unfolding number_in
+long word h = grind (arith, nat_tests)
+
+read : {E : Type 0} (word : List ℕ) (r : Result ℕ E) → are_digits word ≡ true → Reads word r → result_ok r ≡ number_in greatest_number word
+read word (Ok n) d h = ap Some h.1 ∙ sym (short word d h.0.1)
+read word (Err e) d h =
+    elim (cases_lt (digits_value 10 word) (2 ^ 64)) [ inl l ↦ absurd (h (nonempty word d, l)) | inr l ↦ sym (long word l) ]
+
+-- what 64 bits read is the number of the digits
+pub digits_read : {E : Type 0} (word : List ℕ) (r : Result ℕ E) → are_digits word ≡ true → ParsesUnsigned 64 10 word r → result_ok r ≡ number_in greatest_number word
+digits_read word r d p = read word r d (parse_digits own 64 word r p (all_digits word d))
 
 pub number_in-none : (greatest : ℕ) (word : List ℕ) → are_digits word ≡ false → None ≡ number_in greatest word
 unfolding number_in
 number_in-none greatest word h = grind (arith, nat_tests)
 
-pub number_in-above : (greatest : ℕ) (word : List ℕ) → greatest < digits_value 10 word → None ≡ number_in greatest word
+-- by a smaller greatest number
+pub none_lower : (greatest : ℕ) (word : List ℕ) → greatest ≤ greatest_number → None ≡ number_in greatest_number word → None ≡ number_in greatest word
 unfolding number_in
-number_in-above greatest word h = grind (arith, nat_tests)
+none_lower greatest word h e = grind (arith, nat_tests)
 
-pub number_in-some : (greatest : ℕ) (word : List ℕ) (n : ℕ) → are_digits word ≡ true → digits_value 10 word ≡ n → n ≤ greatest → Some n ≡ number_in greatest word
+pub some_lower : (greatest : ℕ) (word : List ℕ) (n : ℕ) → greatest ≤ greatest_number → Some n ≡ number_in greatest_number word → (if nat_le n greatest then Some n else None) ≡ number_in greatest word
 unfolding number_in
-number_in-some greatest word n d e h = grind (arith, nat_tests)
+some_lower greatest word n h e = grind (arith, nat_tests)

@@ -37,9 +37,12 @@ abbrev pub turn_octets : (ended : Bool) → (steps : ℕ) → List ℕ
 turn_octets true steps = codes "ended " ++ decimal steps ++ codes "\n"
 turn_octets false steps = codes "running " ++ decimal steps ++ codes "\n"
 
+abbrev pub head_octets : (number : ℕ) → (path : List ℕ) → List ℕ
+head_octets number path = codes "record " ++ decimal number ++ codes " class " ++ path ++ codes " due "
+
 -- a record's number, its class and its due date
 abbrev pub record_octets : Line → List ℕ
-record_octets l = codes "record " ++ decimal l.number ++ codes " class " ++ l.path ++ codes " due " ++ due_octets l.due ++ codes "\n"
+record_octets l = head_octets l.number l.path ++ (due_octets l.due ++ codes "\n")
 
 -- a line for each record, in their order
 abbrev pub list_octets : List Line → List ℕ

@@ -3,7 +3,7 @@
 ghost use Rattle.std.specs.Prelude.{◌++◌, ℕ, codes, flat_map, map};
 ghost use Rattle.filing_commands.specs.Told.{outcome_view};
 ghost use Rattle.record_store.specs.Stores.{line_view};
-ghost use Rattle.filing_session.specs.Replies.{answer_of, reply_octets, classes_octets, class_octets, refused_octets, outcome_octets, fault_octets, ticket_octets, turn_octets, capture_octets, records_octets, list_octets, line_octets};
+ghost use Rattle.filing_session.specs.Replies.{answer_of, reply_octets, classes_octets, class_octets, refused_octets, outcome_octets, fault_octets, faults_octets, head_octets, ticket_octets, turn_octets, capture_octets, records_octets, list_octets, line_octets};
 ghost use Rattle.filing_session.specs.Written.{Writes};
 ghost use Rattle.filing_session.specs.Streams.{TellsTroubles};
 
@@ -65,14 +65,23 @@ fn write_fault<K: Sink>(sink: &mut K, fault: u8) -> Result<(), WriteFault>
     write_pieces(sink, &[b"fault ".as_slice(), number, b"\n".as_slice()])
 }
 
+/// Writes the line of a fault, where there is one.
+fn write_faults<K: Sink>(sink: &mut K, fault: Option<u8>) -> Result<(), WriteFault>
+    ensures written { K.tells → Writes result (K.written sink.old) (faults_octets fault) (K.written sink.new) }
+    ensures troubles { TellsTroubles K.failures K.interruptions K.most_interruptions result sink.old sink.new }
+{
+    match fault {
+        Some(fault) => write_fault(sink, fault),
+        None => Ok(()),
+    }
+}
+
 /// Writes the lines of an outcome.
 fn write_outcome<K: Sink>(sink: &mut K, outcome: &Outcome) -> Result<(), WriteFault>
     ensures written { K.tells → Writes result (K.written sink.old) (outcome_octets (outcome_view outcome.now)) (K.written sink.new) }
     ensures troubles { TellsTroubles K.failures K.interruptions K.most_interruptions result sink.old sink.new }
 {
-    if let Some(fault) = outcome.fault {
-        write_fault(sink, fault)?;
-    }
+    write_faults(sink, outcome.fault)?;
     write_classes(sink, outcome.classes.as_slice())
 }
 
@@ -111,23 +120,31 @@ fn write_turn<K: Sink>(sink: &mut K, turn: Turn) -> Result<(), WriteFault>
     }
 }
 
+/// Writes the line of a record as far as its due date.
+fn write_head<K: Sink>(sink: &mut K, number: u32, path: &[u8]) -> Result<(), WriteFault>
+    ensures written { K.tells → Writes result (K.written sink.old) (head_octets number path.now) (K.written sink.new) }
+    ensures troubles { TellsTroubles K.failures K.interruptions K.most_interruptions result sink.old sink.new }
+{
+    let mut text = Buffer::new();
+    let text = text.format(number).as_bytes();
+    write_pieces(
+        sink,
+        &[
+            b"record ".as_slice(),
+            text,
+            b" class ".as_slice(),
+            path,
+            b" due ".as_slice(),
+        ],
+    )
+}
+
 /// Writes the line of a record.
 fn write_record<K: Sink>(sink: &mut K, line: &Line) -> Result<(), WriteFault>
     ensures written { K.tells → Writes result (K.written sink.old) (line_octets line.now) (K.written sink.new) }
     ensures troubles { TellsTroubles K.failures K.interruptions K.most_interruptions result sink.old sink.new }
 {
-    let mut number = Buffer::new();
-    let number = number.format(line.number).as_bytes();
-    write_pieces(
-        sink,
-        &[
-            b"record ".as_slice(),
-            number,
-            b" class ".as_slice(),
-            line.path.as_slice(),
-            b" due ".as_slice(),
-        ],
-    )?;
+    write_head(sink, line.number, line.path.as_slice())?;
     write_due(sink, line.due)
 }
 
@@ -158,9 +175,7 @@ fn write_capture<K: Sink>(sink: &mut K, capture: &Capture) -> Result<(), WriteFa
     ensures written { K.tells → Writes result (K.written sink.old) (capture_octets capture.now.fault (map line_view capture.now.lines.items)) (K.written sink.new) }
     ensures troubles { TellsTroubles K.failures K.interruptions K.most_interruptions result sink.old sink.new }
 {
-    if let Some(fault) = capture.fault {
-        write_fault(sink, fault)?;
-    }
+    write_faults(sink, capture.fault)?;
     write_records(sink, capture.lines.as_slice())
 }
 

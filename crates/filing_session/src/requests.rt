@@ -99,11 +99,19 @@ fn read_plan<'a>(mut words: Words<'a>) -> Request<'a>
 fn read_script<'a>(mut words: Words<'a>) -> Request<'a>
     ensures { asked_as result ≡ script_of (words_left words.entry) }
 {
-    let (Some(officer), Some(name), Some(text), None) = (words.next(), words.next(), words.next(), words.next()) else {
+    let (Some(officer), Some(name), Some(text), None) = (
+        words.next(),
+        words.next(),
+        words.next(),
+        words.next(),
+    ) else {
         return Request::BadWord;
     };
     match read_length(text) {
-        Some(size) if is_name(officer) && is_name(name) => Request::One(OnePayload::SetScript { officer, name }, size),
+        Some(size) if is_name(officer) && is_name(name) => Request::One(
+            OnePayload::SetScript { officer, name },
+            size,
+        ),
         _ => Request::BadWord,
     }
 }
@@ -192,11 +200,19 @@ fn read_try<'a>(mut words: Words<'a>) -> Request<'a>
 fn read_begin<'a>(mut words: Words<'a>) -> Request<'a>
     ensures { asked_as result ≡ begin_of (words_left words.entry) }
 {
-    let (Some(officer), Some(moment), Some(message), None) = (words.next(), words.next(), words.next(), words.next()) else {
+    let (Some(officer), Some(moment), Some(message), None) = (
+        words.next(),
+        words.next(),
+        words.next(),
+        words.next(),
+    ) else {
         return Request::BadWord;
     };
     match (read_number(moment), read_length(message)) {
-        (Some(moment), Some(size)) if is_name(officer) => Request::One(OnePayload::Begin { officer, moment }, size),
+        (Some(moment), Some(size)) if is_name(officer) => Request::One(
+            OnePayload::Begin { officer, moment },
+            size,
+        ),
         _ => Request::BadWord,
     }
 }

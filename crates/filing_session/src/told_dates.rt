@@ -4,7 +4,7 @@ ghost use Rattle.std.specs.Prelude.{◌≡◌, ◌<◌, ◌++◌, pos, codes, de
 ghost use Rattle.jiff.specs.Words.{epoch_day, IsBetween};
 ghost use Rattle.class_plan.specs.Calendar.{number_of_day};
 ghost use Rattle.filing_commands.specs.Limits.{last_day};
-ghost use Rattle.filing_session.specs.Dates.{day_octets, due_octets, two_digits};
+ghost use Rattle.filing_session.specs.Dates.{civil_octets, day_octets, due_octets, two_digits};
 ghost use Rattle.filing_session.specs.Written.{Writes};
 ghost use Rattle.filing_session.specs.Streams.{TellsTroubles};
 
@@ -26,29 +26,40 @@ fn dash_before(part: u8) -> &'static [u8]
     if part < 10 { b"-0" } else { b"-" }
 }
 
+/// Writes a date by its year, its month and its day, and the end of its line.
+fn write_civil<K: Sink>(sink: &mut K, year: u16, month: u8, day: u8) -> Result<(), WriteFault>
+    ensures written { K.tells → Writes result (K.written sink.old) (civil_octets (record { year = year; month = month; day = day }) ++ codes "\n") (K.written sink.new) }
+    ensures troubles { TellsTroubles K.failures K.interruptions K.most_interruptions result sink.old sink.new }
+{
+    let mut year_text = Buffer::new();
+    let year_text = year_text.format(year).as_bytes();
+    let mut month_text = Buffer::new();
+    let month_text = month_text.format(month).as_bytes();
+    let mut day_text = Buffer::new();
+    let day_text = day_text.format(day).as_bytes();
+    write_pieces(
+        sink,
+        &[
+            year_text,
+            dash_before(month),
+            month_text,
+            dash_before(day),
+            day_text,
+            b"\n".as_slice(),
+        ],
+    )
+}
+
 /// Writes a date and the end of its line.
 fn write_date<K: Sink>(sink: &mut K, date: Date) -> Result<(), WriteFault>
     requires { IsBetween (pos 0) (pos 2932896) (epoch_day date) }
     ensures written { K.tells → Writes result (K.written sink.old) (day_octets (number_of_day date) ++ codes "\n") (K.written sink.new) }
     ensures troubles { TellsTroubles K.failures K.interruptions K.most_interruptions result sink.old sink.new }
 {
-    let mut year = Buffer::new();
-    let year = year.format(date.year().unsigned_abs()).as_bytes();
-    let mut month = Buffer::new();
-    let month_digits = month.format(date.month().unsigned_abs()).as_bytes();
-    let mut day = Buffer::new();
-    let day_digits = day.format(date.day().unsigned_abs()).as_bytes();
-    write_pieces(
-        sink,
-        &[
-            year,
-            dash_before(date.month().unsigned_abs()),
-            month_digits,
-            dash_before(date.day().unsigned_abs()),
-            day_digits,
-            b"\n".as_slice(),
-        ],
-    )
+    let year = date.year().unsigned_abs();
+    let month = date.month().unsigned_abs();
+    let day = date.day().unsigned_abs();
+    write_civil(sink, year, month, day)
 }
 
 /// Writes when a record is due and the end of its line.

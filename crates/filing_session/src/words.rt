@@ -1,6 +1,6 @@
 //! The words of a command line, and the numbers and names that they are.
 
-ghost use Rattle.std.specs.Prelude.{◌≡◌, ◌≤◌, ◌∷◌, [], IfSome, IfNone};
+ghost use Rattle.std.specs.Prelude.{◌≡◌, ◌≤◌, ◌∷◌, [], Some, None, true, nat_le, if◌then◌else◌, IfSome, IfNone};
 ghost use Rattle.std.specs.Char.{is_ascii_digit};
 ghost use Rattle.std.specs.List.{list_all};
 ghost use Rattle.filing_session.specs.Words.{words_of, are_digits as are_digits_of, number_in, number_of, greatest_number, greatest_length, greatest_count, is_name_octet, is_name as is_name_of};
@@ -50,11 +50,40 @@ impl<'a> Words<'a> {
     }
 }
 
+/// Whether all octets are decimal digits.
+fn has_digits_alone(word: &[u8]) -> bool
+    ensures { result ≡ list_all is_ascii_digit word.now }
+{
+    word.iter().all(|octet| octet.is_ascii_digit())
+}
+
 /// Whether a word is one decimal digit or more.
 fn are_digits(word: &[u8]) -> bool
     ensures { result ≡ are_digits_of word.now }
 {
-    !word.is_empty() && word.iter().all(|octet| octet.is_ascii_digit())
+    match word {
+        [] => false,
+        _ => has_digits_alone(word),
+    }
+}
+
+/// The number that digits tell, where 64 bits have it.
+fn read_any(digits: &[u8]) -> Option<u64>
+    requires { are_digits_of digits.now ≡ true }
+    ensures { result ≡ number_in greatest_number digits.now }
+{
+    str::from_utf8(digits).ok()?.parse().ok()
+}
+
+/// A number, where it is at most the greatest.
+fn at_most(number: u64, greatest: u64) -> Option<u64>
+    ensures number { result ≡ if nat_le number greatest then Some number else None }
+    ensures within { IfSome result (λ n. n ≤ greatest) }
+{
+    if number > greatest {
+        return None;
+    }
+    Some(number)
 }
 
 /// The number that digits tell, with leading zeros or without, where it is at most the greatest.
@@ -65,14 +94,14 @@ pub fn read_digits(word: &[u8], greatest: u64) -> Option<u64>
     if !are_digits(word) {
         return None;
     }
-    let number: u64 = str::from_utf8(word).ok()?.parse().ok()?;
-    if number > greatest {
-        return None;
+    match read_any(word) {
+        Some(number) => at_most(number, greatest),
+        None => None,
     }
-    Some(number)
 }
 
 /// The number of a decimal word without a leading zero, where it is at most the greatest.
+#[tactic(auto, unfolding(crate::specs::Words::number_of))]
 fn read_number_to(word: &[u8], greatest: u64) -> Option<u64>
     ensures number { result ≡ number_of greatest word.now }
     ensures within { IfSome result (λ n. n ≤ greatest) }
