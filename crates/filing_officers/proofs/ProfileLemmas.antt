@@ -1,5 +1,5 @@
 -- A map of profiles beside the settings that it shows.
-use Rattle.std.proofs.Common.{◌≡◌, ℕ, Bool, true, false, cond, List, [], ◌∷◌, Option, Some, None, Vec, Global, Ordering, Less, Equal, Greater, nat_cmp, refl, sym, ap, ◌∙◌, subst}
+use Rattle.std.proofs.Common.{◌≡◌, ℕ, ◌+◌, min, Bool, true, false, cond, List, [], ◌∷◌, length, Option, Some, None, is_some, option_map, Result, Ok, Err, OnOk, OnErr, Vec, Global, Ordering, Less, Equal, Greater, nat_cmp, refl, sym, ap, ◌∙◌, subst, arith}
 use Rattle.std.proofs.Math.Path.{fun_ext}
 use Rattle.std.proofs.lemmas.Map.Text.{is_eq-slice_cmp}
 use Rattle.std.proofs.lemmas.Slice.Eq.{bytes_eq-Decides}
@@ -8,12 +8,20 @@ use Rattle.std.specs.Cmp.Lexicographic.{slice_cmp}
 use Rattle.std.specs.Map.{lookup, set_value}
 use Rattle.std.specs.BTreeMap.{is_at, insert_entry}
 use Rattle.std.specs.Ordering.{is_eq, match_ordering}
-use Rattle.script_library.specs.Libraries.{NamedScript}
-use Rattle.filing_commands.specs.Pinning.{Officer, new_officer}
+use Rattle.sieve_meaning.specs.Program.{Commands}
+use Rattle.script_library.specs.Libraries.{NamedScript, named}
+use Rattle.record_store.specs.Archive.{Archive}
+use Rattle.filing_commands.specs.Office.{with_officer, with_program}
+use Rattle.filing_commands.specs.Pinning.{Officer, new_officer, no_program}
+use Rattle.filing_commands.specs.Scripts.{HasNoRoom, meanings_of, put_script, script_at}
+use Rattle.filing_officers.specs.declared.profile.Active.{Active}
+use Rattle.filing_officers.specs.declared.profile.KeptImage.{KeptImage}
 use Rattle.filing_officers.specs.declared.profile.Profile.{Profile}
-use Rattle.filing_officers.specs.Register.{Settings, officer_at, officer_of}
-use Rattle.filing_officers.specs.Profiles.{settings_of, settings_in}
-use Rattle.filing_officers.specs.Current.{KeepsCurrent, AllKeepCurrent}
+use Rattle.filing_officers.specs.Register.{Register, Settings, office_of, officer_at, officer_of, sharing}
+use Rattle.filing_officers.specs.Profiles.{active_of, settings_of, settings_in}
+use Rattle.filing_officers.specs.Changes.{ChangesOnly}
+use Rattle.filing_officers.specs.Current.{KeepsCurrent, AllKeepCurrent, last_edition}
+use Rattle.filing_officers.proofs.MeaningLemmas.{meaning_at, meaning_of}
 
 abbrev pub Entries : Type 0
 Entries = List (Vec ℕ Global × Profile)
@@ -151,17 +159,95 @@ module _ (name n : List ℕ) where
   known_or true is es o h = ap (officer_in es) (same_name n name is) ∙ h
   known_or false is es o h = refl
 
-module _ (name : List ℕ) where
-  -- the officers where that one has set that
-  abbrev pub changed : Entries → Profile → List ℕ → Officer
-  changed es w = λ n. cond (bytes_eq n name) (officer_of (settings_of w)) (officer_in es n)
+-- CHANGES
 
-  pub set_officers : (es : Entries) (p w : Profile) → lookup (is_at (compare name)) es ≡ Some p → ◌≡◌ {A = List ℕ → Officer} (λ n. officer_in (set_value (is_at (compare name)) es w) n) (changed es w)
-  set_officers es p w h = fun_ext (λ n. set_gives name n es p w h)
+-- what was found is changed
+pub changed_there : (name : List ℕ) (es new : Entries) (p w : Profile) (o : Officer) → lookup (is_at (compare name)) es ≡ Some p → new ≡ set_value (is_at (compare name)) es w → w.kept ≡ None → officer_of (settings_of w) ≡ o → ChangesOnly es new name o
+changed_there name es new p w o found is void has = record {
+  officers = λ n. ap (λ (x : Entries). officer_in x n) is ∙ set_gives name n es p w found ∙ ap (λ (x : Officer). cond (bytes_eq n name) x (officer_in es n)) has;
+  images = λ edition globals all.
+      let keeps = subst (λ (k : Option KeptImage). KeepsCurrent edition globals (settings_of w) k) (sym void) tt in
+      subst (λ (x : Entries). AllKeepCurrent edition globals x) (sym is) (set_keeps edition globals (is_at (compare name)) es w all keeps);
+}
 
-  pub insert_officers : (es : Entries) (k : Vec ℕ Global) (v : Profile) → k.items ≡ name → ◌≡◌ {A = List ℕ → Officer} (λ n. officer_in (insert_entry (λ (x y : Vec ℕ Global). slice_cmp nat_cmp x.items y.items) es k v) n) (changed es v)
-  insert_officers es k v key = fun_ext (λ n. insert_gives name n es k v key)
+-- an officer comes in
+pub changed_new : (name : List ℕ) (es new : Entries) (k : Vec ℕ Global) (v : Profile) (o : Officer) → k.items ≡ name → new ≡ insert_entry (λ (x y : Vec ℕ Global). slice_cmp nat_cmp x.items y.items) es k v → v.kept ≡ None → officer_of (settings_of v) ≡ o → ChangesOnly es new name o
+changed_new name es new k v o key is void has = record {
+  officers = λ n. ap (λ (x : Entries). officer_in x n) is ∙ insert_gives name n es k v key ∙ ap (λ (x : Officer). cond (bytes_eq n name) x (officer_in es n)) has;
+  images = λ edition globals all.
+      let keeps = subst (λ (i : Option KeptImage). KeepsCurrent edition globals (settings_of v) i) (sym void) tt in
+      subst (λ (x : Entries). AllKeepCurrent edition globals x) (sym is) (insert_keeps edition globals (λ (x y : Vec ℕ Global). slice_cmp nat_cmp x.items y.items) es k v all keeps);
+}
 
-  -- an officer who has what he had
-  pub same_officers : (es : Entries) (o : Officer) → officer_in es name ≡ o → ◌≡◌ {A = List ℕ → Officer} (λ n. officer_in es n) (λ n. cond (bytes_eq n name) o (officer_in es n))
-  same_officers es o h = fun_ext (λ n. known_or name n (bytes_eq n name) refl es o h)
+-- an officer has what he had
+pub changed_not : (name : List ℕ) (es new : Entries) (o : Officer) → new ≡ es → officer_in es name ≡ o → ChangesOnly es new name o
+changed_not name es new o is has = record {
+  officers = λ n. ap (λ (x : Entries). officer_in x n) is ∙ known_or name n (bytes_eq n name) refl es o has;
+  images = λ edition globals all. subst (λ (x : Entries). AllKeepCurrent edition globals x) (sym is) all;
+}
+
+pub no_program_known : (o : Officer) → o ≡ new_officer → o ≡ with_program o no_program
+no_program_known o is = is ∙ ap (λ (x : Officer). with_program x no_program) (sym is)
+
+-- a profile with a program
+pub program_set : (p w : Profile) (o : Officer) (a : Active) → o ≡ officer_of (settings_of p) → w ≡ record p { active = a; kept = None } → officer_of (settings_of w) ≡ with_program o (active_of a)
+program_set p w o a is e = ap (λ (x : Profile). officer_of (settings_of x)) e ∙ ap (λ (x : Officer). with_program x (active_of a)) (sym is)
+
+-- the office where an officer has changed
+pub office_changed : (name : List ℕ) (g : List NamedScript) (es new : Entries) (r : Register) (f : List (List ℕ × Settings) → Officer) → record { globals = g; officers = settings_in es } ≡ r → ChangesOnly es new name (f (settings_in es)) → (a : Archive)
+    → office_of a (record { globals = g; officers = settings_in new }) ≡ with_officer (office_of a r) name (f r.officers)
+office_changed name g es new r f view h a =
+    subst (λ (x : Register). office_of a (record { globals = g; officers = settings_in new }) ≡ with_officer (office_of a x) name (f x.officers)) view
+    (ap (λ (os : List ℕ → Officer). record { archive = a; globals = meanings_of g; officers = os }) (fun_ext h.officers))
+
+-- the office where the global scripts have changed
+pub office_shared : (g new : List NamedScript) (xs : List (List ℕ × Settings)) (r : Register) (name : List ℕ) (main : Commands) → record { globals = g; officers = xs } ≡ r → meanings_of new ≡ put_script name main (meanings_of g) → (a : Archive) → office_of a (record { globals = new; officers = xs }) ≡ sharing (office_of a r) name main
+office_shared g new xs r name main view h a =
+    subst (λ (x : Register). office_of a (record { globals = new; officers = xs }) ≡ sharing (office_of a x) name main) view
+    (ap (λ (gs : List (List ℕ × Commands)). record { archive = a; globals = gs; officers = λ n. officer_at n xs }) h)
+
+-- EDITIONS
+
+later_or : (edition next : ℕ) (globals new : List NamedScript) (s : Settings) (kept : Option KeptImage) → next ≡ min (edition + 1) last_edition → KeepsCurrent edition globals s kept → KeepsCurrent next new s kept
+later_or edition next globals new s None is k = tt
+later_or edition next globals new s (Some i) is k =
+    let early = k.so_far in
+    let apart = k.told_apart in
+    record {
+      so_far = omega (arith, is, early, apart);
+      told_apart = apart;
+      pinned = λ same. absurd (omega (arith, is, early, apart, same));
+    }
+
+-- at the next edition no image is told to be of this one
+pub later : (edition next : ℕ) (globals new : List NamedScript) (es : Entries) → next ≡ min (edition + 1) last_edition → AllKeepCurrent edition globals es → AllKeepCurrent next new es
+later edition next globals new [] is all = tt
+later edition next globals new (e ∷ es) is all = (later_or edition next globals new (settings_of e.1) e.1.kept is all.0, later edition next globals new es is all.1)
+
+-- RESULTS
+
+pub on_both : {A E : Type 0} {P Q R : Type 0} (r : Result A E) → OnOk r P → OnOk r Q → (P → Q → R) → OnOk r R
+on_both (Ok x) p q f = f p q
+on_both (Err y) p q f = tt
+
+pub on_ok : {A E : Type 0} {P Q : Type 0} (r : Result A E) → OnOk r P → (P → Q) → OnOk r Q
+on_ok (Ok x) p f = f p
+on_ok (Err y) p f = tt
+
+pub on_err : {A E : Type 0} {P Q : Type 0} (r : Result A E) → OnErr r P → (P → Q) → OnErr r Q
+on_err (Ok x) p f = tt
+on_err (Err y) p f = f p
+
+pub some_map : {A B : Type 0} (f : A → B) (o : Option A) → is_some (option_map f o) ≡ is_some o
+some_map f None = refl
+some_map f (Some x) = refl
+
+pub has_named : (name : List ℕ) (es : List NamedScript) → is_some (named name es) ≡ is_some (script_at name (meanings_of es))
+has_named name es = sym (some_map meaning_of (named name es)) ∙ ap is_some (meaning_at name es)
+
+-- an unknown officer has no script, and so there is room
+pub room_unknown : (o : Officer) (name : List ℕ) → o ≡ new_officer → HasNoRoom o.scripts name → ⊥
+room_unknown o name is full =
+    let none : length o.scripts ≡ 0 = ap (λ (x : Officer). length x.scripts) is in
+    let many : length o.scripts ≡ 32 = full.full in
+    omega (arith, none, many)

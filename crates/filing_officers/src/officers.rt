@@ -11,7 +11,7 @@ ghost use Rattle.filing_commands.specs.Scripts.{HasNoRoom, meanings_of, script_a
 ghost use Rattle.filing_commands.specs.declared.fault.DeskFault.TheVariants.{LibraryFull, NoMemory, NoScript};
 ghost use Rattle.filing_officers.specs.Register.{PinsFor, keeping, office_of, officer_at, sharing};
 
-use crate::profile::{Active, Profile};
+use crate::profile::{Active, Profile, put_on};
 use crate::profiles::{clear, has_script, pin, put_script, set};
 use filing_commands::DeskFault;
 use filing_verify::Verified;
@@ -73,12 +73,13 @@ impl Officers {
     /// is void.
     pub fn set_global(&mut self, name: &[u8], script: Checked) -> Result<(), DeskFault>
         ensures done { OnOk result ((a : Archive) → office_of a self.new ≡ sharing (office_of a self.old) name.now (program_of (tree_of script.script))) }
-        ensures full { result ≡ Err LibraryFull ↔ HasNoRoom (meanings_of self.old.globals) name.now }
+        ensures full { result ≡ Err LibraryFull → HasNoRoom (meanings_of self.old.globals) name.now }
+        ensures has_room { OnOk result (HasNoRoom (meanings_of self.old.globals) name.now → ⊥) }
         ensures fault { IfErr result (λ f. (f ≡ LibraryFull) ⊎ (f ≡ NoMemory)) }
         ensures unchanged { OnErr result (self.new ≡ self.old) }
     {
         let script = Rc::new(self.alloc, script)?;
-        self.globals.put(name, script)?;
+        put_on(&mut self.globals, name, script)?;
         self.edition = self.edition.saturating_add(1);
         Ok(())
     }
@@ -92,7 +93,8 @@ impl Officers {
         script: Checked,
     ) -> Result<(), DeskFault>
         ensures done { OnOk result ((a : Archive) → office_of a self.new ≡ keeping (office_of a self.old) officer.now name.now (program_of (tree_of script.script))) }
-        ensures full { result ≡ Err LibraryFull ↔ HasNoRoom (officer_at officer.now self.old.officers).scripts name.now }
+        ensures full { result ≡ Err LibraryFull → HasNoRoom (officer_at officer.now self.old.officers).scripts name.now }
+        ensures has_room { OnOk result (HasNoRoom (officer_at officer.now self.old.officers).scripts name.now → ⊥) }
         ensures fault { IfErr result (λ f. (f ≡ LibraryFull) ⊎ (f ≡ NoMemory)) }
         ensures unchanged { OnErr result (self.new ≡ self.old) }
     {

@@ -1,10 +1,12 @@
 //! What is kept of an officer.
 
-ghost use Rattle.std.specs.Prelude.{◌≡◌, ◌↔◌, Err, IfOk, None, OnErr, OnOk, [], ◌<◌, ◌≤◌};
-ghost use Rattle.script_library.specs.Libraries.{HasNoRoom, put};
+ghost use Rattle.std.specs.Prelude.{◌≡◌, ◌↔◌, Err, IfOk, None, OnErr, OnOk, []};
+ghost use Rattle.sieve_syntax.specs.View.{tree_of};
+ghost use Rattle.sieve_meaning.specs.Reading.{program_of};
 ghost use Rattle.script_library.specs.declared.fault.LibraryFault.TheVariants.{Full};
 ghost use Rattle.filing_commands.specs.Pinning.{no_program};
-ghost use Rattle.filing_commands.specs.Scripts.{meanings_of};
+ghost use Rattle.filing_commands.specs.Office.{with_scripts};
+ghost use Rattle.filing_commands.specs.Scripts.{HasNoRoom, meanings_of, put_script as put_meaning};
 ghost use Rattle.filing_officers.specs.Current.{KeepsCurrent};
 ghost use Rattle.filing_officers.specs.Profiles.{settings_of};
 ghost use Rattle.filing_officers.specs.Register.{PinsFor, officer_of};
@@ -43,6 +45,19 @@ pub(crate) struct Profile {
     pub kept: Option<KeptImage>,
 }
 
+/// Puts a script on a shelf, in the place of the one that has the name, if there is one.
+pub(crate) fn put_on(
+    shelf: &mut Shelf,
+    name: &[u8],
+    script: Rc<Checked>,
+) -> Result<(), LibraryFault>
+    ensures ok { OnOk result (meanings_of shelf.new ≡ put_meaning name.now (program_of (tree_of script.value.script)) (meanings_of shelf.old)) }
+    ensures full { result ≡ Err Full ↔ HasNoRoom (meanings_of shelf.old) name.now }
+    ensures err { OnErr result (shelf.new ≡ shelf.old) }
+{
+    shelf.put(name, script)
+}
+
 impl Profile {
     /// No program and no script; takes no memory.
     pub fn new(alloc: Global) -> Profile
@@ -58,12 +73,13 @@ impl Profile {
 
     /// Keeps a script under a name. The image that was kept is void.
     pub fn put_script(&mut self, name: &[u8], script: Rc<Checked>) -> Result<(), LibraryFault>
-        ensures ok { OnOk result (settings_of self.new ≡ record (settings_of self.old) { scripts = put (record { name = name.now; script = script.value.script }) self.old.scripts }) }
+        ensures ok { let o = officer_of (settings_of self.old) in
+            OnOk result (officer_of (settings_of self.new) ≡ with_scripts o (put_meaning name.now (program_of (tree_of script.value.script)) o.scripts)) }
         ensures kept { OnOk result (self.new.kept ≡ None) }
-        ensures full { result ≡ Err Full ↔ HasNoRoom self.old.scripts name.now }
+        ensures full { result ≡ Err Full ↔ HasNoRoom (officer_of (settings_of self.old)).scripts name.now }
         ensures err { OnErr result (self.new ≡ self.old) }
     {
-        self.scripts.put(name, script)?;
+        put_on(&mut self.scripts, name, script)?;
         self.kept = None;
         Ok(())
     }
