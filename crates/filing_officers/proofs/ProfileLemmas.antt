@@ -17,11 +17,11 @@ use Rattle.filing_commands.specs.Scripts.{HasNoRoom, meanings_of, put_script, sc
 use Rattle.filing_officers.specs.declared.profile.Active.{Active}
 use Rattle.filing_officers.specs.declared.profile.KeptImage.{KeptImage}
 use Rattle.filing_officers.specs.declared.profile.Profile.{Profile}
-use Rattle.filing_officers.specs.Register.{Register, Settings, office_of, officer_at, officer_of, sharing}
-use Rattle.filing_officers.specs.Profiles.{active_of, settings_of, settings_in}
+use Rattle.filing_officers.specs.Register.{Register, Settings, meaning_of, office_of, officer_at, officer_of, sharing}
+use Rattle.filing_officers.specs.Profiles.{active_of, officer_in, settings_of, settings_in}
 use Rattle.filing_officers.specs.Changes.{ChangesOnly}
 use Rattle.filing_officers.specs.Current.{KeepsCurrent, AllKeepCurrent, last_edition}
-use Rattle.filing_officers.proofs.MeaningLemmas.{meaning_at, meaning_of}
+use Rattle.filing_officers.proofs.MeaningLemmas.{meaning_at}
 
 abbrev pub Entries : Type 0
 Entries = List (Vec ℕ Global × Profile)
@@ -33,10 +33,6 @@ compare name k = slice_cmp nat_cmp name k.items
 -- how keys compare to one another
 abbrev pub cmp_names : Vec ℕ Global → Vec ℕ Global → Ordering
 cmp_names x y = slice_cmp nat_cmp x.items y.items
-
--- the officer of a name that is looked up
-abbrev pub officer_in : Entries → (name : List ℕ) → Officer
-officer_in es name = officer_at name (settings_in es)
 
 module _ (name : List ℕ) where
   or_new : (b : Bool) (e : Vec ℕ Global × Profile) (rest : Option Profile) (o : Officer) (p : Profile) → (rest ≡ Some p → o ≡ officer_of (settings_of p)) → cond b (Some e.1) rest ≡ Some p → cond b (officer_of (settings_of e.1)) o ≡ officer_of (settings_of p)

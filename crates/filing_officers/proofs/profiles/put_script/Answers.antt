@@ -8,8 +8,7 @@ use Rattle.filing_commands.specs.Office.{with_scripts}
 use Rattle.filing_commands.specs.Pinning.{Officer}
 use Rattle.filing_commands.specs.Scripts.{HasNoRoom, put_script}
 use Rattle.filing_officers.specs.declared.profile.Profile.{Profile}
-use Rattle.filing_officers.proofs.MeaningLemmas.{meaning_of}
-use Rattle.filing_officers.specs.Register.{officer_of}
+use Rattle.filing_officers.specs.Register.{meaning_of, officer_of}
 use Rattle.filing_officers.proofs.ProfileLemmas.{cmp_names, compare, found_is, missing_is, changed_there, changed_new, on_both, on_err, room_unknown}
 use Rattle.filing_officers.proofs.profiles.put_script.Goals as goal
 
