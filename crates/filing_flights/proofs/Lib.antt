@@ -4,3 +4,4 @@ pub mod HeldLemmas
 pub mod ClassLemmas
 pub mod FlightsLemmas
 pub mod BegunLemmas
+pub mod PlanLemmas

@@ -55,6 +55,6 @@ impl OpenPaths for PinnedPaths {
     ghost opens = { is_among };
 
     fn is_open(&self, path: &[u8]) -> bool {
-        self.paths.contains(path)
+        self.paths.is_open(path)
     }
 }
