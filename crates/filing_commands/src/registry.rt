@@ -91,7 +91,12 @@ pub trait Registry {
     /// Begins a capture of a message by an officer's program at a moment, in seconds since 1970-01-01T00:00:00Z: its ticket, and
     /// the budget of its run in steps. It is refused where the moment is after 2199 (94), the message has more than 8,388,608
     /// octets (95), sixty-four captures are in flight (90), or ticket 4,294,967,295 was given (97), in this order.
-    fn begin(&mut self, officer: &[u8], moment: u64, message: Payload) -> Result<(u32, u32), DeskFault>
+    fn begin(
+        &mut self,
+        officer: &[u8],
+        moment: u64,
+        message: Payload,
+    ) -> Result<(u32, u32), DeskFault>
         ensures { (m : List ℕ) → IsOf greatest_message message m → Calls clean stands self.old (commands.begin officer.now moment m) (told_ticket result) self.new };
 
     /// Grants turns to a capture: it makes so many steps, or fewer where it comes to its end. It is refused where no capture in
