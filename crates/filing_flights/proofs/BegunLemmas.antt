@@ -38,7 +38,7 @@ first_pinned t s p well pins = let run = ends_within p (case_in s) well in recor
 
 -- it begins with the program, the message, the open paths and the day of what stood
 pub first_begun : (t : ℕ) (s : Stood) (p : Program) (well : IsWell p) (paths : List (List ℕ)) (day : Date) → Pins s p → s.is_open ≡ is_among paths → epoch_day day ≡ pos s.day → IsBegun t p s.message paths day (first_flight t s p well)
-first_begun t s p well paths day pins open on = record { ticket = refl; program = refl; pinned = first_pinned t s p well pins; message = refl; paths = open; day = on; fresh = refl }
+first_begun t s p well paths day pins opens on = record { ticket = refl; program = refl; pinned = first_pinned t s p well pins; message = refl; paths = opens; day = on; fresh = refl }
 
 -- the standing after a capture has begun
 abbrev pub after_begin : (s : Standing) → Flight → Standing

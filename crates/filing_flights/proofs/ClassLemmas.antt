@@ -2,30 +2,16 @@
 use Rattle.std.proofs.Common.{◌≡◌, ℕ, zero, suc, ◌+◌, List, [], ◌∷◌, ◌++◌, refl, sym, ap, ◌∙◌, subst, inl, inr, Bool, true, false, not, Option, Some, None, length}
 use Rattle.std.specs.Prelude.{◌⊎◌, ◌||◌, if◌then◌else◌, is_some, nat_le, nat_lt, nat_eq, slice_get, All}
 use Rattle.std.specs.List.{AllByRecursion}
-use Rattle.std.specs.Ordering.{nat_cmp, match_ordering}
-use Rattle.std.specs.Cmp.Lexicographic.{slice_cmp}
-use Rattle.std.specs.List.Sorted.{IsStrictlySortedBy}
-use Rattle.std.specs.declared.cmp.Ordering.{Ordering}
-use Rattle.std.specs.declared.cmp.Ordering.TheVariants.{Less, Equal, Greater}
 use Rattle.std.proofs.lemmas.List.Elements.{All-from_recursion}
 use Rattle.sieve_meaning.specs.Case.{Facts}
 use Rattle.sieve_meaning.specs.Paths.{Paths, insert_path, IsIncreasing}
 use Rattle.sieve_meaning.specs.Outcome.{Outcome, outcome_at, unfiled}
-use Rattle.sieve_meaning.proofs.PathLemmas.{insert_path_increasing, none_increasing}
+use Rattle.filing_flights.proofs.PathLemmas.{all_in_insert_path, insert_path_increasing, none_increasing}
 use Rattle.filing_image.specs.Program.{Program}
 use Rattle.filing_image.specs.declared.instruction.Operation.{Operation}
 use Rattle.filing_image.specs.declared.instruction.Operation.TheVariants.{PushTrue, PushFalse, Not, Values, Join, Match, Pop, Exists, Size, Number, Less as LessThan, Jump, JumpIf, JumpUnless, Marked, Mark, File, Keep, Discard, Stop, Fault}
 use Rattle.filing_table.specs.Machine.{Entry, T, L, N, State, Run, At, Over, Trap, with_stack, with_named, only_if, file, on_stack, at_place, step, after_steps}
 use Rattle.filing_table.specs.Ends.{HasOutcome, outcome_left}
-
--- what holds of each path of a set and of one more holds in the set with that one
-all_in_insert_path : (P : List ℕ → Type 0) (xs : Paths) (p : List ℕ) → P p → AllByRecursion P xs → AllByRecursion P (insert_path p xs)
-all_in_insert_path P [] p one all = (one, tt)
-all_in_insert_path P (q ∷ qs) p one all = elim (slice_cmp nat_cmp p q) as (λ o. AllByRecursion P (match_ordering o (p ∷ q ∷ qs) (q ∷ qs) (q ∷ insert_path p qs))) [
-  | Less ↦ (one, all)
-  | Equal ↦ all
-  | Greater ↦ (all.0, all_in_insert_path P qs p one all.1)
-]
 
 -- paths that are open, in byte order, each once
 record IsFiled (c : Facts) (filed : Paths) : Type 0 where

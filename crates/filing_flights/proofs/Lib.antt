@@ -1,3 +1,5 @@
+pub mod ResultLemmas
+pub mod PathLemmas
 pub mod Lengths
 pub mod Alone
 pub mod HeldLemmas

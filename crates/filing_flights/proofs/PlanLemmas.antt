@@ -23,15 +23,15 @@ abbrev pub HasOpen : Held → Listing → Type 0
 HasOpen x p = (q : List ℕ) → is_among x.case.paths q ≡ true → has p.rows q ≡ true
 
 are_there : (x : Held) (p : Listing) (cs : List (List ℕ)) → has p.rows unfiled ≡ true → HasOpen x p → AllByRecursion (IsClass x) cs → AllByRecursion (λ q. has p.rows q ≡ true) cs
-are_there x p [] d open all = tt
-are_there x p (q ∷ qs) d open all = (is_there all.0, are_there x p qs d open all.1)
+are_there x p [] d opens all = tt
+are_there x p (q ∷ qs) d opens all = (is_there all.0, are_there x p qs d opens all.1)
   where
     is_there : IsClass x q → has p.rows q ≡ true
     is_there (inl same) = let P : List ℕ → Type 0 = λ r. has p.rows r ≡ true in subst P (sym same) d
-    is_there (inr among) = open q among
+    is_there (inr among) = opens q among
 
 pub are_classes : (x : Held) (p : Listing) (cs : List (List ℕ)) → IsPlan p → HasOpen x p → All (IsClass x) cs → IsIncreasing cs → AreClasses p cs
-are_classes x p cs plan open each up = record {
-  classes = All-from_recursion (λ q. has p.rows q ≡ true) cs (are_there x p cs (open_has p unfiled plan.unfiled_open) open (recursion_from_All (IsClass x) cs each));
+are_classes x p cs plan opens each up = record {
+  classes = All-from_recursion (λ q. has p.rows q ≡ true) cs (are_there x p cs (open_has p unfiled plan.unfiled_open) opens (recursion_from_All (IsClass x) cs each));
   in_order = up;
 }

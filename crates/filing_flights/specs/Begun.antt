@@ -8,12 +8,12 @@ use Rattle.filing_commands.specs.Standing.{Flight, IsPinned}
 use Rattle.filing_flights.specs.Held.{Held, Holds}
 
 -- A flight of a ticket, a program, a message, open paths and a day, that was granted no turns.
-pub record IsBegun (number : ℕ) (p : Program) (octets : List ℕ) (open : List (List ℕ)) (on : Date) (f : Flight) : Type 0 where
+pub record IsBegun (number : ℕ) (p : Program) (octets : List ℕ) (opened : List (List ℕ)) (on : Date) (f : Flight) : Type 0 where
   pub ticket : f.ticket ≡ number
   pub program : f.pinned ≡ p
   pub pinned : IsPinned f
   pub message : f.stood.message ≡ octets
-  pub paths : f.stood.is_open ≡ is_among open
+  pub paths : f.stood.is_open ≡ is_among opened
   pub day : epoch_day on ≡ pos f.stood.day
   pub fresh : f.granted ≡ 0
 

@@ -5,10 +5,12 @@
 //! all of them to the flights of a standing: the calls say what they do to any flights that are held.
 #![tactic(auto)]
 
+mod classes;
 mod flight;
 mod flights;
 mod paths;
 
+pub use classes::class_paths;
 pub use flight::Flight;
 pub use flights::Flights;
 pub use paths::PinnedPaths;
