@@ -1,4 +1,4 @@
-use Rattle.std.proofs.Common.{sym, subst}
+use Rattle.std.proofs.Common.{subst}
 use Rattle.filing_flights.specs.Held.{Held, TellsTurns}
 use Rattle.filing_flights.proofs.HeldLemmas.{tells_turns}
 use Rattle.filing_flights.proofs.flight.Flight.turns_made.Goals as goal

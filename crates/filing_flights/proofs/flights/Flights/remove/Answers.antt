@@ -1,5 +1,5 @@
 use Rattle.std.proofs.Common.{◌≡◌, List, Some, None, ap, arith, sym, subst, ◌∙◌}
-use Rattle.std.specs.Prelude.{position, remove, ◌==◌}
+use Rattle.std.specs.Prelude.{position, ◌==◌}
 use Rattle.std.proofs.lemmas.Grind.{common_steps}
 use Rattle.filing_flights.specs.Held.{Held}
 use Rattle.filing_flights.specs.Flights.{Removes}
