@@ -1,6 +1,5 @@
 -- The run of what is pinned ends with the outcome of the capture alone.
 use Rattle.std.proofs.Common.{◌≡◌, ◌<◌, ℕ, zero, suc, List, refl, arith, ◌∙◌, sym, subst, Bool, true, false, Some, None, []}
-use Rattle.std.specs.Prelude.{nat_lt}
 use Rattle.sieve_meaning.specs.Case.{Facts}
 use Rattle.sieve_meaning.specs.Program.{Commands}
 use Rattle.sieve_meaning.specs.Meaning.{Library, meaning}

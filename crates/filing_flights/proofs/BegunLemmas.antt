@@ -1,10 +1,9 @@
 -- How a capture begins.
-use Rattle.std.proofs.Common.{◌≡◌, ◌<◌, ◌≤◌, ◌+◌, ◌++◌, ◌∷◌, ◌/◌, [], ℕ, List, length, min, pos, refl, arith, ap, ◌∙◌, sym, subst, Bool, true, false, Option, Some, None}
-use Rattle.std.specs.Prelude.{nat_le, nat_lt, if◌then◌else◌}
+use Rattle.std.proofs.Common.{◌≡◌, ◌<◌, ◌≤◌, ◌+◌, ◌++◌, ◌∷◌, [], ℕ, List, length, pos, refl, arith, ap, ◌∙◌, sym, true, false, Some, None}
+use Rattle.std.specs.Prelude.{nat_le, nat_lt}
 use Rattle.std.proofs.lemmas.Bool.Decides.{nat_tests}
 use Rattle.jiff.specs.Words.{epoch_day}
 use Rattle.jiff_core.specs.declared.civil.date.Date.{Date}
-use Rattle.class_plan.specs.Plans.{is_open_in}
 use Rattle.filing_image.specs.Program.{Program}
 use Rattle.filing_verify.specs.Well.{IsWell}
 use Rattle.filing_case.specs.Message.{case_of, is_among}
@@ -12,7 +11,7 @@ use Rattle.filing_machine.proofs.Ends.{ends_within}
 use Rattle.filing_commands.specs.Limits.{greatest_message, last_moment, last_ticket, most_in_flight}
 use Rattle.filing_commands.specs.Pinning.{Pins, Stood, case_in}
 use Rattle.filing_commands.specs.Standing.{Begins, Flight, IsPinned, Standing, begin_refusal, stood_at}
-use Rattle.filing_flights.specs.Held.{Held, Holds, facts_in}
+use Rattle.filing_flights.specs.Held.{Held, facts_in}
 use Rattle.filing_flights.specs.Begun.{HoldsBegun, IsBegun}
 
 -- a capture with the case of its message and paths, that has made no step, holds each flight that begins so

@@ -1,8 +1,7 @@
 -- The classes of a run's outcome: the default class, and paths that are open in the case.
-use Rattle.std.proofs.Common.{◌≡◌, ℕ, zero, suc, ◌+◌, List, [], ◌∷◌, ◌++◌, refl, sym, ap, ◌∙◌, subst, inl, inr, Bool, true, false, not, Option, Some, None, length}
-use Rattle.std.specs.Prelude.{◌⊎◌, ◌||◌, ◌&&◌, if◌then◌else◌, is_some, nat_le, nat_lt, nat_eq, slice_get, slice_index_or, slice_set, All}
+use Rattle.std.proofs.Common.{◌≡◌, ℕ, zero, suc, ◌+◌, List, [], ◌∷◌, ◌++◌, refl, subst, inl, inr, Bool, true, false, not, Option, Some, None, length}
+use Rattle.std.specs.Prelude.{◌⊎◌, ◌||◌, ◌&&◌, if◌then◌else◌, nat_le, nat_lt, nat_eq, slice_get, slice_index_or, slice_set}
 use Rattle.std.specs.List.{AllByRecursion, list_any}
-use Rattle.std.proofs.lemmas.List.Elements.{All-from_recursion}
 use Rattle.sieve_meaning.specs.Case.{Facts}
 use Rattle.sieve_meaning.specs.Paths.{Paths, insert_path, IsIncreasing}
 use Rattle.sieve_meaning.specs.Outcome.{Outcome, outcome_at, unfiled}
@@ -12,7 +11,7 @@ use Rattle.filing_image.specs.declared.instruction.Operation.{Operation}
 use Rattle.filing_image.specs.declared.instruction.Operation.TheVariants.{PushTrue, PushFalse, Not, Values, Join, Match, Pop, Exists, Size, Number, Less as LessThan, Jump, JumpIf, JumpUnless, Marked, Mark, File, Keep, Discard, Stop, Fault}
 use Rattle.filing_table.specs.Machine.{Entry, T, L, N, State, Run, At, Over, Trap, compared, values_of, with_stack, with_named, only_if, file, on_stack, at_place, step, after_steps}
 use Rattle.sieve_meaning.specs.Truth.{has_field}
-use Rattle.filing_table.specs.Ends.{HasOutcome, outcome_left}
+use Rattle.filing_table.specs.Ends.{HasOutcome}
 
 -- paths that are open, in byte order, each once
 record IsFiled (c : Facts) (filed : Paths) : Type 0 where

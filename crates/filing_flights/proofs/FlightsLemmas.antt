@@ -1,15 +1,15 @@
 -- The captures in flight beside the flights that they hold.
-use Rattle.std.proofs.Common.{◌≡◌, ◌<◌, ◌≤◌, ◌+◌, ◌++◌, ◌∷◌, [], ℕ, zero, suc, List, length, refl, arith, ap, ◌∙◌, sym, inl, inr, Bool, true, false, Option, Some, None, get_or, set, eqb, subst}
-use Rattle.std.specs.Prelude.{◌==◌, ◌⊎◌, nat_le, if◌then◌else◌, position, remove}
+use Rattle.std.proofs.Common.{◌≡◌, ◌<◌, ◌+◌, ◌++◌, ◌∷◌, [], ℕ, zero, suc, List, length, refl, arith, ap, ◌∙◌, sym, inl, inr, Bool, true, false, Some, None, get_or, set, eqb, subst}
+use Rattle.std.specs.Prelude.{◌==◌, nat_le, position, remove}
 use Rattle.std.specs.List.{position_from}
 use Rattle.std.proofs.lemmas.Bool.Decides.{nat_tests}
 use Rattle.std.proofs.lemmas.List.Quantifiers.{position-Some}
 use Rattle.std.proofs.lemmas.Iterator.Adapters.{position_from-zero}
 use Rattle.filing_commands.specs.Answers.{Answer, refused}
 use Rattle.filing_commands.specs.Limits.{most_in_flight}
-use Rattle.filing_commands.specs.Standing.{Standing, Flight, IsInterrupted, TurnStep, flight_of, grant, granting, turned, without}
+use Rattle.filing_commands.specs.Standing.{Flight, flight_of, grant, turned, without}
 use Rattle.filing_flights.specs.Held.{Held, Holds, IsGranted, StopsShort, granting_more}
-use Rattle.filing_flights.specs.Flights.{Adds, AreHeld, Finds, IsFound, IsTurned, Removes, TellsFull, Turns}
+use Rattle.filing_flights.specs.Flights.{Adds, AreHeld, Finds, Removes, TellsFull, Turns}
 
 -- as many are in flight
 pub as_many : (xs : List Held) (fs : List Flight) → AreHeld xs fs → length xs ≡ length fs

@@ -1,8 +1,7 @@
 -- What holds of a flight that is held, as its machine makes steps.
-use Rattle.std.proofs.Common.{◌≡◌, ◌<◌, ◌≤◌, ◌+◌, ℕ, min, refl, arith, ap, ◌∙◌, sym, subst, Bool, true, false, Option, Some, None}
+use Rattle.std.proofs.Common.{◌≡◌, ◌+◌, ℕ, min, refl, arith, subst, Option, Some, None}
 use Rattle.std.specs.Prelude.{is_some, nat_lt, not, if◌then◌else◌}
 use Rattle.std.proofs.lemmas.Bool.Decides.{nat_tests}
-use Rattle.jiff.specs.Words.{epoch_day}
 use Rattle.sieve_meaning.specs.Case.{Facts}
 use Rattle.sieve_meaning.specs.Outcome.{Outcome}
 use Rattle.filing_image.specs.Program.{Program}

@@ -1,10 +1,10 @@
 -- Where a machine stands beside the end of its run.
-use Rattle.std.proofs.Common.{◌≡◌, ◌<◌, ◌≤◌, ◌+◌, ℕ, min, refl, arith, ap, ◌∙◌, sym, inl, inr, Option, Some, None}
+use Rattle.std.proofs.Common.{◌≡◌, ◌<◌, ◌+◌, ℕ, min, refl, arith, ap, ◌∙◌, sym, inl, inr, Option, Some, None}
 use Rattle.std.proofs.lemmas.Bool.{cases_order}
 use Rattle.filing_image.specs.Program.{Program}
 use Rattle.sieve_meaning.specs.Case.{Facts}
 use Rattle.sieve_meaning.specs.Outcome.{Outcome}
-use Rattle.filing_table.specs.Machine.{At, Over, after_steps}
+use Rattle.filing_table.specs.Machine.{At, after_steps}
 use Rattle.filing_table.specs.Ends.{HasOutcome}
 use Rattle.filing_table.proofs.Once.{one_step, over_is_not_at}
 use Rattle.filing_machine.specs.Seen.{state, run_at}

@@ -1,6 +1,6 @@
 -- The classes of an outcome are classes of a plan that has all paths that were open.
-use Rattle.std.proofs.Common.{◌≡◌, ℕ, List, [], ◌∷◌, refl, sym, ap, ◌∙◌, subst, inl, inr, Bool, true, false, Option, Some, None}
-use Rattle.std.specs.Prelude.{◌⊎◌, is_some, option_map, unwrap_or, All}
+use Rattle.std.proofs.Common.{◌≡◌, ℕ, List, [], ◌∷◌, refl, sym, ap, ◌∙◌, subst, inl, inr, true, false, Option, Some, None}
+use Rattle.std.specs.Prelude.{is_some, option_map, unwrap_or, All}
 use Rattle.std.specs.List.{AllByRecursion}
 use Rattle.std.proofs.lemmas.List.Elements.{All-from_recursion, recursion_from_All}
 use Rattle.sieve_meaning.specs.Paths.{IsIncreasing}
