@@ -1,0 +1,94 @@
+//! Tools beside the session: texts for numbers, scripts judged from the shell, images as text, and commands with the paths of
+//! files in place of lengths.
+#![tactic(auto)]
+
+mod check;
+mod command_line;
+mod compile;
+mod dump;
+mod explain;
+mod failure;
+mod files;
+mod findings;
+mod frame;
+mod libraries;
+
+use clap::{ArgMatches, Error};
+use command_line::{command, words};
+use failure::Failure;
+use std::process::ExitCode;
+
+/// The status where a script or an image is refused.
+const STATUS_REFUSED: u8 = 1;
+
+/// The status where something could not be done: a bad command line, a file that cannot be read, want of memory.
+const STATUS_FAILURE: u8 = 2;
+
+/// Whether all that was judged is good.
+#[derive(Clone, Copy)]
+pub enum Verdict {
+    Good,
+    Refused,
+}
+
+/// Does what a subcommand asks.
+fn do_subcommand(rt: &HostRuntime, matches: &ArgMatches<'_>) -> Result<Verdict, Failure> {
+    match matches.subcommand() {
+        Some(("explain", asked)) => explain::explain(rt, asked),
+        Some(("check", asked)) => check::check_scripts(rt, asked),
+        Some(("compile", asked)) => compile::compile_script(rt, asked),
+        Some(("dump", asked)) => dump::dump_image(rt, asked),
+        Some(("frame", asked)) => frame::frame(rt, asked),
+        _ => Ok(Verdict::Good),
+    }
+}
+
+/// Tells what `clap` has to say, which for `--help` is no fault.
+fn tell_clap(rt: &HostRuntime, error: &Error) -> ExitCode {
+    let _ = error.print(rt);
+    if error.use_stderr() {
+        ExitCode::from(STATUS_FAILURE)
+    } else {
+        ExitCode::SUCCESS
+    }
+}
+
+/// Tells why something was not done; a reader that went away is told nothing.
+fn tell_failure(rt: &HostRuntime, failure: &Failure) -> ExitCode {
+    match failure {
+        Failure::Closed => ExitCode::SUCCESS,
+        Failure::NoMemory => {
+            let _ = eprintln!(rt; "mailfile-tool: out of memory");
+            ExitCode::from(STATUS_FAILURE)
+        }
+        Failure::Told(text) => {
+            let _ = eprintln!(rt; "mailfile-tool: {text}");
+            ExitCode::from(STATUS_FAILURE)
+        }
+    }
+}
+
+/// Reads the command line and does what it asks.
+fn serve(rt: &HostRuntime) -> ExitCode {
+    let words = match words(rt) {
+        Ok(words) => words,
+        Err(failure) => return tell_failure(rt, &failure),
+    };
+    let asked = match command(rt.alloc()) {
+        Ok(command) => command.try_get_matches_from(words.as_slice()),
+        Err(error) => Err(Error::from(error)),
+    };
+    let matches = match asked {
+        Ok(matches) => matches,
+        Err(error) => return tell_clap(rt, &error),
+    };
+    match do_subcommand(rt, &matches) {
+        Ok(Verdict::Good) => ExitCode::SUCCESS,
+        Ok(Verdict::Refused) => ExitCode::from(STATUS_REFUSED),
+        Err(failure) => tell_failure(rt, &failure),
+    }
+}
+
+fn main(rt: HostRuntime) -> ExitCode {
+    serve(&rt)
+}
