@@ -10,7 +10,7 @@ use Rattle.sieve_meaning.specs.Reading.{program_of}
 use Rattle.sieve_meaning.specs.Meaning.{ScriptName}
 use Rattle.script_library.specs.Libraries.{NamedScript, Scripts, library_of, named, location_of, put}
 use Rattle.script_library.specs.Libraries as kept
-use Rattle.filing_desk.specs.Scripts.{script_at, put_script, HasNoRoom, location, library, meanings_of}
+use Rattle.filing_commands.specs.Scripts.{script_at, put_script, HasNoRoom, location, library, meanings_of}
 
 abbrev meaning_of : Script → Commands
 meaning_of x = program_of (tree_of x)
