@@ -1,0 +1,120 @@
+-- The classes of a run's outcome: the default class, and paths that are open in the case.
+use Rattle.std.proofs.Common.{◌≡◌, ℕ, zero, suc, ◌+◌, List, [], ◌∷◌, ◌++◌, refl, sym, ap, ◌∙◌, subst, inl, inr, Bool, true, false, not, Option, Some, None, length}
+use Rattle.std.specs.Prelude.{◌⊎◌, ◌||◌, if◌then◌else◌, is_some, nat_le, nat_lt, nat_eq, slice_get, All}
+use Rattle.std.specs.List.{AllByRecursion}
+use Rattle.std.proofs.lemmas.List.Elements.{All-from_recursion}
+use Rattle.sieve_meaning.specs.Case.{Facts}
+use Rattle.sieve_meaning.specs.Paths.{Paths, insert_path, IsIncreasing}
+use Rattle.sieve_meaning.specs.Outcome.{Outcome, outcome_at, unfiled}
+use Rattle.filing_flights.proofs.PathLemmas.{all_in_insert_path, insert_path_increasing, none_increasing}
+use Rattle.filing_image.specs.Program.{Program}
+use Rattle.filing_image.specs.declared.instruction.Operation.{Operation}
+use Rattle.filing_image.specs.declared.instruction.Operation.TheVariants.{PushTrue, PushFalse, Not, Values, Join, Match, Pop, Exists, Size, Number, Less as LessThan, Jump, JumpIf, JumpUnless, Marked, Mark, File, Keep, Discard, Stop, Fault}
+use Rattle.filing_table.specs.Machine.{Entry, T, L, N, State, Run, At, Over, Trap, with_stack, with_named, only_if, file, on_stack, at_place, step, after_steps}
+use Rattle.filing_table.specs.Ends.{HasOutcome, outcome_left}
+
+-- paths that are open, in byte order, each once
+record IsFiled (c : Facts) (filed : Paths) : Type 0 where
+  open_paths : AllByRecursion (λ q. c.is_open q ≡ true) filed
+  in_order : IsIncreasing filed
+
+-- the paths that a run has filed into are such
+abbrev HasFiled : Facts → Run → Type 0
+HasFiled c (At s) = IsFiled c s.filed
+HasFiled c (Over f s) = IsFiled c s.filed
+HasFiled c Trap = Unit {0}
+
+module _ (p : Program) (c : Facts) where
+  on : (s : State) (es : List Entry) → IsFiled c s.filed → HasFiled c (with_stack s es)
+  on s es h = elim (nat_lt 32 (length es)) as (λ b. HasFiled c (if b then Trap else At (record s { place = s.place + 1; stack = es }))) [ true ↦ tt | false ↦ h ]
+
+  named : {A : Type 0} (o : Option A) (go : A → Run) → ((x : A) → HasFiled c (go x)) → HasFiled c (with_named o go)
+  named None go h = tt
+  named (Some x) go h = h x
+
+  only : (b : Bool) (r : Run) → HasFiled c r → HasFiled c (only_if b r)
+  only true r h = h
+  only false r h = tt
+
+  filed_under : (s : State) (a : ℕ) (path : List ℕ) → IsFiled c s.filed → HasFiled c (file c s a path)
+  filed_under s a path h =
+      (elim (c.is_open path) as (λ b. c.is_open path ≡ b → HasFiled c (if b then At (record s { place = s.place + 1; filed = insert_path path s.filed; cancelled = s.cancelled || nat_eq a 0 }) else Over (Some 1) s)) [
+        | true ↦ λ e. record { open_paths = all_in_insert_path (λ q. c.is_open q ≡ true) s.filed path e h.open_paths; in_order = insert_path_increasing s.filed path h.in_order }
+        | false ↦ λ e. h
+      ]) refl
+
+  acted : (o : Operation) (s : State) (es : List Entry) → IsFiled c s.filed → HasFiled c (on_stack p c o s es)
+  acted PushTrue s es h = on s _ h
+  acted PushFalse s es h = on s _ h
+  acted Not s (T b ∷ es) h = on s _ h
+  acted Not s _ h = tt
+  acted (Values b) s es h = named _ _ (λ name. on s _ h)
+  acted Join s (L ys ∷ L xs ∷ es) h = on s _ h
+  acted Join s _ h = tt
+  acted (Match a b) s (L xs ∷ es) h = only _ _ (named _ _ (λ key. on s _ h))
+  acted (Match a b) s _ h = tt
+  acted Pop s (e ∷ es) h = on s _ h
+  acted Pop s _ h = tt
+  acted (Exists b) s es h = named _ _ (λ name. on s _ h)
+  acted Size s es h = on s _ h
+  acted (Number b) s es h = named _ _ (λ n. on s _ h)
+  acted LessThan s (N y ∷ N x ∷ es) h = on s _ h
+  acted LessThan s _ h = tt
+  acted (Jump b) s es h = h
+  acted (JumpIf b) s (T t ∷ es) h = h
+  acted (JumpIf b) s _ h = tt
+  acted (JumpUnless b) s (T t ∷ es) h = h
+  acted (JumpUnless b) s _ h = tt
+  acted (Marked b) s es h = only _ _ (on s _ h)
+  acted (Mark b) s es h = only _ _ h
+  acted (File a b) s es h = only _ _ (named _ _ (λ path. filed_under s a path h))
+  acted Keep s es h = h
+  acted Discard s es h = h
+  acted Stop s es h = h
+  acted (Fault a) s es h = only _ _ h
+
+  at_placed : (o : Option Operation) (s : State) → IsFiled c s.filed → HasFiled c (at_place p c o s)
+  at_placed None s h = tt
+  at_placed (Some o) s h = acted o s s.stack h
+
+  stepped : (r : Run) → HasFiled c r → HasFiled c (step p c r)
+  stepped (At s) h = at_placed _ s h
+  stepped (Over f s) h = h
+  stepped Trap h = tt
+
+  after : (n : ℕ) → HasFiled c (after_steps p c n)
+  after zero = record { open_paths = tt; in_order = none_increasing }
+  after (suc n) = stepped _ (after n)
+
+-- the default class, or an open path
+abbrev IsOpenClass : Facts → List ℕ → Type 0
+IsOpenClass c q = (q ≡ unfiled) ⊎ (c.is_open q ≡ true)
+
+pub record AreOpenClasses (c : Facts) (classes : Paths) : Type 0 where
+  pub each : AllByRecursion (IsOpenClass c) classes
+  pub in_order : IsIncreasing classes
+
+as_classes : (c : Facts) (xs : Paths) → AllByRecursion (λ q. c.is_open q ≡ true) xs → AllByRecursion (IsOpenClass c) xs
+as_classes c [] h = tt
+as_classes c (x ∷ xs) h = (inr h.0, as_classes c xs h.1)
+
+with_default : (c : Facts) (filed : Paths) → IsFiled c filed → AreOpenClasses c (insert_path unfiled filed)
+with_default c filed h = record {
+  each = all_in_insert_path (IsOpenClass c) filed unfiled (inl refl) (as_classes c filed h.open_paths);
+  in_order = insert_path_increasing filed unfiled h.in_order;
+}
+
+left : (c : Facts) (fault : Option ℕ) (filed : Paths) (kept cancelled : Bool) → IsFiled c filed → AreOpenClasses c (outcome_at fault filed kept cancelled).classes
+left c (Some n) filed kept cancelled h = record { each = (inl refl, tt); in_order = insert_path_increasing [] unfiled none_increasing }
+left c None filed kept cancelled h =
+    elim (kept || not cancelled) as (λ b. AreOpenClasses c (if b then insert_path unfiled filed else filed)) [
+      | true ↦ with_default c filed h
+      | false ↦ record { each = as_classes c filed h.open_paths; in_order = h.in_order }
+    ]
+
+pub classes_open : (p : Program) (c : Facts) (n : ℕ) (o : Outcome) → HasOutcome p c n o → AreOpenClasses c o.classes
+classes_open p c n o (fault, s, ends, is) =
+    let P : Run → Type 0 = HasFiled c in
+    let filed : IsFiled c s.filed = subst P ends.over (after p c n) in
+    let Q : Outcome → Type 0 = λ x. AreOpenClasses c x.classes in
+    subst Q is (left c fault s.filed s.kept s.cancelled filed)

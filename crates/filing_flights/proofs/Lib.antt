@@ -1,0 +1,9 @@
+pub mod ResultLemmas
+pub mod PathLemmas
+pub mod Lengths
+pub mod Alone
+pub mod HeldLemmas
+pub mod ClassLemmas
+pub mod FlightsLemmas
+pub mod BegunLemmas
+pub mod PlanLemmas

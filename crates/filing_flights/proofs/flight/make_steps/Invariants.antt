@@ -1,0 +1,10 @@
+use Rattle.std.proofs.Common.{◌≡◌, ◌≤◌, ◌+◌, None}
+use Rattle.filing_machine.specs.Runs.{Stands}
+use Rattle.filing_flights.proofs.flight.make_steps.Given as goal
+
+abbrev pub invariant-loop : goal.invariant-loop
+invariant-loop g l = record {
+  stands : Stands l.program (g.C.Case.facts l.case) l.machine;
+  most : l.machine.steps ≤ l.fn.machine.steps + l.counter;
+  all : l.machine.end ≡ None → l.machine.steps ≡ l.fn.machine.steps + l.counter;
+}

@@ -1,0 +1,4 @@
+pub mod Machines
+pub mod Held
+pub mod Begun
+pub mod Flights

@@ -1,0 +1,17 @@
+-- Steps of a machine, so many at a time.
+use Rattle.std.specs.Prelude.{◌≡◌, ℕ, ◌+◌, ◌<◌, ◌≤◌, None}
+use Rattle.filing_image.specs.Program.{Program}
+use Rattle.filing_machine.specs.Runs.{Stored, IsModestAt}
+
+-- so many steps were made, or fewer where the run has ended
+pub record HasMade (old : Stored) (count : ℕ) (new : Stored) : Type 0 where
+  pub most : new.steps ≤ old.steps + count
+  pub all : new.end ≡ None → new.steps ≡ old.steps + count
+
+-- some of so many steps were made, and the run stands before an instruction that takes memory
+pub record IsStopped (p : Program) (old : Stored) (count : ℕ) (new : Stored) : Type 0 where
+  pub made : ℕ
+  pub within : made < count
+  pub steps : new.steps ≡ old.steps + made
+  pub running : new.end ≡ None
+  pub takes_memory : IsModestAt p new.at.place → ⊥

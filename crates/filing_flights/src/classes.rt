@@ -1,0 +1,18 @@
+//! The classes of an outcome, as the store takes them.
+
+ghost use Rattle.std.specs.Prelude.{◌≡◌, map, IfOk};
+
+use sieve_meaning::Paths;
+use std::alloc::{AllocError, Global};
+
+/// The paths of a set, each as a vector, in their order. The only error is want of memory (99).
+pub fn class_paths(alloc: Global, classes: &Paths) -> Result<Vec<Vec<u8>>, AllocError>
+    ensures { IfOk result (λ v. map (λ p. p.items) v.items ≡ classes.now) }
+{
+    let classes = classes.as_slice();
+    let mut paths = Vec::with_capacity(alloc, classes.len())?;
+    for class in classes {
+        paths.push(Vec::from_slice(alloc, class.as_slice())?)?;
+    }
+    Ok(paths)
+}

@@ -1,0 +1,16 @@
+//! Captures in flight.
+//!
+//! A `Flight` is a capture in flight: what is pinned at its beginning, and a machine on the run of the pinned program. `Flights`
+//! are those of a desk, found by their tickets. In `specs/`, `Holds` ties a capture to a flight of the definitions, and `AreHeld`
+//! all of them to the flights of a standing: the calls say what they do to any flights that are held.
+#![tactic(auto)]
+
+mod classes;
+mod flight;
+mod flights;
+mod paths;
+
+pub use classes::class_paths;
+pub use flight::Flight;
+pub use flights::Flights;
+pub use paths::PinnedPaths;
