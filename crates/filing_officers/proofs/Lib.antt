@@ -1,0 +1,4 @@
+pub mod EndLemmas
+pub mod PinLemmas
+pub mod MeaningLemmas
+pub mod ProfileLemmas

@@ -1,0 +1,34 @@
+use Rattle.std.proofs.Common.{◌≡◌, ap, ◌∙◌, sym, subst, Err, Ok, Result}
+use Rattle.std.specs.Prelude.{IfOk}
+use Rattle.sieve_syntax.specs.View.{tree_of}
+use Rattle.sieve_meaning.specs.Reading.{program_of}
+use Rattle.sieve_meaning.specs.Meaning.{Library}
+use Rattle.script_library.specs.Lent.{scripts_of}
+use Rattle.script_library.specs.Libraries.{library_of}
+use Rattle.filing_commands.specs.Pinning.{PinsChosen, script}
+use Rattle.filing_officers.proofs.MeaningLemmas.{library_meant}
+use Rattle.filing_officers.proofs.PinLemmas.{compiled_pins, heavy_pins}
+use Rattle.filing_officers.proofs.pinned.pin_script.Goals as goal
+
+ok_not_err : {A E : Type 0} {r : Result A E} {x : A} {y : E} → r ≡ Ok x → r ≡ Err y → ⊥
+ok_not_err {A} {E} {r} {x} {y} h k = let e : ◌≡◌ {A = Result A E} (Ok x) (Err y) = sym h ∙ k in cc
+
+all_ok : {A E : Type 0} {P Q : A → Type 0} (r : Result A E) → IfOk r P → ((x : A) → P x → Q x) → IfOk r Q
+all_ok (Ok x) h f = f x h
+all_ok (Err y) h f = tt
+
+pub returns-in-Ok : goal.returns-in-Ok
+returns-in-Ok c =
+    let main = program_of (tree_of c.args.script.now.script) in
+    let lib = scripts_of c.args.shelves in
+    let P : Library → Type 0 = λ l. PinsChosen (script c.args.name.now main) l c.in-Ok.program in
+    subst P (library_meant lib) (compiled_pins (library_of lib) c.args.name.now main c.in-Ok.program c.in-Ok.ensures.compiled (λ heavy. ok_not_err c.in-Ok.is (c.compile_with.ensures.too_large.1 heavy)))
+
+pub returns-in-Err-TooLarge : goal.returns-in-Err-TooLarge
+returns-in-Err-TooLarge c =
+    let main = program_of (tree_of c.args.script.now.script) in
+    let lib = scripts_of c.args.shelves in
+    let heavy = c.compile_with.ensures.too_large.0 (c.in-Err-TooLarge.is ∙ ap Err c.in-Err-TooLarge.field-0-is) in
+    all_ok c.single.result c.single.ensures (λ v e.
+    let P : Library → Type 0 = λ l. PinsChosen (script c.args.name.now main) l v in
+    subst P (library_meant lib) (heavy_pins (library_of lib) c.args.name.now main v e heavy))

@@ -1,0 +1,15 @@
+-- What a change of one officer leaves.
+use Rattle.std.specs.Prelude.{◌≡◌, ℕ, List, if◌then◌else◌, Vec}
+use Rattle.std.specs.Str.{bytes_eq}
+use Rattle.std.specs.declared.alloc.Global.{Global}
+use Rattle.script_library.specs.Libraries.{NamedScript}
+use Rattle.filing_commands.specs.Pinning.{Officer}
+use Rattle.filing_officers.specs.declared.profile.Profile.{Profile}
+use Rattle.filing_officers.specs.Register.{officer_at}
+use Rattle.filing_officers.specs.Profiles.{settings_in}
+use Rattle.filing_officers.specs.Current.{AllKeepCurrent}
+
+-- The officer of that name has this, and each other what he had. No image of his is kept.
+pub record ChangesOnly (old new : List (Vec ℕ Global × Profile)) (name : List ℕ) (o : Officer) : Type 0 where
+  pub officers : (n : List ℕ) → officer_at n (settings_in new) ≡ (if bytes_eq n name then o else officer_at n (settings_in old))
+  pub images : (edition : ℕ) (globals : List NamedScript) → AllKeepCurrent edition globals old → AllKeepCurrent edition globals new

@@ -1,0 +1,12 @@
+-- Programs of one instruction.
+use Rattle.std.specs.Prelude.{◌≡◌, ◌⊎◌, [], ◌∷◌}
+use Rattle.filing_image.specs.Program.{Program}
+use Rattle.filing_image.specs.declared.instruction.Operation.{Operation}
+use Rattle.filing_image.specs.declared.instruction.Operation.TheVariants.{Stop, Fault}
+
+-- an operation that ends the run of what is pinned for no script: STOP, or FAULT 5
+abbrev pub IsEnd : Operation → Type 0
+IsEnd o = (o ≡ Stop) ⊎ (o ≡ Fault 5)
+
+abbrev pub alone : Operation → Program
+alone o = record { budget = 1; texts = []; numbers = []; slots = 0; code = o ∷ [] }

@@ -1,0 +1,6 @@
+pub mod Ends
+pub mod Register
+pub mod Codes
+pub mod Profiles
+pub mod Current
+pub mod Changes

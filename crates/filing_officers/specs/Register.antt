@@ -1,0 +1,44 @@
+-- What officers have set, and the office that it stands for.
+use Rattle.std.specs.Prelude.{◌≡◌, ℕ, List, [], ◌∷◌, if◌then◌else◌}
+use Rattle.std.specs.Str.{bytes_eq}
+use Rattle.sieve_meaning.specs.Program.{Commands}
+use Rattle.script_library.specs.Libraries.{NamedScript}
+use Rattle.filing_image.specs.Program.{Program}
+use Rattle.record_store.specs.Archive.{Archive}
+use Rattle.filing_commands.specs.Office.{Office, with_globals, with_officer, with_scripts}
+use Rattle.filing_commands.specs.Pinning.{Active, Officer, PinsChosen, chosen_by, new_officer}
+use Rattle.filing_commands.specs.Scripts.{library, meanings_of, put_script}
+
+-- what an officer has set: his program, and his scripts as trees
+pub record Settings : Type 0 where
+  pub active : Active
+  pub scripts : List NamedScript
+
+-- the global scripts, and the officers of whom something is known, each with his name
+pub record Register : Type 0 where
+  pub globals : List NamedScript
+  pub officers : List (List ℕ × Settings)
+
+abbrev pub officer_of : Settings → Officer
+officer_of s = record { active = s.active; scripts = meanings_of s.scripts }
+
+-- the officer of that name
+abbrev pub officer_at : (name : List ℕ) → List (List ℕ × Settings) → Officer
+officer_at name [] = new_officer
+officer_at name (e ∷ es) = if bytes_eq name e.0 then officer_of e.1 else officer_at name es
+
+-- the office of an archive and of these officers
+abbrev pub office_of : Archive → Register → Office
+office_of a r = record { archive = a; globals = meanings_of r.globals; officers = λ name. officer_at name r.officers }
+
+-- the office where an officer keeps that script under that name
+abbrev pub keeping : Office → (officer name : List ℕ) → Commands → Office
+keeping s officer name script = with_officer s officer (with_scripts (s.officers officer) (put_script name script (s.officers officer).scripts))
+
+-- the office where that script is kept under that name for all officers
+abbrev pub sharing : Office → (name : List ℕ) → Commands → Office
+sharing s name script = with_globals s (put_script name script s.globals)
+
+-- what is pinned for an officer beside those global scripts
+abbrev pub PinsFor : Officer → (globals : List (List ℕ × Commands)) → Program → Type 0
+PinsFor o globals p = PinsChosen (chosen_by o.active o.scripts) (library o.scripts globals) p

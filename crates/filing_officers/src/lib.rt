@@ -1,0 +1,12 @@
+//! The scripts that all officers share, what each officer has set, and the image that is pinned for a capture of his.
+//!
+//! In `specs/`, `Register` says for which office the officers stand, and `Current` which images may be kept: an officer's script is
+//! compiled (`pinned`) once for each change of the scripts that it can include, and the image is then shared.
+#![tactic(auto)]
+
+mod officers;
+mod pinned;
+mod profile;
+mod profiles;
+
+pub use officers::Officers;

@@ -1,0 +1,170 @@
+//! The officers, and the scripts that they share.
+
+ghost use Rattle.std.specs.Prelude.{◌≡◌, ◌↔◌, ◌⊎◌, Err, IfErr, IfOk, OnErr, OnOk, false, is_some, true};
+ghost use Rattle.sieve_syntax.specs.View.{tree_of};
+ghost use Rattle.sieve_meaning.specs.Reading.{program_of};
+ghost use Rattle.filing_verify.specs.Well.{IsWell};
+ghost use Rattle.record_store.specs.Archive.{Archive};
+ghost use Rattle.filing_commands.specs.Office.{opening_office, setting};
+ghost use Rattle.filing_commands.specs.Pinning.{image, no_program, script_named};
+ghost use Rattle.filing_commands.specs.Scripts.{HasNoRoom, meanings_of, script_at};
+ghost use Rattle.filing_commands.specs.declared.fault.DeskFault.TheVariants.{LibraryFull, NoMemory, NoScript};
+ghost use Rattle.filing_officers.specs.Register.{PinsFor, keeping, office_of, officer_at, sharing};
+
+use crate::profile::{Active, Profile, put_on};
+use crate::profiles::{clear, has_script, pin, put_script, set};
+use filing_commands::DeskFault;
+use filing_verify::Verified;
+use script_library::Shelf;
+use sieve_check::Checked;
+use std::alloc::{AllocError, Global};
+use std::collections::BTreeMap;
+use std::marker::Model;
+use std::rc::Rc;
+
+/// The global scripts, and what each officer has set. An officer of whom nothing is known has no program and no script; names are
+/// compared octet by octet. Each call takes time logarithmic in the number of officers.
+#[derive(Drop)]
+pub struct Officers {
+    alloc: Global,
+    globals: Shelf,
+    edition: u64,
+    profiles: BTreeMap<Vec<u8>, Profile>,
+}
+
+impl Model for Officers {
+    ghost use Rattle.filing_officers.specs.Codes.{register_code};
+    ghost use Rattle.filing_officers.specs.Register.{Register};
+
+    ghost Value = { Register };
+
+    ghost coded = { register_code };
+
+    ghost use Rattle.filing_officers.specs.Current.{AllKeepCurrent};
+    ghost use Rattle.filing_officers.specs.Profiles.{settings_in};
+
+    ghost view = { λ o. record { globals = o.globals; officers = settings_in o.profiles.entries } };
+
+    ghost invariant = { λ o. AllKeepCurrent o.edition o.globals o.profiles.entries };
+}
+
+impl Officers {
+    /// No script, and no program of any officer; takes no memory.
+    pub fn new(alloc: Global) -> Officers
+        ensures { (a : Archive) → office_of a result ≡ opening_office a }
+    {
+        Officers {
+            alloc,
+            globals: Shelf::new(alloc),
+            edition: 0,
+            profiles: BTreeMap::new(alloc),
+        }
+    }
+
+    /// The global scripts, which scripts of all officers include by `:global`.
+    pub fn globals(&self) -> &Shelf
+        ensures { result.now ≡ self.now.globals }
+    {
+        &self.globals
+    }
+
+    /// Keeps a script under a name for all officers, in the place of the one that has the name, if there is one. It is refused where
+    /// thirty-two global scripts have other names (96), and 99 is want of memory; nothing is changed then. Each image that was kept
+    /// is void.
+    pub fn set_global(&mut self, name: &[u8], script: Checked) -> Result<(), DeskFault>
+        ensures done { OnOk result ((a : Archive) → office_of a self.new ≡ sharing (office_of a self.old) name.now (program_of (tree_of script.script))) }
+        ensures full { result ≡ Err LibraryFull → HasNoRoom (meanings_of self.old.globals) name.now }
+        ensures has_room { OnOk result (HasNoRoom (meanings_of self.old.globals) name.now → ⊥) }
+        ensures fault { IfErr result (λ f. (f ≡ LibraryFull) ⊎ (f ≡ NoMemory)) }
+        ensures unchanged { OnErr result (self.new ≡ self.old) }
+    {
+        let script = Rc::new(self.alloc, script)?;
+        put_on(&mut self.globals, name, script)?;
+        self.edition = self.edition.saturating_add(1);
+        Ok(())
+    }
+
+    /// Keeps a script of an officer under a name, in the place of the one that has the name, if there is one. It is refused where
+    /// thirty-two scripts of the officer have other names (96), and 99 is want of memory; nothing is changed then.
+    pub fn set_script(
+        &mut self,
+        officer: &[u8],
+        name: &[u8],
+        script: Checked,
+    ) -> Result<(), DeskFault>
+        ensures done { OnOk result ((a : Archive) → office_of a self.new ≡ keeping (office_of a self.old) officer.now name.now (program_of (tree_of script.script))) }
+        ensures full { result ≡ Err LibraryFull → HasNoRoom (officer_at officer.now self.old.officers).scripts name.now }
+        ensures has_room { OnOk result (HasNoRoom (officer_at officer.now self.old.officers).scripts name.now → ⊥) }
+        ensures fault { IfErr result (λ f. (f ≡ LibraryFull) ⊎ (f ≡ NoMemory)) }
+        ensures unchanged { OnErr result (self.new ≡ self.old) }
+    {
+        let script = Rc::new(self.alloc, script)?;
+        put_script(self.alloc, &mut self.profiles, officer, name, script)?;
+        Ok(())
+    }
+
+    /// Sets the script of that name as an officer's program: the one that has the name when a capture begins. It is refused where
+    /// the officer has none of that name (93), and 99 is want of memory; nothing is changed then.
+    pub fn activate(&mut self, officer: &[u8], name: &[u8]) -> Result<(), DeskFault>
+        ensures done { OnOk result ((a : Archive) → office_of a self.new ≡ setting (office_of a self.old) officer.now (script_named name.now)) }
+        ensures no_script { result ≡ Err NoScript ↔ (is_some (script_at name.now (officer_at officer.now self.old.officers).scripts) ≡ false) }
+        ensures there { OnOk result (is_some (script_at name.now (officer_at officer.now self.old.officers).scripts) ≡ true) }
+        ensures fault { IfErr result (λ f. (f ≡ NoScript) ⊎ (f ≡ NoMemory)) }
+        ensures unchanged { OnErr result (self.new ≡ self.old) }
+    {
+        if !has_script(&self.profiles, officer, name) {
+            return Err(DeskFault::NoScript);
+        }
+        let name = Vec::from_slice(self.alloc, name)?;
+        set(
+            self.alloc,
+            &mut self.profiles,
+            officer,
+            Active::Script(name),
+        )?;
+        Ok(())
+    }
+
+    /// Sets no program for an officer; takes no memory.
+    pub fn deactivate(&mut self, officer: &[u8])
+        ensures { (a : Archive) → office_of a self.new ≡ setting (office_of a self.old) officer.now no_program }
+    {
+        clear(&mut self.profiles, officer);
+    }
+
+    /// Sets an image as an officer's program. The only fault is want of memory (99); nothing is changed then.
+    pub fn set_image(&mut self, officer: &[u8], program: Verified) -> Result<(), DeskFault>
+        ensures done { OnOk result ((a : Archive) → office_of a self.new ≡ setting (office_of a self.old) officer.now (image program)) }
+        ensures fault { IfErr result (λ f. f ≡ NoMemory) }
+        ensures unchanged { OnErr result (self.new ≡ self.old) }
+    {
+        let image = Rc::new(self.alloc, program)?;
+        set(
+            self.alloc,
+            &mut self.profiles,
+            officer,
+            Active::Image(image),
+        )?;
+        Ok(())
+    }
+
+    /// What is pinned for a capture of an officer's that begins now: his image; the image of his script and what it includes, or one
+    /// FAULT 5 where that weighs more than 60,000; or one STOP where he has no program. A script is compiled only where one that it
+    /// can include was set since it was compiled last, or the officer's program; the image is shared. The meaning of all that is set
+    /// stays the same.
+    pub fn pin(&mut self, officer: &[u8]) -> Result<Rc<Verified>, AllocError>
+        ensures pinned { IfOk result (λ v. PinsFor (officer_at officer.now self.old.officers) (meanings_of self.old.globals) v.value) }
+        ensures well { IfOk result (λ v. IsWell v.value) }
+        ensures unchanged { self.new ≡ self.old }
+    {
+        let program = pin(
+            self.alloc,
+            &mut self.profiles,
+            officer,
+            &self.globals,
+            self.edition,
+        )?;
+        let _image = program.image();
+        Ok(program)
+    }
+}

@@ -1,0 +1,65 @@
+//! What is pinned for a capture.
+
+ghost use Rattle.std.specs.Prelude.{◌≡◌, IfOk};
+ghost use Rattle.sieve_syntax.specs.View.{tree_of};
+ghost use Rattle.sieve_meaning.specs.Reading.{program_of};
+ghost use Rattle.script_library.specs.Lent.{scripts_of};
+ghost use Rattle.filing_commands.specs.Pinning.{PinsChosen, script as chosen_script, script_if, one_stop};
+ghost use Rattle.filing_commands.specs.Scripts.{script_at, library, meanings_of};
+ghost use Rattle.filing_officers.specs.Ends.{IsEnd, alone};
+
+use filing_gen::{GenFault, compile_with};
+use filing_image::{Image, Operation};
+use filing_verify::Verified;
+use script_library::{Shelf, Shelves};
+use sieve_check::Checked;
+use std::alloc::{AllocError, Global};
+
+/// The program of one instruction, which ends the run.
+fn single(alloc: Global, operation: Operation) -> Result<Verified, AllocError>
+    requires { IsEnd operation }
+    ensures { IfOk result (λ v. v ≡ alone operation) }
+{
+    let code = vec![in alloc; operation]?;
+    match Image::from_code(1, Vec::new(alloc), Vec::new(alloc), 0, code) {
+        Ok(image) => Ok(Verified::known(image)),
+        Err(_) => unreachable!(),
+    }
+}
+
+/// What is pinned where no program is set: one STOP.
+pub(crate) fn pin_nothing(alloc: Global) -> Result<Verified, AllocError>
+    ensures { IfOk result (λ v. v ≡ one_stop) }
+{
+    single(alloc, Operation::Stop)
+}
+
+/// What is pinned for a script by its name: its image, or one FAULT 5 where it is too heavy for one.
+fn pin_script(
+    alloc: Global,
+    name: &[u8],
+    script: &Checked,
+    shelves: Shelves<'_>,
+) -> Result<Verified, AllocError>
+    ensures { IfOk result (λ v. PinsChosen (chosen_script name.now (program_of (tree_of script.now.script))) (library (meanings_of (scripts_of shelves.entry).personal) (meanings_of (scripts_of shelves.entry).global)) v) }
+{
+    match compile_with(alloc, script, Some(name), shelves) {
+        Ok(program) => Ok(program),
+        Err(GenFault::TooLarge) => single(alloc, Operation::Fault(5)),
+        Err(GenFault::NoMemory) => Err(AllocError),
+    }
+}
+
+/// What is pinned for the script that has a name now.
+pub(crate) fn pin_named(
+    alloc: Global,
+    name: &[u8],
+    shelves: Shelves<'_>,
+) -> Result<Verified, AllocError>
+    ensures { IfOk result (λ v. PinsChosen (script_if name.now (script_at name.now (meanings_of (scripts_of shelves.entry).personal))) (library (meanings_of (scripts_of shelves.entry).personal) (meanings_of (scripts_of shelves.entry).global)) v) }
+{
+    match shelves.personal.get(name) {
+        Some(script) => pin_script(alloc, name, script, shelves),
+        None => pin_nothing(alloc),
+    }
+}

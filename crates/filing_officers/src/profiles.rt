@@ -1,0 +1,106 @@
+//! The profiles of officers, by their names.
+
+ghost use Rattle.std.specs.Prelude.{◌≡◌, ◌↔◌, Err, IfOk, OnErr, OnOk, is_some};
+ghost use Rattle.sieve_syntax.specs.View.{tree_of};
+ghost use Rattle.sieve_meaning.specs.Reading.{program_of};
+ghost use Rattle.script_library.specs.declared.fault.LibraryFault.TheVariants.{Full};
+ghost use Rattle.filing_commands.specs.Office.{with_program, with_scripts};
+ghost use Rattle.filing_commands.specs.Pinning.{no_program};
+ghost use Rattle.filing_commands.specs.Scripts.{HasNoRoom, meanings_of, put_script as put_meaning, script_at};
+ghost use Rattle.filing_officers.specs.Changes.{ChangesOnly};
+ghost use Rattle.filing_officers.specs.Current.{AllKeepCurrent};
+ghost use Rattle.filing_officers.specs.Profiles.{active_of, settings_in};
+ghost use Rattle.filing_officers.specs.Register.{PinsFor, officer_at};
+
+use crate::pinned::pin_nothing;
+use crate::profile::{Active, Profile};
+use filing_verify::Verified;
+use script_library::{LibraryFault, Shelf};
+use sieve_check::Checked;
+use std::alloc::{AllocError, Global};
+use std::collections::BTreeMap;
+use std::rc::Rc;
+
+/// Whether an officer has a script of that name.
+pub(crate) fn has_script(profiles: &BTreeMap<Vec<u8>, Profile>, officer: &[u8], name: &[u8]) -> bool
+    ensures { result ≡ is_some (script_at name.now (officer_at officer.now (settings_in profiles.now.entries)).scripts) }
+{
+    match profiles.get(officer) {
+        Some(profile) => profile.scripts.get(name).is_some(),
+        None => false,
+    }
+}
+
+/// Keeps a script of an officer under a name, in the place of the one that has the name, if there is one.
+pub(crate) fn put_script(
+    alloc: Global,
+    profiles: &mut BTreeMap<Vec<u8>, Profile>,
+    officer: &[u8],
+    name: &[u8],
+    script: Rc<Checked>,
+) -> Result<(), LibraryFault>
+    ensures ok { let o = officer_at officer.now (settings_in profiles.old.entries) in
+        OnOk result (ChangesOnly profiles.old.entries profiles.new.entries officer.now (with_scripts o (put_meaning name.now (program_of (tree_of script.value.script)) o.scripts))) }
+    ensures full { result ≡ Err Full ↔ HasNoRoom (officer_at officer.now (settings_in profiles.old.entries)).scripts name.now }
+    ensures err { OnErr result (profiles.new.entries ≡ profiles.old.entries) }
+{
+    if let Some(profile) = profiles.get_mut(officer) {
+        return profile.put_script(name, script);
+    }
+    let mut profile = Profile::new(alloc);
+    profile.put_script(name, script)?;
+    let officer = Vec::from_slice(alloc, officer)?;
+    profiles.insert(officer, profile)?;
+    Ok(())
+}
+
+/// Sets an officer's program.
+pub(crate) fn set(
+    alloc: Global,
+    profiles: &mut BTreeMap<Vec<u8>, Profile>,
+    officer: &[u8],
+    active: Active,
+) -> Result<(), AllocError>
+    ensures ok { OnOk result (ChangesOnly profiles.old.entries profiles.new.entries officer.now (with_program (officer_at officer.now (settings_in profiles.old.entries)) (active_of active))) }
+    ensures err { OnErr result (profiles.new.entries ≡ profiles.old.entries) }
+{
+    if let Some(profile) = profiles.get_mut(officer) {
+        profile.set(active);
+        return Ok(());
+    }
+    let mut profile = Profile::new(alloc);
+    profile.set(active);
+    let officer = Vec::from_slice(alloc, officer)?;
+    profiles.insert(officer, profile)?;
+    Ok(())
+}
+
+/// Sets no program for an officer; takes no memory.
+pub(crate) fn clear(profiles: &mut BTreeMap<Vec<u8>, Profile>, officer: &[u8])
+    ensures { ChangesOnly profiles.old.entries profiles.new.entries officer.now (with_program (officer_at officer.now (settings_in profiles.old.entries)) no_program) }
+{
+    if let Some(profile) = profiles.get_mut(officer) {
+        profile.set(Active::NoProgram);
+    }
+}
+
+/// What is pinned for an officer beside the global scripts of an edition.
+pub(crate) fn pin(
+    alloc: Global,
+    profiles: &mut BTreeMap<Vec<u8>, Profile>,
+    officer: &[u8],
+    globals: &Shelf,
+    edition: u64,
+) -> Result<Rc<Verified>, AllocError>
+    requires { AllKeepCurrent edition globals.now profiles.old.entries }
+    ensures pinned { IfOk result (λ v. PinsFor (officer_at officer.now (settings_in profiles.old.entries)) (meanings_of globals.now) v.value) }
+    ensures images { AllKeepCurrent edition globals.now profiles.new.entries }
+    ensures settings { settings_in profiles.new.entries ≡ settings_in profiles.old.entries }
+{
+    if let Some(profile) = profiles.get_mut(officer) {
+        return profile.pin(alloc, globals, edition);
+    }
+    let image = pin_nothing(alloc)?;
+    let image = Rc::new(alloc, image)?;
+    Ok(image)
+}
