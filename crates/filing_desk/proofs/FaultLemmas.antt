@@ -51,17 +51,22 @@ fault_step s c Rule limit payload f refuses lacks (inr h) =
     let P : DeskFault → Type 0 = λ x. OfficeStep s c (refused_by x) s in
     subst P (sym h.0) (inr (99, lacks 99 (refl, h.1), refl, refl))
 
+pub lacking : (s : Office) (c : PlainCommand) (limit : ℕ) (payload : List ℕ) (f : DeskFault) (a : Answer) → a ≡ refused_by f → f ≡ NoMemory → length payload ≤ limit → ((n : ℕ) → LacksMemory limit payload n → GivesUp c n) → OfficeStep s c a s
+lacking s c limit payload f a told is short lacks =
+    let P : Answer → Type 0 = λ x. OfficeStep s c x s in
+    subst P (sym told) (fault_step s c (λ n. ⊥) limit payload f (λ n r. absurd r) lacks (inr (is, short)))
+
 module _ {S : Type 0} (g : Ghosts S) where
   -- a call that leaves the desk as it was
   pub unchanged : (desk : Desk S) (c : PlainCommand) (a : Answer) → ((s : Standing) → StandsFor g desk s → OfficeStep s.office c a s.office) → Calls (IsClean g) (StandsFor g) desk (plain c) a desk
   unchanged desk c a step = plain_calls g desk desk c a (λ clean. clean) (λ clean s stands. (s.office, step s stands, stands))
 
   -- the outcome of a script with the global scripts of a desk, in a message's case
-  pub file_done : (desk : Desk S) (p : Listing) (lent : Scripts) (tree : CommandTrees) (script message : List ℕ) (facts : Facts) (o : meaning.Outcome) → ((s : Standing) → StandsFor g desk s → p ≡ s.office.archive.plan) → lent ≡ record { personal = []; global = desk.globals } → IsGood script tree → length message ≤ greatest_message → facts ≡ case_of message (is_open_in p) → o ≡ meaning.outcome facts (library_of lent) None (program_of tree) → Calls (IsClean g) (StandsFor g) desk (plain (file script message)) (captured o) desk
+  pub file_done : (desk : Desk S) (p : Listing) (lent : Scripts) (tree : CommandTrees) (script message : List ℕ) (facts : Facts) (o : meaning.Outcome) → ((s : Standing) → StandsFor g desk s → p ≡ s.office.archive.plan) → lent ≡ record { personal = []; global = desk.officers.globals } → IsGood script tree → length message ≤ greatest_message → facts ≡ case_of message (is_open_in p) → o ≡ meaning.outcome facts (library_of lent) None (program_of tree) → Calls (IsClean g) (StandsFor g) desk (plain (file script message)) (captured o) desk
   file_done desk p lent tree script message facts o is_plan globals good short case is = unchanged desk (file script message) (captured o) (λ s stands.
       let main = program_of tree in
       let there : facts ≡ case_of message (is_open_in s.office.archive.plan) = case ∙ ap (λ q. case_of message (is_open_in q)) (is_plan s stands) in
-      let lib : library_of lent ≡ library [] s.office.globals = library_meant lent desk.globals globals ∙ ap (λ x. library [] x) stands.globals in
+      let lib : library_of lent ≡ library [] s.office.globals = library_meant lent desk.officers.globals globals ∙ ap (λ o. library [] o.globals) stands.officers in
       let filed : IsFiled s.office script message o = record {
         tree = tree;
         good = good;
@@ -98,8 +103,12 @@ module _ {S : Type 0} (g : Ghosts S) where
       let P : Answer → Type 0 = λ x. OfficeStep s.office (try_image image message) x s.office in
       subst P (sym told) (fault_step s.office (try_image image message) (IsTooLong message) greatest_message message f (λ n long. inr (record { program = program; good = good; long = long.0; is_number = long.1 })) (λ n l. (l.0, short)) h))
 
+  -- a part is refused
+  pub refused_part : (desk : Desk S) (c : PlainCommand) (Rule : ℕ → Type 0) (limit : ℕ) (payload : List ℕ) (f : DeskFault) (a : Answer) → ((s : Office) (n : ℕ) → Rule n → Refuses s c n) → ((n : ℕ) → LacksMemory limit payload n → GivesUp c n) → a ≡ refused_by f → IsFaultOf Rule limit payload f → Calls (IsClean g) (StandsFor g) desk (plain c) a desk
+  refused_part desk c Rule limit payload f a refuses lacks told h = unchanged desk c a (λ s stands.
+      let P : Answer → Type 0 = λ x. OfficeStep s.office c x s.office in
+      subst P (sym told) (fault_step s.office c Rule limit payload f (refuses s.office) lacks h))
+
   -- want of memory in a run
   pub gave_up : (desk : Desk S) (c : PlainCommand) (limit : ℕ) (payload : List ℕ) (f : DeskFault) (a : Answer) → a ≡ refused_by f → f ≡ NoMemory → length payload ≤ limit → ((n : ℕ) → LacksMemory limit payload n → GivesUp c n) → Calls (IsClean g) (StandsFor g) desk (plain c) a desk
-  gave_up desk c limit payload f a told is short lacks = unchanged desk c a (λ s stands.
-      let P : Answer → Type 0 = λ x. OfficeStep s.office c x s.office in
-      subst P (sym told) (fault_step s.office c (λ n. ⊥) limit payload f (λ n r. absurd r) lacks (inr (is, short))))
+  gave_up desk c limit payload f a told is short lacks = unchanged desk c a (λ s stands. lacking s.office c limit payload f a told is short lacks)

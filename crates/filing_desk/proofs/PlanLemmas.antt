@@ -20,6 +20,7 @@ use Rattle.filing_commands.specs.declared.fault.DeskFault.{DeskFault}
 use Rattle.filing_commands.specs.declared.fault.DeskFault.TheVariants as faults
 use Rattle.filing_desk.specs.Standing.{IsClean, StandsFor}
 use Rattle.filing_desk.specs.declared.desk.Desk.{Desk}
+use Rattle.filing_desk.proofs.ClassLemmas.{revised_keeps}
 use Rattle.filing_desk.proofs.FaultLemmas.{unchanged}
 use Rattle.filing_desk.proofs.StepLemmas.{IsCommand}
 
@@ -36,6 +37,7 @@ plan_command t p is = record {
   settles = λ s new made. (p, is, made);
   refuses = λ s n h. let d = dropped s.archive p n h in inr (inr (record { plan = p; is_plan = is; drops = d.0; is_number = d.1 }));
   gives_up = λ n trouble. (trouble, is.short);
+  keeps = λ a b made q there. revised_keeps a b p q made there;
 }
 
 -- the text is no plan, or there was no memory

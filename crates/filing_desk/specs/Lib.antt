@@ -1,2 +1,4 @@
 pub mod Judging
 pub mod Standing
+pub mod Beginning
+pub mod Filing

@@ -53,6 +53,7 @@ impl<S: Alter> Desk<S> {
         ensures { Calls (IsClean S.Store) (StandsFor S.Store) self.old (commands.plain (office.add_class path.now)) (told_done result) self.new }
     {
         self.store.add_class(path)?;
+        self.open_paths = None;
         Ok(())
     }
 
@@ -63,6 +64,7 @@ impl<S: Alter> Desk<S> {
         let octets = text.octets(GREATEST_PLAN, DeskFault::PlanTooLong)?;
         let plan = Plan::from_toml(self.alloc, octets)?;
         self.store.revise(plan)?;
+        self.open_paths = None;
         Ok(())
     }
 

@@ -1,29 +1,35 @@
 //! The desk.
 
 ghost use Rattle.std.specs.Prelude.{◌≡◌, IfOk, IfErr};
-ghost use Rattle.sqlite.specs.State.{HasCleanDisk};
-ghost use Rattle.sqlite.specs.Held.{state};
 ghost use Rattle.record_store.specs.Archive.{Archive};
 ghost use Rattle.record_store.specs.Stores as stores;
 
+use filing_flights::{Flights, PinnedPaths};
+use filing_officers::Officers;
 use record_store::Store;
-use script_library::Shelf;
 use sqlite::Alter;
 use std::alloc::Global;
 
-/// What a session talks to: it keeps records in a store, and the global scripts. Contracts say for which state it stands.
+/// What a session talks to: it keeps records in a store, the scripts and programs of officers, and captures in flight. Contracts say
+/// for which states it stands.
 #[derive(Drop)]
 pub struct Desk<S: Alter> {
     pub(crate) alloc: Global,
     pub(crate) store: Store<S>,
-    pub(crate) globals: Shelf,
+    pub(crate) officers: Officers,
+    pub(crate) flights: Flights,
+    /// The last ticket that was given.
+    pub(crate) last: u32,
+    /// The open paths of the plan, once a capture has begun under it.
+    pub(crate) open_paths: Option<PinnedPaths>,
 }
 
 impl<S: Alter> Desk<S> {
     ghost use Rattle.filing_commands.specs.Standing.{Standing, opening};
     ghost use Rattle.filing_desk.specs.Standing.{StandsFor};
 
-    /// A desk over a store, with no script. Want of memory (99), the only error, hands the store back.
+    /// A desk over a store, with no script, no program of an officer and no capture in flight. Want of memory (99), the only error,
+    /// hands the store back.
     pub fn new(alloc: Global, store: Store<S>) -> Result<Desk<S>, Store<S>>
         ensures opens { IfOk result (λ d. (a : Archive) → stores.StandsFor S.Store store a → StandsFor S.Store d (opening a)) }
         ensures over { IfOk result (λ d. d.store ≡ store) }
@@ -32,11 +38,14 @@ impl<S: Alter> Desk<S> {
         Ok(Desk {
             alloc,
             store,
-            globals: Shelf::new(alloc),
+            officers: Officers::new(alloc),
+            flights: Flights::new(alloc),
+            last: 0,
+            open_paths: None,
         })
     }
 
-    /// The store, given back.
+    /// The store, given back. Scripts, programs and captures in flight are dropped.
     pub fn into_store(self) -> Store<S>
         ensures store { result ≡ self.store }
         ensures stands { (s : Standing) → StandsFor S.Store self s → stores.StandsFor S.Store result s.office.archive }

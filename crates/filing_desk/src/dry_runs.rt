@@ -93,7 +93,7 @@ impl<S: Alter> Desk<S> {
         let personal = Shelf::new(self.alloc);
         let shelves = Shelves {
             personal: &personal,
-            global: &self.globals,
+            global: self.officers.globals(),
         };
         let outcome = outcome_of(self.alloc, &case, &checked, shelves)?;
         Ok(outcome)
