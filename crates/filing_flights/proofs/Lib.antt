@@ -7,3 +7,4 @@ pub mod ClassLemmas
 pub mod FlightsLemmas
 pub mod BegunLemmas
 pub mod PlanLemmas
+pub mod StoodLemmas

@@ -4,11 +4,13 @@ use Rattle.std.specs.Prelude.{◌⊎◌, is_some, option_map, unwrap_or, All}
 use Rattle.std.specs.List.{AllByRecursion}
 use Rattle.std.proofs.lemmas.List.Elements.{All-from_recursion, recursion_from_All}
 use Rattle.sieve_meaning.specs.Paths.{IsIncreasing}
+use Rattle.sieve_meaning.specs.Case.{Facts}
 use Rattle.class_plan.specs.Paths.{unfiled}
 use Rattle.class_plan.specs.Plans.{IsPlan, Listing, Row, found, has, is_open_in}
 use Rattle.record_store.specs.Stores.{AreClasses}
 use Rattle.filing_case.specs.Message.{is_among}
-use Rattle.filing_flights.specs.Held.{Held, IsClass}
+use Rattle.filing_commands.specs.Standing.{Flight}
+use Rattle.filing_flights.specs.Held.{Held, Holds, IsClass}
 
 open_is_there : (o : Option Row) → unwrap_or (option_map (λ r. r.is_open) o) false ≡ true → is_some o ≡ true
 open_is_there None e = absurd cc
@@ -35,3 +37,6 @@ are_classes x p cs plan opens each up = record {
   classes = All-from_recursion (λ q. has p.rows q ≡ true) cs (are_there x p cs (open_has p unfiled plan.unfiled_open) opens (recursion_from_All (IsClass x) cs each));
   in_order = up;
 }
+
+pub held_has_open : (x : Held) (f : Flight) (p : Listing) → Holds x f → ((q : List ℕ) → f.stood.is_open q ≡ true → has p.rows q ≡ true) → HasOpen x p
+held_has_open x f p h opens = λ q among. opens q (sym (ap (λ (c : Facts). c.is_open q) h.facts) ∙ among)

@@ -61,10 +61,10 @@ impl Flights {
     pub fn get(&self, ticket: u64) -> Option<&Flight>
         ensures { Finds self.now ticket (option_map (λ f. f.now) result) }
     {
-        match place_of(&self.flights, ticket) {
-            Some(at) => Some(&self.flights[at]),
-            None => None,
-        }
+        let Some(at) = place_of(&self.flights, ticket) else {
+            return None;
+        };
+        Some(&self.flights[at])
     }
 
     /// Grants turns to the capture with a ticket. 91 where there is none; 99 for want of memory, and the capture then keeps the
@@ -97,8 +97,9 @@ impl Flights {
     pub fn remove(&mut self, ticket: u64)
         ensures { Removes self.old ticket self.new }
     {
-        if let Some(at) = place_of(&self.flights, ticket) {
-            let _removed = self.flights.remove(at);
-        }
+        let Some(at) = place_of(&self.flights, ticket) else {
+            return;
+        };
+        let _removed = self.flights.remove(at);
     }
 }
