@@ -3,17 +3,12 @@ use Rattle.std.proofs.Common.{◌≡◌, ℕ, suc, List, [], ◌∷◌, length, 
 use Rattle.std.specs.Prelude.{Option, Some, None, option_map}
 use Rattle.std.specs.Str.{bytes_eq}
 use Rattle.std.proofs.Math.Path.{fun_ext}
-use Rattle.sieve_syntax.specs.View.{tree_of}
 use Rattle.sieve_syntax.specs.declared.tree.Script.{Script}
-use Rattle.sieve_meaning.specs.Program.{Commands}
-use Rattle.sieve_meaning.specs.Reading.{program_of}
 use Rattle.sieve_meaning.specs.Meaning.{ScriptName}
 use Rattle.script_library.specs.Libraries.{NamedScript, Scripts, library_of, named, location_of, put}
 use Rattle.script_library.specs.Libraries as kept
-use Rattle.filing_commands.specs.Scripts.{script_at, put_script, HasNoRoom, location, library, meanings_of}
-
-abbrev pub meaning_of : Script → Commands
-meaning_of x = program_of (tree_of x)
+use Rattle.filing_commands.specs.Scripts.{script_at, put_script, HasNoRoom, location, meanings_of}
+use Rattle.filing_officers.specs.Register.{library_in, meaning_of}
 
 -- a name has the meaning of the script that is stored at it
 pub meaning_at : (name : List ℕ) (es : List NamedScript) → option_map meaning_of (named name es) ≡ script_at name (meanings_of es)
@@ -52,5 +47,5 @@ found_in l s true = meaning_at s.name l.global
 found_in l s false = meaning_at s.name l.personal
 
 -- what an include finds among the scripts of two shelves
-pub library_meant : (l : Scripts) → library_of l ≡ library (meanings_of l.personal) (meanings_of l.global)
+pub library_meant : (l : Scripts) → library_of l ≡ library_in l
 library_meant l = ap (λ f. record { find = f }) (fun_ext (λ s. found_in l s s.global))

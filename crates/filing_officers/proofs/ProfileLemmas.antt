@@ -17,11 +17,11 @@ use Rattle.filing_commands.specs.Scripts.{HasNoRoom, meanings_of, put_script, sc
 use Rattle.filing_officers.specs.declared.profile.Active.{Active}
 use Rattle.filing_officers.specs.declared.profile.KeptImage.{KeptImage}
 use Rattle.filing_officers.specs.declared.profile.Profile.{Profile}
-use Rattle.filing_officers.specs.Register.{Register, Settings, office_of, officer_at, officer_of, sharing}
-use Rattle.filing_officers.specs.Profiles.{active_of, settings_of, settings_in}
+use Rattle.filing_officers.specs.Register.{Register, Settings, meaning_of, office_of, officer_at, officer_of, sharing}
+use Rattle.filing_officers.specs.Profiles.{active_of, officer_in, settings_of, settings_in}
 use Rattle.filing_officers.specs.Changes.{ChangesOnly}
 use Rattle.filing_officers.specs.Current.{KeepsCurrent, AllKeepCurrent, last_edition}
-use Rattle.filing_officers.proofs.MeaningLemmas.{meaning_at, meaning_of}
+use Rattle.filing_officers.proofs.MeaningLemmas.{meaning_at}
 
 abbrev pub Entries : Type 0
 Entries = List (Vec ℕ Global × Profile)
@@ -30,9 +30,9 @@ Entries = List (Vec ℕ Global × Profile)
 abbrev pub compare : (name : List ℕ) → Vec ℕ Global → Ordering
 compare name k = slice_cmp nat_cmp name k.items
 
--- the officer of a name that is looked up
-abbrev pub officer_in : Entries → (name : List ℕ) → Officer
-officer_in es name = officer_at name (settings_in es)
+-- how keys compare to one another
+abbrev pub cmp_names : Vec ℕ Global → Vec ℕ Global → Ordering
+cmp_names x y = slice_cmp nat_cmp x.items y.items
 
 module _ (name : List ℕ) where
   or_new : (b : Bool) (e : Vec ℕ Global × Profile) (rest : Option Profile) (o : Officer) (p : Profile) → (rest ≡ Some p → o ≡ officer_of (settings_of p)) → cond b (Some e.1) rest ≡ Some p → cond b (officer_of (settings_of e.1)) o ≡ officer_of (settings_of p)
@@ -151,7 +151,7 @@ module _ (name n : List ℕ) where
       go false true is same at = refl
       go false false is same at = rw is refl
 
-  insert_gives : (es : Entries) (k : Vec ℕ Global) (v : Profile) → k.items ≡ name → officer_in (insert_entry (λ (x y : Vec ℕ Global). slice_cmp nat_cmp x.items y.items) es k v) n ≡ With (bytes_eq n name) v es
+  insert_gives : (es : Entries) (k : Vec ℕ Global) (v : Profile) → k.items ≡ name → officer_in (insert_entry cmp_names es k v) n ≡ With (bytes_eq n name) v es
   insert_gives [] k v key = rw key refl
   insert_gives (e ∷ es) k v key = insert_at (slice_cmp nat_cmp k.items e.0.items) e es _ k v refl key (insert_gives es k v key)
 
@@ -171,12 +171,12 @@ changed_there name es new p w o found is void has = record {
 }
 
 -- an officer comes in
-pub changed_new : (name : List ℕ) (es new : Entries) (k : Vec ℕ Global) (v : Profile) (o : Officer) → k.items ≡ name → new ≡ insert_entry (λ (x y : Vec ℕ Global). slice_cmp nat_cmp x.items y.items) es k v → v.kept ≡ None → officer_of (settings_of v) ≡ o → ChangesOnly es new name o
+pub changed_new : (name : List ℕ) (es new : Entries) (k : Vec ℕ Global) (v : Profile) (o : Officer) → k.items ≡ name → new ≡ insert_entry cmp_names es k v → v.kept ≡ None → officer_of (settings_of v) ≡ o → ChangesOnly es new name o
 changed_new name es new k v o key is void has = record {
   officers = λ n. ap (λ (x : Entries). officer_in x n) is ∙ insert_gives name n es k v key ∙ ap (λ (x : Officer). cond (bytes_eq n name) x (officer_in es n)) has;
   images = λ edition globals all.
       let keeps = subst (λ (i : Option KeptImage). KeepsCurrent edition globals (settings_of v) i) (sym void) tt in
-      subst (λ (x : Entries). AllKeepCurrent edition globals x) (sym is) (insert_keeps edition globals (λ (x y : Vec ℕ Global). slice_cmp nat_cmp x.items y.items) es k v all keeps);
+      subst (λ (x : Entries). AllKeepCurrent edition globals x) (sym is) (insert_keeps edition globals cmp_names es k v all keeps);
 }
 
 -- an officer has what he had

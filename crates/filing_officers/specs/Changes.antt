@@ -5,11 +5,10 @@ use Rattle.std.specs.declared.alloc.Global.{Global}
 use Rattle.script_library.specs.Libraries.{NamedScript}
 use Rattle.filing_commands.specs.Pinning.{Officer}
 use Rattle.filing_officers.specs.declared.profile.Profile.{Profile}
-use Rattle.filing_officers.specs.Register.{officer_at}
-use Rattle.filing_officers.specs.Profiles.{settings_in}
+use Rattle.filing_officers.specs.Profiles.{officer_in}
 use Rattle.filing_officers.specs.Current.{AllKeepCurrent}
 
 -- The officer of that name has this, and each other what he had. No image of his is kept.
 pub record ChangesOnly (old new : List (Vec ℕ Global × Profile)) (name : List ℕ) (o : Officer) : Type 0 where
-  pub officers : (n : List ℕ) → officer_at n (settings_in new) ≡ (if bytes_eq n name then o else officer_at n (settings_in old))
+  pub officers : (n : List ℕ) → officer_in new n ≡ (if bytes_eq n name then o else officer_in old n)
   pub images : (edition : ℕ) (globals : List NamedScript) → AllKeepCurrent edition globals old → AllKeepCurrent edition globals new

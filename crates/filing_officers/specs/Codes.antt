@@ -27,8 +27,14 @@ abbrev active_code : Coded Active
 active_code = code_by (Option (List ℕ ⊎ Program)) (coded_option (coded⊎ (coded_list coded_ℕ) verified.the_row.coded)) cases active active-cases
 
 abbrev settings_code : Coded Settings
-settings_code = code_by (Active × List NamedScript) (coded× active_code entries_code) (λ s. (s.active, s.scripts)) (λ p. record { active = p.0; scripts = p.1 }) (λ _. refl)
+settings_code =
+    let pair = coded× active_code entries_code in
+    code_by (Active × List NamedScript) pair (λ s. (s.active, s.scripts)) (λ p. record { active = p.0; scripts = p.1 }) (λ _. refl)
+
+abbrev officers_code : Coded (List (List ℕ × Settings))
+officers_code = coded_list (coded× (coded_list coded_ℕ) settings_code)
 
 abbrev pub register_code : Coded Register
 register_code =
-    code_by (List NamedScript × List (List ℕ × Settings)) (coded× entries_code (coded_list (coded× (coded_list coded_ℕ) settings_code))) (λ r. (r.globals, r.officers)) (λ p. record { globals = p.0; officers = p.1 }) (λ _. refl)
+    let pair = coded× entries_code officers_code in
+    code_by (List NamedScript × List (List ℕ × Settings)) pair (λ r. (r.globals, r.officers)) (λ p. record { globals = p.0; officers = p.1 }) (λ _. refl)

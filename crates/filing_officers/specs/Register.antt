@@ -1,8 +1,12 @@
 -- What officers have set, and the office that it stands for.
 use Rattle.std.specs.Prelude.{◌≡◌, ℕ, List, [], ◌∷◌, if◌then◌else◌}
 use Rattle.std.specs.Str.{bytes_eq}
+use Rattle.sieve_syntax.specs.View.{tree_of}
+use Rattle.sieve_syntax.specs.declared.tree.Script.{Script}
+use Rattle.sieve_meaning.specs.Meaning.{Library}
 use Rattle.sieve_meaning.specs.Program.{Commands}
-use Rattle.script_library.specs.Libraries.{NamedScript}
+use Rattle.sieve_meaning.specs.Reading.{program_of}
+use Rattle.script_library.specs.Libraries.{NamedScript, Scripts}
 use Rattle.filing_image.specs.Program.{Program}
 use Rattle.record_store.specs.Archive.{Archive}
 use Rattle.filing_commands.specs.Office.{Office, with_globals, with_officer, with_scripts}
@@ -31,9 +35,13 @@ officer_at name (e ∷ es) = if bytes_eq name e.0 then officer_of e.1 else offic
 abbrev pub office_of : Archive → Register → Office
 office_of a r = record { archive = a; globals = meanings_of r.globals; officers = λ name. officer_at name r.officers }
 
+-- with that script under that name
+abbrev pub with_script : Officer → (name : List ℕ) → Commands → Officer
+with_script o name script = with_scripts o (put_script name script o.scripts)
+
 -- the office where an officer keeps that script under that name
 abbrev pub keeping : Office → (officer name : List ℕ) → Commands → Office
-keeping s officer name script = with_officer s officer (with_scripts (s.officers officer) (put_script name script (s.officers officer).scripts))
+keeping s officer name script = with_officer s officer (with_script (s.officers officer) name script)
 
 -- the office where that script is kept under that name for all officers
 abbrev pub sharing : Office → (name : List ℕ) → Commands → Office
@@ -42,3 +50,10 @@ sharing s name script = with_globals s (put_script name script s.globals)
 -- what is pinned for an officer beside those global scripts
 abbrev pub PinsFor : Officer → (globals : List (List ℕ × Commands)) → Program → Type 0
 PinsFor o globals p = PinsChosen (chosen_by o.active o.scripts) (library o.scripts globals) p
+
+-- what an include finds among these scripts
+abbrev pub library_in : Scripts → Library
+library_in l = library (meanings_of l.personal) (meanings_of l.global)
+
+abbrev pub meaning_of : Script → Commands
+meaning_of x = program_of (tree_of x)

@@ -1,15 +1,13 @@
 //! The officers, and the scripts that they share.
 
 ghost use Rattle.std.specs.Prelude.{◌≡◌, ◌↔◌, ◌⊎◌, Err, IfErr, IfOk, OnErr, OnOk, false, is_some, true};
-ghost use Rattle.sieve_syntax.specs.View.{tree_of};
-ghost use Rattle.sieve_meaning.specs.Reading.{program_of};
 ghost use Rattle.filing_verify.specs.Well.{IsWell};
 ghost use Rattle.record_store.specs.Archive.{Archive};
 ghost use Rattle.filing_commands.specs.Office.{opening_office, setting};
 ghost use Rattle.filing_commands.specs.Pinning.{image, no_program, script_named};
 ghost use Rattle.filing_commands.specs.Scripts.{HasNoRoom, meanings_of, script_at};
 ghost use Rattle.filing_commands.specs.declared.fault.DeskFault.TheVariants.{LibraryFull, NoMemory, NoScript};
-ghost use Rattle.filing_officers.specs.Register.{PinsFor, keeping, office_of, officer_at, sharing};
+ghost use Rattle.filing_officers.specs.Register.{PinsFor, keeping, meaning_of, office_of, officer_at, sharing};
 
 use crate::profile::{Active, Profile, put_on};
 use crate::profiles::{clear, has_script, pin, put_script, set};
@@ -72,7 +70,7 @@ impl Officers {
     /// thirty-two global scripts have other names (96), and 99 is want of memory; nothing is changed then. Each image that was kept
     /// is void.
     pub fn set_global(&mut self, name: &[u8], script: Checked) -> Result<(), DeskFault>
-        ensures done { OnOk result ((a : Archive) → office_of a self.new ≡ sharing (office_of a self.old) name.now (program_of (tree_of script.script))) }
+        ensures done { OnOk result ((a : Archive) → office_of a self.new ≡ sharing (office_of a self.old) name.now (meaning_of script.script)) }
         ensures full { result ≡ Err LibraryFull → HasNoRoom (meanings_of self.old.globals) name.now }
         ensures has_room { OnOk result (HasNoRoom (meanings_of self.old.globals) name.now → ⊥) }
         ensures fault { IfErr result (λ f. (f ≡ LibraryFull) ⊎ (f ≡ NoMemory)) }
@@ -92,7 +90,7 @@ impl Officers {
         name: &[u8],
         script: Checked,
     ) -> Result<(), DeskFault>
-        ensures done { OnOk result ((a : Archive) → office_of a self.new ≡ keeping (office_of a self.old) officer.now name.now (program_of (tree_of script.script))) }
+        ensures done { OnOk result ((a : Archive) → office_of a self.new ≡ keeping (office_of a self.old) officer.now name.now (meaning_of script.script)) }
         ensures full { result ≡ Err LibraryFull → HasNoRoom (officer_at officer.now self.old.officers).scripts name.now }
         ensures has_room { OnOk result (HasNoRoom (officer_at officer.now self.old.officers).scripts name.now → ⊥) }
         ensures fault { IfErr result (λ f. (f ≡ LibraryFull) ⊎ (f ≡ NoMemory)) }

@@ -1,12 +1,11 @@
 //! What is pinned for a capture.
 
 ghost use Rattle.std.specs.Prelude.{◌≡◌, IfOk};
-ghost use Rattle.sieve_syntax.specs.View.{tree_of};
-ghost use Rattle.sieve_meaning.specs.Reading.{program_of};
 ghost use Rattle.script_library.specs.Lent.{scripts_of};
 ghost use Rattle.filing_commands.specs.Pinning.{PinsChosen, script as chosen_script, script_if, one_stop};
-ghost use Rattle.filing_commands.specs.Scripts.{script_at, library, meanings_of};
+ghost use Rattle.filing_commands.specs.Scripts.{meanings_of, script_at};
 ghost use Rattle.filing_officers.specs.Ends.{IsEnd, alone};
+ghost use Rattle.filing_officers.specs.Register.{library_in, meaning_of};
 
 use filing_gen::{GenFault, compile_with};
 use filing_image::{Image, Operation};
@@ -41,7 +40,7 @@ fn pin_script(
     script: &Checked,
     shelves: Shelves<'_>,
 ) -> Result<Verified, AllocError>
-    ensures { IfOk result (λ v. PinsChosen (chosen_script name.now (program_of (tree_of script.now.script))) (library (meanings_of (scripts_of shelves.entry).personal) (meanings_of (scripts_of shelves.entry).global)) v) }
+    ensures { IfOk result (λ v. PinsChosen (chosen_script name.now (meaning_of script.now.script)) (library_in (scripts_of shelves.entry)) v) }
 {
     match compile_with(alloc, script, Some(name), shelves) {
         Ok(program) => Ok(program),
@@ -56,7 +55,8 @@ pub(crate) fn pin_named(
     name: &[u8],
     shelves: Shelves<'_>,
 ) -> Result<Verified, AllocError>
-    ensures { IfOk result (λ v. PinsChosen (script_if name.now (script_at name.now (meanings_of (scripts_of shelves.entry).personal))) (library (meanings_of (scripts_of shelves.entry).personal) (meanings_of (scripts_of shelves.entry).global)) v) }
+    ensures { let scripts = scripts_of shelves.entry in
+        IfOk result (λ v. PinsChosen (script_if name.now (script_at name.now (meanings_of scripts.personal))) (library_in scripts) v) }
 {
     match shelves.personal.get(name) {
         Some(script) => pin_script(alloc, name, script, shelves),

@@ -1,15 +1,12 @@
 //! What is kept of an officer.
 
 ghost use Rattle.std.specs.Prelude.{◌≡◌, ◌↔◌, Err, IfOk, None, OnErr, OnOk, []};
-ghost use Rattle.sieve_syntax.specs.View.{tree_of};
-ghost use Rattle.sieve_meaning.specs.Reading.{program_of};
 ghost use Rattle.script_library.specs.declared.fault.LibraryFault.TheVariants.{Full};
 ghost use Rattle.filing_commands.specs.Pinning.{no_program};
-ghost use Rattle.filing_commands.specs.Office.{with_scripts};
 ghost use Rattle.filing_commands.specs.Scripts.{HasNoRoom, meanings_of, put_script as put_meaning};
 ghost use Rattle.filing_officers.specs.Current.{KeepsCurrent};
 ghost use Rattle.filing_officers.specs.Profiles.{settings_of};
-ghost use Rattle.filing_officers.specs.Register.{PinsFor, officer_of};
+ghost use Rattle.filing_officers.specs.Register.{PinsFor, meaning_of, officer_of, with_script};
 
 use crate::pinned::{pin_named, pin_nothing};
 use filing_verify::Verified;
@@ -51,7 +48,7 @@ pub(crate) fn put_on(
     name: &[u8],
     script: Rc<Checked>,
 ) -> Result<(), LibraryFault>
-    ensures ok { OnOk result (meanings_of shelf.new ≡ put_meaning name.now (program_of (tree_of script.value.script)) (meanings_of shelf.old)) }
+    ensures ok { OnOk result (meanings_of shelf.new ≡ put_meaning name.now (meaning_of script.value.script) (meanings_of shelf.old)) }
     ensures full { result ≡ Err Full ↔ HasNoRoom (meanings_of shelf.old) name.now }
     ensures err { OnErr result (shelf.new ≡ shelf.old) }
 {
@@ -74,7 +71,7 @@ impl Profile {
     /// Keeps a script under a name. The image that was kept is void.
     pub fn put_script(&mut self, name: &[u8], script: Rc<Checked>) -> Result<(), LibraryFault>
         ensures ok { let o = officer_of (settings_of self.old) in
-            OnOk result (officer_of (settings_of self.new) ≡ with_scripts o (put_meaning name.now (program_of (tree_of script.value.script)) o.scripts)) }
+            OnOk result (officer_of (settings_of self.new) ≡ with_script o name.now (meaning_of script.value.script)) }
         ensures kept { OnOk result (self.new.kept ≡ None) }
         ensures full { result ≡ Err Full ↔ HasNoRoom (officer_of (settings_of self.old)).scripts name.now }
         ensures err { OnErr result (self.new ≡ self.old) }

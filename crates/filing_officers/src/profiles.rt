@@ -1,16 +1,14 @@
 //! The profiles of officers, by their names.
 
 ghost use Rattle.std.specs.Prelude.{◌≡◌, ◌↔◌, Err, IfOk, OnErr, OnOk, is_some};
-ghost use Rattle.sieve_syntax.specs.View.{tree_of};
-ghost use Rattle.sieve_meaning.specs.Reading.{program_of};
 ghost use Rattle.script_library.specs.declared.fault.LibraryFault.TheVariants.{Full};
-ghost use Rattle.filing_commands.specs.Office.{with_program, with_scripts};
+ghost use Rattle.filing_commands.specs.Office.{with_program};
 ghost use Rattle.filing_commands.specs.Pinning.{no_program};
-ghost use Rattle.filing_commands.specs.Scripts.{HasNoRoom, meanings_of, put_script as put_meaning, script_at};
+ghost use Rattle.filing_commands.specs.Scripts.{HasNoRoom, meanings_of, script_at};
 ghost use Rattle.filing_officers.specs.Changes.{ChangesOnly};
 ghost use Rattle.filing_officers.specs.Current.{AllKeepCurrent};
-ghost use Rattle.filing_officers.specs.Profiles.{active_of, settings_in};
-ghost use Rattle.filing_officers.specs.Register.{PinsFor, officer_at};
+ghost use Rattle.filing_officers.specs.Profiles.{active_of, officer_in, settings_in};
+ghost use Rattle.filing_officers.specs.Register.{PinsFor, meaning_of, with_script};
 
 use crate::pinned::pin_nothing;
 use crate::profile::{Active, Profile};
@@ -23,7 +21,7 @@ use std::rc::Rc;
 
 /// Whether an officer has a script of that name.
 pub(crate) fn has_script(profiles: &BTreeMap<Vec<u8>, Profile>, officer: &[u8], name: &[u8]) -> bool
-    ensures { result ≡ is_some (script_at name.now (officer_at officer.now (settings_in profiles.now.entries)).scripts) }
+    ensures { result ≡ is_some (script_at name.now (officer_in profiles.now.entries officer.now).scripts) }
 {
     match profiles.get(officer) {
         Some(profile) => profile.scripts.get(name).is_some(),
@@ -39,9 +37,9 @@ pub(crate) fn put_script(
     name: &[u8],
     script: Rc<Checked>,
 ) -> Result<(), LibraryFault>
-    ensures ok { let o = officer_at officer.now (settings_in profiles.old.entries) in
-        OnOk result (ChangesOnly profiles.old.entries profiles.new.entries officer.now (with_scripts o (put_meaning name.now (program_of (tree_of script.value.script)) o.scripts))) }
-    ensures full { result ≡ Err Full ↔ HasNoRoom (officer_at officer.now (settings_in profiles.old.entries)).scripts name.now }
+    ensures ok { let o = officer_in profiles.old.entries officer.now in
+        OnOk result (ChangesOnly profiles.old.entries profiles.new.entries officer.now (with_script o name.now (meaning_of script.value.script))) }
+    ensures full { result ≡ Err Full ↔ HasNoRoom (officer_in profiles.old.entries officer.now).scripts name.now }
     ensures err { OnErr result (profiles.new.entries ≡ profiles.old.entries) }
 {
     if let Some(profile) = profiles.get_mut(officer) {
@@ -61,7 +59,8 @@ pub(crate) fn set(
     officer: &[u8],
     active: Active,
 ) -> Result<(), AllocError>
-    ensures ok { OnOk result (ChangesOnly profiles.old.entries profiles.new.entries officer.now (with_program (officer_at officer.now (settings_in profiles.old.entries)) (active_of active))) }
+    ensures ok { let o = officer_in profiles.old.entries officer.now in
+        OnOk result (ChangesOnly profiles.old.entries profiles.new.entries officer.now (with_program o (active_of active))) }
     ensures err { OnErr result (profiles.new.entries ≡ profiles.old.entries) }
 {
     if let Some(profile) = profiles.get_mut(officer) {
@@ -77,7 +76,7 @@ pub(crate) fn set(
 
 /// Sets no program for an officer; takes no memory.
 pub(crate) fn clear(profiles: &mut BTreeMap<Vec<u8>, Profile>, officer: &[u8])
-    ensures { ChangesOnly profiles.old.entries profiles.new.entries officer.now (with_program (officer_at officer.now (settings_in profiles.old.entries)) no_program) }
+    ensures { ChangesOnly profiles.old.entries profiles.new.entries officer.now (with_program (officer_in profiles.old.entries officer.now) no_program) }
 {
     if let Some(profile) = profiles.get_mut(officer) {
         profile.set(Active::NoProgram);
@@ -93,7 +92,7 @@ pub(crate) fn pin(
     edition: u64,
 ) -> Result<Rc<Verified>, AllocError>
     requires { AllKeepCurrent edition globals.now profiles.old.entries }
-    ensures pinned { IfOk result (λ v. PinsFor (officer_at officer.now (settings_in profiles.old.entries)) (meanings_of globals.now) v.value) }
+    ensures pinned { IfOk result (λ v. PinsFor (officer_in profiles.old.entries officer.now) (meanings_of globals.now) v.value) }
     ensures images { AllKeepCurrent edition globals.now profiles.new.entries }
     ensures settings { settings_in profiles.new.entries ≡ settings_in profiles.old.entries }
 {

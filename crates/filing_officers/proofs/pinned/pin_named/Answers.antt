@@ -3,7 +3,8 @@ use Rattle.std.specs.Prelude.{IfOk, option_map}
 use Rattle.sieve_meaning.specs.Program.{Commands}
 use Rattle.filing_commands.specs.Pinning.{PinsChosen, script_if}
 use Rattle.filing_commands.specs.Scripts.{script_at, library, meanings_of}
-use Rattle.filing_officers.proofs.MeaningLemmas.{meaning_at, meaning_of}
+use Rattle.filing_officers.specs.Register.{meaning_of}
+use Rattle.filing_officers.proofs.MeaningLemmas.{meaning_at}
 use Rattle.filing_officers.proofs.pinned.pin_named.Goals as goal
 
 pub returns-in-Some : goal.returns-in-Some
