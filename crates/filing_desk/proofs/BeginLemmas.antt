@@ -137,6 +137,6 @@ module _ {S : Type 0} (g : Ghosts S) where
         record {
           to = to;
           is_one = subst B (sym same) begins_so;
-          there = reflies g old new s (s.flights ++ flight ∷ []) (s.last + 1) (es ∙ keeps.store) (eo ∙ keeps.officers) (el ∙ next) (subst T (sym ep) (subst U stands.store.plan (paths there))) stands (adds s.flights flight (subst Q (sym keeps.flights) stands.flights) holds) (more_classes plan s.flights flight stands.classes (λ q open. open_has plan q open));
+          there = reflies g old new s (s.flights ++ flight ∷ []) (s.last + 1) (es ∙ keeps.store) (eo ∙ keeps.officers) (el ∙ next) (subst T (sym ep) (subst U stands.store.plan (paths there))) stands (adds s.flights flight (subst Q (sym keeps.flights) stands.flights) holds) (more_classes plan s.flights flight stands.classes (λ q there. open_has plan q there));
         };
   }

@@ -71,12 +71,15 @@ module _ {S : Type 0} (g : Ghosts S) where
   pub file_refused : (old new : Store S) (body said : List ℕ) (day on : ℕ) (classes asked : List (List ℕ)) (f : StoreFault) → said ≡ body → on ≡ day → asked ≡ classes → ((a : Archive) → StandsFor g old a → StandsFor g new a × (is_trouble f ≡ false → capture a said on asked ≡ Err f)) → Files g old new body day classes (Err (store_fault f))
   file_refused old new body said day on classes asked f b d c does = λ a stands are.
       let h = does a stands in
-      (h.0, reason a body day classes f (λ trouble. sym (λ i. capture a (b i) (d i) (c i)) ∙ h.1 trouble))
+      let same : capture a said on asked ≡ capture a body day classes = λ i. capture a (b i) (d i) (c i) in
+      (h.0, reason a body day classes f (λ trouble. sym same ∙ h.1 trouble))
 
   pub file_done : (old new : Store S) (body said : List ℕ) (day on : ℕ) (classes asked : List (List ℕ)) (lines : Vec Line Global) → said ≡ body → on ≡ day → asked ≡ classes → ((a : Archive) → StandsFor g old a → Becomes g new (capture a said on asked) × (map line_view lines.items ≡ captured_lines a on asked)) → Files g old new body day classes (Ok lines)
   file_done old new body said day on classes asked lines b d c does = λ a stands.
       let h = does a stands in
-      (subst (Becomes g new) (λ i. capture a (b i) (d i) (c i)) h.0, h.1 ∙ (λ i. captured_lines a (d i) (c i)))
+      let same : capture a said on asked ≡ capture a body day classes = λ i. capture a (b i) (d i) (c i) in
+      let told_same : captured_lines a on asked ≡ captured_lines a day classes = λ i. captured_lines a (d i) (c i) in
+      (subst (Becomes g new) same h.0, h.1 ∙ told_same)
 
 -- ---- captures that are shown
 

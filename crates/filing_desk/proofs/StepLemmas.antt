@@ -57,7 +57,7 @@ refused_step s c command f is refuses =
 -- a plan that drops no class has the classes of flights
 still_classes : (p q : Listing) (fs : List Flight) → ((x : List ℕ) → has p.rows x ≡ true → has q.rows x ≡ true) → AllByRecursion (HasPathsOf p) fs → AllByRecursion (HasPathsOf q) fs
 still_classes p q [] keeps all = tt
-still_classes p q (f ∷ fs) keeps all = ((λ x open. keeps x (all.0 x open)), still_classes p q fs keeps all.1)
+still_classes p q (f ∷ fs) keeps all = ((λ x there. keeps x (all.0 x there)), still_classes p q fs keeps all.1)
 
 module _ {S : Type 0} (g : Ghosts S) where
   -- the desk is as it was, its store and the paths that it keeps aside

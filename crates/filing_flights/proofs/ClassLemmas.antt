@@ -1,7 +1,7 @@
 -- The classes of a run's outcome: the default class, and paths that are open in the case.
 use Rattle.std.proofs.Common.{◌≡◌, ℕ, zero, suc, ◌+◌, List, [], ◌∷◌, ◌++◌, refl, sym, ap, ◌∙◌, subst, inl, inr, Bool, true, false, not, Option, Some, None, length}
-use Rattle.std.specs.Prelude.{◌⊎◌, ◌||◌, if◌then◌else◌, is_some, nat_le, nat_lt, nat_eq, slice_get, All}
-use Rattle.std.specs.List.{AllByRecursion}
+use Rattle.std.specs.Prelude.{◌⊎◌, ◌||◌, ◌&&◌, if◌then◌else◌, is_some, nat_le, nat_lt, nat_eq, slice_get, slice_index_or, slice_set, All}
+use Rattle.std.specs.List.{AllByRecursion, list_any}
 use Rattle.std.proofs.lemmas.List.Elements.{All-from_recursion}
 use Rattle.sieve_meaning.specs.Case.{Facts}
 use Rattle.sieve_meaning.specs.Paths.{Paths, insert_path, IsIncreasing}
@@ -10,7 +10,8 @@ use Rattle.filing_flights.proofs.PathLemmas.{all_in_insert_path, insert_path_inc
 use Rattle.filing_image.specs.Program.{Program}
 use Rattle.filing_image.specs.declared.instruction.Operation.{Operation}
 use Rattle.filing_image.specs.declared.instruction.Operation.TheVariants.{PushTrue, PushFalse, Not, Values, Join, Match, Pop, Exists, Size, Number, Less as LessThan, Jump, JumpIf, JumpUnless, Marked, Mark, File, Keep, Discard, Stop, Fault}
-use Rattle.filing_table.specs.Machine.{Entry, T, L, N, State, Run, At, Over, Trap, with_stack, with_named, only_if, file, on_stack, at_place, step, after_steps}
+use Rattle.filing_table.specs.Machine.{Entry, T, L, N, State, Run, At, Over, Trap, compared, values_of, with_stack, with_named, only_if, file, on_stack, at_place, step, after_steps}
+use Rattle.sieve_meaning.specs.Truth.{has_field}
 use Rattle.filing_table.specs.Ends.{HasOutcome, outcome_left}
 
 -- paths that are open, in byte order, each once
@@ -44,47 +45,49 @@ module _ (p : Program) (c : Facts) where
       ]) refl
 
   acted : (o : Operation) (s : State) (es : List Entry) → IsFiled c s.filed → HasFiled c (on_stack p c o s es)
-  acted PushTrue s es h = on s _ h
-  acted PushFalse s es h = on s _ h
-  acted Not s (T b ∷ es) h = on s _ h
+  acted PushTrue s es h = on s (T true ∷ es) h
+  acted PushFalse s es h = on s (T false ∷ es) h
+  acted Not s (T b ∷ es) h = on s (T (not b) ∷ es) h
   acted Not s _ h = tt
-  acted (Values b) s es h = named _ _ (λ name. on s _ h)
-  acted Join s (L ys ∷ L xs ∷ es) h = on s _ h
+  acted (Values b) s es h = named (slice_get p.texts b) (λ name. with_stack s (L (values_of c name) ∷ es)) (λ name. on s (L (values_of c name) ∷ es) h)
+  acted Join s (L ys ∷ L xs ∷ es) h = on s (L (xs ++ ys) ∷ es) h
   acted Join s _ h = tt
-  acted (Match a b) s (L xs ∷ es) h = only _ _ (named _ _ (λ key. on s _ h))
+  acted (Match a b) s (L xs ∷ es) h =
+      let go : List ℕ → Run = λ key. with_stack s (T (list_any (compared a key) xs) ∷ L xs ∷ es) in
+      only (nat_le a 5) (with_named (slice_get p.texts b) go) (named (slice_get p.texts b) go (λ key. on s (T (list_any (compared a key) xs) ∷ L xs ∷ es) h))
   acted (Match a b) s _ h = tt
-  acted Pop s (e ∷ es) h = on s _ h
+  acted Pop s (e ∷ es) h = on s es h
   acted Pop s _ h = tt
-  acted (Exists b) s es h = named _ _ (λ name. on s _ h)
-  acted Size s es h = on s _ h
-  acted (Number b) s es h = named _ _ (λ n. on s _ h)
-  acted LessThan s (N y ∷ N x ∷ es) h = on s _ h
+  acted (Exists b) s es h = named (slice_get p.texts b) (λ name. with_stack s (T (has_field c name) ∷ es)) (λ name. on s (T (has_field c name) ∷ es) h)
+  acted Size s es h = on s (N c.size ∷ es) h
+  acted (Number b) s es h = named (slice_get p.numbers b) (λ n. with_stack s (N n ∷ es)) (λ n. on s (N n ∷ es) h)
+  acted LessThan s (N y ∷ N x ∷ es) h = on s (T (nat_lt x y) ∷ es) h
   acted LessThan s _ h = tt
   acted (Jump b) s es h = h
   acted (JumpIf b) s (T t ∷ es) h = h
   acted (JumpIf b) s _ h = tt
   acted (JumpUnless b) s (T t ∷ es) h = h
   acted (JumpUnless b) s _ h = tt
-  acted (Marked b) s es h = only _ _ (on s _ h)
-  acted (Mark b) s es h = only _ _ h
-  acted (File a b) s es h = only _ _ (named _ _ (λ path. filed_under s a path h))
+  acted (Marked b) s es h = only (nat_lt b p.slots) (with_stack s (T (slice_index_or s.marks b false) ∷ es)) (on s (T (slice_index_or s.marks b false) ∷ es) h)
+  acted (Mark b) s es h = only (nat_lt b p.slots) (At (record s { place = s.place + 1; marks = slice_set s.marks b true })) h
+  acted (File a b) s es h = only (nat_le a 1) (with_named (slice_get p.texts b) (file c s a)) (named (slice_get p.texts b) (file c s a) (λ path. filed_under s a path h))
   acted Keep s es h = h
   acted Discard s es h = h
   acted Stop s es h = h
-  acted (Fault a) s es h = only _ _ h
+  acted (Fault a) s es h = only (nat_le 2 a && nat_le a 5) (Over (Some a) s) h
 
   at_placed : (o : Option Operation) (s : State) → IsFiled c s.filed → HasFiled c (at_place p c o s)
   at_placed None s h = tt
   at_placed (Some o) s h = acted o s s.stack h
 
   stepped : (r : Run) → HasFiled c r → HasFiled c (step p c r)
-  stepped (At s) h = at_placed _ s h
+  stepped (At s) h = at_placed (slice_get p.code s.place) s h
   stepped (Over f s) h = h
   stepped Trap h = tt
 
   after : (n : ℕ) → HasFiled c (after_steps p c n)
   after zero = record { open_paths = tt; in_order = none_increasing }
-  after (suc n) = stepped _ (after n)
+  after (suc n) = stepped (after_steps p c n) (after n)
 
 -- the default class, or an open path
 abbrev IsOpenClass : Facts → List ℕ → Type 0

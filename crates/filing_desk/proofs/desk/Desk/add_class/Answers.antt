@@ -12,4 +12,4 @@ returns-in_err-add_class g c =
 
 pub returns : goal.returns
 returns g c =
-    done_by g.S.Store c.args.self.now _ (add_class c.args.path.now) (λ a. archives.add_class a c.args.path.now) (record { settles = λ s new h. h; refuses = λ s n h. h; gives_up = λ n h. h; keeps = λ a b made q. added_keeps a b c.args.path.now q made }) (record { officers = refl; flights = refl; last = refl }) (λ a b made open. tt) c.add_class.ensures.falls (λ clean x stands. (c.in_ok-add_class.ensures.obeys x stands).0)
+    done_by g.S.Store c.args.self.now _ (add_class c.args.path.now) (λ a. archives.add_class a c.args.path.now) (record { settles = λ s new h. h; refuses = λ s n h. h; gives_up = λ n h. h; keeps = λ a b made q. added_keeps a b c.args.path.now q made }) (record { officers = refl; flights = refl; last = refl }) (λ a b made there. tt) c.add_class.ensures.falls (λ clean x stands. (c.in_ok-add_class.ensures.obeys x stands).0)

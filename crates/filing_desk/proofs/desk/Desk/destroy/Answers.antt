@@ -25,4 +25,4 @@ pub returns : goal.returns
 returns g c = λ n is within.
     let same = c.in_ok-number.ensures in
     let day = number_is c.day_from_1970.result n (c.day_from_1970.ensures.same n is within) in
-    rw (← same) (done_by_rows g.S.Store c.args.self.now _ (destroy c.in_ok-number.number n) (λ a. archives.destroy a c.in_ok-number.number n) (record { settles = λ s new h. h; refuses = λ s n h. h; gives_up = λ n h. h; keeps = λ a b made q. same_keeps a b q (destroy_stays a b c.in_ok-number.number n made) }) (record { officers = refl; flights = refl; last = refl }) (λ a b made open. subst (λ p. AreOpenPaths c.args.self.now.open_paths p) (sym (destroy_stays a b c.in_ok-number.number n made)) open) c.destroy.ensures.falls (rw day at c.in_ok-destroy.ensures.obeys))
+    rw (← same) (done_by_rows g.S.Store c.args.self.now _ (destroy c.in_ok-number.number n) (λ a. archives.destroy a c.in_ok-number.number n) (record { settles = λ s new h. h; refuses = λ s n h. h; gives_up = λ n h. h; keeps = λ a b made q. same_keeps a b q (destroy_stays a b c.in_ok-number.number n made) }) (record { officers = refl; flights = refl; last = refl }) (λ a b made there. subst (λ p. AreOpenPaths c.args.self.now.open_paths p) (sym (destroy_stays a b c.in_ok-number.number n made)) there) c.destroy.ensures.falls (rw day at c.in_ok-destroy.ensures.obeys))

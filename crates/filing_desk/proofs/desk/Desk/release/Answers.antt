@@ -22,4 +22,4 @@ returns-in_err-release g c =
 pub returns : goal.returns
 returns g c =
     let same = c.in_ok-number.ensures in
-    rw (← same) (done_by_rows g.S.Store c.args.self.now _ (release c.args.name.now c.in_ok-number.number) (λ a. archives.release a c.args.name.now c.in_ok-number.number) (record { settles = λ s new h. h; refuses = λ s n h. h; gives_up = λ n h. h; keeps = λ a b made q. same_keeps a b q (release_stays a b c.args.name.now c.in_ok-number.number made) }) (record { officers = refl; flights = refl; last = refl }) (λ a b made open. subst (λ p. AreOpenPaths c.args.self.now.open_paths p) (sym (release_stays a b c.args.name.now c.in_ok-number.number made)) open) c.release.ensures.falls c.in_ok-release.ensures.obeys)
+    rw (← same) (done_by_rows g.S.Store c.args.self.now _ (release c.args.name.now c.in_ok-number.number) (λ a. archives.release a c.args.name.now c.in_ok-number.number) (record { settles = λ s new h. h; refuses = λ s n h. h; gives_up = λ n h. h; keeps = λ a b made q. same_keeps a b q (release_stays a b c.args.name.now c.in_ok-number.number made) }) (record { officers = refl; flights = refl; last = refl }) (λ a b made there. subst (λ p. AreOpenPaths c.args.self.now.open_paths p) (sym (release_stays a b c.args.name.now c.in_ok-number.number made)) there) c.release.ensures.falls c.in_ok-release.ensures.obeys)

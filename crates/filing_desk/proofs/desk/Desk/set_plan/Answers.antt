@@ -28,4 +28,4 @@ pub returns : goal.returns
 returns g c = λ t is.
     let offered = c.in_ok-octets.ensures.offered t is in
     let plan : IsPlanOf t c.in_ok-plan.plan = record { short = offered.1; is_plan = rw offered.0 at c.in_ok-plan.ensures.plan } in
-    done_by_rows g.S.Store c.args.self.now _ (set_plan t) (λ a. archives.revise a c.in_ok-plan.plan) (plan_command t c.in_ok-plan.plan plan) (record { officers = refl; flights = refl; last = refl }) (λ a b made open. tt) c.revise.ensures.falls c.in_ok-revise.ensures.obeys
+    done_by_rows g.S.Store c.args.self.now _ (set_plan t) (λ a. archives.revise a c.in_ok-plan.plan) (plan_command t c.in_ok-plan.plan plan) (record { officers = refl; flights = refl; last = refl }) (λ a b made there. tt) c.revise.ensures.falls c.in_ok-revise.ensures.obeys
