@@ -47,22 +47,22 @@ numbered f n h = ap (refused (refusal_of f).number) h.1
 -- ---- what is judged, from the first
 
 pub judged_length : (count last moment size : ℕ) (long : Bool) → moment ≤ last_moment → long ≡ nat_lt greatest_message size → long ≡ true → begin_refusal count last moment size ≡ Some 95
-judged_length count last moment size long h is yes = refused_length count last moment size h (let l : nat_lt greatest_message size ≡ true = sym is ∙ yes in grind (arith, nat_tests, l))
+judged_length count last moment size long h is held = refused_length count last moment size h (let l : nat_lt greatest_message size ≡ true = sym is ∙ held in grind (arith, nat_tests, l))
 
 short : (size : ℕ) (long : Bool) → long ≡ nat_lt greatest_message size → long ≡ false → size ≤ greatest_message
-short size long is no = let l : nat_lt greatest_message size ≡ false = sym is ∙ no in grind (arith, nat_tests, l)
+short size long is off = let l : nat_lt greatest_message size ≡ false = sym is ∙ off in grind (arith, nat_tests, l)
 
 few : (count : ℕ) (full : Bool) → full ≡ nat_le most_in_flight count → full ≡ false → count < most_in_flight
-few count full is no = let l : nat_le most_in_flight count ≡ false = sym is ∙ no in grind (arith, nat_tests, l)
+few count full is off = let l : nat_le most_in_flight count ≡ false = sym is ∙ off in grind (arith, nat_tests, l)
 
 pub judged_count : (count last moment size : ℕ) (long full : Bool) → moment ≤ last_moment → long ≡ nat_lt greatest_message size → long ≡ false → full ≡ nat_le most_in_flight count → full ≡ true → begin_refusal count last moment size ≡ Some 90
-judged_count count last moment size long full h is no full_is yes = refused_count count last moment size h (short size long is no) (let l : nat_le most_in_flight count ≡ true = sym full_is ∙ yes in grind (arith, nat_tests, l))
+judged_count count last moment size long full h is off full_is held = refused_count count last moment size h (short size long is off) (let l : nat_le most_in_flight count ≡ true = sym full_is ∙ held in grind (arith, nat_tests, l))
 
 pub judged_ticket : (count last moment size : ℕ) (long full : Bool) → moment ≤ last_moment → long ≡ nat_lt greatest_message size → long ≡ false → full ≡ nat_le most_in_flight count → full ≡ false → last_ticket ≤ last → begin_refusal count last moment size ≡ Some 97
-judged_ticket count last moment size long full h is no full_is not_full used = refused_ticket count last moment size h (short size long is no) (few count full full_is not_full) used
+judged_ticket count last moment size long full h is off full_is not_full used = refused_ticket count last moment size h (short size long is off) (few count full full_is not_full) used
 
 pub judged_allowed : (count last moment size : ℕ) (long full : Bool) → moment ≤ last_moment → long ≡ nat_lt greatest_message size → long ≡ false → full ≡ nat_le most_in_flight count → full ≡ false → last < last_ticket → begin_refusal count last moment size ≡ None
-judged_allowed count last moment size long full h is no full_is not_full left = allowed count last moment size h (short size long is no) (few count full full_is not_full) left
+judged_allowed count last moment size long full h is off full_is not_full left = allowed count last moment size h (short size long is off) (few count full full_is not_full) left
 
 -- ---- the flights
 

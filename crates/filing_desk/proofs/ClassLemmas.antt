@@ -14,7 +14,7 @@ use Rattle.record_store.proofs.ClassLemmas.{is_new}
 use Rattle.record_store.specs.declared.fault.StoreFault.{StoreFault}
 use Rattle.record_store.specs.declared.fault.StoreFault.TheVariants as fault
 
-ok_is : (a b : Archive) → Ok {E = StoreFault} a ≡ Ok b → a ≡ b
+ok_is : (a b : Archive) → ◌≡◌ {A = Result Archive StoreFault} (Ok a) (Ok b) → a ≡ b
 ok_is a b e = cc
 
 -- ---- the plan stays

@@ -61,12 +61,12 @@ module _ {S : Type 0} (g : Ghosts S) where
   file_poor store body day classes = λ a stands are. (stands, record { number = 99; told = refl; reason = inl (inl refl) })
 
   -- paths that are no classes of the store's plan
-  pub no_classes : (store : Store S) (body : List ℕ) (day : ℕ) (asked classes : List (List ℕ)) (b : Bool) (f : DeskFault) → asked ≡ classes → b ≡ false → (IsTrue b ↔ AreClasses store.plan asked) → Files g store store body day classes (Err f)
-  no_classes store body day asked classes b f same off is = λ a stands are.
-      let P : List (List ℕ) → Type 0 = λ qs. AreClasses store.plan qs in
+  pub no_classes : (store : Store S) (plan : Listing) (body : List ℕ) (day : ℕ) (asked classes : List (List ℕ)) (b : Bool) (f : DeskFault) → plan ≡ store.plan → asked ≡ classes → b ≡ false → (IsTrue b ↔ AreClasses plan asked) → Files g store store body day classes (Err f)
+  no_classes store plan body day asked classes b f kept same off is = λ a stands are.
+      let P : List (List ℕ) → Type 0 = λ qs. AreClasses plan qs in
       let Q : Listing → Type 0 = λ p. AreClasses p classes in
-      let on : IsTrue b = is.1 (subst P (sym same) (subst Q (sym stands.plan) are)) in
-      absurd (subst IsTrue off on)
+      let on : b ≡ true = is.1 (subst P (sym same) (subst Q (sym (kept ∙ stands.plan)) are)) in
+      absurd (false≢true (sym off ∙ on))
 
   pub file_refused : (old new : Store S) (body said : List ℕ) (day on : ℕ) (classes asked : List (List ℕ)) (f : StoreFault) → said ≡ body → on ≡ day → asked ≡ classes → ((a : Archive) → StandsFor g old a → StandsFor g new a × (is_trouble f ≡ false → capture a said on asked ≡ Err f)) → Files g old new body day classes (Err (store_fault f))
   file_refused old new body said day on classes asked f b d c does = λ a stands are.

@@ -176,12 +176,12 @@ module _ {S : Type 0} (g : Ghosts S) where
         } in
         let number = h.1.number in
         let step : FinishStep s t (Some flight) (refused number None) s = rw ended (elim h.1.reason [
-            | inl trouble ↦ inr (number, trouble, refl, refl)
-            | inr full ↦
-                let C : List ℕ → Type 0 = λ m. capture s.office.archive m flight.stood.day o.classes ≡ Err Full in
-                let D : ℕ → Type 0 = λ d. capture s.office.archive x.message d o.classes ≡ Err Full in
-                inl (s.office.archive, (full.0, refl, refl, (o, alone flight here.2, subst C here.2.message (subst D (of_flight x flight s here.2) full.1))), refl)
-          ]) in
+          | inl trouble ↦ inr (number, trouble, refl, refl)
+          | inr full ↦
+              let C : List ℕ → Type 0 = λ m. capture s.office.archive m flight.stood.day o.classes ≡ Err Full in
+              let D : ℕ → Type 0 = λ d. capture s.office.archive x.message d o.classes ≡ Err Full in
+              inl (s.office.archive, (full.0, refl, refl, (o, alone flight here.2, subst C here.2.message (subst D (of_flight x flight s here.2) full.1))), refl)
+        ]) in
         let R : Answer → Type 0 = λ y. FinishStep s t (flight_of t s.flights) y s in
         let T : Option Flight → Type 0 = λ y. FinishStep s t y (refused number None) s in
         record { to = s; is_one = subst R (sym (told ∙ h.1.told)) (subst T (sym here.1) step); there = there };

@@ -51,7 +51,7 @@ pub activate_refused : (s : Office) (officer name : List ℕ) (o : Officer) (f :
 activate_refused s officer name o f same (inl missing) none =
     let Q : DeskFault → Type 0 = λ x. OfficeStep s (activate officer name) (refused_by x) s in
     let P : Officer → Type 0 = λ x. is_some (script_at name x.scripts) ≡ false in
-    subst Q (sym missing) (inl (refl, refl, subst P same (none missing), refl))
+    subst Q (sym missing) (inl (refl, refl, (subst P same (none missing), refl)))
 activate_refused s officer name o f same (inr poor) none =
     let Q : DeskFault → Type 0 = λ x. OfficeStep s (activate officer name) (refused_by x) s in
     subst Q (sym poor) (inr (99, refl, refl, refl))

@@ -1,8 +1,8 @@
 //! The desk as what a session talks to.
 
 use crate::desk::Desk;
-use filing_commands::{Capture, DeskFault, Outcome, Payload, Registry, Turn};
 use class_plan::Date;
+use filing_commands::{Capture, DeskFault, Outcome, Payload, Registry, Turn};
 use record_store::Line;
 use sqlite::Alter;
 
@@ -21,12 +21,7 @@ impl<S: Alter> Registry for Desk<S> {
         self.set_plan(text)
     }
 
-    fn set_script(
-        &mut self,
-        officer: &[u8],
-        name: &[u8],
-        text: &Payload,
-    ) -> Result<(), DeskFault> {
+    fn set_script(&mut self, officer: &[u8], name: &[u8], text: &Payload) -> Result<(), DeskFault> {
         self.set_script(officer, name, text)
     }
 

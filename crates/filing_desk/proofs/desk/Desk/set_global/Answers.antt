@@ -23,12 +23,12 @@ returns-in_err-set_global g c = λ t is.
     let result = c.from_residual-in_err-set_global.ensures in
     let refused = c.in_err-set_global.ensures in
     not_set g.S.Store c.args.self.now _ (set_global c.args.name.now t) _ (record { store = refl; flights = refl; last = refl; open_paths = refl }) refused.unchanged (λ x stands.
-        let Q : Answer → Type 0 = λ a. OfficeStep x.office (set_global c.args.name.now t) a x.office in
-        subst Q (sym (done_fault _ _ result.0 result.1)) (keep_refused x.office (set_global c.args.name.now t) x.office.globals (meanings_of c.args.self.now.officers.globals) c.args.name.now t (tree_of c.in_ok-script.script.script) c.in_err-set_global.field-0.0 (λ n r. r) (λ n l. l) (globals_are g.S.Store c.args.self.now x stands) (c.in_ok-script.ensures.good t is) (c.in_ok-script.ensures.short t is) refused.fault (λ full. refused.full (ap (λ f. Err f) full))))
+    let Q : Answer → Type 0 = λ a. OfficeStep x.office (set_global c.args.name.now t) a x.office in
+    subst Q (sym (done_fault _ _ result.0 result.1)) (keep_refused x.office (set_global c.args.name.now t) x.office.globals (meanings_of c.args.self.now.officers.globals) c.args.name.now t (tree_of c.in_ok-script.script.script) c.in_err-set_global.field-0.0 (λ n r. r) (λ n l. l) (globals_are g.S.Store c.args.self.now x stands) (c.in_ok-script.ensures.good t is) (c.in_ok-script.ensures.short t is) refused.fault (λ full. refused.full (ap (λ f. Err f) full))))
 
 pub returns : goal.returns
 returns g c = λ t is.
     let set = c.in_ok-set_global.ensures in
     let main = program_of (tree_of c.in_ok-script.script.script) in
     set_by g.S.Store c.args.self.now _ (set_global c.args.name.now t) (λ s. sharing s c.args.name.now main) (record { store = refl; flights = refl; last = refl; open_paths = refl }) (λ s. refl) set.done (λ x stands.
-        (put_script c.args.name.now main x.office.globals, kept x.office.globals (meanings_of c.args.self.now.officers.globals) c.args.name.now t (tree_of c.in_ok-script.script.script) (globals_are g.S.Store c.args.self.now x stands) (c.in_ok-script.ensures.good t is) set.has_room, refl))
+    (put_script c.args.name.now main x.office.globals, kept x.office.globals (meanings_of c.args.self.now.officers.globals) c.args.name.now t (tree_of c.in_ok-script.script.script) (globals_are g.S.Store c.args.self.now x stands) (c.in_ok-script.ensures.good t is) set.has_room, refl))

@@ -19,7 +19,7 @@ returns-in_err-set_image g c = λ i is.
     let result = c.from_residual-in_err-set_image.ensures in
     let refused = c.in_err-set_image.ensures in
     not_set g.S.Store c.args.self.now _ (set_image c.args.officer.now i) _ (record { store = refl; flights = refl; last = refl; open_paths = refl }) refused.unchanged (λ x stands.
-        lacking x.office (set_image c.args.officer.now i) greatest_image i c.in_err-set_image.field-0.0 _ (done_fault _ _ result.0 result.1) refused.fault (c.in_ok-program.ensures.short i is) (λ n l. l))
+    lacking x.office (set_image c.args.officer.now i) greatest_image i c.in_err-set_image.field-0.0 _ (done_fault _ _ result.0 result.1) refused.fault (c.in_ok-program.ensures.short i is) (λ n l. l))
 
 pub returns : goal.returns
 returns g c = λ i is.

@@ -23,12 +23,12 @@ returns-in_err-set_script g c = λ t is.
     let result = c.from_residual-in_err-set_script.ensures in
     let refused = c.in_err-set_script.ensures in
     not_set g.S.Store c.args.self.now _ (set_script c.args.officer.now c.args.name.now t) _ (record { store = refl; flights = refl; last = refl; open_paths = refl }) refused.unchanged (λ x stands.
-        let Q : Answer → Type 0 = λ a. OfficeStep x.office (set_script c.args.officer.now c.args.name.now t) a x.office in
-        subst Q (sym (done_fault _ _ result.0 result.1)) (keep_refused x.office (set_script c.args.officer.now c.args.name.now t) (x.office.officers c.args.officer.now).scripts (officer_at c.args.officer.now c.args.self.now.officers.officers).scripts c.args.name.now t (tree_of c.in_ok-script.script.script) c.in_err-set_script.field-0.0 (λ n r. r) (λ n l. l) (ap (λ (o : Officer). o.scripts) (officer_is g.S.Store c.args.self.now x c.args.officer.now stands)) (c.in_ok-script.ensures.good t is) (c.in_ok-script.ensures.short t is) refused.fault (λ full. refused.full (ap (λ f. Err f) full))))
+    let Q : Answer → Type 0 = λ a. OfficeStep x.office (set_script c.args.officer.now c.args.name.now t) a x.office in
+    subst Q (sym (done_fault _ _ result.0 result.1)) (keep_refused x.office (set_script c.args.officer.now c.args.name.now t) (x.office.officers c.args.officer.now).scripts (officer_at c.args.officer.now c.args.self.now.officers.officers).scripts c.args.name.now t (tree_of c.in_ok-script.script.script) c.in_err-set_script.field-0.0 (λ n r. r) (λ n l. l) (ap (λ (o : Officer). o.scripts) (officer_is g.S.Store c.args.self.now x c.args.officer.now stands)) (c.in_ok-script.ensures.good t is) (c.in_ok-script.ensures.short t is) refused.fault (λ full. refused.full (ap (λ f. Err f) full))))
 
 pub returns : goal.returns
 returns g c = λ t is.
     let set = c.in_ok-set_script.ensures in
     let main = program_of (tree_of c.in_ok-script.script.script) in
     set_by g.S.Store c.args.self.now _ (set_script c.args.officer.now c.args.name.now t) (λ s. keeping s c.args.officer.now c.args.name.now main) (record { store = refl; flights = refl; last = refl; open_paths = refl }) (λ s. refl) set.done (λ x stands.
-        (put_script c.args.name.now main (x.office.officers c.args.officer.now).scripts, kept (x.office.officers c.args.officer.now).scripts (officer_at c.args.officer.now c.args.self.now.officers.officers).scripts c.args.name.now t (tree_of c.in_ok-script.script.script) (ap (λ (o : Officer). o.scripts) (officer_is g.S.Store c.args.self.now x c.args.officer.now stands)) (c.in_ok-script.ensures.good t is) set.has_room, refl))
+    (put_script c.args.name.now main (x.office.officers c.args.officer.now).scripts, kept (x.office.officers c.args.officer.now).scripts (officer_at c.args.officer.now c.args.self.now.officers.officers).scripts c.args.name.now t (tree_of c.in_ok-script.script.script) (ap (λ (o : Officer). o.scripts) (officer_is g.S.Store c.args.self.now x c.args.officer.now stands)) (c.in_ok-script.ensures.good t is) set.has_room, refl))
