@@ -1,4 +1,14 @@
-mod Rows
 pub mod ScriptLemmas
+pub mod NumberLemmas
+pub mod StoreLemmas
 pub mod StepLemmas
+pub mod ClassLemmas
+pub mod FaultLemmas
+pub mod DueLemmas
+pub mod PlanLemmas
+pub mod OfficerLemmas
+pub mod FlightLemmas
+pub mod BeginLemmas
+pub mod FilingLemmas
 pub mod OutcomeLemmas
+mod Rows

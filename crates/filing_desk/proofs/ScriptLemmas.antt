@@ -1,5 +1,5 @@
 -- Stored scripts, and what they mean.
-use Rattle.std.proofs.Common.{◌≡◌, ℕ, suc, List, [], ◌∷◌, length, Bool, true, false, ap, refl, sym, ◌∙◌}
+use Rattle.std.proofs.Common.{◌≡◌, ℕ, List, [], ◌∷◌, Bool, true, false, ap, refl, sym, ◌∙◌}
 use Rattle.std.specs.Prelude.{Option, Some, None, option_map}
 use Rattle.std.specs.Str.{bytes_eq}
 use Rattle.std.proofs.Math.Path.{fun_ext}
@@ -8,9 +8,8 @@ use Rattle.sieve_syntax.specs.declared.tree.Script.{Script}
 use Rattle.sieve_meaning.specs.Program.{Commands}
 use Rattle.sieve_meaning.specs.Reading.{program_of}
 use Rattle.sieve_meaning.specs.Meaning.{ScriptName}
-use Rattle.script_library.specs.Libraries.{NamedScript, Scripts, library_of, named, location_of, put}
-use Rattle.script_library.specs.Libraries as kept
-use Rattle.filing_desk.specs.Scripts.{script_at, put_script, HasNoRoom, location, library, meanings_of}
+use Rattle.script_library.specs.Libraries.{NamedScript, Scripts, library_of, named, location_of}
+use Rattle.filing_commands.specs.Scripts.{script_at, location, library, meanings_of}
 
 abbrev meaning_of : Script → Commands
 meaning_of x = program_of (tree_of x)
@@ -23,29 +22,6 @@ meaning_at name (e ∷ es) = go _ refl (meaning_at name es)
     go : (b : Bool) → bytes_eq e.name name ≡ b → option_map meaning_of (named name es) ≡ script_at name (meanings_of es) → option_map meaning_of (named name (e ∷ es)) ≡ script_at name (meanings_of (e ∷ es))
     go true is rest = rw is refl
     go false is rest = rw is rest
-
-pub meanings_put : (name : List ℕ) (script : Script) (es : List NamedScript) → meanings_of (put (record { name = name; script = script }) es) ≡ put_script name (meaning_of script) (meanings_of es)
-meanings_put name script [] = refl
-meanings_put name script (e ∷ es) = go _ refl (meanings_put name script es)
-  where
-    go : (b : Bool) → bytes_eq e.name name ≡ b → meanings_of (put (record { name = name; script = script }) es) ≡ put_script name (meaning_of script) (meanings_of es) → meanings_of (put (record { name = name; script = script }) (e ∷ es)) ≡ put_script name (meaning_of script) (meanings_of (e ∷ es))
-    go true is rest = rw is refl
-    go false is rest = rw is (ap (λ more. (e.name, meaning_of e.script) ∷ more) rest)
-
-as_many : (es : List NamedScript) → length (meanings_of es) ≡ length es
-as_many [] = refl
-as_many (e ∷ es) = ap suc (as_many es)
-
-missing : (found : Option Script) → option_map meaning_of found ≡ None → found ≡ None
-missing None e = refl
-missing (Some x) e = cc
-
--- there is room among the meanings exactly where there is among the scripts
-pub no_room : (es : List NamedScript) (name : List ℕ) → kept.HasNoRoom es name → HasNoRoom (meanings_of es) name
-no_room es name h = record { full = as_many es ∙ h.full; missing = sym (meaning_at name es) ∙ ap (option_map meaning_of) h.missing }
-
-pub no_room_kept : (es : List NamedScript) (name : List ℕ) → HasNoRoom (meanings_of es) name → kept.HasNoRoom es name
-no_room_kept es name h = record { full = sym (as_many es) ∙ h.full; missing = missing (named name es) (meaning_at name es ∙ h.missing) }
 
 found_in : (l : Scripts) (s : ScriptName) (global : Bool) → option_map meaning_of (named s.name (location_of global l)) ≡ script_at s.name (location global (meanings_of l.personal) (meanings_of l.global))
 found_in l s true = meaning_at s.name l.global

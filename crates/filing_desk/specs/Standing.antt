@@ -1,14 +1,44 @@
--- The state that a desk stands for.
-use Rattle.std.specs.Prelude.{◌≡◌}
-use Rattle.filing_desk.specs.Scripts.{meanings_of}
-use Rattle.filing_desk.specs.Steps.{Office}
+-- The states that a desk stands for.
+use Rattle.std.specs.Prelude.{◌≡◌, ℕ, List, Bool, true, Option, Some, None, min}
+use Rattle.std.specs.List.{AllByRecursion}
+use Rattle.sqlite.specs.Store.{Ghosts}
+use Rattle.sqlite.specs.State.{HasCleanDisk}
+use Rattle.sqlite.specs.Held.{state}
+use Rattle.class_plan.specs.Plans.{Listing, has, is_open_in}
+use Rattle.filing_image.specs.Program.{Program}
+use Rattle.filing_case.specs.Message.{is_among}
+use Rattle.filing_machine.specs.Runs.{Stands, Stored}
+use Rattle.record_store.specs.Stores as stores
+use Rattle.filing_commands.specs.Pinning.{case_in}
+use Rattle.filing_commands.specs.Standing.{Standing, Flight, begin_refusal}
+use Rattle.filing_flights.specs.Flights.{AreHeld}
+use Rattle.filing_officers.specs.Register.{office_of}
 use Rattle.filing_desk.specs.declared.desk.Desk.{Desk}
 
--- It has the plan of the state, and its global scripts mean what those of the state do.
-pub record StandsFor (desk : Desk) (s : Office) : Type 0 where
-  pub plan : desk.plan ≡ s.plan
-  pub globals : meanings_of desk.globals ≡ s.globals
+-- the disk under the store returns what was written to it
+abbrev pub IsClean : {S : Type 0} → Ghosts S → Desk S → Type 0
+IsClean g desk = HasCleanDisk (state g desk.store.conn)
 
--- there is no disk under a desk that keeps all in memory
-abbrev pub IsClean : Desk → Type 0
-IsClean desk = Unit {0}
+-- the paths that are kept for captures are the open ones of the plan
+abbrev pub AreOpenPaths : Option (List (List ℕ)) → Listing → Type 0
+AreOpenPaths None p = Unit {0}
+AreOpenPaths (Some paths) p = is_among paths ≡ is_open_in p
+
+-- each path that was open at the beginning of a flight is a class of the plan
+abbrev pub HasPathsOf : Listing → Flight → Type 0
+HasPathsOf p f = (q : List ℕ) → f.stood.is_open q ≡ true → has p.rows q ≡ true
+
+-- Its store stands for the archive of the state, its officers for the office, and its captures hold the flights.
+pub record StandsFor {S : Type 0} (g : Ghosts S) (desk : Desk S) (s : Standing) : Type 0 where
+  pub store : stores.StandsFor g desk.store s.office.archive
+  pub officers : office_of s.office.archive desk.officers ≡ s.office
+  pub flights : AreHeld desk.flights s.flights
+  pub last : desk.last ≡ s.last
+  pub open_paths : AreOpenPaths desk.open_paths s.office.archive.plan
+  pub classes : AllByRecursion (HasPathsOf s.office.archive.plan) s.flights
+
+-- a capture in flight is shown by its program, and by a machine that stands on its run after the lesser of its turns and its
+-- run's length
+abbrev pub IsShownBy : Option Flight → Program → Stored → Type 0
+IsShownBy None program machine = ⊥
+IsShownBy (Some f) program machine = (program ≡ f.pinned) × Stands program (case_in f.stood) machine × (machine.steps ≡ min f.granted f.run_length)

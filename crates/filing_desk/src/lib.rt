@@ -1,13 +1,26 @@
-//! The desk: what a session talks to. It keeps the plan of classes, and files messages by scripts.
+//! The desk: what a session talks to. It files messages by scripts, and keeps records in a store.
 //!
-//! In `specs/`, `Steps` says what each command may be answered and what it leaves.
+//! - `desk`: what a desk keeps, and how it comes and goes;
+//! - `archive`: the calls of its store;
+//! - `officers`: the scripts that are kept, and what officers set;
+//! - `captures`: captures in flight;
+//! - `dry_runs`: runs that store nothing;
+//! - `judge`: payloads as scripts, images and cases of messages;
+//! - `registry`: the desk as what a session talks to.
+//!
+//! What each command may be answered, and what it leaves, stands in the crate `filing_commands`. In `specs/`, `Standing` says for
+//! which states of it a desk stands.
 #![tactic(auto)]
 
+mod archive;
+mod captures;
 mod classes;
 mod desk;
-mod fault;
-mod payload;
+mod dry_runs;
+mod judge;
+mod limits;
+mod officers;
+mod registry;
 
-pub use desk::{Desk, GREATEST_IMAGE, GREATEST_MESSAGE, GREATEST_PLAN, GREATEST_SCRIPT, Outcome};
-pub use fault::{DeskFault, Refusal};
-pub use payload::Payload;
+pub use desk::Desk;
+pub use limits::{GREATEST_IMAGE, GREATEST_MESSAGE, GREATEST_PLAN, GREATEST_SCRIPT};

@@ -1,25 +1,34 @@
-use Rattle.std.proofs.Common.{Err, ap, rules, sym, subst}
+use Rattle.std.proofs.Common.{Err, ap, inl, refl, subst, sym}
 use Rattle.sieve_syntax.specs.View.{tree_of}
-use Rattle.sieve_check.specs.declared.checked.Checked.{Checked}
-use Rattle.filing_desk.specs.Steps.{IsGood, Step}
-use Rattle.filing_desk.proofs.OutcomeLemmas.{ok_is_no_fault}
-use Rattle.filing_desk.proofs.StepLemmas.{calls_by, global_kept, global_settled}
+use Rattle.sieve_meaning.specs.Reading.{program_of}
+use Rattle.filing_commands.specs.Answers.{Answer}
+use Rattle.filing_commands.specs.Limits.{greatest_script}
+use Rattle.filing_commands.specs.Office.{OfficeStep, set_global}
+use Rattle.filing_commands.specs.Parts.{RefusesScript}
+use Rattle.filing_commands.specs.Pinning.{Officer}
+use Rattle.filing_commands.specs.Scripts.{meanings_of, put_script}
+use Rattle.filing_officers.specs.Register.{sharing, officer_at}
+use Rattle.filing_desk.proofs.FaultLemmas.{refused_part}
+use Rattle.filing_desk.proofs.OfficerLemmas.{globals_are, keep_refused, kept, not_set, officer_is, set_by}
+use Rattle.filing_desk.proofs.StepLemmas.{done_fault}
 use Rattle.filing_desk.proofs.desk.Desk.set_global.Goals as goal
 
 pub returns-in_err-script : goal.returns-in_err-script
-unfolding Step
-returns-in_err-script c = λ t is. calls_by _ _ _ _ (search rules)
+returns-in_err-script g c = λ t is.
+    let result = c.from_residual.ensures in
+    refused_part g.S.Store c.args.self.now (set_global c.args.name.now t) (RefusesScript t) greatest_script t c.in_err-script.field-0.0 _ (λ x n r. inl r) (λ n l. l) (done_fault _ _ result.0 result.1) (c.in_err-script.ensures.refused t is)
 
-pub returns-in_err-put : goal.returns-in_err-put
-returns-in_err-put c = λ t is.
-    let result = c.from_residual-in_err-put.ensures in
-    let kept = c.in_err-put.ensures in
-    let P : Checked → Type 0 = λ x. IsGood t (tree_of x.script) in
-    let good = subst P (sym c.in_ok-script-2.ensures.ok) (c.in_ok-script.ensures.good t is) in
-    calls_by _ _ _ _ (global_settled c.args.self.now _ c.args.name.now t (tree_of c.in_ok-script-2.script.value.script) c.in_err-put.field-0.0 _ result.0 result.1 kept.err good (c.in_ok-script.ensures.short t is) (λ full. kept.full.0 (ap (λ f. Err f) full)))
+pub returns-in_err-set_global : goal.returns-in_err-set_global
+returns-in_err-set_global g c = λ t is.
+    let result = c.from_residual-in_err-set_global.ensures in
+    let refused = c.in_err-set_global.ensures in
+    not_set g.S.Store c.args.self.now _ (set_global c.args.name.now t) _ (record { store = refl; flights = refl; last = refl; open_paths = refl }) refused.unchanged (λ x stands.
+    let Q : Answer → Type 0 = λ a. OfficeStep x.office (set_global c.args.name.now t) a x.office in
+    subst Q (sym (done_fault _ _ result.0 result.1)) (keep_refused x.office (set_global c.args.name.now t) x.office.globals (meanings_of c.args.self.now.officers.globals) c.args.name.now t (tree_of c.in_ok-script.script.script) c.in_err-set_global.field-0.0 (λ n r. r) (λ n l. l) (globals_are g.S.Store c.args.self.now x stands) (c.in_ok-script.ensures.good t is) (c.in_ok-script.ensures.short t is) refused.fault (λ full. refused.full (ap (λ f. Err f) full))))
 
 pub returns : goal.returns
-returns c = λ t is.
-    let P : Checked → Type 0 = λ x. IsGood t (tree_of x.script) in
-    let good = subst P (sym c.in_ok-script-2.ensures.ok) (c.in_ok-script.ensures.good t is) in
-    calls_by _ _ _ _ (global_kept c.args.self.now _ c.args.name.now t c.in_ok-script-2.script.value.script c.in_ok-put.ensures.ok good (λ full. ok_is_no_fault _ _ (c.in_ok-put.ensures.full.1 full)))
+returns g c = λ t is.
+    let set = c.in_ok-set_global.ensures in
+    let main = program_of (tree_of c.in_ok-script.script.script) in
+    set_by g.S.Store c.args.self.now _ (set_global c.args.name.now t) (λ s. sharing s c.args.name.now main) (record { store = refl; flights = refl; last = refl; open_paths = refl }) (λ s. refl) set.done (λ x stands.
+    (put_script c.args.name.now main x.office.globals, kept x.office.globals (meanings_of c.args.self.now.officers.globals) c.args.name.now t (tree_of c.in_ok-script.script.script) (globals_are g.S.Store c.args.self.now x stands) (c.in_ok-script.ensures.good t is) set.has_room, refl))

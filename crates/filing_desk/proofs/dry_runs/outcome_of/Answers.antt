@@ -6,7 +6,7 @@ use Rattle.script_library.specs.Libraries.{library_of}
 use Rattle.sieve_meaning.specs.Outcome.{greatest_weight}
 use Rattle.sieve_meaning.specs.Weight.{linked_weight}
 use Rattle.filing_desk.proofs.OutcomeLemmas.{ok_is_no_fault, not_over, outcome_of_heavy, outcome_of_run}
-use Rattle.filing_desk.proofs.desk.outcome_of.Goals as goal
+use Rattle.filing_desk.proofs.dry_runs.outcome_of.Goals as goal
 
 pub returns-in_ok-outcome-in-Ok-clause-outcome : goal.returns-in_ok-outcome-in-Ok-clause-outcome
 returns-in_ok-outcome-in-Ok-clause-outcome g c =

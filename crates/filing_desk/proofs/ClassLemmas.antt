@@ -1,0 +1,109 @@
+-- Commands of the archive drop no class of the plan.
+use Rattle.std.proofs.Common.{◌≡◌, ℕ, List, [], ◌∷◌, Bool, true, false, not, cond, ◌&&◌, Option, Some, None, is_some, Result, Ok, Err, if◌then◌else◌, refl, ap, sym, ◌∙◌, subst, rules}
+use Rattle.std.specs.List.{list_all}
+use Rattle.std.specs.Str.{bytes_eq}
+use Rattle.class_plan.proofs.Keeping.{has-more}
+use Rattle.class_plan.specs.Changes.{added, with_class}
+use Rattle.class_plan.specs.Plans.{Listing, Row, found, has, keeps, open_row}
+use Rattle.class_plan.specs.declared.faults.PlanFault.{PlanFault}
+use Rattle.class_plan.specs.declared.faults.PlanFault.TheVariants.{PathDropped}
+use Rattle.record_tables.specs.Rows.{Record}
+use Rattle.record_store.specs.Archive.{Archive, add_class, capture, captured, has_room, destroy, destroy_one, destroys, due_of, hold, hold_one, is_by, is_held, is_held_by, plan_answer, record_at, release, release_one, revise, with_hold, without, without_hold}
+use Rattle.class_plan.specs.Plans.{schedule_at}
+use Rattle.record_store.proofs.ClassLemmas.{is_new}
+use Rattle.record_store.specs.declared.fault.StoreFault.{StoreFault}
+use Rattle.record_store.specs.declared.fault.StoreFault.TheVariants as fault
+
+ok_is : (a b : Archive) → ◌≡◌ {A = Result Archive StoreFault} (Ok a) (Ok b) → a ≡ b
+ok_is a b e = cc
+
+-- ---- the plan stays
+
+pub hold_stays : (a b : Archive) (name : List ℕ) (n : ℕ) → hold a name n ≡ Ok b → b.plan ≡ a.plan
+hold_stays a b name n e = go (record_at a n) e
+  where
+    two : (x y : Bool) → (if x then Err fault.Destroyed else if y then Err fault.HoldThere else Ok (with_hold a name n)) ≡ Ok b → b.plan ≡ a.plan
+    two true y e = absurd cc
+    two false true e = absurd cc
+    two false false e = ap (λ (x : Archive). x.plan) (sym (ok_is (with_hold a name n) b e))
+
+    go : (r : Option Record) → hold_one a name n r ≡ Ok b → b.plan ≡ a.plan
+    go None e = absurd cc
+    go (Some r) e = two r.destroyed (is_held_by a name n) e
+
+pub release_stays : (a b : Archive) (name : List ℕ) (n : ℕ) → release a name n ≡ Ok b → b.plan ≡ a.plan
+release_stays a b name n e = go (record_at a n) e
+  where
+    one : (x : Bool) → (if x then Ok (without_hold a name n) else Err fault.NoHold) ≡ Ok b → b.plan ≡ a.plan
+    one true e = ap (λ (x : Archive). x.plan) (sym (ok_is (without_hold a name n) b e))
+    one false e = absurd cc
+
+    go : (r : Option Record) → release_one a name n r ≡ Ok b → b.plan ≡ a.plan
+    go None e = absurd cc
+    go (Some r) e = one (is_held_by a name n) e
+
+pub destroy_stays : (a b : Archive) (n day : ℕ) → destroy a n day ≡ Ok b → b.plan ≡ a.plan
+destroy_stays a b n day e = go (record_at a n) e
+  where
+    four : (r : Record) (w x y z : Bool) → (if w then Err fault.Destroyed else if x then Err fault.Held else if not y then Err fault.NotForDestruction else if not z then Err fault.NotDue else Ok (without a r)) ≡ Ok b → b.plan ≡ a.plan
+    four r true x y z e = absurd cc
+    four r false true y z e = absurd cc
+    four r false false false z e = absurd cc
+    four r false false true false e = absurd cc
+    four r false false true true e = ap (λ (x : Archive). x.plan) (sym (ok_is (without a r) b e))
+
+    go : (r : Option Record) → destroy_one a n day r ≡ Ok b → b.plan ≡ a.plan
+    go None e = absurd cc
+    go (Some r) e = four r r.destroyed (is_held a n) (destroys (schedule_at a.plan r.path)) (is_by day (due_of a r)) e
+
+pub captured_plan : (a b : Archive) (body : List ℕ) (day : ℕ) (classes : List (List ℕ)) → capture a body day classes ≡ Ok b → b.plan ≡ a.plan
+captured_plan a b body day classes e = go (has_room a classes) e
+  where
+    same : (qs : List (List ℕ)) → (captured a body day qs).plan ≡ a.plan
+    same [] = refl
+    same (q ∷ qs) = refl
+
+    go : (r : Bool) → (if r then Ok (captured a body day classes) else Err fault.Full) ≡ Ok b → b.plan ≡ a.plan
+    go true e = ap (λ (x : Archive). x.plan) (sym (ok_is (captured a body day classes) b e)) ∙ same classes
+    go false e = absurd cc
+
+-- ---- the plan has its classes still
+
+pub same_keeps : (a b : Archive) (q : List ℕ) → b.plan ≡ a.plan → has a.plan.rows q ≡ true → has b.plan.rows q ≡ true
+same_keeps a b q same there = ap (λ (p : Listing). has p.rows q) same ∙ there
+
+pub added_keeps : (a b : Archive) (path q : List ℕ) → add_class a path ≡ Ok b → has a.plan.rows q ≡ true → has b.plan.rows q ≡ true
+added_keeps a b path q made there = go (added a.plan path) refl made
+  where
+    go : (r : Result Listing PlanFault) → added a.plan path ≡ r → plan_answer a r ≡ Ok b → has b.plan.rows q ≡ true
+    go (Err f) is e = absurd cc
+    go (Ok p) is e =
+        let plan : b.plan ≡ p = ap (λ (x : Archive). x.plan) (sym (ok_is (record a { plan = p }) b e)) in
+        let new : p ≡ with_class a.plan path = (is_new a.plan p path is).0 in
+        ap (λ (x : Listing). has x.rows q) (plan ∙ new) ∙ has-more (open_row path) a.plan.rows q there
+
+same_path : (q r : List ℕ) → bytes_eq q r ≡ true → q ≡ r
+same_path q r h = search rules
+
+has_kept : (K : List ℕ → Bool) (rows : List Row) (q : List ℕ) → has rows q ≡ true → list_all (λ (r : Row). K r.path) rows ≡ true → K q ≡ true
+has_kept K [] q h all = absurd cc
+has_kept K (x ∷ rows) q h all = go (bytes_eq q x.path) refl h (has_kept K rows q)
+  where
+    both : (a b : Bool) → (a && b) ≡ true → (a ≡ true) × (b ≡ true)
+    both true true e = (refl, refl)
+    both true false e = absurd cc
+    both false b e = absurd cc
+
+    go : (b : Bool) → bytes_eq q x.path ≡ b → is_some (cond b (Some x) (found q rows)) ≡ true
+        → (has rows q ≡ true → list_all (λ (r : Row). K r.path) rows ≡ true → K q ≡ true) → K q ≡ true
+    go true e found more = subst (λ z. K z ≡ true) (sym (same_path q x.path e)) (both (K x.path) _ all).0
+    go false e found more = more found (both (K x.path) _ all).1
+
+pub revised_keeps : (a b : Archive) (p : Listing) (q : List ℕ) → revise a p ≡ Ok b → has a.plan.rows q ≡ true → has b.plan.rows q ≡ true
+revised_keeps a b p q made there = go (keeps a.plan p) refl made
+  where
+    go : (k : Bool) → keeps a.plan p ≡ k → (if k then Ok (record a { plan = p }) else Err (fault.Plan PathDropped)) ≡ Ok b → has b.plan.rows q ≡ true
+    go false is e = absurd cc
+    go true is e =
+        let plan : b.plan ≡ p = ap (λ (x : Archive). x.plan) (sym (ok_is (record a { plan = p }) b e)) in
+        ap (λ (x : Listing). has x.rows q) plan ∙ has_kept (has p.rows) a.plan.rows q there is

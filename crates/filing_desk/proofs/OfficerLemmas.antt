@@ -1,0 +1,103 @@
+-- What officers set, and the scripts that are kept.
+use Rattle.std.proofs.Common.{◌≡◌, ℕ, ◌≤◌, ◌⊎◌, List, [], ◌∷◌, length, Bool, true, false, Option, None, is_some, Result, Ok, Err, inl, inr, refl, ap, sym, ◌∙◌, subst}
+use Rattle.std.specs.List.{AllByRecursion}
+use Rattle.sqlite.specs.Store.{Ghosts}
+use Rattle.sqlite.specs.State.{HasCleanDisk}
+use Rattle.sqlite.specs.Held.{state}
+use Rattle.sieve_syntax.specs.Tree.{CommandTrees}
+use Rattle.sieve_meaning.specs.Program.{Commands}
+use Rattle.sieve_meaning.specs.Reading.{program_of}
+use Rattle.record_store.specs.Archive.{Archive}
+use Rattle.record_store.specs.Stores as stores
+use Rattle.record_store.specs.declared.store.Store.{Store}
+use Rattle.filing_commands.specs.Answers.{Answer, done}
+use Rattle.filing_commands.specs.Calls.{Calls}
+use Rattle.filing_commands.specs.Faults.{refused_by}
+use Rattle.filing_commands.specs.Limits.{greatest_script}
+use Rattle.filing_commands.specs.Office.{Office, PlainCommand, OfficeStep, Settles, Refuses, GivesUp, LacksMemory, activate}
+use Rattle.filing_commands.specs.Parts.{IsGood, IsKept, RefusesToKeep}
+use Rattle.filing_commands.specs.Pinning.{Officer}
+use Rattle.filing_commands.specs.Scripts.{HasNoRoom, put_script, script_at}
+use Rattle.filing_commands.specs.Standing.{Standing, plain}
+use Rattle.filing_commands.specs.declared.fault.DeskFault.{DeskFault}
+use Rattle.filing_commands.specs.declared.fault.DeskFault.TheVariants.{LibraryFull, NoMemory, NoScript}
+use Rattle.filing_flights.specs.Flights.{AreHeld}
+use Rattle.filing_flights.specs.Held.{Held}
+use Rattle.filing_officers.specs.Register.{office_of, officer_at}
+use Rattle.filing_desk.specs.Standing.{AreOpenPaths, HasPathsOf, IsClean, StandsFor}
+use Rattle.filing_desk.specs.declared.desk.Desk.{Desk}
+use Rattle.filing_desk.proofs.StepLemmas.{plain_calls}
+
+-- ---- steps of the office
+
+-- a script is kept in a location that has room for it
+pub kept : (location was : List (List ℕ × Commands)) (name text : List ℕ) (tree : CommandTrees) → was ≡ location → IsGood text tree → (HasNoRoom was name → ⊥) → IsKept location name text (put_script name (program_of tree) location)
+kept location was name text tree same good room =
+    let P : List (List ℕ × Commands) → Type 0 = λ x. HasNoRoom x name in
+    record { tree = tree; good = good; has_room = λ full. room (subst P (sym same) full); put = refl }
+
+-- there is no room, or no memory
+pub keep_refused : (s : Office) (c : PlainCommand) (location was : List (List ℕ × Commands)) (name text : List ℕ) (tree : CommandTrees) (f : DeskFault) → ((n : ℕ) → RefusesToKeep location name text n → Refuses s c n) → ((n : ℕ) → LacksMemory greatest_script text n → GivesUp c n) → was ≡ location → IsGood text tree → length text ≤ greatest_script → (f ≡ LibraryFull) ⊎ (f ≡ NoMemory) → (f ≡ LibraryFull → HasNoRoom was name) → OfficeStep s c (refused_by f) s
+keep_refused s c location was name text tree f refuses lacks same good short (inl full) room =
+    let P : List (List ℕ × Commands) → Type 0 = λ x. HasNoRoom x name in
+    let Q : DeskFault → Type 0 = λ x. OfficeStep s c (refused_by x) s in
+    subst Q (sym full) (inl (refl, refl, refuses 96 (inr (record { tree = tree; good = good; has_no_room = subst P same (room full); is_number = refl }))))
+keep_refused s c location was name text tree f refuses lacks same good short (inr none) room =
+    let Q : DeskFault → Type 0 = λ x. OfficeStep s c (refused_by x) s in
+    subst Q (sym none) (inr (99, lacks 99 (refl, short), refl, refl))
+
+-- the officer has no such script, or there is no memory
+pub activate_refused : (s : Office) (officer name : List ℕ) (o : Officer) (f : DeskFault) → o ≡ s.officers officer → (f ≡ NoScript) ⊎ (f ≡ NoMemory) → (f ≡ NoScript → is_some (script_at name o.scripts) ≡ false) → OfficeStep s (activate officer name) (refused_by f) s
+activate_refused s officer name o f same (inl missing) none =
+    let Q : DeskFault → Type 0 = λ x. OfficeStep s (activate officer name) (refused_by x) s in
+    let P : Officer → Type 0 = λ x. is_some (script_at name x.scripts) ≡ false in
+    subst Q (sym missing) (inl (refl, refl, (subst P same (none missing), refl)))
+activate_refused s officer name o f same (inr poor) none =
+    let Q : DeskFault → Type 0 = λ x. OfficeStep s (activate officer name) (refused_by x) s in
+    subst Q (sym poor) (inr (99, refl, refl, refl))
+
+module _ {S : Type 0} (g : Ghosts S) where
+  -- the desk is as it was, its officers aside
+  pub record KeepsOthers (old new : Desk S) : Type 0 where
+    pub store : new.store ≡ old.store
+    pub flights : new.flights ≡ old.flights
+    pub last : new.last ≡ old.last
+    pub open_paths : new.open_paths ≡ old.open_paths
+
+  -- the desk stands for the state with the office that its officers have now
+  resets : (old new : Desk S) (s : Standing) (b : Office) → KeepsOthers old new → StandsFor g old s → b.archive ≡ s.office.archive → office_of s.office.archive new.officers ≡ b → StandsFor g new (record s { office = b })
+  resets old new s b rest stands same is =
+      let P : Store S → Type 0 = λ x. stores.StandsFor g x b.archive in
+      let Q : Archive → Type 0 = λ x. stores.StandsFor g old.store x in
+      let R : List Held → Type 0 = λ xs. AreHeld xs s.flights in
+      let T : Option (List (List ℕ)) → Type 0 = λ x. AreOpenPaths x b.archive.plan in
+      let U : Archive → Type 0 = λ x. AreOpenPaths old.open_paths x.plan in
+      let V : Archive → Type 0 = λ x. AllByRecursion (HasPathsOf x.plan) s.flights in
+      record {
+        store = subst P (sym rest.store) (subst Q (sym same) stands.store);
+        officers = ap (λ a. office_of a new.officers) same ∙ is;
+        flights = subst R (sym rest.flights) stands.flights;
+        last = rest.last ∙ stands.last;
+        open_paths = subst T (sym rest.open_paths) (subst U (sym same) stands.open_paths);
+        classes = subst V (sym same) stands.classes;
+      }
+
+  cleans : (old new : Desk S) → new.store ≡ old.store → HasCleanDisk (state g new.store.conn) → HasCleanDisk (state g old.store.conn)
+  cleans old new same clean = let P : Store S → Type 0 = λ x. HasCleanDisk (state g x.conn) in subst P same clean
+
+  -- something is set
+  pub set_by : (old new : Desk S) (c : PlainCommand) (change : Office → Office) → KeepsOthers old new → ((s : Office) → (change s).archive ≡ s.archive) → ((a : Archive) → office_of a new.officers ≡ change (office_of a old.officers)) → ((s : Standing) → StandsFor g old s → Settles s.office c (change s.office)) → Calls (IsClean g) (StandsFor g) old (plain c) done new
+  set_by old new c change rest keeps is settles = plain_calls g old new c done (cleans old new rest.store) (λ clean s stands.
+      (change s.office, inl (settles s stands), resets old new s (change s.office) rest stands (keeps s.office) (is s.office.archive ∙ ap change stands.officers)))
+
+  -- nothing is set
+  pub not_set : (old new : Desk S) (c : PlainCommand) (a : Answer) → KeepsOthers old new → new.officers ≡ old.officers → ((s : Standing) → StandsFor g old s → OfficeStep s.office c a s.office) → Calls (IsClean g) (StandsFor g) old (plain c) a new
+  not_set old new c a rest same step = plain_calls g old new c a (cleans old new rest.store) (λ clean s stands.
+      (s.office, step s stands, resets old new s s.office rest stands refl (ap (λ x. office_of s.office.archive x) same ∙ stands.officers)))
+
+  -- what the officers have, as the state does
+  pub globals_are : (desk : Desk S) (s : Standing) → StandsFor g desk s → (office_of s.office.archive desk.officers).globals ≡ s.office.globals
+  globals_are desk s stands = ap (λ (o : Office). o.globals) stands.officers
+
+  pub officer_is : (desk : Desk S) (s : Standing) (name : List ℕ) → StandsFor g desk s → officer_at name desk.officers.officers ≡ s.office.officers name
+  officer_is desk s name stands = ap (λ (o : Office). o.officers name) stands.officers

@@ -1,0 +1,39 @@
+-- What speaks against one more capture of a desk, and how one begins.
+use Rattle.std.specs.Prelude.{◌≡◌, ℕ, List, length, Option, Some, None}
+use Rattle.jiff_core.specs.declared.civil.date.Date.{Date}
+use Rattle.class_plan.specs.Plans.{is_open_in}
+use Rattle.filing_case.specs.Message.{is_among}
+use Rattle.filing_image.specs.Program.{Program}
+use Rattle.filing_verify.specs.Well.{IsWell}
+use Rattle.filing_commands.specs.Faults.{refusal_of}
+use Rattle.filing_commands.specs.Scripts.{meanings_of}
+use Rattle.filing_commands.specs.Standing.{begin_refusal}
+use Rattle.filing_commands.specs.declared.fault.DeskFault.{DeskFault}
+use Rattle.filing_flights.specs.Begun.{HoldsBegun}
+use Rattle.filing_flights.specs.Held.{Held}
+use Rattle.filing_officers.specs.Register.{PinsFor, officer_at}
+use Rattle.filing_desk.specs.declared.desk.Desk.{Desk}
+
+-- the first that speaks against a beginning at a moment, of a message of so many octets
+abbrev pub against_begin : {S : Type 0} → Desk S → (moment size : ℕ) → Option ℕ
+against_begin desk moment size = begin_refusal (length desk.flights) desk.last moment size
+
+-- the fault is that number, and is shown without an offset
+abbrev pub IsNumbered : DeskFault → Option ℕ → Type 0
+IsNumbered f n = (n ≡ Some (refusal_of f).number) × ((refusal_of f).offset ≡ None)
+
+-- all of a desk is as it was, but that open paths may be kept
+pub record KeepsAll {S : Type 0} (old new : Desk S) : Type 0 where
+  pub store : new.store ≡ old.store
+  pub officers : new.officers ≡ old.officers
+  pub flights : new.flights ≡ old.flights
+  pub last : new.last ≡ old.last
+
+-- a capture of what stands at a desk, with nothing done
+pub record IsEntered {S : Type 0} (desk : Desk S) (officer : List ℕ) (ticket : ℕ) (message : List ℕ) (day : Date) (x : Held) : Type 0 where
+  pub program : Program
+  pub paths : List (List ℕ)
+  pub open_paths : is_among paths ≡ is_open_in desk.store.plan
+  pub pins : PinsFor (officer_at officer desk.officers.officers) (meanings_of desk.officers.globals) program
+  pub well : IsWell program
+  pub holds : HoldsBegun ticket program message paths day x

@@ -1,0 +1,105 @@
+//! The calls of the store.
+
+ghost use Rattle.std.specs.Prelude.{◌≡◌, ℕ, List, ◌≤◌, ◌^◌, pos, MatchResult};
+ghost use Rattle.jiff.specs.Words.{epoch_day, IsBetween};
+ghost use Rattle.record_store.specs.declared.fault.StoreFault as faults;
+ghost use Rattle.record_store.specs.declared.fault.StoreFault.TheVariants.{NoRecord};
+ghost use Rattle.filing_commands.specs.Limits.{greatest_plan, last_day};
+ghost use Rattle.filing_commands.specs.Office as office;
+ghost use Rattle.filing_commands.specs.Payloads.{IsOf};
+ghost use Rattle.filing_commands.specs.Standing as commands;
+ghost use Rattle.filing_commands.specs.Told.{told_done, told_lines};
+
+use crate::desk::Desk;
+use crate::limits::GREATEST_PLAN;
+use class_plan::{Date, Plan, day_number};
+use filing_commands::{DeskFault, Payload};
+use jiff::civil::date;
+use record_store::{Line, StoreFault};
+use sqlite::Alter;
+
+/// The day number of 9999-12-31.
+const LAST_DAY: i64 = 2_932_896;
+
+/// A record's number, which has 32 bits (80).
+fn record_number(number: u64) -> Result<u32, StoreFault>
+    ensures { MatchResult result (λ n. n ≡ number) (λ f. (f ≡ NoRecord) × (2 ^ 32 ≤ number)) }
+{
+    match u32::try_from(number) {
+        Ok(number) => Ok(number),
+        Err(_) => Err(StoreFault::NoRecord),
+    }
+}
+
+/// A day of the years 1970 to 9999; for an earlier one 1970-01-01, by which no record is due either.
+fn day_from_1970(day: Date) -> Date
+    ensures within { IsBetween (pos 0) (pos 2932896) (epoch_day result) }
+    ensures same { (n : ℕ) → epoch_day day ≡ pos n → n ≤ last_day → epoch_day result ≡ pos n }
+{
+    let number = day_number(day);
+    if number < 0 || number > LAST_DAY {
+        date(1970, 1, 1)
+    } else {
+        day
+    }
+}
+
+impl<S: Alter> Desk<S> {
+    ghost use Rattle.filing_commands.specs.Calls.{Calls};
+    ghost use Rattle.filing_desk.specs.Standing.{IsClean, StandsFor};
+
+    /// Adds a class, as `Registry` says.
+    pub fn add_class(&mut self, path: &[u8]) -> Result<(), DeskFault>
+        ensures { Calls (IsClean S.Store) (StandsFor S.Store) self.old (commands.plain (office.add_class path.now)) (told_done result) self.new }
+    {
+        self.store.add_class(path)?;
+        self.open_paths = None;
+        Ok(())
+    }
+
+    /// Takes over a plan, as `Registry` says.
+    pub fn set_plan(&mut self, text: &Payload) -> Result<(), DeskFault>
+        ensures { (t : List ℕ) → IsOf greatest_plan text.now t → Calls (IsClean S.Store) (StandsFor S.Store) self.old (commands.plain (office.set_plan t)) (told_done result) self.new }
+    {
+        let octets = text.octets(GREATEST_PLAN, DeskFault::PlanTooLong)?;
+        let plan = Plan::from_toml(self.alloc, octets)?;
+        self.store.revise(plan)?;
+        self.open_paths = None;
+        Ok(())
+    }
+
+    /// Places a hold, as `Registry` says.
+    pub fn hold(&mut self, name: &[u8], number: u64) -> Result<(), DeskFault>
+        ensures { Calls (IsClean S.Store) (StandsFor S.Store) self.old (commands.plain (office.hold name.now number)) (told_done result) self.new }
+    {
+        let number = record_number(number)?;
+        self.store.hold(name, number)?;
+        Ok(())
+    }
+
+    /// Ends a hold, as `Registry` says.
+    pub fn release(&mut self, name: &[u8], number: u64) -> Result<(), DeskFault>
+        ensures { Calls (IsClean S.Store) (StandsFor S.Store) self.old (commands.plain (office.release name.now number)) (told_done result) self.new }
+    {
+        let number = record_number(number)?;
+        self.store.release(name, number)?;
+        Ok(())
+    }
+
+    /// The due list of a day, as `Registry` says.
+    pub fn due(&mut self, day: Date) -> Result<Vec<Line>, DeskFault>
+        ensures { (n : ℕ) → epoch_day day ≡ pos n → n ≤ last_day → Calls (IsClean S.Store) (StandsFor S.Store) self.old (commands.plain (office.due n)) (told_lines result) self.new }
+    {
+        let lines = self.store.due(day_from_1970(day))?;
+        Ok(lines)
+    }
+
+    /// Destroys a record, as `Registry` says.
+    pub fn destroy(&mut self, number: u64, day: Date) -> Result<(), DeskFault>
+        ensures { (n : ℕ) → epoch_day day ≡ pos n → n ≤ last_day → Calls (IsClean S.Store) (StandsFor S.Store) self.old (commands.plain (office.destroy number n)) (told_done result) self.new }
+    {
+        let number = record_number(number)?;
+        self.store.destroy(number, day_from_1970(day))?;
+        Ok(())
+    }
+}

@@ -1,0 +1,205 @@
+//! Captures in flight.
+
+ghost use Rattle.std.specs.Prelude.{◌≡◌, ℕ, List, ◌≤◌, ◌<◌, ◌/◌, ◌⊎◌, pos, true, false, length, map, nat_lt, Some, None, IfOk, IfErr, OnOk, MatchOption, MatchResult};
+ghost use Rattle.jiff.specs.Words.{epoch_day};
+ghost use Rattle.class_plan.specs.Calendar.{number_of_day};
+ghost use Rattle.class_plan.specs.Dates.{IsCaptureDay};
+ghost use Rattle.class_plan.specs.Plans.{is_open_in};
+ghost use Rattle.filing_case.specs.Message.{is_among};
+ghost use Rattle.record_store.specs.Stores.{Falls};
+ghost use Rattle.filing_commands.specs.Limits.{greatest_message};
+ghost use Rattle.filing_commands.specs.Payloads.{IsOf};
+ghost use Rattle.filing_commands.specs.Standing as commands;
+ghost use Rattle.filing_commands.specs.Standing.{Standing, flight_of};
+ghost use Rattle.filing_commands.specs.Told.{told_capture, told_ticket, told_turn};
+ghost use Rattle.filing_commands.specs.declared.fault.DeskFault.TheVariants.{NoMemory};
+ghost use Rattle.filing_desk.specs.Beginning.{IsEntered, IsNumbered, KeepsAll, against_begin};
+ghost use Rattle.filing_desk.specs.Filing.{Files};
+ghost use Rattle.filing_desk.specs.Standing.{AreOpenPaths, IsShownBy};
+
+use crate::desk::Desk;
+use crate::limits::GREATEST_MESSAGE;
+use class_plan::{Date, day_of};
+use filing_commands::{Capture, DeskFault, Payload, Turn};
+use filing_flights::{Flight, PinnedPaths};
+use filing_machine::Machine;
+use filing_verify::Verified;
+use record_store::{Line, Store, StoreFault, are_classes};
+use sieve_meaning::Paths;
+use sqlite::Alter;
+use std::alloc::{AllocError, Global};
+
+/// Whether a payload has more octets than a message may have.
+fn is_too_long(message: &Payload) -> bool
+    ensures { (m : List ℕ) → IsOf greatest_message message.now m → result ≡ nat_lt greatest_message (length m) }
+{
+    match message {
+        Payload::Whole(octets) => octets.len() > GREATEST_MESSAGE,
+        Payload::TooLong => true,
+        Payload::NoMemory => false,
+    }
+}
+
+/// The octets of a message, which the caller has found not too long; 99 where there was no memory for them.
+fn octets_of(message: Payload) -> Result<Vec<u8>, DeskFault>
+    ensures octets { (m : List ℕ) → IsOf greatest_message message m → IfOk result (λ v. v.items ≡ m) }
+    ensures within { IfOk result (λ v. length v.items ≤ greatest_message) }
+    ensures refused { IfErr result (λ f. f ≡ NoMemory) }
+{
+    match message {
+        Payload::Whole(octets) => {
+            if octets.len() > GREATEST_MESSAGE {
+                return Err(DeskFault::NoMemory);
+            }
+            Ok(octets)
+        }
+        Payload::TooLong | Payload::NoMemory => Err(DeskFault::NoMemory),
+    }
+}
+
+/// The paths of a set.
+fn listed(alloc: Global, paths: &Paths) -> Result<Vec<Vec<u8>>, AllocError>
+    ensures { IfOk result (λ v. map (λ p. p.items) v.items ≡ paths.now) }
+{
+    let mut listed = Vec::new(alloc);
+    for path in paths.as_slice() {
+        listed.push(Vec::from_slice(alloc, path.as_slice())?)?;
+    }
+    Ok(listed)
+}
+
+/// Makes the records of a capture in a store, whole or not at all. 87 where the numbers are used up, 89 and 99; a path that is no class
+/// of the plan, which no capture of a desk that stands for a state files into, is 88.
+fn file_outcome<S: Alter>(
+    alloc: Global,
+    store: &mut Store<S>,
+    flight: &Flight,
+    classes: &Paths,
+) -> Result<Vec<Line>, DeskFault>
+    ensures files { Files S.Store store.old store.new flight.now.message (number_of_day flight.now.day) classes.now result }
+    ensures falls { Falls S.Store store.old store.new }
+{
+    let classes = listed(alloc, classes)?;
+    if !are_classes(store.plan(), classes.as_slice()) {
+        return Err(DeskFault::Store(StoreFault::NoArchive));
+    }
+    let lines = store.capture(flight.message(), flight.day(), classes.as_slice())?;
+    Ok(lines)
+}
+
+impl<S: Alter> Desk<S> {
+    ghost use Rattle.filing_commands.specs.Calls.{Calls};
+    ghost use Rattle.filing_desk.specs.Standing.{IsClean, StandsFor};
+
+    /// The day of a moment, where nothing speaks against one more capture: 94, 95, 90 and 97 in this order.
+    fn judge_begin(&self, moment: u64, message: &Payload) -> Result<Date, DeskFault>
+        ensures day { IfOk result (λ d. IsCaptureDay d × (epoch_day d ≡ pos (moment / 86400))) }
+        ensures few { OnOk result ((length self.now.flights < 64) × (self.now.last < 4294967295)) }
+        ensures allowed { (m : List ℕ) → IsOf greatest_message message.now m → OnOk result (against_begin self.now moment (length m) ≡ None) }
+        ensures refused { (m : List ℕ) → IsOf greatest_message message.now m → IfErr result (λ f. IsNumbered f (against_begin self.now moment (length m))) }
+    {
+        let Some(day) = day_of(moment) else {
+            return Err(DeskFault::BadMoment);
+        };
+        if is_too_long(message) {
+            return Err(DeskFault::MessageTooLong);
+        }
+        if self.flights.is_full() {
+            return Err(DeskFault::TooManyInFlight);
+        }
+        if self.last == u32::MAX {
+            return Err(DeskFault::TicketsUsedUp);
+        }
+        Ok(day)
+    }
+
+    /// The open paths of the plan, which captures share until the plan is changed.
+    fn shared_paths(&mut self) -> Result<PinnedPaths, AllocError>
+        ensures same { KeepsAll self.old self.new }
+        ensures kept { AreOpenPaths self.old.open_paths self.old.store.plan → AreOpenPaths self.new.open_paths self.old.store.plan }
+        ensures open { AreOpenPaths self.old.open_paths self.old.store.plan → IfOk result (λ p. is_among p ≡ is_open_in self.old.store.plan) }
+    {
+        if let Some(paths) = &self.open_paths {
+            return paths.clone();
+        }
+        let paths = self.store.plan().open_paths(self.alloc)?;
+        let paths = PinnedPaths::new(self.alloc, paths)?;
+        self.open_paths = Some(paths.clone()?);
+        Ok(paths)
+    }
+
+    /// A capture of a message by an officer's program, with nothing done.
+    fn enter(
+        &mut self,
+        ticket: u32,
+        officer: &[u8],
+        message: Vec<u8>,
+        day: Date,
+    ) -> Result<Flight, AllocError>
+        requires length { length message.items ≤ greatest_message }
+        requires day { IsCaptureDay day }
+        ensures same { KeepsAll self.old self.new }
+        ensures kept { AreOpenPaths self.old.open_paths self.old.store.plan → AreOpenPaths self.new.open_paths self.old.store.plan }
+        ensures entered { AreOpenPaths self.old.open_paths self.old.store.plan → IfOk result (IsEntered self.old officer.now ticket message.items day) }
+    {
+        let program = self.officers.pin(officer)?;
+        let paths = self.shared_paths()?;
+        let flight = Flight::begin(self.alloc, ticket, program, message, paths, day)?;
+        Ok(flight)
+    }
+
+    /// Begins a capture, as `Registry` says.
+    pub fn begin(
+        &mut self,
+        officer: &[u8],
+        moment: u64,
+        message: Payload,
+    ) -> Result<(u32, u32), DeskFault>
+        ensures { (m : List ℕ) → IsOf greatest_message message m → Calls (IsClean S.Store) (StandsFor S.Store) self.old (commands.begin officer.now moment m) (told_ticket result) self.new }
+    {
+        let day = self.judge_begin(moment, &message)?;
+        let octets = octets_of(message)?;
+        let ticket = self.last + 1;
+        let flight = self.enter(ticket, officer, octets, day)?;
+        let budget = flight.program().budget();
+        self.flights.push(flight)?;
+        self.last = ticket;
+        Ok((ticket, budget))
+    }
+
+    /// Grants turns to a capture, as `Registry` says.
+    pub fn turn(&mut self, ticket: u64, count: u32) -> Result<Turn, DeskFault>
+        ensures { Calls (IsClean S.Store) (StandsFor S.Store) self.old (commands.turn ticket count) (told_turn result) self.new }
+    {
+        self.flights.turn(ticket, count)
+    }
+
+    /// Makes the records of a capture, as `Registry` says.
+    pub fn finish(&mut self, ticket: u64) -> Result<Capture, DeskFault>
+        ensures { Calls (IsClean S.Store) (StandsFor S.Store) self.old (commands.finish ticket) (told_capture result) self.new }
+    {
+        let Some(flight) = self.flights.get(ticket) else {
+            return Err(DeskFault::NoTicket);
+        };
+        if !flight.is_ended() {
+            return Err(DeskFault::NotEnded);
+        }
+        let outcome = flight.outcome()?;
+        let lines = file_outcome(self.alloc, &mut self.store, flight, &outcome.classes)?;
+        self.flights.remove(ticket);
+        Ok(Capture {
+            fault: outcome.fault,
+            lines,
+        })
+    }
+
+    /// What is pinned for a capture in flight, and its machine; none where no capture in flight has the ticket.
+    pub fn in_flight(&self, ticket: u64) -> Option<(&Verified, &Machine)>
+        ensures { (s : Standing) → StandsFor S.Store self.now s → MatchOption result (flight_of ticket s.flights ≡ None) (λ p. IsShownBy (flight_of ticket s.flights) p.0.now p.1.now) }
+    {
+        match self.flights.get(ticket) {
+            Some(flight) => Some((flight.program(), flight.machine())),
+            None => None,
+        }
+    }
+}

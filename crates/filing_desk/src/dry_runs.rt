@@ -1,0 +1,101 @@
+//! Dry runs: what a script or an image captures a message in, with nothing stored.
+
+ghost use Rattle.std.specs.Prelude.{◌≡◌, ℕ, List, [], false, Some, None, IfOk, IfErr};
+ghost use Rattle.sieve_syntax.specs.View.{tree_of};
+ghost use Rattle.sieve_meaning.specs.Reading.{program_of};
+ghost use Rattle.sieve_meaning.specs.Outcome.{outcome_at, outcome};
+ghost use Rattle.script_library.specs.Lent.{scripts_of};
+ghost use Rattle.script_library.specs.Libraries.{library_of};
+ghost use Rattle.filing_table.specs.Ends.{HasOutcome};
+ghost use Rattle.filing_commands.specs.Limits.{greatest_image, greatest_message, greatest_script};
+ghost use Rattle.filing_commands.specs.Office as office;
+ghost use Rattle.filing_commands.specs.Payloads.{IsOf};
+ghost use Rattle.filing_commands.specs.Standing as commands;
+ghost use Rattle.filing_commands.specs.Told.{outcome_view, told_outcome};
+ghost use Rattle.filing_commands.specs.declared.fault.DeskFault.TheVariants.{NoMemory};
+
+use crate::desk::Desk;
+use crate::judge::{judge_image, judge_message, judge_script};
+use filing_commands::{DeskFault, Outcome, Payload};
+use filing_gen::{GenFault, compile_with};
+use filing_machine::{Case, run};
+use filing_verify::Verified;
+use script_library::{Shelf, Shelves};
+use sieve_check::Checked;
+use sieve_meaning::default_class_alone;
+use sqlite::Alter;
+use std::alloc::{AllocError, Global};
+
+/// The default class alone, with a fault.
+fn faulty(alloc: Global, fault: u8) -> Result<Outcome, AllocError>
+    ensures { IfOk result (λ o. outcome_view o ≡ outcome_at (Some fault) [] false false) }
+{
+    Ok(Outcome {
+        classes: default_class_alone(alloc)?,
+        fault: Some(fault),
+    })
+}
+
+/// The outcome of an image's run in a case.
+fn run_image<C: Case>(alloc: Global, program: &Verified, case: &C) -> Result<Outcome, AllocError>
+    ensures { IfOk result (λ o. (n : ℕ) × HasOutcome program.now (C.facts case.now) n (outcome_view o)) }
+{
+    let ran = run(alloc, program, case)?;
+    Ok(Outcome {
+        classes: ran.classes,
+        fault: ran.fault,
+    })
+}
+
+/// The outcome of a script in a case: that of the run of its image, or fault 5 where the script is too heavy for one.
+fn outcome_of<C: Case>(
+    alloc: Global,
+    case: &C,
+    script: &Checked,
+    shelves: Shelves<'_>,
+) -> Result<Outcome, DeskFault>
+    ensures outcome { IfOk result (λ o. outcome_view o ≡ outcome (C.facts case.now) (library_of (scripts_of shelves.entry)) None (program_of (tree_of script.now.script))) }
+    ensures refused { IfErr result (λ f. f ≡ NoMemory) }
+{
+    match compile_with(alloc, script, None, shelves) {
+        Ok(program) => {
+            let outcome = run_image(alloc, &program, case)?;
+            Ok(outcome)
+        }
+        Err(GenFault::TooLarge) => {
+            let outcome = faulty(alloc, 5)?;
+            Ok(outcome)
+        }
+        Err(GenFault::NoMemory) => Err(DeskFault::NoMemory),
+    }
+}
+
+impl<S: Alter> Desk<S> {
+    ghost use Rattle.filing_commands.specs.Calls.{Calls};
+    ghost use Rattle.filing_desk.specs.Standing.{IsClean, StandsFor};
+
+    /// What an image captures a message in, as `Registry` says.
+    pub fn try_image(&self, image: &Payload, message: &Payload) -> Result<Outcome, DeskFault>
+        ensures { (i m : List ℕ) → IsOf greatest_image image.now i → IsOf greatest_message message.now m → Calls (IsClean S.Store) (StandsFor S.Store) self.now (commands.plain (office.try_image i m)) (told_outcome result) self.now }
+    {
+        let program = judge_image(self.alloc, image)?;
+        let case = judge_message(self.alloc, self.store.plan(), message)?;
+        let outcome = run_image(self.alloc, &program, &case)?;
+        Ok(outcome)
+    }
+
+    /// What a script captures a message in, as `Registry` says.
+    pub fn file(&self, script: &Payload, message: &Payload) -> Result<Outcome, DeskFault>
+        ensures { (s m : List ℕ) → IsOf greatest_script script.now s → IsOf greatest_message message.now m → Calls (IsClean S.Store) (StandsFor S.Store) self.now (commands.plain (office.file s m)) (told_outcome result) self.now }
+    {
+        let checked = judge_script(self.alloc, script)?;
+        let case = judge_message(self.alloc, self.store.plan(), message)?;
+        let personal = Shelf::new(self.alloc);
+        let shelves = Shelves {
+            personal: &personal,
+            global: self.officers.globals(),
+        };
+        let outcome = outcome_of(self.alloc, &case, &checked, shelves)?;
+        Ok(outcome)
+    }
+}

@@ -1,0 +1,84 @@
+//! The desk as what a session talks to.
+
+use crate::desk::Desk;
+use class_plan::Date;
+use filing_commands::{Capture, DeskFault, Outcome, Payload, Registry, Turn};
+use record_store::Line;
+use sqlite::Alter;
+
+impl<S: Alter> Registry for Desk<S> {
+    ghost use Rattle.filing_desk.specs.Standing.{IsClean, StandsFor};
+
+    ghost clean = { IsClean S.Store };
+
+    ghost stands = { StandsFor S.Store };
+
+    fn add_class(&mut self, path: &[u8]) -> Result<(), DeskFault> {
+        self.add_class(path)
+    }
+
+    fn set_plan(&mut self, text: &Payload) -> Result<(), DeskFault> {
+        self.set_plan(text)
+    }
+
+    fn set_script(&mut self, officer: &[u8], name: &[u8], text: &Payload) -> Result<(), DeskFault> {
+        self.set_script(officer, name, text)
+    }
+
+    fn set_global(&mut self, name: &[u8], text: &Payload) -> Result<(), DeskFault> {
+        self.set_global(name, text)
+    }
+
+    fn activate(&mut self, officer: &[u8], name: &[u8]) -> Result<(), DeskFault> {
+        self.activate(officer, name)
+    }
+
+    fn deactivate(&mut self, officer: &[u8]) {
+        self.deactivate(officer);
+    }
+
+    fn set_image(&mut self, officer: &[u8], image: &Payload) -> Result<(), DeskFault> {
+        self.set_image(officer, image)
+    }
+
+    fn file(&self, script: &Payload, message: &Payload) -> Result<Outcome, DeskFault> {
+        self.file(script, message)
+    }
+
+    fn try_image(&self, image: &Payload, message: &Payload) -> Result<Outcome, DeskFault> {
+        self.try_image(image, message)
+    }
+
+    fn hold(&mut self, name: &[u8], number: u64) -> Result<(), DeskFault> {
+        self.hold(name, number)
+    }
+
+    fn release(&mut self, name: &[u8], number: u64) -> Result<(), DeskFault> {
+        self.release(name, number)
+    }
+
+    fn due(&mut self, day: Date) -> Result<Vec<Line>, DeskFault> {
+        self.due(day)
+    }
+
+    fn destroy(&mut self, number: u64, day: Date) -> Result<(), DeskFault> {
+        self.destroy(number, day)
+    }
+
+    fn begin(
+        &mut self,
+        officer: &[u8],
+        moment: u64,
+        message: Payload,
+    ) -> Result<(u32, u32), DeskFault> {
+        self.begin(officer, moment, message)
+    }
+
+    fn turn(&mut self, ticket: u64, count: u32) -> Result<Turn, DeskFault> {
+        self.turn(ticket, count)
+    }
+
+    fn finish(&mut self, ticket: u64) -> Result<Capture, DeskFault> {
+        self.finish(ticket)
+    }
+}
