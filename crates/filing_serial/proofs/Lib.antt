@@ -10,3 +10,4 @@ pub mod Refusals
 pub mod Sources
 pub mod InFlight
 pub mod RecordLemmas
+pub mod Unchanged

@@ -1,12 +1,12 @@
 //! Laws of whole sessions, each on a function with nothing to do.
 
-ghost use Rattle.std.specs.Prelude.{◌≡◌, ◌≤◌, ℕ, List, Some, All};
+ghost use Rattle.std.specs.Prelude.{◌≡◌, ◌≢◌, ◌≤◌, ℕ, List, Option, Some, All};
 ghost use Rattle.sieve_meaning.specs.Outcome.{Outcome};
 ghost use Rattle.filing_table.specs.Ends.{HasOutcome};
 ghost use Rattle.record_store.specs.Archive.{Archive};
-ghost use Rattle.filing_commands.specs.Answers.{Answer};
+ghost use Rattle.filing_commands.specs.Answers.{Answer, refused};
 ghost use Rattle.filing_commands.specs.Pinning.{case_in, budget_of, IsAlone};
-ghost use Rattle.filing_commands.specs.Standing.{Command, Flight, Standing, IsPinned, flight_of, opening};
+ghost use Rattle.filing_commands.specs.Standing.{Command, Flight, Standing, IsPinned, Step, flight_of, opening};
 ghost use Rattle.filing_serial.specs.Alike.{AllAlike};
 ghost use Rattle.filing_serial.specs.Beginnings.{HasBegun};
 ghost use Rattle.filing_serial.specs.Runs.{IsReached, Run};
@@ -26,6 +26,12 @@ pub fn equal_after_striking()
     ensures { (s t : Standing) (commands others : List Command) (answers replies : List Answer) (x y : Standing) → forget s ≡ forget t
         → Run s commands answers x → Run t others replies y → kept_commands commands answers ≡ kept_commands others replies
         → AllAlike (kept_answers commands answers) (kept_answers others replies) × (forget x ≡ forget y) }
+{}
+
+/// A refusal changes nothing. Where it is for want of memory (99), a TURN keeps the turns that were made before, and that is all.
+pub fn refusals_change_nothing()
+    ensures unchanged { (s : Standing) (c : Command) (n : ℕ) (at : Option ℕ) (new : Standing) → Step s c (refused n at) new → n ≢ 99 → new ≡ s }
+    ensures no_memory { (s : Standing) (c : Command) (at : Option ℕ) (new : Standing) → Step s c (refused 99 at) new → forget new ≡ forget s }
 {}
 
 /// Of a session that begins with an archive:

@@ -11,6 +11,8 @@ mod laws;
 mod records;
 mod turns;
 
-pub use laws::{captures_are_pinned, equal_after_striking, turns_do_not_matter};
+pub use laws::{
+    captures_are_pinned, equal_after_striking, refusals_change_nothing, turns_do_not_matter,
+};
 pub use records::{dry_runs_store_nothing, due_lists_are_whole, finished_captures_are_whole};
 pub use turns::{beginnings_are_refused_exactly, tickets_are_looked_up_exactly, turns_add_up};

@@ -1,8 +1,8 @@
 //! Laws of turns and tickets, each on a function with nothing to do.
 
-ghost use Rattle.std.specs.Prelude.{◌≡◌, ◌≤◌, ◌<◌, ◌↔◌, ℕ, List, length, Some, None};
-ghost use Rattle.record_store.specs.Archive.{Archive};
-ghost use Rattle.filing_commands.specs.Answers.{Answer, refused};
+ghost use Rattle.std.specs.Prelude.{◌≡◌, ◌≤◌, ◌<◌, ◌↔◌, ℕ, List, length, Option, Some, None};
+ghost use Rattle.record_store.specs.Archive.{Archive, Line};
+ghost use Rattle.filing_commands.specs.Answers.{Answer, filed, refused};
 ghost use Rattle.filing_commands.specs.Limits.{last_ticket, most_in_flight};
 ghost use Rattle.filing_commands.specs.Standing.{Command, Flight, Standing, Step, begin, finish, flight_of, opening, turn};
 ghost use Rattle.filing_serial.specs.Beginnings.{tickets_given, AreNumbersUpTo, MayBegin};
@@ -27,12 +27,15 @@ pub fn turns_add_up()
         → f.pinned.budget ≤ f.granted → HasEnded f }
 {}
 
-/// A TURN, and a FINISH, is refused with 91 exactly where its ticket is not in flight.
+/// A TURN, and a FINISH, is refused with 91 exactly where its ticket is not in flight. A FINISH that makes the records of a capture
+/// gives the ticket up: it is not in flight any more.
 pub fn tickets_are_looked_up_exactly()
     ensures turn { (s : Standing) (t count : ℕ) (a : Answer) (new : Standing)
         → Step s (turn t count) a new → (a ≡ refused 91 None) ↔ (flight_of t s.flights ≡ None) }
     ensures finish { (s : Standing) (t : ℕ) (a : Answer) (new : Standing)
         → Step s (finish t) a new → (a ≡ refused 91 None) ↔ (flight_of t s.flights ≡ None) }
+    ensures given_up { (s : Standing) (t : ℕ) (fault : Option ℕ) (lines : List Line) (new : Standing)
+        → IsReached s → Step s (finish t) (filed fault lines) new → flight_of t new.flights ≡ None }
 {}
 
 /// Of a session that begins with an archive:

@@ -1,4 +1,5 @@
 use Rattle.filing_serial.proofs.Refusals.{no_ticket_to_finish, no_ticket_to_turn}
+use Rattle.filing_serial.proofs.Unchanged.{given_up}
 use Rattle.filing_serial.proofs.turns.tickets_are_looked_up_exactly.Goals as goal
 
 pub returns-clause-turn : goal.returns-clause-turn
@@ -6,3 +7,6 @@ returns-clause-turn c = no_ticket_to_turn
 
 pub returns-clause-finish : goal.returns-clause-finish
 returns-clause-finish c = no_ticket_to_finish
+
+pub returns-clause-given_up : goal.returns-clause-given_up
+returns-clause-given_up c = given_up
