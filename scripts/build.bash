@@ -261,12 +261,11 @@ build_libraries() {
     end_lanes
 }
 
-# Builds a program over its libraries; rt also runs it, on its own input and with its own words if it has them.
+# Builds a program over its libraries; rt also runs it, on its own input if it has one.
 build_program() {
-    local input=$root/crates/$1/stdin words=()
+    local input=$root/crates/$1/stdin
     [[ -f $input ]] || input=/dev/null
-    [[ ! -f $root/crates/$1/args ]] || mapfile -t words < "$root/crates/$1/args"
-    (cd -- "$root/crates/$1" && exec rt run ${words:+--} "${words[@]}") > "$root/crates/$1/out/build.log" 2>&1 < "$input" &
+    (cd -- "$root/crates/$1" && exec rt run) > "$root/crates/$1/out/build.log" 2>&1 < "$input" &
     builders[$1]=$!
     wait "${builders[$1]}"
 }

@@ -223,7 +223,7 @@ scripts() {
     count "a page that is not measured" leaves_the_page
     count "an unknown word for ./bench" gives_up 2 "^usage:" bench --nothing
     if command -v shellcheck > "$work/said"; then
-        count "shellcheck" shellcheck -x test mailfile mailfile-tool bench .ci/run scripts/*.bash
+        count "shellcheck" shellcheck -x test mailfile bench .ci/run scripts/*.bash
     fi
     group scripts
 }

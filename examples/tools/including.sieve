@@ -1,2 +1,0 @@
-require ["include"];
-include :global "invoices";

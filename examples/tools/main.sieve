@@ -1,4 +1,0 @@
-require "fileinto";
-if header :contains "subject" "invoice" {
-    fileinto "finance";
-}

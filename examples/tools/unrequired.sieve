@@ -1,6 +1,0 @@
-require "include";
-keep;
-
-if header :contains "subject" "invoice" {
-    fileinto "finance";
-}
