@@ -16,6 +16,7 @@ mod libraries;
 use clap::{ArgMatches, Error};
 use command_line::{command, words};
 use failure::Failure;
+use std::alloc::Global;
 use std::process::ExitCode;
 
 /// The status where a script or an image is refused.
@@ -68,23 +69,29 @@ fn tell_failure(rt: &HostRuntime, failure: &Failure) -> ExitCode {
     }
 }
 
-/// Reads the command line and does what it asks.
-fn serve(rt: &HostRuntime) -> ExitCode {
-    let words = match words(rt) {
-        Ok(words) => words,
-        Err(failure) => return tell_failure(rt, &failure),
-    };
-    let asked = match command(rt.alloc()) {
-        Ok(command) => command.try_get_matches_from(words.as_slice()),
-        Err(error) => Err(Error::from(error)),
-    };
-    let matches = match asked {
+/// What the words of the command line ask.
+fn read_matches<'a>(alloc: Global, words: &'a [String]) -> Result<ArgMatches<'a>, Error> {
+    let command = command(alloc)?;
+    command.try_get_matches_from(words)
+}
+
+/// Does what the words of the command line ask.
+fn serve_words(rt: &HostRuntime, words: &[String]) -> ExitCode {
+    let matches = match read_matches(rt.alloc(), words) {
         Ok(matches) => matches,
         Err(error) => return tell_clap(rt, &error),
     };
     match do_subcommand(rt, &matches) {
         Ok(Verdict::Good) => ExitCode::SUCCESS,
         Ok(Verdict::Refused) => ExitCode::from(STATUS_REFUSED),
+        Err(failure) => tell_failure(rt, &failure),
+    }
+}
+
+/// Reads the command line and does what it asks.
+fn serve(rt: &HostRuntime) -> ExitCode {
+    match words(rt) {
+        Ok(words) => serve_words(rt, words.as_slice()),
         Err(failure) => tell_failure(rt, &failure),
     }
 }
