@@ -16,7 +16,7 @@ use anyhow::{Context, Result};
 use archive::Size;
 use media::{in_file, in_memory};
 use pair::Pair;
-use rows::{Archives, tell_answers, tell_times};
+use rows::{Archives, Medium, tell_answers, tell_times};
 use std::env;
 use std::rt::Env;
 
@@ -64,7 +64,7 @@ fn measure_in_memory(rt: &HostRuntime, wanted: &Words) -> Result<()> {
         large: Pair::laid(alloc, large, in_memory(alloc)?, in_memory(alloc)?)?,
         small: Pair::laid(alloc, small, in_memory(alloc)?, in_memory(alloc)?)?,
     };
-    tell_times(rt, archives, "over files in memory", wanted.rounds)?;
+    tell_times(rt, archives, Medium::Memory, wanted.rounds)?;
     Ok(())
 }
 
@@ -73,7 +73,7 @@ fn measure_in_files(
     rt: &HostRuntime,
     wanted: &Words,
     records_a_hold: Option<u32>,
-    over: &str,
+    medium: Medium,
     name: &str,
 ) -> Result<()> {
     let path = format!(in rt.alloc(); "{}-{name}", wanted.path)?;
@@ -94,7 +94,7 @@ fn measure_in_files(
             in_file(rt, path, "less")?,
         )?,
     };
-    let archives = tell_times(rt, archives, over, wanted.rounds)?;
+    let archives = tell_times(rt, archives, medium, wanted.rounds)?;
     let Archives { large, .. } = archives;
     let Pair { bare, .. } = large;
     bare.close()?;
@@ -103,14 +103,8 @@ fn measure_in_files(
 
 fn measure(rt: &HostRuntime, wanted: &Words) -> Result<()> {
     measure_in_memory(rt, wanted)?;
-    measure_in_files(rt, wanted, None, "in a file", "free")?;
-    measure_in_files(
-        rt,
-        wanted,
-        Some(10),
-        "in a file, one record in ten held",
-        "held",
-    )
+    measure_in_files(rt, wanted, None, Medium::File, "free")?;
+    measure_in_files(rt, wanted, Some(10), Medium::HeldFile, "held")
 }
 
 fn main(rt: HostRuntime) -> Result<()> {

@@ -32,6 +32,36 @@ enum Beside {
     SmallArchive,
 }
 
+/// What an archive lies in.
+#[derive(Clone, Copy)]
+pub enum Medium {
+    /// Files in memory.
+    Memory,
+    /// A real file.
+    File,
+    /// A real file of an archive in which one record in ten is held.
+    HeldFile,
+}
+
+impl Medium {
+    fn title(self) -> &'static str {
+        match self {
+            Medium::Memory => "over files in memory",
+            Medium::File => "in a file",
+            Medium::HeldFile => "in a file, one record in ten held",
+        }
+    }
+
+    /// Whether a figure is asked of it. A file in memory is copied by each transaction, so that what a call adds to its
+    /// transaction, and the same time in archives of any size, are asked of real files alone.
+    fn is_asked(self, asked: Asked) -> bool {
+        match (self, asked) {
+            (Medium::Memory, Asked::Above(_)) | (Medium::Memory, Asked::Same(_)) => false,
+            _ => true,
+        }
+    }
+}
+
 /// A call, and each figure that was asked of it.
 struct Row {
     call: Call,
@@ -140,13 +170,13 @@ impl Row {
     fn tell(
         &self,
         rt: &impl Print,
-        over: &str,
+        medium: Medium,
         asked: Asked,
         size: usize,
         timing: Timing,
         other: Other,
     ) -> Result<()> {
-        let (title, (word, number)) = (self.title, asked.told());
+        let (title, over, (word, number)) = (self.title, medium.title(), asked.told());
         let (spent, plain) = (timing.call, timing.bare);
         let (answer, answers) = (timing.answer, timing.answers);
         print!(rt; "{title}, {over}\t{word}\t{number}\t{size}\t{spent}\t")?;
@@ -189,15 +219,20 @@ impl Row {
         &self,
         rt: &(impl Clock + Print + AllocGlobal),
         archives: Archives<S>,
-        over: &str,
+        medium: Medium,
         rounds: u32,
     ) -> Result<Archives<S>> {
+        if !self.asked.iter().any(|asked| medium.is_asked(*asked)) {
+            return Ok(archives);
+        }
         let Archives { large, small } = archives;
         let (large, timing) = timing_of(rt, large, self.call, rounds)?;
         let size = self.size(&large, timing);
         let (archives, other) = self.other(rt, Archives { large, small }, rounds, size, timing)?;
         for asked in self.asked {
-            self.tell(rt, over, *asked, size, timing, other)?;
+            if medium.is_asked(*asked) {
+                self.tell(rt, medium, *asked, size, timing, other)?;
+            }
         }
         Ok(archives)
     }
@@ -207,12 +242,12 @@ impl Row {
 pub fn tell_times<S: Alter + Drop>(
     rt: &(impl Clock + Print + AllocGlobal),
     archives: Archives<S>,
-    over: &str,
+    medium: Medium,
     rounds: u32,
 ) -> Result<Archives<S>> {
     let mut archives = archives;
     for row in &ROWS {
-        archives = row.measure(rt, archives, over, rounds)?;
+        archives = row.measure(rt, archives, medium, rounds)?;
     }
     Ok(archives)
 }
