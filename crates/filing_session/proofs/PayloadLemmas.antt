@@ -2,7 +2,7 @@
 use Rattle.std.proofs.Common.{◌≡◌, ℕ, ◌+◌, ◌≤◌, List, true, length, take, drop, arith, ap, sym}
 use Rattle.std.specs.Prelude.{nat_le}
 use Rattle.std.proofs.lemmas.Bool.Decides.{nat_tests}
-use Rattle.filing_desk.specs.Steps.{Command}
+use Rattle.filing_commands.specs.Standing.{Command}
 use Rattle.filing_session.specs.Session.{Got, Call, with_payload, with_payloads}
 
 fits_whole : (size length : ℕ) → size ≤ length → nat_le size length ≡ true

@@ -1,12 +1,12 @@
 -- Runs of desks, as runs of the states that they stand for.
 use Rattle.std.proofs.Common.{◌++◌, ◌∷◌, [], ℕ, List, take, refl, sym, subst}
-use Rattle.filing_desk.specs.Answers.{Answer}
-use Rattle.filing_desk.specs.Calls.{Calls}
-use Rattle.filing_desk.specs.Steps.{Office, Step}
+use Rattle.filing_commands.specs.Answers.{Answer}
+use Rattle.filing_commands.specs.Calls.{Calls}
+use Rattle.filing_commands.specs.Standing.{Standing, Step}
 use Rattle.filing_session.specs.Laws.{Refines}
 use Rattle.filing_session.specs.Session.{Item, Call, UnknownCommand, WrongWord, Session, ItemStep, Run, IsServed, IsAnswered, IsCutInAnswer, IsCutInEnding}
 
-module _ {D : Type 0} (clean : D → Type 0) (stands : D → Office → Type 0) where
+module _ {D : Type 0} (clean : D → Type 0) (stands : D → Standing → Type 0) where
   item_refines : (i : Item) (a : Answer) → Refines clean stands (λ old. ItemStep (Calls clean stands) old i a) (λ s. ItemStep Step s i a)
   item_refines (Call c) a old new step ok = (step.was_clean ok, step.leads ok)
   item_refines UnknownCommand a old new step ok =

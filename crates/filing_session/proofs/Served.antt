@@ -6,8 +6,8 @@ use Rattle.std.proofs.Math.Seq.{take-append_seam}
 use Rattle.std.proofs.lemmas.Grind.{flat_map-append}
 use Rattle.filing_session.specs.Streams.{IsBehind}
 use Rattle.filing_session.specs.Written.{Writes}
-use Rattle.filing_desk.specs.Answers.{Answer}
-use Rattle.filing_desk.specs.Steps.{Command}
+use Rattle.filing_commands.specs.Answers.{Answer}
+use Rattle.filing_commands.specs.Standing.{Command}
 use Rattle.filing_session.specs.Session.{Item, Got, Stop, heard, Session, go_on, session_of, ending_octets, answers_octets, ItemStep, Run, IsServed, IsAnswered, IsCutInAnswer, IsCutInEnding}
 use Rattle.filing_session.specs.Replies.{reply_octets}
 use Rattle.filing_session.specs.declared.items.Ending.{Ending}

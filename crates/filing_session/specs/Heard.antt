@@ -1,7 +1,7 @@
 -- What one line and its payloads lead to.
 use Rattle.std.specs.Prelude.{◌≡◌, ℕ, List, Result, Ok, Err}
-use Rattle.filing_desk.specs.Answers.{Answer}
-use Rattle.filing_desk.specs.Steps.{Command}
+use Rattle.filing_commands.specs.Answers.{Answer}
+use Rattle.filing_commands.specs.Standing.{Command}
 use Rattle.filing_session.specs.Replies.{answer_of}
 use Rattle.filing_session.specs.Session.{Item, Heard, Got, Stop, ItemStep, EndsByInput}
 use Rattle.filing_session.specs.declared.items.Said.{Said}

@@ -2,8 +2,10 @@ pub mod Streams
 pub mod Written
 pub mod Lines
 pub mod Words
+pub mod Dates
 pub mod WordsLeft
 pub mod Commands
+pub mod Asked
 pub mod Payloads
 pub mod Replies
 pub mod Session
@@ -11,3 +13,4 @@ pub mod Heard
 pub mod Laws
 pub mod Memory
 pub mod Known
+pub mod Kept

@@ -1,8 +1,8 @@
 -- Payloads of a session's input.
 use Rattle.std.specs.Prelude.{◌≡◌, ℕ, ◌+◌, ◌<◌, ◌≤◌, List, [], length, take, drop, Option, Some, None}
-use Rattle.filing_desk.specs.declared.payload.Payload.{Payload}
-use Rattle.filing_desk.specs.declared.payload.Payload.TheVariants as payload
-use Rattle.filing_desk.specs.Payloads.{IsOf}
+use Rattle.filing_commands.specs.declared.payload.Payload.{Payload}
+use Rattle.filing_commands.specs.declared.payload.Payload.TheVariants as payload
+use Rattle.filing_commands.specs.Payloads.{IsOf}
 
 -- octets are kept within their limit, and not beyond it
 abbrev pub IsWithin : (limit : ℕ) → Payload → Type 0

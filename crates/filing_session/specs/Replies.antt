@@ -1,8 +1,12 @@
 -- The octets of replies. Each line ends with LF.
-use Rattle.std.specs.Prelude.{ℕ, List, [], ◌∷◌, ◌++◌, Option, Some, None, codes, decimal, flat_map}
+use Rattle.std.specs.Prelude.{ℕ, List, [], ◌∷◌, ◌++◌, Bool, true, false, Option, Some, None, codes, decimal, flat_map, map, if◌then◌else◌}
 use Rattle.sieve_meaning.specs.Outcome as meaning
-use Rattle.filing_desk.specs.Answers.{Answer, done, captured, refused}
-use Rattle.filing_desk.specs.declared.desk.Outcome.{Outcome}
+use Rattle.record_store.specs.Archive.{Line}
+use Rattle.record_store.specs.Stores.{line_view}
+use Rattle.record_store.specs.declared.store.Line as code
+use Rattle.filing_commands.specs.Answers.{Answer, done, captured, begun, running, ended, filed, listed, refused}
+use Rattle.filing_commands.specs.Told.{outcome_view}
+use Rattle.filing_session.specs.Dates.{due_octets}
 use Rattle.filing_session.specs.declared.reply.Reply.{Reply}
 use Rattle.filing_session.specs.declared.reply.Reply.TheVariants as reply
 
@@ -25,6 +29,33 @@ faults_octets None = []
 abbrev pub outcome_octets : meaning.Outcome → List ℕ
 outcome_octets o = faults_octets o.fault ++ classes_octets o.classes
 
+abbrev pub ticket_octets : (ticket budget : ℕ) → List ℕ
+ticket_octets ticket budget = codes "ticket " ++ decimal ticket ++ codes " budget " ++ decimal budget ++ codes "\n"
+
+-- the steps of a capture so far, and whether it has come to its end
+abbrev pub turn_octets : (ended : Bool) → (steps : ℕ) → List ℕ
+turn_octets true steps = codes "ended " ++ decimal steps ++ codes "\n"
+turn_octets false steps = codes "running " ++ decimal steps ++ codes "\n"
+
+abbrev pub head_octets : (number : ℕ) → (path : List ℕ) → List ℕ
+head_octets number path = codes "record " ++ decimal number ++ codes " class " ++ path ++ codes " due "
+
+-- a record's number, its class and its due date
+abbrev pub record_octets : Line → List ℕ
+record_octets l = head_octets l.number l.path ++ (due_octets l.due ++ codes "\n")
+
+-- a line for each record, in their order
+abbrev pub list_octets : List Line → List ℕ
+list_octets lines = flat_map record_octets lines
+
+abbrev pub records_octets : List Line → List ℕ
+records_octets [] = codes "discarded\n"
+records_octets (line ∷ lines) = list_octets (line ∷ lines)
+
+-- the fault, where there is one, and then the records
+abbrev pub capture_octets : (fault : Option ℕ) → List Line → List ℕ
+capture_octets fault lines = faults_octets fault ++ records_octets lines
+
 -- the number, and the offset where there is one
 abbrev pub refused_octets : ℕ → Option ℕ → List ℕ
 refused_octets number None = codes "refused " ++ decimal number ++ codes "\n"
@@ -33,14 +64,23 @@ refused_octets number (Some offset) = codes "refused " ++ decimal number ++ code
 abbrev pub reply_octets : Answer → List ℕ
 reply_octets done = codes "ok\n"
 reply_octets (captured o) = outcome_octets o
+reply_octets (begun ticket budget) = ticket_octets ticket budget
+reply_octets (running steps) = turn_octets false steps
+reply_octets (ended steps) = turn_octets true steps
+reply_octets (filed fault lines) = capture_octets fault lines
+reply_octets (listed lines) = list_octets lines ++ codes "ok\n"
 reply_octets (refused number offset) = refused_octets number offset
-
--- an outcome as the program has it
-abbrev pub outcome_of : Outcome → meaning.Outcome
-outcome_of o = record { classes = o.classes; fault = o.fault }
 
 -- the answer that a reply tells
 abbrev pub answer_of : Reply → Answer
 answer_of reply.Done = done
-answer_of (reply.Captured o) = captured (outcome_of o)
+answer_of (reply.Captured o) = captured (outcome_view o)
+answer_of (reply.Begun ticket budget) = begun ticket budget
+answer_of (reply.Turned t) = if t.ended then ended t.steps else running t.steps
+answer_of (reply.Filed c) = filed c.fault (map line_view c.lines.items)
+answer_of (reply.Listed lines) = listed (map line_view lines.items)
 answer_of (reply.Refused r) = refused r.number r.offset
+
+-- a line as the program has it
+abbrev pub line_octets : code.Line → List ℕ
+line_octets l = record_octets (line_view l)

@@ -1,9 +1,10 @@
 -- The commands of a session's octets, the runs of a desk that they lead to, and the octets of its answers.
 use Rattle.std.specs.Prelude.{◌≡◌, ℕ, zero, suc, ◌+◌, List, [], ◌∷◌, ◌++◌, if◌then◌else◌, nat_le, None, length, take, drop, codes, flat_map}
-use Rattle.filing_desk.specs.Answers.{Answer, refused}
-use Rattle.filing_desk.specs.Steps.{Command, add_class, file, set_global, set_plan, try_image}
+use Rattle.filing_commands.specs.Answers.{Answer, refused}
+use Rattle.filing_commands.specs.Office as office
+use Rattle.filing_commands.specs.Standing.{Command, plain, begin}
 use Rattle.filing_session.specs.Lines.{Line, Whole, TooLong, Cut, End, line_of}
-use Rattle.filing_session.specs.Words.{Asked, AddClass, File, SetGlobal, SetPlan, Try, Quit, Unknown, BadWord, asked}
+use Rattle.filing_session.specs.Asked.{Asked, Alone, SetPlan, SetScript, SetGlobal, SetImage, Begin, File, Try, Quit, Unknown, BadWord, asked}
 use Rattle.filing_session.specs.Replies.{reply_octets}
 use Rattle.filing_session.specs.Streams.{IsBehind}
 use Rattle.filing_session.specs.declared.items.Ending.{Ending}
@@ -39,11 +40,14 @@ with_payloads first second command rest =
     else Stop ending.CutShort []
 
 abbrev pub heard_line : Asked → (rest : List ℕ) → Heard
-heard_line (AddClass path) rest = Got (Call (add_class path)) rest
-heard_line (File script message) rest = with_payloads script message file rest
-heard_line (SetGlobal name text) rest = with_payload text (set_global name) rest
-heard_line (SetPlan text) rest = with_payload text set_plan rest
-heard_line (Try image message) rest = with_payloads image message try_image rest
+heard_line (Alone command) rest = Got (Call command) rest
+heard_line (SetPlan text) rest = with_payload text (λ p. plain (office.set_plan p)) rest
+heard_line (SetScript officer name text) rest = with_payload text (λ p. plain (office.set_script officer name p)) rest
+heard_line (SetGlobal name text) rest = with_payload text (λ p. plain (office.set_global name p)) rest
+heard_line (SetImage officer image) rest = with_payload image (λ p. plain (office.set_image officer p)) rest
+heard_line (Begin officer moment message) rest = with_payload message (λ p. begin officer moment p) rest
+heard_line (File script message) rest = with_payloads script message (λ s m. plain (office.file s m)) rest
+heard_line (Try image message) rest = with_payloads image message (λ i m. plain (office.try_image i m)) rest
 heard_line Quit rest = Stop ending.Quit rest
 heard_line Unknown rest = Got UnknownCommand rest
 heard_line BadWord rest = Got WrongWord rest

@@ -1,21 +1,30 @@
-//! What each command does at the desk, once its payloads are read.
+//! What each command does, once its payloads are read.
 
 ghost use Rattle.std.specs.Prelude.{ℕ, List, ◌≡◌, None};
-ghost use Rattle.filing_desk.specs.Answers.{refused as refused_answer};
-ghost use Rattle.filing_desk.specs.Calls.{Calls};
-ghost use Rattle.filing_desk.specs.Faults.{refused_by};
-ghost use Rattle.filing_desk.specs.Payloads.{IsOf};
-ghost use Rattle.filing_desk.specs.Standing.{IsClean, StandsFor};
-ghost use Rattle.filing_desk.specs.Steps.{add_class as class_command, filed, settled as settled_answer};
-ghost use Rattle.filing_session.specs.Commands.{one_command, one_limit, two_command, two_limits};
+ghost use Rattle.filing_commands.specs.Answers.{refused as refused_answer};
+ghost use Rattle.filing_commands.specs.Calls.{Calls};
+ghost use Rattle.filing_commands.specs.Faults.{refused_by};
+ghost use Rattle.filing_commands.specs.Payloads.{IsOf};
+ghost use Rattle.filing_commands.specs.Told.{told_capture, told_done, told_lines, told_outcome, told_ticket, told_turn};
+ghost use Rattle.filing_session.specs.Commands.{command_of, one_command, one_limit, two_command, two_limits};
 ghost use Rattle.filing_session.specs.Replies.{answer_of};
 
 use crate::reply::Reply;
-use crate::words::{OnePayload, TwoPayloads};
-use filing_desk::{
-    Desk, DeskFault, GREATEST_IMAGE, GREATEST_MESSAGE, GREATEST_PLAN, GREATEST_SCRIPT, Outcome,
-    Payload, Refusal,
-};
+use crate::requests::{NoPayload, OnePayload, TwoPayloads};
+use filing_commands::{Capture, DeskFault, Outcome, Payload, Refusal, Registry, Turn};
+use record_store::Line;
+
+/// How long a script is at most, in octets.
+const GREATEST_SCRIPT: usize = 262_144;
+
+/// How long a message is at most, in octets.
+const GREATEST_MESSAGE: usize = 8_388_608;
+
+/// How long the text of a plan is at most, in octets.
+const GREATEST_PLAN: usize = 1_048_576;
+
+/// How long an image is at most, in octets.
+const GREATEST_IMAGE: usize = 16_777_216;
 
 /// A refusal that has no offset.
 pub fn refused(number: u8) -> Reply
@@ -27,7 +36,7 @@ pub fn refused(number: u8) -> Reply
     })
 }
 
-/// What is answered where the desk refuses.
+/// What is answered where a call is refused.
 fn refused_for(fault: DeskFault) -> Reply
     ensures { answer_of result ≡ refused_by fault }
 {
@@ -36,7 +45,7 @@ fn refused_for(fault: DeskFault) -> Reply
 
 /// What is answered where there is nothing to tell but that it was done.
 fn settled(done: Result<(), DeskFault>) -> Reply
-    ensures { answer_of result ≡ settled_answer done }
+    ensures { answer_of result ≡ told_done done }
 {
     match done {
         Ok(()) => Reply::Done,
@@ -44,9 +53,9 @@ fn settled(done: Result<(), DeskFault>) -> Reply
     }
 }
 
-/// What is answered where a run captures something.
+/// What is answered where a dry run captures something.
 fn captured(outcome: Result<Outcome, DeskFault>) -> Reply
-    ensures { answer_of result ≡ filed outcome }
+    ensures { answer_of result ≡ told_outcome outcome }
 {
     match outcome {
         Ok(outcome) => Reply::Captured(outcome),
@@ -54,11 +63,64 @@ fn captured(outcome: Result<Outcome, DeskFault>) -> Reply
     }
 }
 
-/// Adds a class.
-pub fn add_class(desk: &mut Desk, path: &[u8]) -> Reply
-    ensures { Calls IsClean StandsFor desk.old (class_command path.now) (answer_of result) desk.new }
+/// What is answered where a capture begins.
+fn begun(begun: Result<(u32, u32), DeskFault>) -> Reply
+    ensures { answer_of result ≡ told_ticket begun }
 {
-    settled(desk.add_class(path))
+    match begun {
+        Ok((ticket, budget)) => Reply::Begun { ticket, budget },
+        Err(fault) => refused_for(fault),
+    }
+}
+
+/// What is answered where a capture is granted turns.
+fn turned(turn: Result<Turn, DeskFault>) -> Reply
+    ensures { answer_of result ≡ told_turn turn }
+{
+    match turn {
+        Ok(turn) => Reply::Turned(turn),
+        Err(fault) => refused_for(fault),
+    }
+}
+
+/// What is answered where a capture is made whole.
+fn filed(capture: Result<Capture, DeskFault>) -> Reply
+    ensures { answer_of result ≡ told_capture capture }
+{
+    match capture {
+        Ok(capture) => Reply::Filed(capture),
+        Err(fault) => refused_for(fault),
+    }
+}
+
+/// What is answered where records are listed.
+fn listed(lines: Result<Vec<Line>, DeskFault>) -> Reply
+    ensures { answer_of result ≡ told_lines lines }
+{
+    match lines {
+        Ok(lines) => Reply::Listed(lines),
+        Err(fault) => refused_for(fault),
+    }
+}
+
+/// Does what needs no payload.
+pub fn do_alone<R: Registry>(registry: &mut R, command: &NoPayload<'_>) -> Reply
+    ensures { Calls R.clean R.stands registry.old (command_of command.now) (answer_of result) registry.new }
+{
+    match command {
+        NoPayload::AddClass(path) => settled(registry.add_class(path)),
+        NoPayload::Activate { officer, name } => settled(registry.activate(officer, name)),
+        NoPayload::Deactivate(officer) => {
+            registry.deactivate(officer);
+            Reply::Done
+        }
+        NoPayload::Turn { ticket, count } => turned(registry.turn(*ticket, *count)),
+        NoPayload::Finish(ticket) => filed(registry.finish(*ticket)),
+        NoPayload::Hold { name, number } => settled(registry.hold(name, *number)),
+        NoPayload::Release { name, number } => settled(registry.release(name, *number)),
+        NoPayload::Due(day) => listed(registry.due(day.date)),
+        NoPayload::Destroy { number, day } => settled(registry.destroy(*number, day.date)),
+    }
 }
 
 /// The limit of a command's payload, in octets.
@@ -66,8 +128,10 @@ pub fn limit_of_one(command: OnePayload<'_>) -> usize
     ensures { result ≡ one_limit command.entry }
 {
     match command {
-        OnePayload::SetGlobal(_) => GREATEST_SCRIPT,
         OnePayload::SetPlan => GREATEST_PLAN,
+        OnePayload::SetScript { .. } | OnePayload::SetGlobal(_) => GREATEST_SCRIPT,
+        OnePayload::SetImage(_) => GREATEST_IMAGE,
+        OnePayload::Begin { .. } => GREATEST_MESSAGE,
     }
 }
 
@@ -81,22 +145,32 @@ pub fn limits_of_two(command: TwoPayloads) -> (usize, usize)
     }
 }
 
-/// Does what one payload is for.
-pub fn do_one(desk: &mut Desk, command: OnePayload<'_>, payload: &Payload) -> Reply
-    ensures { (octets : List ℕ) → IsOf (one_limit command.entry) payload.now octets → Calls IsClean StandsFor desk.old (one_command command.entry octets) (answer_of result) desk.new }
+/// Does what one payload is for. A message is given away, and not copied.
+pub fn do_one<R: Registry>(registry: &mut R, command: OnePayload<'_>, payload: Payload) -> Reply
+    ensures { (octets : List ℕ) → IsOf (one_limit command.entry) payload octets → Calls R.clean R.stands registry.old (one_command command.entry octets) (answer_of result) registry.new }
 {
     match command {
-        OnePayload::SetGlobal(name) => settled(desk.set_global(name, payload)),
-        OnePayload::SetPlan => settled(desk.set_plan(payload)),
+        OnePayload::SetPlan => settled(registry.set_plan(&payload)),
+        OnePayload::SetScript { officer, name } => {
+            settled(registry.set_script(officer, name, &payload))
+        }
+        OnePayload::SetGlobal(name) => settled(registry.set_global(name, &payload)),
+        OnePayload::SetImage(officer) => settled(registry.set_image(officer, &payload)),
+        OnePayload::Begin { officer, moment } => begun(registry.begin(officer, moment, payload)),
     }
 }
 
 /// Does what two payloads are for.
-pub fn do_two(desk: &Desk, command: TwoPayloads, first: &Payload, second: &Payload) -> Reply
-    ensures { (a b : List ℕ) → IsOf (two_limits command).0 first.now a → IsOf (two_limits command).1 second.now b → Calls IsClean StandsFor desk.now (two_command command a b) (answer_of result) desk.now }
+pub fn do_two<R: Registry>(
+    registry: &R,
+    command: TwoPayloads,
+    first: &Payload,
+    second: &Payload,
+) -> Reply
+    ensures { (a b : List ℕ) → IsOf (two_limits command).0 first.now a → IsOf (two_limits command).1 second.now b → Calls R.clean R.stands registry.now (two_command command a b) (answer_of result) registry.now }
 {
     match command {
-        TwoPayloads::File => captured(desk.file(first, second)),
-        TwoPayloads::Try => captured(desk.try_image(first, second)),
+        TwoPayloads::File => captured(registry.file(first, second)),
+        TwoPayloads::Try => captured(registry.try_image(first, second)),
     }
 }

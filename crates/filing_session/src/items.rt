@@ -1,21 +1,20 @@
 //! A line with its payloads: it is read, and done.
 
 ghost use Rattle.std.specs.Prelude.{◌≡◌, IfOk, OnErr};
-ghost use Rattle.filing_desk.specs.Calls.{Calls};
-ghost use Rattle.filing_desk.specs.Standing.{IsClean, StandsFor};
+ghost use Rattle.filing_commands.specs.Calls.{Calls};
 ghost use Rattle.filing_session.specs.Commands.{one_command, two_command};
 ghost use Rattle.filing_session.specs.Heard.{Answers, SaysEnd};
 ghost use Rattle.filing_session.specs.Session.{heard, heard_line, with_payload, with_payloads};
 ghost use Rattle.filing_session.specs.Streams.{TellsEnd, TellsTroubles};
-ghost use Rattle.filing_session.specs.Words.{asked_as};
+ghost use Rattle.filing_session.specs.Asked.{asked_as};
 
-use crate::commands::{add_class, do_one, do_two, limit_of_one, limits_of_two, refused};
+use crate::commands::{do_alone, do_one, do_two, limit_of_one, limits_of_two, refused};
 use crate::lines::{LineBuffer, LineEnd, read_line};
 use crate::payload::{read_payload, read_two};
 use crate::reply::Reply;
+use crate::requests::{OnePayload, Request, TwoPayloads, read_request};
 use crate::stream::{ReadFault, Source};
-use crate::words::{OnePayload, Request, TwoPayloads, read_request};
-use filing_desk::Desk;
+use filing_commands::Registry;
 use std::alloc::Global;
 
 /// How a session ends.
@@ -43,33 +42,33 @@ pub enum Said {
 }
 
 /// Reads the payload of a command that has one, and does the command.
-fn answer_one<S: Source>(
+fn answer_one<S: Source, R: Registry>(
     alloc: Global,
     source: &mut S,
-    desk: &mut Desk,
+    registry: &mut R,
     command: OnePayload<'_>,
     size: usize,
 ) -> Result<Said, ReadFault>
-    ensures said { S.tells → IfOk result (λ a. Answers (Calls IsClean StandsFor) desk.old (with_payload size (one_command command.entry) (S.left source.old)) a desk.new (S.left source.new)) }
-    ensures same { OnErr result (desk.new ≡ desk.old) }
+    ensures said { S.tells → IfOk result (λ a. Answers (Calls R.clean R.stands) registry.old (with_payload size (one_command command.entry) (S.left source.old)) a registry.new (S.left source.new)) }
+    ensures same { OnErr result (registry.new ≡ registry.old) }
     ensures ends { TellsEnd (SaysEnd result) (S.ends source.old) (S.ends source.new) }
     ensures troubles { TellsTroubles S.failures S.interruptions S.most_interruptions result source.old source.new }
 {
     let Some(payload) = read_payload(alloc, source, size, limit_of_one(command))? else {
         return Ok(Said::End(Ending::CutShort));
     };
-    Ok(Said::Reply(do_one(desk, command, &payload)))
+    Ok(Said::Reply(do_one(registry, command, payload)))
 }
 
 /// Reads the payloads of a command that has two, and does the command. Both are read before anything is judged.
-fn answer_two<S: Source>(
+fn answer_two<S: Source, R: Registry>(
     alloc: Global,
     source: &mut S,
-    desk: &Desk,
+    registry: &R,
     command: TwoPayloads,
     sizes: (usize, usize),
 ) -> Result<Said, ReadFault>
-    ensures said { S.tells → IfOk result (λ a. Answers (Calls IsClean StandsFor) desk.now (with_payloads sizes.0 sizes.1 (two_command command) (S.left source.old)) a desk.now (S.left source.new)) }
+    ensures said { S.tells → IfOk result (λ a. Answers (Calls R.clean R.stands) registry.now (with_payloads sizes.0 sizes.1 (two_command command) (S.left source.old)) a registry.now (S.left source.new)) }
     ensures ends { TellsEnd (SaysEnd result) (S.ends source.old) (S.ends source.new) }
     ensures troubles { TellsTroubles S.failures S.interruptions S.most_interruptions result source.old source.new }
 {
@@ -77,32 +76,26 @@ fn answer_two<S: Source>(
     let Some((first, second)) = read_two(alloc, source, sizes, limits)? else {
         return Ok(Said::End(Ending::CutShort));
     };
-    Ok(Said::Reply(do_two(desk, command, &first, &second)))
+    Ok(Said::Reply(do_two(registry, command, &first, &second)))
 }
 
 /// Does what a line asks; its payloads are read here.
-fn answer<S: Source>(
+fn answer<S: Source, R: Registry>(
     alloc: Global,
     source: &mut S,
-    desk: &mut Desk,
-    request: Request<'_>,
+    registry: &mut R,
+    request: &Request<'_>,
 ) -> Result<Said, ReadFault>
-    ensures said { S.tells → IfOk result (λ a. Answers (Calls IsClean StandsFor) desk.old (heard_line (asked_as request.entry) (S.left source.old)) a desk.new (S.left source.new)) }
-    ensures same { OnErr result (desk.new ≡ desk.old) }
+    ensures said { S.tells → IfOk result (λ a. Answers (Calls R.clean R.stands) registry.old (heard_line (asked_as request.now) (S.left source.old)) a registry.new (S.left source.new)) }
+    ensures same { OnErr result (registry.new ≡ registry.old) }
     ensures ends { TellsEnd (SaysEnd result) (S.ends source.old) (S.ends source.new) }
     ensures troubles { TellsTroubles S.failures S.interruptions S.most_interruptions result source.old source.new }
 {
     match request {
-        Request::AddClass(path) => Ok(Said::Reply(add_class(desk, path))),
-        Request::One(command, size) => answer_one(alloc, source, desk, command, size as usize),
+        Request::Alone(command) => Ok(Said::Reply(do_alone(registry, command))),
+        Request::One(command, size) => answer_one(alloc, source, registry, *command, *size),
         Request::Two(command, first, second) => {
-            answer_two(
-                alloc,
-                source,
-                desk,
-                command,
-                (first as usize, second as usize),
-            )
+            answer_two(alloc, source, registry, *command, (*first, *second))
         }
         Request::Quit => Ok(Said::End(Ending::Quit)),
         Request::Unknown => Ok(Said::Reply(refused(70))),
@@ -111,19 +104,19 @@ fn answer<S: Source>(
 }
 
 /// Reads a line with its payloads, and does what it asks.
-pub fn next<S: Source>(
+pub fn next<S: Source, R: Registry>(
     alloc: Global,
     source: &mut S,
-    desk: &mut Desk,
+    registry: &mut R,
     line: &mut LineBuffer,
 ) -> Result<Said, ReadFault>
-    ensures said { S.tells → IfOk result (λ a. Answers (Calls IsClean StandsFor) desk.old (heard (S.left source.old)) a desk.new (S.left source.new)) }
-    ensures same { OnErr result (desk.new ≡ desk.old) }
+    ensures said { S.tells → IfOk result (λ a. Answers (Calls R.clean R.stands) registry.old (heard (S.left source.old)) a registry.new (S.left source.new)) }
+    ensures same { OnErr result (registry.new ≡ registry.old) }
     ensures ends { TellsEnd (SaysEnd result) (S.ends source.old) (S.ends source.new) }
     ensures troubles { TellsTroubles S.failures S.interruptions S.most_interruptions result source.old source.new }
 {
     match read_line(source, line)? {
-        LineEnd::Whole => answer(alloc, source, desk, read_request(line.as_slice())),
+        LineEnd::Whole => answer(alloc, source, registry, &read_request(line.as_slice())),
         LineEnd::TooLong => Ok(Said::End(Ending::LongLine)),
         LineEnd::Cut => Ok(Said::End(Ending::CutShort)),
         LineEnd::Nothing => Ok(Said::End(Ending::Ended)),

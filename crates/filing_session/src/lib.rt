@@ -2,21 +2,23 @@
 //!
 //! - `stream`: sources and sinks, which may fail, be interrupted, and move fewer octets than they are asked to;
 //! - `tally`: how their troubles are counted;
-//! - `lines`, `words`, `payload`: what is read, a line with its payloads at a time;
-//! - `reply`: what is written;
-//! - `commands`: what each command does at the desk;
+//! - `lines`, `words`, `dates`, `requests`, `payload`: what is read, a line with its payloads at a time;
+//! - `reply`, `told_dates`: what is written;
+//! - `commands`: what each command does at a registry, which is the desk of an office;
 //! - `items`: a line with its payloads, which is read and done;
 //! - `input`, `output`: a source over a reader, which is read `ahead`, and a sink over a writer;
 //! - `memory`: a source and a sink for tests;
-//! - `session`: `serve`, whose contract says which octets it writes to which it read, and what the desk has done;
-//! - `laws`: what that says of the states that the desk stands for.
+//! - `session`: `serve`, whose contract says which octets it writes to which it read, and what the registry has done;
+//! - `laws`: what that says of the states that the registry stands for.
 //!
-//! In `specs/`, `Session` has the whole of it: the commands of an input, the runs of a desk or of the states that it stands
+//! In `specs/`, `Session` has the whole of it: the commands of an input, the runs of a registry or of the states that it stands
 //! for, and the octets of answers.
 #![tactic(auto)]
 
 mod ahead;
 mod commands;
+mod dates;
+mod day;
 mod input;
 mod items;
 mod laws;
@@ -25,14 +27,16 @@ pub mod memory;
 mod output;
 mod payload;
 mod reply;
+mod requests;
 mod session;
 mod stream;
 mod tally;
+mod told_dates;
 mod trouble;
 mod words;
 
 pub use input::Input;
-pub use laws::sessions_refine_states;
+pub use laws::{equal_lines_after_striking, sessions_refine_states};
 pub use output::Output;
 pub use session::{COMMANDS, ServeFault, serve};
 pub use stream::{Sink, Source, Trouble};

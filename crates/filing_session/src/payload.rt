@@ -6,7 +6,7 @@ ghost use Rattle.filing_session.specs.Payloads.{IsRead, AreRead};
 ghost use Rattle.filing_session.specs.Streams.{TellsEnd, TellsTroubles};
 
 use crate::stream::{ReadFault, Source, read_some};
-use filing_desk::Payload;
+use filing_commands::Payload;
 use std::alloc::Global;
 
 /// How many octets are read at once.

@@ -1,12 +1,17 @@
 //! Replies, and how they are written.
 
-ghost use Rattle.filing_session.specs.Replies.{answer_of, outcome_of, reply_octets, classes_octets, class_octets, refused_octets, outcome_octets, fault_octets};
+ghost use Rattle.std.specs.Prelude.{◌++◌, ℕ, codes, flat_map, map};
+ghost use Rattle.filing_commands.specs.Told.{outcome_view};
+ghost use Rattle.record_store.specs.Stores.{line_view};
+ghost use Rattle.filing_session.specs.Replies.{answer_of, reply_octets, classes_octets, class_octets, refused_octets, outcome_octets, fault_octets, faults_octets, head_octets, ticket_octets, turn_octets, capture_octets, records_octets, list_octets, line_octets};
 ghost use Rattle.filing_session.specs.Written.{Writes};
 ghost use Rattle.filing_session.specs.Streams.{TellsTroubles};
 
 use crate::stream::{Sink, WriteFault, write_all, write_pieces};
-use filing_desk::{Outcome, Refusal};
+use crate::told_dates::write_due;
+use filing_commands::{Capture, Outcome, Refusal, Turn};
 use itoa::Buffer;
+use record_store::Line;
 use sieve_syntax::Text;
 
 /// What a command is answered.
@@ -14,8 +19,16 @@ use sieve_syntax::Text;
 pub enum Reply {
     /// It is done.
     Done,
-    /// What a run captures.
+    /// What a dry run captures.
     Captured(Outcome),
+    /// A capture has begun, with a budget in steps.
+    Begun { ticket: u32, budget: u32 },
+    /// How far a capture has come.
+    Turned(Turn),
+    /// A capture is whole.
+    Filed(Capture),
+    /// The records that are due.
+    Listed(Vec<Line>),
     /// It is refused.
     Refused(Refusal),
 }
@@ -52,15 +65,127 @@ fn write_fault<K: Sink>(sink: &mut K, fault: u8) -> Result<(), WriteFault>
     write_pieces(sink, &[b"fault ".as_slice(), number, b"\n".as_slice()])
 }
 
-/// Writes the lines of an outcome.
-fn write_outcome<K: Sink>(sink: &mut K, outcome: &Outcome) -> Result<(), WriteFault>
-    ensures written { K.tells → Writes result (K.written sink.old) (outcome_octets (outcome_of outcome.now)) (K.written sink.new) }
+/// Writes the line of a fault, where there is one.
+fn write_faults<K: Sink>(sink: &mut K, fault: Option<u8>) -> Result<(), WriteFault>
+    ensures written { K.tells → Writes result (K.written sink.old) (faults_octets fault) (K.written sink.new) }
     ensures troubles { TellsTroubles K.failures K.interruptions K.most_interruptions result sink.old sink.new }
 {
-    if let Some(fault) = outcome.fault {
-        write_fault(sink, fault)?;
+    match fault {
+        Some(fault) => write_fault(sink, fault),
+        None => Ok(()),
     }
+}
+
+/// Writes the lines of an outcome.
+fn write_outcome<K: Sink>(sink: &mut K, outcome: &Outcome) -> Result<(), WriteFault>
+    ensures written { K.tells → Writes result (K.written sink.old) (outcome_octets (outcome_view outcome.now)) (K.written sink.new) }
+    ensures troubles { TellsTroubles K.failures K.interruptions K.most_interruptions result sink.old sink.new }
+{
+    write_faults(sink, outcome.fault)?;
     write_classes(sink, outcome.classes.as_slice())
+}
+
+/// Writes the line of a capture that has begun.
+fn write_ticket<K: Sink>(sink: &mut K, ticket: u32, budget: u32) -> Result<(), WriteFault>
+    ensures written { K.tells → Writes result (K.written sink.old) (ticket_octets ticket budget) (K.written sink.new) }
+    ensures troubles { TellsTroubles K.failures K.interruptions K.most_interruptions result sink.old sink.new }
+{
+    let mut number = Buffer::new();
+    let number = number.format(ticket).as_bytes();
+    let mut steps = Buffer::new();
+    let steps = steps.format(budget).as_bytes();
+    write_pieces(
+        sink,
+        &[
+            b"ticket ".as_slice(),
+            number,
+            b" budget ".as_slice(),
+            steps,
+            b"\n".as_slice(),
+        ],
+    )
+}
+
+/// Writes the line of a capture that was granted turns.
+fn write_turn<K: Sink>(sink: &mut K, turn: Turn) -> Result<(), WriteFault>
+    ensures written { K.tells → Writes result (K.written sink.old) (turn_octets turn.ended turn.steps) (K.written sink.new) }
+    ensures troubles { TellsTroubles K.failures K.interruptions K.most_interruptions result sink.old sink.new }
+{
+    let mut steps = Buffer::new();
+    let steps = steps.format(turn.steps).as_bytes();
+    if turn.ended {
+        write_pieces(sink, &[b"ended ".as_slice(), steps, b"\n".as_slice()])
+    } else {
+        write_pieces(sink, &[b"running ".as_slice(), steps, b"\n".as_slice()])
+    }
+}
+
+/// Writes the line of a record as far as its due date.
+fn write_head<K: Sink>(sink: &mut K, number: u32, path: &[u8]) -> Result<(), WriteFault>
+    ensures written { K.tells → Writes result (K.written sink.old) (head_octets number path.now) (K.written sink.new) }
+    ensures troubles { TellsTroubles K.failures K.interruptions K.most_interruptions result sink.old sink.new }
+{
+    let mut text = Buffer::new();
+    let text = text.format(number).as_bytes();
+    write_pieces(
+        sink,
+        &[
+            b"record ".as_slice(),
+            text,
+            b" class ".as_slice(),
+            path,
+            b" due ".as_slice(),
+        ],
+    )
+}
+
+/// Writes the line of a record.
+fn write_record<K: Sink>(sink: &mut K, line: &Line) -> Result<(), WriteFault>
+    ensures written { K.tells → Writes result (K.written sink.old) (line_octets line.now) (K.written sink.new) }
+    ensures troubles { TellsTroubles K.failures K.interruptions K.most_interruptions result sink.old sink.new }
+{
+    write_head(sink, line.number, line.path.as_slice())?;
+    write_due(sink, line.due)
+}
+
+/// Writes the lines of records.
+fn write_list<K: Sink>(sink: &mut K, lines: &[Line]) -> Result<(), WriteFault>
+    ensures written { K.tells → Writes result (K.written sink.old) (flat_map line_octets lines.now) (K.written sink.new) }
+    ensures troubles { TellsTroubles K.failures K.interruptions K.most_interruptions result sink.old sink.new }
+{
+    for line in lines {
+        write_record(sink, line)?;
+    }
+    Ok(())
+}
+
+/// Writes the lines of records, or that there is none.
+fn write_records<K: Sink>(sink: &mut K, lines: &[Line]) -> Result<(), WriteFault>
+    ensures written { K.tells → Writes result (K.written sink.old) (records_octets (map line_view lines.now)) (K.written sink.new) }
+    ensures troubles { TellsTroubles K.failures K.interruptions K.most_interruptions result sink.old sink.new }
+{
+    if lines.is_empty() {
+        return write_all(sink, b"discarded\n");
+    }
+    write_list(sink, lines)
+}
+
+/// Writes the lines of a whole capture.
+fn write_capture<K: Sink>(sink: &mut K, capture: &Capture) -> Result<(), WriteFault>
+    ensures written { K.tells → Writes result (K.written sink.old) (capture_octets capture.now.fault (map line_view capture.now.lines.items)) (K.written sink.new) }
+    ensures troubles { TellsTroubles K.failures K.interruptions K.most_interruptions result sink.old sink.new }
+{
+    write_faults(sink, capture.fault)?;
+    write_records(sink, capture.lines.as_slice())
+}
+
+/// Writes the lines of the records that are due, and that these are all.
+fn write_due_list<K: Sink>(sink: &mut K, lines: &[Line]) -> Result<(), WriteFault>
+    ensures written { K.tells → Writes result (K.written sink.old) (list_octets (map line_view lines.now) ++ codes "ok\n") (K.written sink.new) }
+    ensures troubles { TellsTroubles K.failures K.interruptions K.most_interruptions result sink.old sink.new }
+{
+    write_list(sink, lines)?;
+    write_all(sink, b"ok\n")
 }
 
 /// Writes the line of a refusal.
@@ -95,6 +220,10 @@ pub fn write_reply<K: Sink>(sink: &mut K, reply: &Reply) -> Result<(), WriteFaul
     match reply {
         Reply::Done => write_all(sink, b"ok\n"),
         Reply::Captured(outcome) => write_outcome(sink, outcome),
+        Reply::Begun { ticket, budget } => write_ticket(sink, *ticket, *budget),
+        Reply::Turned(turn) => write_turn(sink, *turn),
+        Reply::Filed(capture) => write_capture(sink, capture),
+        Reply::Listed(lines) => write_due_list(sink, lines.as_slice()),
         Reply::Refused(refusal) => write_refusal(sink, *refusal),
     }
 }

@@ -1,8 +1,7 @@
 //! The session: lines are read, done and answered, one after the other.
 
 ghost use Rattle.std.specs.Prelude.{◌≡◌, ◌≢◌, ◌⊎◌, OnOk, Ok, Err, IsErrOf};
-ghost use Rattle.filing_desk.specs.Calls.{Calls};
-ghost use Rattle.filing_desk.specs.Standing.{IsClean, StandsFor};
+ghost use Rattle.filing_commands.specs.Calls.{Calls};
 ghost use Rattle.filing_session.specs.Session.{session_of, ending_octets, left_by, IsServed, IsAnswered, IsCutInAnswer, IsCutInEnding, EndsByInput};
 ghost use Rattle.filing_session.specs.Streams.{Rises, GivesUp, TellsTroubles, TriesOn};
 ghost use Rattle.filing_session.specs.Written.{Writes};
@@ -11,7 +10,7 @@ use crate::items::{Ending, Said, next};
 use crate::lines::LineBuffer;
 use crate::reply::write_reply;
 use crate::stream::{Sink, Source, write_all};
-use filing_desk::Desk;
+use filing_commands::Registry;
 use std::alloc::Global;
 use thiserror::Error;
 
@@ -52,28 +51,28 @@ fn write_ending<K: Sink>(sink: &mut K, ending: Ending) -> Result<(), ServeFault>
     Ok(())
 }
 
-/// Serves a session: reads commands from a source, does them at a desk, and writes their answers to a sink, until a
+/// Serves a session: reads commands from a source, does them at a registry, and writes their answers to a sink, until a
 /// command or the input ends the session, or a fault does. What was done before a fault stays done, and nothing is done
-/// behind it: on a read fault all that was done is answered, and on a write fault all but a rest of the last answer or of
-/// the ending. Nothing is read behind `QUIT`, nor behind the last command that a session may have, nor behind the first 513
+/// after it: on a read fault all that was done is answered, and on a write fault all but a rest of the last answer or of
+/// the ending. Nothing is read after `QUIT`, nor after the last command that a session may have, nor after the first 513
 /// octets of a line that is too long.
 ///
-/// Memory is taken for payloads and by the desk's calls, and for nothing else.
+/// Memory is taken for payloads and by the calls, and for nothing else.
 ///
 /// # Errors
 ///
 /// `Read` where a read failed or 64 in a row were interrupted, `Write` where a write failed, took no octet, or 64 in a row
 /// were interrupted. No call is made again after 64 in a row.
-pub fn serve<S: Source, K: Sink>(
+pub fn serve<S: Source, K: Sink, R: Registry>(
     alloc: Global,
     source: &mut S,
     sink: &mut K,
-    desk: &mut Desk,
+    registry: &mut R,
 ) -> Result<(), ServeFault>
-    ensures ok { S.tells → K.tells → OnOk result (IsServed (Calls IsClean StandsFor) (session_of 1000000 (S.left source.old)) desk.old (K.written sink.old) (K.written sink.new) desk.new) }
-    ensures unheard { S.tells → K.tells → IsErrOf result ServeFault.Read → IsAnswered (Calls IsClean StandsFor) (session_of 1000000 (S.left source.old)) desk.old (K.written sink.old) (K.written sink.new) desk.new }
+    ensures ok { S.tells → K.tells → OnOk result (IsServed (Calls R.clean R.stands) (session_of 1000000 (S.left source.old)) registry.old (K.written sink.old) (K.written sink.new) registry.new) }
+    ensures unheard { S.tells → K.tells → IsErrOf result ServeFault.Read → IsAnswered (Calls R.clean R.stands) (session_of 1000000 (S.left source.old)) registry.old (K.written sink.old) (K.written sink.new) registry.new }
     ensures unsaid { S.tells → K.tells → IsErrOf result ServeFault.Write →
-        IsCutInAnswer (Calls IsClean StandsFor) (session_of 1000000 (S.left source.old)) desk.old (K.written sink.old) (K.written sink.new) desk.new ⊎ IsCutInEnding (Calls IsClean StandsFor) (session_of 1000000 (S.left source.old)) desk.old (K.written sink.old) (K.written sink.new) desk.new }
+        IsCutInAnswer (Calls R.clean R.stands) (session_of 1000000 (S.left source.old)) registry.old (K.written sink.old) (K.written sink.new) registry.new ⊎ IsCutInEnding (Calls R.clean R.stands) (session_of 1000000 (S.left source.old)) registry.old (K.written sink.old) (K.written sink.new) registry.new }
     ensures read { IsErrOf result ServeFault.Read → GivesUp (S.failures source.old) (S.failures source.new) (S.interruptions source.new) }
     ensures write { IsErrOf result ServeFault.Write → GivesUp (K.failures sink.old) (K.failures sink.new) (K.interruptions sink.new) }
     ensures outlasts { OnOk result ((S.failures source.new ≡ S.failures source.old) × (K.failures sink.new ≡ K.failures sink.old)) }
@@ -84,7 +83,7 @@ pub fn serve<S: Source, K: Sink>(
 {
     let mut line = LineBuffer::new();
     for _ in 0..COMMANDS {
-        let Ok(said) = next(alloc, source, desk, &mut line) else {
+        let Ok(said) = next(alloc, source, registry, &mut line) else {
             return Err(ServeFault::Read);
         };
         match said {

@@ -1,6 +1,6 @@
 //! The command line.
 
-use clap::{Command, Error};
+use clap::{Arg, ArgAction, Command, Error};
 use std::alloc::{AllocError, Global};
 use std::env;
 use std::io::ErrorKind;
@@ -30,14 +30,36 @@ fn read_words<R: Env + Alloc<A = Global>>(rt: &R) -> Result<Vec<String>, LineFau
     }
 }
 
-/// Reads the command line, which has no word but the program's name.
-pub fn read_command_line<R: Env + Alloc<A = Global>>(rt: &R) -> Result<(), LineFault> {
+/// What a command line asks.
+#[derive(Drop)]
+pub struct CommandLine {
+    /// The path of the file that keeps the store, as it was handed in; without one the store is in memory.
+    pub store: Option<String>,
+}
+
+/// The command line as `clap` knows it.
+fn command<'a>(alloc: Global) -> Result<Command<'a>, AllocError> {
+    let store = Arg::new(alloc, "store")
+        .long("store")
+        .value_name("FILE")
+        .help("The file that keeps the store; without it the store is in memory")
+        .action(ArgAction::Set);
+    Command::new(alloc, "mailfile")
+        .version("0.1.0")
+        .about("Files e-mail as records: serves a session from standard input to standard output")
+        .arg(store)
+}
+
+/// Reads the command line.
+pub fn read_command_line<R: Env + Alloc<A = Global>>(rt: &R) -> Result<CommandLine, LineFault> {
     let words = read_words(rt)?;
-    let command = Command::new(rt.alloc(), "mailfile").version("0.1.0").about(
-        "Files e-mail as records: serves a session from standard input to standard output",
-    );
-    match command.try_get_matches_from(words.as_slice()) {
-        Ok(_) => Ok(()),
-        Err(error) => Err(LineFault::Told(error)),
-    }
+    let matches = match command(rt.alloc())?.try_get_matches_from(words.as_slice()) {
+        Ok(matches) => matches,
+        Err(error) => return Err(LineFault::Told(error)),
+    };
+    let store = match matches.get_str("store") {
+        Some(path) => Some(String::from_str(rt.alloc(), path)?),
+        None => None,
+    };
+    Ok(CommandLine { store })
 }

@@ -6,6 +6,9 @@ mod command_line;
 use command_line::{LineFault, read_command_line};
 use filing_desk::Desk;
 use filing_session::{Input, Output, serve};
+use record_store::Store;
+use sqlite::{Alter, Connection};
+use std::alloc::Global;
 use std::process::ExitCode;
 
 /// The status after a read or a write fault.
@@ -17,11 +20,19 @@ const STATUS_USAGE: u8 = 2;
 /// The status where there is no store to serve over.
 const STATUS_NO_STORE: u8 = 3;
 
-/// Serves a session from standard input to standard output.
-fn serve_standard(rt: &HostRuntime) -> ExitCode {
-    let Ok(mut desk) = Desk::new(rt.alloc()) else {
-        let _ = eprintln!(rt; "mailfile: no store");
-        return ExitCode::from(STATUS_NO_STORE);
+/// The desk over a database, where that can be taken for an archive.
+fn desk_over<S: Alter + Drop>(alloc: Global, conn: Connection<S>) -> Option<Desk<S>> {
+    if !conn.is_autocommit() {
+        return None;
+    }
+    let store = Store::adopt(alloc, conn).ok()?;
+    Desk::new(alloc, store).ok()
+}
+
+/// Serves a session over a database, from standard input to standard output.
+fn serve_over<S: Alter + Drop>(rt: &HostRuntime, conn: Connection<S>) -> ExitCode {
+    let Some(mut desk) = desk_over(rt.alloc(), conn) else {
+        return end_without_store(rt);
     };
     let mut input = Input::new(rt.stdin());
     let mut output = Output::new(rt.stdout());
@@ -32,6 +43,28 @@ fn serve_standard(rt: &HostRuntime) -> ExitCode {
             ExitCode::from(STATUS_FAULT)
         }
     }
+}
+
+/// Serves a session over the store in memory.
+fn serve_in_memory(rt: &HostRuntime) -> ExitCode {
+    match Connection::open_in_memory(rt.alloc()) {
+        Ok(conn) => serve_over(rt, conn),
+        Err(_) => end_without_store(rt),
+    }
+}
+
+/// Serves a session over the store in a file, whose pages end in check sums where the file is new.
+fn serve_in_file(rt: &HostRuntime, path: &str) -> ExitCode {
+    match Connection::open_with_sums(rt, path) {
+        Ok(conn) => serve_over(rt, conn),
+        Err(_) => end_without_store(rt),
+    }
+}
+
+/// Ends without a session, where there is no store.
+fn end_without_store(rt: &HostRuntime) -> ExitCode {
+    let _ = eprintln!(rt; "mailfile: no store");
+    ExitCode::from(STATUS_NO_STORE)
 }
 
 /// Ends without a session: tells what `clap` has to say, which for `--help` is no fault.
@@ -49,7 +82,10 @@ fn end_without_session(rt: &HostRuntime, fault: &LineFault) -> ExitCode {
 
 fn main(rt: HostRuntime) -> ExitCode {
     match read_command_line(&rt) {
-        Ok(()) => serve_standard(&rt),
+        Ok(line) => match line.store {
+            Some(path) => serve_in_file(&rt, path.as_str()),
+            None => serve_in_memory(&rt),
+        },
         Err(fault) => end_without_session(&rt, &fault),
     }
 }

@@ -7,6 +7,7 @@
 mod bench;
 mod call;
 mod compiled;
+mod desks;
 mod given;
 mod images;
 mod made;

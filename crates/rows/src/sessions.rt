@@ -9,14 +9,15 @@
 //! - `image HEX` is an image in the place of a script, its octets as two hexadecimal digits each, apart or not;
 //! - `message TEXT` files that message by the script, or tries the image on it, with the line that tells their lengths, and
 //!   `messages N TEXT` one of TEXT N times;
-//! - `want TEXT` is a line that is to be answered, and `wants N TEXT` N such lines.
+//! - `want TEXT` is a line that is to be answered, and `wants N TEXT` N such lines; one that ends with `*` tells only what the line
+//!   begins with.
 //!
 //! In TEXT `\n`, `\r`, `\s` (a space) and `\xHH` are octets, and a backslash before another octet is left out (`row_text`).
 //! Empty lines and those that begin with `#` are passed over, and so is
 //! what stands before the first case.
 
+use crate::desks::desk_in_memory;
 use anyhow::{Context, Result, bail};
-use filing_desk::Desk;
 use filing_session::memory::{MemorySink, MemorySource};
 use filing_session::serve;
 use row_text::{hex_value, octets_of};
@@ -206,7 +207,7 @@ fn read_line(alloc: Global, case: &mut Case, line: &str) -> Result<()> {
 
 /// What a session is answered, or none where there is no desk or a fault.
 fn play(alloc: Global, input: &[u8]) -> Option<MemorySink> {
-    let mut desk = Desk::new(alloc).ok()?;
+    let mut desk = desk_in_memory(alloc)?;
     let mut sink = MemorySink::new(alloc);
     serve(alloc, &mut MemorySource::new(input), &mut sink, &mut desk).ok()?;
     Some(sink)
@@ -217,16 +218,33 @@ fn shown(octets: &[u8]) -> &str {
     str::from_utf8(octets).unwrap_or("(not UTF-8)")
 }
 
+/// Whether a line is answered as it is wanted.
+fn is_wanted(answered: &str, wanted: &str) -> bool {
+    match wanted.strip_suffix('*') {
+        Some(front) => answered.starts_with(front),
+        None => answered == wanted,
+    }
+}
+
+/// Whether all lines are answered as they are wanted.
+fn are_wanted(answered: &str, wanted: &str) -> bool {
+    answered.lines().count() == wanted.lines().count()
+        && answered
+            .lines()
+            .zip(wanted.lines())
+            .all(|(answered, wanted)| is_wanted(answered, wanted))
+}
+
 /// Plays a case, and tells how it went.
 fn judge(rt: &(impl Print + AllocGlobal), case: &Case) -> io::Result<()> {
     let name = case.name.as_str();
     let Some(sink) = play(rt.alloc(), case.input.as_slice()) else {
         return println!(rt; "{name} had no answer");
     };
-    if sink.as_slice() == case.wanted.as_slice() {
+    let (answered, wanted) = (shown(sink.as_slice()), shown(case.wanted.as_slice()));
+    if sink.as_slice() == case.wanted.as_slice() || are_wanted(answered, wanted) {
         return println!(rt; "{name} ok");
     }
-    let (answered, wanted) = (shown(sink.as_slice()), shown(case.wanted.as_slice()));
     println!(rt; "{name} failed\nanswered:\n{answered}wanted:\n{wanted}")
 }
 

@@ -1,7 +1,7 @@
 //! What sessions answer over streams that fail, or that move few octets at once.
 
+use crate::desks::desk_in_memory;
 use anyhow::{Result, bail};
-use filing_desk::Desk;
 use filing_session::memory::{Hitch, MemorySink, MemorySource};
 use filing_session::{ServeFault, Trouble, serve};
 use std::alloc::Global;
@@ -12,7 +12,7 @@ fn run(
     mut source: MemorySource<'_>,
     sink: &mut MemorySink,
 ) -> Result<Result<(), ServeFault>> {
-    let Ok(mut desk) = Desk::new(alloc) else {
+    let Some(mut desk) = desk_in_memory(alloc) else {
         bail!("there is no desk");
     };
     Ok(serve(alloc, &mut source, sink, &mut desk))
@@ -92,7 +92,7 @@ pub fn streams(alloc: Global, input: &[u8]) -> Result<Vec<u8>> {
 /// What a session leaves unread.
 pub fn unread(alloc: Global, input: &[u8]) -> Result<Vec<u8>> {
     let mut source = MemorySource::new(input);
-    let Ok(mut desk) = Desk::new(alloc) else {
+    let Some(mut desk) = desk_in_memory(alloc) else {
         bail!("there is no desk");
     };
     if serve(alloc, &mut source, &mut MemorySink::new(alloc), &mut desk) != Ok(()) {

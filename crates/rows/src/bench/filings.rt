@@ -1,7 +1,8 @@
 //! Scripts, messages and sessions, and what is measured on them.
 
 use crate::bench::inputs::repeated;
-use filing_desk::{Desk, GREATEST_MESSAGE};
+use crate::desks::desk_in_memory;
+use filing_desk::GREATEST_MESSAGE;
 use filing_gen::{Library, compile};
 use filing_image::decode;
 use filing_machine::{Case, WholeCase};
@@ -160,7 +161,9 @@ pub fn weights_of(alloc: Global, script: &[u8], times: usize) -> usize {
 
 /// The octets that a session is answered, or 0 where it is given up.
 pub fn octets_answered(alloc: Global, session: &[u8]) -> Result<usize, AllocError> {
-    let mut desk = Desk::new(alloc)?;
+    let Some(mut desk) = desk_in_memory(alloc) else {
+        return Err(AllocError);
+    };
     let mut sink = MemorySink::new(alloc);
     match serve(alloc, &mut MemorySource::new(session), &mut sink, &mut desk) {
         Ok(()) => Ok(sink.as_slice().len()),

@@ -1,5 +1,5 @@
 use Rattle.std.proofs.Common.{Option, take, subst}
-use Rattle.filing_desk.specs.declared.payload.Payload.{Payload}
+use Rattle.filing_commands.specs.declared.payload.Payload.{Payload}
 use Rattle.filing_session.specs.Commands.{one_command}
 use Rattle.filing_session.specs.Payloads.{IsRead}
 use Rattle.filing_session.specs.Session.{Call}

@@ -1,10 +1,6 @@
 use Rattle.std.proofs.Common.{◌-◌, ℕ, arith, refl, [], inl, inr, ap, sym, ◌∙◌, subst, Ok}
 use Rattle.std.proofs.lemmas.List.{append-nil}
-use Rattle.filing_desk.specs.Answers.{Answer}
-use Rattle.filing_desk.specs.Calls.{Calls}
-use Rattle.filing_desk.specs.Standing.{IsClean, StandsFor}
-use Rattle.filing_desk.specs.Steps.{Command}
-use Rattle.filing_desk.specs.declared.desk.Desk.{Desk}
+use Rattle.filing_commands.specs.Calls.{Calls}
 use Rattle.filing_session.specs.Session.{heard, session_of, EndsByInput, IsAnswered}
 use Rattle.filing_session.specs.Heard.{Answers, SaysEnd}
 use Rattle.filing_session.specs.Replies.{answer_of, reply_octets}
@@ -16,10 +12,6 @@ use Rattle.filing_session.proofs.Pieces.{written_ok, written_fault, outlasted}
 use Rattle.filing_session.proofs.Served.{Served, more, answered_now, cut_in_answer, all_ends, one_less, ended_ok, ended_cut, limit_ends, stop_ends}
 use Rattle.filing_session.proofs.Unread.{left_more, left_stop, left_limit}
 use Rattle.filing_session.proofs.session.serve.Goals as goal
-
--- what a command does at the desk
-abbrev Does : Desk → Command → Answer → Desk → Type 0
-Does = Calls IsClean StandsFor
 
 pub loop-init : goal.loop-init
 loop-init g c = record {
@@ -37,20 +29,20 @@ loop-init g c = record {
 pub returns-in_default-clause-unheard : goal.returns-in_default-clause-unheard
 returns-in_default-clause-unheard g c = λ s k is.
     let all = session_of 1000000 (g.S.Source.left c.args.source.now) in
-    let P : Desk → Type 0 = λ x. IsAnswered Does all c.args.desk.now (g.K.Sink.written c.args.sink.now) (g.K.Sink.written c.loop.sink) x in
-    subst P (sym c.in_default.ensures.same) (answered_now Does _ _ _ _ _ _ _ _ (c.loop.invariant.served s k) refl)
+    let P : _ → Type 0 = λ x. IsAnswered (Calls g.R.Registry.clean g.R.Registry.stands) all c.args.registry.now (g.K.Sink.written c.args.sink.now) (g.K.Sink.written c.loop.sink) x in
+    subst P (sym c.in_default.ensures.same) (answered_now (Calls g.R.Registry.clean g.R.Registry.stands) _ _ _ _ _ _ _ _ (c.loop.invariant.served s k) refl)
 
 pub loop-preserved : goal.loop-preserved
 loop-preserved g c =
     record {
       served = λ s k.
-          let P : ℕ → Type 0 = λ n. Served Does n (session_of 1000000 (g.S.Source.left c.args.source.now)) c.args.desk.now (g.K.Sink.written c.args.sink.now) (g.S.Source.left c.loop.source) c.loop.desk (g.K.Sink.written c.loop.sink) in
-          let Q : Said → Type 0 = λ x. Answers Does c.loop.desk (heard (g.S.Source.left c.loop.source)) x c.next.new.desk (g.S.Source.left c.next.new.source) in
+          let P : ℕ → Type 0 = λ n. Served (Calls g.R.Registry.clean g.R.Registry.stands) n (session_of 1000000 (g.S.Source.left c.args.source.now)) c.args.registry.now (g.K.Sink.written c.args.sink.now) (g.S.Source.left c.loop.source) c.loop.registry (g.K.Sink.written c.loop.sink) in
+          let Q : Said → Type 0 = λ x. Answers (Calls g.R.Registry.clean g.R.Registry.stands) c.loop.registry (heard (g.S.Source.left c.loop.source)) x c.next.new.registry (g.S.Source.left c.next.new.source) in
           let a = subst Q c.in-Reply.is (c.in-Ok.ensures.said s) in
-          more Does _ _ _ _ _ _ _ a.0 (answer_of c.in-Reply.reply) _ _ _ (subst P (one_less c.loop.counter c.loop-test.true) (c.loop.invariant.served s k)) a.1 a.2
+          more (Calls g.R.Registry.clean g.R.Registry.stands) _ _ _ _ _ _ _ a.0 (answer_of c.in-Reply.reply) _ _ _ (subst P (one_less c.loop.counter c.loop-test.true) (c.loop.invariant.served s k)) a.1 a.2
           (written_ok c.write_reply.result (g.K.Sink.written c.loop.sink) (reply_octets (answer_of c.in-Reply.reply)) (g.K.Sink.written c.write_reply.new.sink) (c.write_reply.ensures.written k) (sym c.is_err.ensures.value ∙ c.if-is_err.false));
       unread = λ s.
-          let Q : Said → Type 0 = λ x. Answers Does c.loop.desk (heard (g.S.Source.left c.loop.source)) x c.next.new.desk (g.S.Source.left c.next.new.source) in
+          let Q : Said → Type 0 = λ x. Answers (Calls g.R.Registry.clean g.R.Registry.stands) c.loop.registry (heard (g.S.Source.left c.loop.source)) x c.next.new.registry (g.S.Source.left c.next.new.source) in
           let a = subst Q c.in-Reply.is (c.in-Ok.ensures.said s) in
           c.loop.invariant.unread s ∙ left_more c.loop.counter _ a.0 _ c.loop-test.true a.1;
       ends = omega (arith, c.next.ensures.ends.rises);
@@ -68,31 +60,31 @@ loop-preserved g c =
 
 pub returns-then-is_err-clause-unsaid : goal.returns-then-is_err-clause-unsaid
 returns-then-is_err-clause-unsaid g c = λ s k is.
-    let P : ℕ → Type 0 = λ n. Served Does n (session_of 1000000 (g.S.Source.left c.args.source.now)) c.args.desk.now (g.K.Sink.written c.args.sink.now) (g.S.Source.left c.loop.source) c.loop.desk (g.K.Sink.written c.loop.sink) in
-    let Q : Said → Type 0 = λ x. Answers Does c.loop.desk (heard (g.S.Source.left c.loop.source)) x c.next.new.desk (g.S.Source.left c.next.new.source) in
+    let P : ℕ → Type 0 = λ n. Served (Calls g.R.Registry.clean g.R.Registry.stands) n (session_of 1000000 (g.S.Source.left c.args.source.now)) c.args.registry.now (g.K.Sink.written c.args.sink.now) (g.S.Source.left c.loop.source) c.loop.registry (g.K.Sink.written c.loop.sink) in
+    let Q : Said → Type 0 = λ x. Answers (Calls g.R.Registry.clean g.R.Registry.stands) c.loop.registry (heard (g.S.Source.left c.loop.source)) x c.next.new.registry (g.S.Source.left c.next.new.source) in
     let a = subst Q c.in-Reply.is (c.in-Ok.ensures.said s) in
     let behind = written_fault c.write_reply.result (g.K.Sink.written c.loop.sink) (reply_octets (answer_of c.in-Reply.reply)) (g.K.Sink.written c.write_reply.new.sink) (c.write_reply.ensures.written k) (sym c.is_err.ensures.value ∙ c.if-is_err.true) in
-    inl (cut_in_answer Does _ _ _ _ _ _ _ a.0 (answer_of c.in-Reply.reply) _ _ _ (subst P (one_less c.loop.counter c.loop-test.true) (c.loop.invariant.served s k)) a.1 a.2 behind)
+    inl (cut_in_answer (Calls g.R.Registry.clean g.R.Registry.stands) _ _ _ _ _ _ _ a.0 (answer_of c.in-Reply.reply) _ _ _ (subst P (one_less c.loop.counter c.loop-test.true) (c.loop.invariant.served s k)) a.1 a.2 behind)
 
 pub returns-in-End-clause-ok : goal.returns-in-End-clause-ok
 returns-in-End-clause-ok g c = λ s k.
-    let Q : Said → Type 0 = λ x. Answers Does c.loop.desk (heard (g.S.Source.left c.loop.source)) x c.next.new.desk (g.S.Source.left c.next.new.source) in
+    let Q : Said → Type 0 = λ x. Answers (Calls g.R.Registry.clean g.R.Registry.stands) c.loop.registry (heard (g.S.Source.left c.loop.source)) x c.next.new.registry (g.S.Source.left c.next.new.source) in
     let a = subst Q c.in-End.is (c.in-Ok.ensures.said s) in
-    let P : Desk → Type 0 = λ x. Served Does (1000000 - c.loop.counter) (session_of 1000000 (g.S.Source.left c.args.source.now)) c.args.desk.now (g.K.Sink.written c.args.sink.now) (g.S.Source.left c.loop.source) x (g.K.Sink.written c.loop.sink) in
-    ended_ok Does c.write_ending.result _ _ _ _ _ c.next.new.desk (g.K.Sink.written c.loop.sink) c.in-End.ending (g.K.Sink.written c.write_ending.new.sink) (subst P (sym a.1) (c.loop.invariant.served s k)) (stop_ends c.loop.counter _ _ _ c.loop-test.true a.0) (c.write_ending.ensures.written k)
+    let P : _ → Type 0 = λ x. Served (Calls g.R.Registry.clean g.R.Registry.stands) (1000000 - c.loop.counter) (session_of 1000000 (g.S.Source.left c.args.source.now)) c.args.registry.now (g.K.Sink.written c.args.sink.now) (g.S.Source.left c.loop.source) x (g.K.Sink.written c.loop.sink) in
+    ended_ok (Calls g.R.Registry.clean g.R.Registry.stands) c.write_ending.result _ _ _ _ _ c.next.new.registry (g.K.Sink.written c.loop.sink) c.in-End.ending (g.K.Sink.written c.write_ending.new.sink) (subst P (sym a.1) (c.loop.invariant.served s k)) (stop_ends c.loop.counter _ _ _ c.loop-test.true a.0) (c.write_ending.ensures.written k)
 
 pub returns-in-End-clause-unsaid : goal.returns-in-End-clause-unsaid
 returns-in-End-clause-unsaid g c = λ s k is.
-    let Q : Said → Type 0 = λ x. Answers Does c.loop.desk (heard (g.S.Source.left c.loop.source)) x c.next.new.desk (g.S.Source.left c.next.new.source) in
+    let Q : Said → Type 0 = λ x. Answers (Calls g.R.Registry.clean g.R.Registry.stands) c.loop.registry (heard (g.S.Source.left c.loop.source)) x c.next.new.registry (g.S.Source.left c.next.new.source) in
     let a = subst Q c.in-End.is (c.in-Ok.ensures.said s) in
-    let P : Desk → Type 0 = λ x. Served Does (1000000 - c.loop.counter) (session_of 1000000 (g.S.Source.left c.args.source.now)) c.args.desk.now (g.K.Sink.written c.args.sink.now) (g.S.Source.left c.loop.source) x (g.K.Sink.written c.loop.sink) in
-    inr (ended_cut Does c.write_ending.result _ _ _ _ _ _ c.next.new.desk (g.K.Sink.written c.loop.sink) c.in-End.ending (g.K.Sink.written c.write_ending.new.sink) (subst P (sym a.1) (c.loop.invariant.served s k)) (stop_ends c.loop.counter _ _ _ c.loop-test.true a.0) (c.write_ending.ensures.written k) is)
+    let P : _ → Type 0 = λ x. Served (Calls g.R.Registry.clean g.R.Registry.stands) (1000000 - c.loop.counter) (session_of 1000000 (g.S.Source.left c.args.source.now)) c.args.registry.now (g.K.Sink.written c.args.sink.now) (g.S.Source.left c.loop.source) x (g.K.Sink.written c.loop.sink) in
+    inr (ended_cut (Calls g.R.Registry.clean g.R.Registry.stands) c.write_ending.result _ _ _ _ _ _ c.next.new.registry (g.K.Sink.written c.loop.sink) c.in-End.ending (g.K.Sink.written c.write_ending.new.sink) (subst P (sym a.1) (c.loop.invariant.served s k)) (stop_ends c.loop.counter _ _ _ c.loop-test.true a.0) (c.write_ending.ensures.written k) is)
 
 pub returns-in-End-clause-ending : goal.returns-in-End-clause-ending
 returns-in-End-clause-ending g c = λ s k ok by.
-    let Q : Said → Type 0 = λ x. Answers Does c.loop.desk (heard (g.S.Source.left c.loop.source)) x c.next.new.desk (g.S.Source.left c.next.new.source) in
+    let Q : Said → Type 0 = λ x. Answers (Calls g.R.Registry.clean g.R.Registry.stands) c.loop.registry (heard (g.S.Source.left c.loop.source)) x c.next.new.registry (g.S.Source.left c.next.new.source) in
     let a = subst Q c.in-End.is (c.in-Ok.ensures.said s) in
-    let all = all_ends Does _ _ _ _ _ _ _ c.in-End.ending (c.loop.invariant.served s k) (stop_ends c.loop.counter _ _ _ c.loop-test.true a.0) in
+    let all = all_ends (Calls g.R.Registry.clean g.R.Registry.stands) _ _ _ _ _ _ _ c.in-End.ending (c.loop.invariant.served s k) (stop_ends c.loop.counter _ _ _ c.loop-test.true a.0) in
     let P : Ending → Type 0 = EndsByInput in
     let R : Said → Type 0 = λ x. TellsEnd (SaysEnd (Ok x)) (g.S.Source.ends c.loop.source) (g.S.Source.ends c.next.new.source) in
     let ends = subst R c.in-End.is c.in-Ok.ensures.ends in
@@ -101,19 +93,19 @@ returns-in-End-clause-ending g c = λ s k ok by.
 
 pub returns-in-End-clause-unread : goal.returns-in-End-clause-unread
 returns-in-End-clause-unread g c = λ s k ok.
-    let Q : Said → Type 0 = λ x. Answers Does c.loop.desk (heard (g.S.Source.left c.loop.source)) x c.next.new.desk (g.S.Source.left c.next.new.source) in
+    let Q : Said → Type 0 = λ x. Answers (Calls g.R.Registry.clean g.R.Registry.stands) c.loop.registry (heard (g.S.Source.left c.loop.source)) x c.next.new.registry (g.S.Source.left c.next.new.source) in
     let a = subst Q c.in-End.is (c.in-Ok.ensures.said s) in
     sym (c.loop.invariant.unread s ∙ left_stop c.loop.counter _ _ c.in-End.ending c.loop-test.true a.0)
 
 pub returns-clause-ok : goal.returns-clause-ok
-returns-clause-ok g c = λ s k. ended_ok Does c.write_ending-2.result _ _ _ _ _ c.loop.desk (g.K.Sink.written c.loop.sink) Limit (g.K.Sink.written c.write_ending-2.new.sink) (c.loop.invariant.served s k) (limit_ends c.loop.counter _ c.loop-test.false) (c.write_ending-2.ensures.written k)
+returns-clause-ok g c = λ s k. ended_ok (Calls g.R.Registry.clean g.R.Registry.stands) c.write_ending-2.result _ _ _ _ _ c.loop.registry (g.K.Sink.written c.loop.sink) Limit (g.K.Sink.written c.write_ending-2.new.sink) (c.loop.invariant.served s k) (limit_ends c.loop.counter _ c.loop-test.false) (c.write_ending-2.ensures.written k)
 
 pub returns-clause-unsaid : goal.returns-clause-unsaid
-returns-clause-unsaid g c = λ s k is. inr (ended_cut Does c.write_ending-2.result _ _ _ _ _ _ c.loop.desk (g.K.Sink.written c.loop.sink) Limit (g.K.Sink.written c.write_ending-2.new.sink) (c.loop.invariant.served s k) (limit_ends c.loop.counter _ c.loop-test.false) (c.write_ending-2.ensures.written k) is)
+returns-clause-unsaid g c = λ s k is. inr (ended_cut (Calls g.R.Registry.clean g.R.Registry.stands) c.write_ending-2.result _ _ _ _ _ _ c.loop.registry (g.K.Sink.written c.loop.sink) Limit (g.K.Sink.written c.write_ending-2.new.sink) (c.loop.invariant.served s k) (limit_ends c.loop.counter _ c.loop-test.false) (c.write_ending-2.ensures.written k) is)
 
 pub returns-clause-ending : goal.returns-clause-ending
 returns-clause-ending g c = λ s k ok by.
-    let all = all_ends Does _ _ _ _ _ _ _ Limit (c.loop.invariant.served s k) (limit_ends c.loop.counter _ c.loop-test.false) in
+    let all = all_ends (Calls g.R.Registry.clean g.R.Registry.stands) _ _ _ _ _ _ _ Limit (c.loop.invariant.served s k) (limit_ends c.loop.counter _ c.loop-test.false) in
     let P : Ending → Type 0 = EndsByInput in
     absurd (subst P (ap (λ x. x.ending) all) by)
 

@@ -1,0 +1,379 @@
+//! What a command line asks.
+
+ghost use Rattle.std.specs.Prelude.{◌≡◌};
+ghost use Rattle.filing_session.specs.Asked.{class_of, plan_of, script_of, global_of, active_of, inactive_of, image_of, file_of, try_of, begin_of, turn_of, finish_of, hold_of, release_of, due_of, destroy_of, quit_of, asked_of_officers, asked_of_captures, asked_by, asked, asked_as};
+ghost use Rattle.filing_session.specs.WordsLeft.{words_left};
+
+use crate::dates::read_day;
+use crate::day::Day;
+use crate::words::{Words, is_name, read_count, read_length, read_number};
+
+/// A command that has no payload.
+#[derive(Clone, Copy, Debug)]
+pub enum NoPayload<'a> {
+    /// Adds the class of a path.
+    AddClass(&'a [u8]),
+    /// Sets an officer's script of that name as the officer's program.
+    Activate { officer: &'a [u8], name: &'a [u8] },
+    /// Sets no program for an officer.
+    Deactivate(&'a [u8]),
+    /// Grants so many turns to a capture.
+    Turn { ticket: u64, count: u32 },
+    /// Makes the records of the capture of a ticket.
+    Finish(u64),
+    /// Places a hold of that name on a record.
+    Hold { name: &'a [u8], number: u64 },
+    /// Ends a hold of that name on a record.
+    Release { name: &'a [u8], number: u64 },
+    /// Lists the records that are due by a day.
+    Due(Day),
+    /// Destroys a record that is due by a day.
+    Destroy { number: u64, day: Day },
+}
+
+/// A command with one payload.
+#[derive(Clone, Copy, Debug)]
+pub enum OnePayload<'a> {
+    /// Takes the payload over as a plan.
+    SetPlan,
+    /// Keeps the payload as an officer's script, under this name.
+    SetScript { officer: &'a [u8], name: &'a [u8] },
+    /// Keeps the payload as a global script, under this name.
+    SetGlobal(&'a [u8]),
+    /// Sets the payload, an image, as an officer's program.
+    SetImage(&'a [u8]),
+    /// Begins a capture of the payload, a message, by an officer's program, at a moment in seconds since 1970-01-01T00:00:00Z.
+    Begin { officer: &'a [u8], moment: u64 },
+}
+
+/// A command with two payloads.
+#[derive(Clone, Copy, Debug)]
+pub enum TwoPayloads {
+    /// Files the second, a message, by the first, a script.
+    File,
+    /// Runs the first, an image, on the second, a message.
+    Try,
+}
+
+/// What a line asks.
+#[derive(Clone, Copy, Debug)]
+pub enum Request<'a> {
+    /// What needs no payload.
+    Alone(NoPayload<'a>),
+    /// What a payload of this length in octets is for.
+    One(OnePayload<'a>, usize),
+    /// What two payloads of these lengths in octets are for.
+    Two(TwoPayloads, usize, usize),
+    /// To end the session.
+    Quit,
+    /// Nothing: the first word is no command's (70).
+    Unknown,
+    /// Nothing: a word, or the number of words, is wrong (71).
+    BadWord,
+}
+
+/// What `CLASS` asks with the words after it.
+fn read_class<'a>(mut words: Words<'a>) -> Request<'a>
+    ensures { asked_as result ≡ class_of (words_left words.entry) }
+{
+    let (Some(path), None) = (words.next(), words.next()) else {
+        return Request::BadWord;
+    };
+    Request::Alone(NoPayload::AddClass(path))
+}
+
+/// What `PLAN` asks with the words after it.
+fn read_plan<'a>(mut words: Words<'a>) -> Request<'a>
+    ensures { asked_as result ≡ plan_of (words_left words.entry) }
+{
+    let (Some(text), None) = (words.next(), words.next()) else {
+        return Request::BadWord;
+    };
+    match read_length(text) {
+        Some(size) => Request::One(OnePayload::SetPlan, size),
+        _ => Request::BadWord,
+    }
+}
+
+/// What `SCRIPT` asks with the words after it.
+fn read_script<'a>(mut words: Words<'a>) -> Request<'a>
+    ensures { asked_as result ≡ script_of (words_left words.entry) }
+{
+    let (Some(officer), Some(name), Some(text), None) = (
+        words.next(),
+        words.next(),
+        words.next(),
+        words.next(),
+    ) else {
+        return Request::BadWord;
+    };
+    match read_length(text) {
+        Some(size) if is_name(officer) && is_name(name) => Request::One(
+            OnePayload::SetScript { officer, name },
+            size,
+        ),
+        _ => Request::BadWord,
+    }
+}
+
+/// What `GLOBAL` asks with the words after it.
+fn read_global<'a>(mut words: Words<'a>) -> Request<'a>
+    ensures { asked_as result ≡ global_of (words_left words.entry) }
+{
+    let (Some(name), Some(text), None) = (words.next(), words.next(), words.next()) else {
+        return Request::BadWord;
+    };
+    match read_length(text) {
+        Some(size) if is_name(name) => Request::One(OnePayload::SetGlobal(name), size),
+        _ => Request::BadWord,
+    }
+}
+
+/// What `ACTIVE` asks with the words after it.
+fn read_active<'a>(mut words: Words<'a>) -> Request<'a>
+    ensures { asked_as result ≡ active_of (words_left words.entry) }
+{
+    let (Some(officer), Some(name), None) = (words.next(), words.next(), words.next()) else {
+        return Request::BadWord;
+    };
+    if is_name(officer) && is_name(name) {
+        Request::Alone(NoPayload::Activate { officer, name })
+    } else {
+        Request::BadWord
+    }
+}
+
+/// What `INACTIVE` asks with the words after it.
+fn read_inactive<'a>(mut words: Words<'a>) -> Request<'a>
+    ensures { asked_as result ≡ inactive_of (words_left words.entry) }
+{
+    let (Some(officer), None) = (words.next(), words.next()) else {
+        return Request::BadWord;
+    };
+    if is_name(officer) {
+        Request::Alone(NoPayload::Deactivate(officer))
+    } else {
+        Request::BadWord
+    }
+}
+
+/// What `IMAGE` asks with the words after it.
+fn read_image<'a>(mut words: Words<'a>) -> Request<'a>
+    ensures { asked_as result ≡ image_of (words_left words.entry) }
+{
+    let (Some(officer), Some(image), None) = (words.next(), words.next(), words.next()) else {
+        return Request::BadWord;
+    };
+    match read_length(image) {
+        Some(size) if is_name(officer) => Request::One(OnePayload::SetImage(officer), size),
+        _ => Request::BadWord,
+    }
+}
+
+/// What `FILE` asks with the words after it.
+fn read_file<'a>(mut words: Words<'a>) -> Request<'a>
+    ensures { asked_as result ≡ file_of (words_left words.entry) }
+{
+    let (Some(script), Some(message), None) = (words.next(), words.next(), words.next()) else {
+        return Request::BadWord;
+    };
+    match (read_length(script), read_length(message)) {
+        (Some(script), Some(message)) => Request::Two(TwoPayloads::File, script, message),
+        _ => Request::BadWord,
+    }
+}
+
+/// What `TRY` asks with the words after it.
+fn read_try<'a>(mut words: Words<'a>) -> Request<'a>
+    ensures { asked_as result ≡ try_of (words_left words.entry) }
+{
+    let (Some(image), Some(message), None) = (words.next(), words.next(), words.next()) else {
+        return Request::BadWord;
+    };
+    match (read_length(image), read_length(message)) {
+        (Some(image), Some(message)) => Request::Two(TwoPayloads::Try, image, message),
+        _ => Request::BadWord,
+    }
+}
+
+/// What `BEGIN` asks with the words after it.
+fn read_begin<'a>(mut words: Words<'a>) -> Request<'a>
+    ensures { asked_as result ≡ begin_of (words_left words.entry) }
+{
+    let (Some(officer), Some(moment), Some(message), None) = (
+        words.next(),
+        words.next(),
+        words.next(),
+        words.next(),
+    ) else {
+        return Request::BadWord;
+    };
+    match (read_number(moment), read_length(message)) {
+        (Some(moment), Some(size)) if is_name(officer) => Request::One(
+            OnePayload::Begin { officer, moment },
+            size,
+        ),
+        _ => Request::BadWord,
+    }
+}
+
+/// What `TURN` asks with the words after it.
+fn read_turn<'a>(mut words: Words<'a>) -> Request<'a>
+    ensures { asked_as result ≡ turn_of (words_left words.entry) }
+{
+    let (Some(ticket), Some(count), None) = (words.next(), words.next(), words.next()) else {
+        return Request::BadWord;
+    };
+    match (read_number(ticket), read_count(count)) {
+        (Some(ticket), Some(count)) => Request::Alone(NoPayload::Turn { ticket, count }),
+        _ => Request::BadWord,
+    }
+}
+
+/// What `FINISH` asks with the words after it.
+fn read_finish<'a>(mut words: Words<'a>) -> Request<'a>
+    ensures { asked_as result ≡ finish_of (words_left words.entry) }
+{
+    let (Some(ticket), None) = (words.next(), words.next()) else {
+        return Request::BadWord;
+    };
+    match read_number(ticket) {
+        Some(ticket) => Request::Alone(NoPayload::Finish(ticket)),
+        _ => Request::BadWord,
+    }
+}
+
+/// What `HOLD` asks with the words after it.
+fn read_hold<'a>(mut words: Words<'a>) -> Request<'a>
+    ensures { asked_as result ≡ hold_of (words_left words.entry) }
+{
+    let (Some(name), Some(number), None) = (words.next(), words.next(), words.next()) else {
+        return Request::BadWord;
+    };
+    match read_number(number) {
+        Some(number) if is_name(name) => Request::Alone(NoPayload::Hold { name, number }),
+        _ => Request::BadWord,
+    }
+}
+
+/// What `RELEASE` asks with the words after it.
+fn read_release<'a>(mut words: Words<'a>) -> Request<'a>
+    ensures { asked_as result ≡ release_of (words_left words.entry) }
+{
+    let (Some(name), Some(number), None) = (words.next(), words.next(), words.next()) else {
+        return Request::BadWord;
+    };
+    match read_number(number) {
+        Some(number) if is_name(name) => Request::Alone(NoPayload::Release { name, number }),
+        _ => Request::BadWord,
+    }
+}
+
+/// What `DUE` asks with the words after it.
+fn read_due<'a>(mut words: Words<'a>) -> Request<'a>
+    ensures { asked_as result ≡ due_of (words_left words.entry) }
+{
+    let (Some(date), None) = (words.next(), words.next()) else {
+        return Request::BadWord;
+    };
+    match read_day(date) {
+        Some(day) => Request::Alone(NoPayload::Due(day)),
+        _ => Request::BadWord,
+    }
+}
+
+/// What `DESTROY` asks with the words after it.
+fn read_destroy<'a>(mut words: Words<'a>) -> Request<'a>
+    ensures { asked_as result ≡ destroy_of (words_left words.entry) }
+{
+    let (Some(number), Some(date), None) = (words.next(), words.next(), words.next()) else {
+        return Request::BadWord;
+    };
+    match (read_number(number), read_day(date)) {
+        (Some(number), Some(day)) => Request::Alone(NoPayload::Destroy { number, day }),
+        _ => Request::BadWord,
+    }
+}
+
+/// What `QUIT` asks with the words after it.
+fn read_quit<'a>(mut words: Words<'a>) -> Request<'a>
+    ensures { asked_as result ≡ quit_of (words_left words.entry) }
+{
+    match words.next() {
+        None => Request::Quit,
+        Some(_) => Request::BadWord,
+    }
+}
+
+/// What a command of plans, scripts and officers asks with the words after it; nothing, where the name is none of these.
+fn request_of_officers<'a>(name: &[u8], words: Words<'a>) -> Request<'a>
+    ensures { asked_as result ≡ asked_of_officers name.now (words_left words.entry) }
+{
+    if name == b"CLASS".as_slice() {
+        read_class(words)
+    } else if name == b"PLAN".as_slice() {
+        read_plan(words)
+    } else if name == b"SCRIPT".as_slice() {
+        read_script(words)
+    } else if name == b"GLOBAL".as_slice() {
+        read_global(words)
+    } else if name == b"ACTIVE".as_slice() {
+        read_active(words)
+    } else if name == b"INACTIVE".as_slice() {
+        read_inactive(words)
+    } else if name == b"IMAGE".as_slice() {
+        read_image(words)
+    } else {
+        Request::Unknown
+    }
+}
+
+/// The same of dry runs and captures too.
+fn request_of_captures<'a>(name: &[u8], words: Words<'a>) -> Request<'a>
+    ensures { asked_as result ≡ asked_of_captures name.now (words_left words.entry) }
+{
+    if name == b"FILE".as_slice() {
+        read_file(words)
+    } else if name == b"TRY".as_slice() {
+        read_try(words)
+    } else if name == b"BEGIN".as_slice() {
+        read_begin(words)
+    } else if name == b"TURN".as_slice() {
+        read_turn(words)
+    } else if name == b"FINISH".as_slice() {
+        read_finish(words)
+    } else {
+        request_of_officers(name, words)
+    }
+}
+
+/// The same of all commands.
+fn request_by<'a>(name: &[u8], words: Words<'a>) -> Request<'a>
+    ensures { asked_as result ≡ asked_by name.now (words_left words.entry) }
+{
+    if name == b"HOLD".as_slice() {
+        read_hold(words)
+    } else if name == b"RELEASE".as_slice() {
+        read_release(words)
+    } else if name == b"DUE".as_slice() {
+        read_due(words)
+    } else if name == b"DESTROY".as_slice() {
+        read_destroy(words)
+    } else if name == b"QUIT".as_slice() {
+        read_quit(words)
+    } else {
+        request_of_captures(name, words)
+    }
+}
+
+/// What a line asks; the line is without its LF.
+#[tactic(auto, unfolding(crate::specs::Asked::asked))]
+pub fn read_request(line: &[u8]) -> Request<'_>
+    ensures { asked_as result ≡ asked line.now }
+{
+    let mut words = Words::new(line);
+    match words.next() {
+        Some(name) => request_by(name, words),
+        None => Request::Unknown,
+    }
+}
