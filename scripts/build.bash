@@ -261,11 +261,12 @@ build_libraries() {
     end_lanes
 }
 
-# Builds a program over its libraries; rt also runs it, on its own input if it has one.
+# Builds a program over its libraries; rt also runs it, on its own input and with its own words if it has them.
 build_program() {
-    local input=$root/crates/$1/stdin
+    local input=$root/crates/$1/stdin words=()
     [[ -f $input ]] || input=/dev/null
-    (cd -- "$root/crates/$1" && exec rt run) > "$root/crates/$1/out/build.log" 2>&1 < "$input" &
+    [[ ! -f $root/crates/$1/args ]] || mapfile -t words < "$root/crates/$1/args"
+    (cd -- "$root/crates/$1" && exec rt run ${words:+--} "${words[@]}") > "$root/crates/$1/out/build.log" 2>&1 < "$input" &
     builders[$1]=$!
     wait "${builders[$1]}"
 }

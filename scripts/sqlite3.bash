@@ -1,5 +1,5 @@
 # shellcheck shell=bash
-# The statements of the store's calls by the system's sqlite3, on a database that `store_bench` has left. One that sources this
+# The statements of the store's calls by the system's sqlite3, on a database that `rows store` has left. One that sources this
 # file sets `folder`, in which files are made.
 
 : "${folder:?}"
@@ -7,7 +7,7 @@
 # How many runs are made of a call.
 readonly SQLITE3_RUNS=10
 
-# How many calls a run makes: as many as in `store_bench`.
+# How many calls a run makes: as many as in `rows store`.
 calls_of() {
     case $1 in
         due | revise | adopt) echo 1 ;;
@@ -40,7 +40,8 @@ statements_of() {
             done
             ;;
         revise)
-            echo "BEGIN; DELETE FROM class; INSERT INTO class (path, is_open, schedule) VALUES ('tax', 1, NULL), ('unfiled', 1, NULL); DELETE FROM schedule; INSERT INTO schedule (path, count, unit, action, year_end) VALUES ('', 0, 0, 0, 0), ('tax', 1000, 1, 3, 0); DELETE FROM due_day;"
+            echo "BEGIN; DELETE FROM class; INSERT INTO class (path, is_open, schedule) VALUES ('tax', 1, NULL), ('unfiled', 1, NULL); DELETE FROM schedule; INSERT INTO schedule (path, count, unit, action, year_end) VALUES ('', 0, 0, 0, 0), ('tax', 1000, 1, 3, 0);"
+            echo 'DROP TABLE due_day; CREATE TABLE due_day (record INTEGER PRIMARY KEY, day INTEGER NOT NULL) STRICT; CREATE INDEX due_by_day ON due_day (day, record);'
             sqlite3 -batch "$database" "SELECT 'INSERT INTO due_day (record, day) VALUES (' || record || ', ' || (day + 1) || ');' FROM due_day ORDER BY record"
             echo 'COMMIT;'
             ;;
@@ -83,7 +84,7 @@ first_of() {
     esac
 }
 
-# Rows beside sqlite3, after rows that `store_bench` has told of a database: the call, and a capture's share of sqlite3's rate.
+# Rows beside sqlite3, after rows that `rows store` has told of a database: the call, and a capture's share of sqlite3's rate.
 sqlite3_rows() {
     local database=$1 over=$2 next title word number size spent rest call plain asked
     if command -v sqlite3 > /dev/null; then

@@ -1,6 +1,6 @@
 # shellcheck shell=bash
 # shellcheck disable=SC2317 # count calls its checks by their names
-# What ./mailfile and ./bench do beside the program, played in a small tree with a stand-in for rt. ./test sources this file.
+# What ./mailfile, ./bench, ./hostile and ./failing do beside the program, played in a small tree with a stand-in for rt. ./test sources this file.
 
 : "${work:?}"
 
@@ -9,7 +9,7 @@ make_stage() {
     stage=$work/stage
     path=$stage/kit/bin:/usr/bin:/bin
     mkdir -p -- "$stage"/kit/bin "$stage"/tree/{.git,docs,scripts} "$stage"/tree/crates/{low,beside,middle,mailfile,rows}/src
-    cp -- mailfile bench "$stage/tree/"
+    cp -- mailfile bench hostile failing "$stage/tree/"
     cp -- scripts/build.bash "$stage/tree/scripts/"
     printf '%s\n' '# crates' low: 'beside:' 'middle: low thiserror' 'mailfile: beside middle clap' 'rows: low' > "$stage/tree/crates.txt"
     echo low > "$stage/tree/crates/low/src/lib.rt"
@@ -222,8 +222,10 @@ scripts() {
     count "a folder that cannot be written" gives_up_where_nothing_can_be_written
     count "a page that is not measured" leaves_the_page
     count "an unknown word for ./bench" gives_up 2 "^usage:" bench --nothing
+    count "a seed that is no number" gives_up 2 "^usage:" hostile one
+    count "an unknown word for ./failing" gives_up 2 "^usage:" failing memory some
     if command -v shellcheck > "$work/said"; then
-        count "shellcheck" shellcheck -x test mailfile bench .ci/run scripts/*.bash
+        count "shellcheck" shellcheck -x test mailfile mailfile-tool bench hostile failing .ci/run scripts/*.bash
     fi
     group scripts
 }

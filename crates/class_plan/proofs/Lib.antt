@@ -6,6 +6,7 @@ pub mod Opened
 pub mod OpenPaths
 pub mod Told
 pub mod Added
+pub mod Removed
 pub mod Judged
 pub mod Steps
 pub mod Classes

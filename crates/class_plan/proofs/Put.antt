@@ -21,7 +21,7 @@ changed-is : (r x : Row) → Equal ≡ slice_cmp nat_cmp r.path x.path → chang
 changed-is r x e = rw (same-path r.path x.path e)
 
 -- what a put gives, in its three cases, where an equal path is the row's own
-abbrev placed : Ordering → Row → Row → List Row → List Row
+abbrev pub placed : Ordering → Row → Row → List Row → List Row
 placed o r x xs = match_ordering o (r ∷ x ∷ xs) (r ∷ xs) (x ∷ put r xs)
 
 put-placed : (r x : Row) (xs : List Row) (o : Ordering) → o ≡ slice_cmp nat_cmp r.path x.path → match_ordering o (r ∷ x ∷ xs) (changed r x ∷ xs) (x ∷ put r xs) ≡ placed o r x xs

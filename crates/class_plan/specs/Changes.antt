@@ -1,5 +1,6 @@
 -- Changes of a plan.
-use Rattle.std.specs.Prelude.{ℕ, nat_le, Bool, false, not, List, length, Result}
+use Rattle.std.specs.Prelude.{ℕ, nat_le, Bool, false, not, List, length, filter, Result}
+use Rattle.std.specs.Str.{bytes_eq}
 use Rattle.class_plan.specs.declared.faults.PlanFault.{PlanFault}
 use Rattle.class_plan.specs.declared.faults.PlanFault.TheVariants.{BadPath, ParentMissing, PathTwice, TooManyClasses}
 use Rattle.class_plan.specs.Faults.{judged}
@@ -21,3 +22,7 @@ with_class p q = record { root = p.root; rows = put (open_row q) p.rows }
 -- the plan with one more open class, or the fault with the smallest number
 abbrev pub added : Listing → List ℕ → Result Listing PlanFault
 added p q = judged (speaks_against p q) (with_class p q)
+
+-- the plan without the class at a path
+abbrev pub without_class : Listing → List ℕ → Listing
+without_class p q = record { root = p.root; rows = filter (λ r. not (bytes_eq q r.path)) p.rows }

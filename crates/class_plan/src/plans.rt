@@ -2,7 +2,7 @@
 //! schedule of its own or none.
 ghost use Rattle.std.specs.Prelude.{◌≡◌, ◌≢◌, ◌≤◌, Bool, true, false, is_some, Option, Some, None, option_map, Ok, Err, IfOk, IfErr, OnOk, OnErr, MatchResult, IfSome, map};
 ghost use Rattle.class_plan.specs.Paths.{has_parent_in};
-ghost use Rattle.class_plan.specs.Plans.{found, has, is_among, is_open_in, open_paths_of, first_plan};
+ghost use Rattle.class_plan.specs.Plans.{found, has, is_among, is_open_in, open_paths_of, first_plan, IsPlan};
 ghost use Rattle.class_plan.specs.Fields.{rows_in};
 ghost use Rattle.class_plan.specs.Changes.{added, speaks_against};
 ghost use Rattle.class_plan.specs.Faults.{first_fault, HoldsNone, IsSmallest};
@@ -120,6 +120,7 @@ impl Plan {
         ensures smallest { MatchResult result (λ _. HoldsNone (speaks_against self.old path.now)) (λ f. f ≢ NoMemory → IsSmallest (speaks_against self.old path.now) f) }
         ensures memory { result ≡ Err NoMemory → HoldsNone (speaks_against self.old path.now) }
         ensures unchanged { OnErr result (self.new ≡ self.old) }
+        ensures plans { IsPlan self.old × IsPlan self.new }
     {
         if let Some(fault) = self.fault_at(path) {
             return Err(fault);

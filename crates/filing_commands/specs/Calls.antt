@@ -1,7 +1,13 @@
 -- Calls of a desk, and the states that it stands for before and after them. A desk is clean while the disk under it returns
 -- what was written to it.
+use Rattle.std.specs.Prelude.{◌≡◌, ◌≤◌, ℕ, pos, List}
+use Rattle.jiff.specs.Words.{epoch_day}
+use Rattle.jiff_core.specs.declared.civil.date.Date.{Date}
 use Rattle.filing_commands.specs.Answers.{Answer}
+use Rattle.filing_commands.specs.Limits.{last_day}
+use Rattle.filing_commands.specs.Payloads.{IsOf}
 use Rattle.filing_commands.specs.Standing.{Standing, Command, Step}
+use Rattle.filing_commands.specs.declared.payload.Payload.{Payload}
 
 -- a state that is one of these, and for which the desk stands
 pub record Leads {D : Type 0} (stands : D → Standing → Type 0) (desk : D) (States : Standing → Type 0) : Type 0 where
@@ -14,3 +20,21 @@ pub record Leads {D : Type 0} (stands : D → Standing → Type 0) (desk : D) (S
 pub record Calls {D : Type 0} (clean : D → Type 0) (stands : D → Standing → Type 0) (old : D) (c : Command) (a : Answer) (new : D) : Type 0 where
   pub was_clean : clean new → clean old
   pub leads : clean new → (s : Standing) → stands old s → Leads stands new (Step s c a)
+
+-- The same of a command with a payload, whatever the octets are of which this is there.
+abbrev pub CallsWith : {D : Type 0} (clean : D → Type 0) (stands : D → Standing → Type 0) → (old : D) → (limit : ℕ) → Payload
+    → (List ℕ → Command) → Answer → (new : D) → Type 0
+CallsWith clean stands old limit payload command a new =
+    (octets : List ℕ) → IsOf limit payload octets → Calls clean stands old (command octets) a new
+
+-- the same of a command with two payloads
+abbrev pub CallsWithTwo : {D : Type 0} (clean : D → Type 0) (stands : D → Standing → Type 0) → (old : D) → (limits : ℕ × ℕ)
+    → (first second : Payload) → (List ℕ → List ℕ → Command) → Answer → (new : D) → Type 0
+CallsWithTwo clean stands old limits first second command a new =
+    (x y : List ℕ) → IsOf limits.0 first x → IsOf limits.1 second y → Calls clean stands old (command x y) a new
+
+-- the same of a command with a day of 1970 to 9999, which it has in days since 1970-01-01
+abbrev pub CallsOn : {D : Type 0} (clean : D → Type 0) (stands : D → Standing → Type 0) → (old : D) → Date → (ℕ → Command) → Answer
+    → (new : D) → Type 0
+CallsOn clean stands old day command a new =
+    (n : ℕ) → epoch_day day ≡ pos n → n ≤ last_day → Calls clean stands old (command n) a new

@@ -6,11 +6,13 @@
 #![tactic(auto)]
 
 mod fault;
+mod limits;
 mod payload;
 mod registry;
 mod told;
 
 pub use fault::{DeskFault, Refusal};
+pub use limits::{GREATEST_IMAGE, GREATEST_MESSAGE, GREATEST_PLAN, GREATEST_SCRIPT};
 pub use payload::Payload;
 pub use registry::Registry;
 pub use told::{Capture, Outcome, Turn};

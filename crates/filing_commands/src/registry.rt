@@ -1,11 +1,9 @@
 //! What a session talks to.
 
-ghost use Rattle.std.specs.Prelude.{ℕ, List, ◌≡◌, ◌≤◌, pos, Ok};
-ghost use Rattle.jiff.specs.Words.{epoch_day};
-ghost use Rattle.filing_commands.specs.Calls.{Calls};
-ghost use Rattle.filing_commands.specs.Limits.{greatest_image, greatest_message, greatest_plan, greatest_script, last_day};
+ghost use Rattle.std.specs.Prelude.{Ok};
+ghost use Rattle.filing_commands.specs.Calls.{Calls, CallsOn, CallsWith, CallsWithTwo};
+ghost use Rattle.filing_commands.specs.Limits.{greatest_image, greatest_message, greatest_plan, greatest_script};
 ghost use Rattle.filing_commands.specs.Office as office;
-ghost use Rattle.filing_commands.specs.Payloads.{IsOf};
 ghost use Rattle.filing_commands.specs.Standing.{Standing};
 ghost use Rattle.filing_commands.specs.Standing as commands;
 ghost use Rattle.filing_commands.specs.Told.{told_capture, told_done, told_lines, told_outcome, told_ticket, told_turn};
@@ -33,16 +31,18 @@ pub trait Registry {
     /// Takes over the plan of a text (a TOML document). It is refused by its length (58), by the smallest of 50 to 56 that holds of
     /// its text, or where it drops a path of the plan so far (57).
     fn set_plan(&mut self, text: &Payload) -> Result<(), DeskFault>
-        ensures { (t : List ℕ) → IsOf greatest_plan text.now t → Calls clean stands self.old (commands.plain (office.set_plan t)) (told_done result) self.new };
+        ensures { CallsWith clean stands self.old greatest_plan text.now (λ t. commands.plain (office.set_plan t)) (told_done result) self.new };
 
     /// Keeps a script of an officer under a name, in the place of the one that has the name, if there is one. It is refused by its
     /// text (10 to 16, 20, 21), then by the check (30 to 41), then where thirty-two scripts of the officer have other names (96).
     fn set_script(&mut self, officer: &[u8], name: &[u8], text: &Payload) -> Result<(), DeskFault>
-        ensures { (t : List ℕ) → IsOf greatest_script text.now t → Calls clean stands self.old (commands.plain (office.set_script officer.now name.now t)) (told_done result) self.new };
+        ensures { CallsWith clean stands self.old greatest_script text.now (λ t. commands.plain (office.set_script officer.now name.now t))
+            (told_done result) self.new };
 
     /// The same of the global scripts, which scripts of all officers include by `:global`.
     fn set_global(&mut self, name: &[u8], text: &Payload) -> Result<(), DeskFault>
-        ensures { (t : List ℕ) → IsOf greatest_script text.now t → Calls clean stands self.old (commands.plain (office.set_global name.now t)) (told_done result) self.new };
+        ensures { CallsWith clean stands self.old greatest_script text.now (λ t. commands.plain (office.set_global name.now t))
+            (told_done result) self.new };
 
     /// Sets the script of that name as an officer's program: the one that has the name when a capture begins. It is refused where
     /// the officer has none of that name (93).
@@ -55,18 +55,21 @@ pub trait Registry {
 
     /// Sets an image as an officer's program. It is refused by its length (61), its form (60) and its code (62 to 66).
     fn set_image(&mut self, officer: &[u8], image: &Payload) -> Result<(), DeskFault>
-        ensures { (i : List ℕ) → IsOf greatest_image image.now i → Calls clean stands self.old (commands.plain (office.set_image officer.now i)) (told_done result) self.new };
+        ensures { CallsWith clean stands self.old greatest_image image.now (λ i. commands.plain (office.set_image officer.now i))
+            (told_done result) self.new };
 
     /// What a script captures a message in: a dry run that stores nothing. A script is refused by its text (10 to 16, 20, 21), then
     /// by the check (30 to 41); then a message over 8,388,608 octets by 95. It can include the global scripts, and no others. A
     /// script of weight above 60,000 has the outcome fault 5.
     fn file(&self, script: &Payload, message: &Payload) -> Result<Outcome, DeskFault>
-        ensures { (s m : List ℕ) → IsOf greatest_script script.now s → IsOf greatest_message message.now m → Calls clean stands self.now (commands.plain (office.file s m)) (told_outcome result) self.now };
+        ensures { CallsWithTwo clean stands self.now (greatest_script, greatest_message) script.now message.now
+            (λ s m. commands.plain (office.file s m)) (told_outcome result) self.now };
 
     /// What an image captures a message in: a dry run that stores nothing. An image is refused by its length (61: more than
     /// 16,777,216 octets), its form (60) and its code (62 to 66); then a message over 8,388,608 octets by 95.
     fn try_image(&self, image: &Payload, message: &Payload) -> Result<Outcome, DeskFault>
-        ensures { (i m : List ℕ) → IsOf greatest_image image.now i → IsOf greatest_message message.now m → Calls clean stands self.now (commands.plain (office.try_image i m)) (told_outcome result) self.now };
+        ensures { CallsWithTwo clean stands self.now (greatest_image, greatest_message) image.now message.now
+            (λ i m. commands.plain (office.try_image i m)) (told_outcome result) self.now };
 
     /// Places a hold of that name on a record. It is refused where there is no such record (80), where the record is destroyed (84),
     /// and where a hold of that name is on it (86).
@@ -80,13 +83,13 @@ pub trait Registry {
     /// The records without a hold that are due by a day, which the caller keeps in the years 1970 to 9999, by due day and then by
     /// number.
     fn due(&mut self, day: Date) -> Result<Vec<Line>, DeskFault>
-        ensures { (n : ℕ) → epoch_day day ≡ pos n → n ≤ last_day → Calls clean stands self.old (commands.plain (office.due n)) (told_lines result) self.new };
+        ensures { CallsOn clean stands self.old day (λ n. commands.plain (office.due n)) (told_lines result) self.new };
 
     /// Destroys a record. It is refused where there is no such record (80), where it is destroyed (84), where a hold keeps it (81),
     /// where its schedule's action is not to destroy (83), and where it is due after the day (82), which the caller keeps in the
     /// years 1970 to 9999. Its message goes with the last record of it that is not destroyed.
     fn destroy(&mut self, number: u64, day: Date) -> Result<(), DeskFault>
-        ensures { (n : ℕ) → epoch_day day ≡ pos n → n ≤ last_day → Calls clean stands self.old (commands.plain (office.destroy number n)) (told_done result) self.new };
+        ensures { CallsOn clean stands self.old day (λ n. commands.plain (office.destroy number n)) (told_done result) self.new };
 
     /// Begins a capture of a message by an officer's program at a moment, in seconds since 1970-01-01T00:00:00Z: its ticket, and
     /// the budget of its run in steps. It is refused where the moment is after 2199 (94), the message has more than 8,388,608
@@ -97,7 +100,7 @@ pub trait Registry {
         moment: u64,
         message: Payload,
     ) -> Result<(u32, u32), DeskFault>
-        ensures { (m : List ℕ) → IsOf greatest_message message m → Calls clean stands self.old (commands.begin officer.now moment m) (told_ticket result) self.new };
+        ensures { CallsWith clean stands self.old greatest_message message (λ m. commands.begin officer.now moment m) (told_ticket result) self.new };
 
     /// Grants turns to a capture: it makes so many steps, or fewer where it comes to its end. It is refused where no capture in
     /// flight has the ticket (91). Where there is no memory (99) the steps that were made before are kept.

@@ -11,7 +11,6 @@ use Rattle.jiff_core.specs.declared.civil.date.Date.{Date}
 use Rattle.class_plan.specs.Plans.{Listing, is_open_in}
 use Rattle.filing_case.specs.Message.{is_among}
 use Rattle.filing_image.specs.Program.{Program}
-use Rattle.filing_verify.specs.Well.{IsWell}
 use Rattle.filing_commands.specs.Answers.{Answer, begun, refused}
 use Rattle.filing_commands.specs.Calls.{Calls}
 use Rattle.filing_commands.specs.Faults.{refusal_of, refused_by}
@@ -29,7 +28,7 @@ use Rattle.filing_flights.specs.Held.{Held, Holds}
 use Rattle.filing_flights.proofs.BegunLemmas.{after_begin, allowed, begins, first_begun, first_flight, refused_count, refused_length, refused_ticket}
 use Rattle.filing_flights.proofs.FlightsLemmas.{as_many}
 use Rattle.filing_flights.proofs.PlanLemmas.{open_has}
-use Rattle.filing_officers.specs.Register.{PinsFor, office_of, officer_at}
+use Rattle.filing_officers.specs.Register.{PinsFor, officer_at}
 use Rattle.filing_desk.specs.Beginning.{IsEntered, IsNumbered, KeepsAll, against_begin}
 use Rattle.filing_desk.specs.Standing.{AreOpenPaths, HasPathsOf, IsClean, StandsFor}
 use Rattle.filing_desk.specs.declared.desk.Desk.{Desk}

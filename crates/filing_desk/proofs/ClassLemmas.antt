@@ -10,7 +10,7 @@ use Rattle.class_plan.specs.declared.faults.PlanFault.TheVariants.{PathDropped}
 use Rattle.record_tables.specs.Rows.{Record}
 use Rattle.record_store.specs.Archive.{Archive, add_class, capture, captured, has_room, destroy, destroy_one, destroys, due_of, hold, hold_one, is_by, is_held, is_held_by, plan_answer, record_at, release, release_one, revise, with_hold, without, without_hold}
 use Rattle.class_plan.specs.Plans.{schedule_at}
-use Rattle.record_store.proofs.ClassLemmas.{is_new}
+use Rattle.class_plan.proofs.Removed.{added-new}
 use Rattle.record_store.specs.declared.fault.StoreFault.{StoreFault}
 use Rattle.record_store.specs.declared.fault.StoreFault.TheVariants as fault
 
@@ -79,7 +79,7 @@ added_keeps a b path q made there = go (added a.plan path) refl made
     go (Err f) is e = absurd cc
     go (Ok p) is e =
         let plan : b.plan ≡ p = ap (λ (x : Archive). x.plan) (sym (ok_is (record a { plan = p }) b e)) in
-        let new : p ≡ with_class a.plan path = (is_new a.plan p path is).0 in
+        let new : p ≡ with_class a.plan path = (added-new a.plan p path is).0 in
         ap (λ (x : Listing). has x.rows q) (plan ∙ new) ∙ has-more (open_row path) a.plan.rows q there
 
 same_path : (q r : List ℕ) → bytes_eq q r ≡ true → q ≡ r

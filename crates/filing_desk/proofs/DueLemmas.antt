@@ -1,14 +1,12 @@
 -- Due lists, and days by their numbers.
-use Rattle.std.proofs.Common.{◌≡◌, ℕ, List, map, pos, true, false, Bool, Result, Ok, Err, None, Vec, inl, inr, refl, ap, sym, ◌∙◌, subst}
+use Rattle.std.proofs.Common.{◌≡◌, ℕ, map, pos, true, false, Bool, Ok, Err, None, Vec, inl, inr, refl, ap, sym, subst}
 use Rattle.std.specs.Prelude.{unsigned_abs}
 use Rattle.std.specs.declared.alloc.Global.{Global}
 use Rattle.sqlite.specs.Store.{Ghosts}
-use Rattle.sqlite.specs.State.{HasCleanDisk}
-use Rattle.sqlite.specs.Held.{state}
 use Rattle.jiff.specs.Words.{epoch_day}
 use Rattle.jiff_core.specs.declared.civil.date.Date.{Date}
 use Rattle.class_plan.specs.Calendar.{number_of_day}
-use Rattle.record_store.specs.Archive.{Archive, due_list}
+use Rattle.record_store.specs.Archive.{due_list}
 use Rattle.record_store.specs.Stores as stores
 use Rattle.record_store.specs.Stores.{line_view}
 use Rattle.record_store.specs.declared.store.Line as code

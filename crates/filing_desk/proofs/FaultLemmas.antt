@@ -1,12 +1,10 @@
 -- Calls of a desk that change nothing.
-use Rattle.std.proofs.Common.{◌≡◌, ℕ, ◌≤◌, ◌⊎◌, List, [], length, true, false, None, Result, Ok, Err, Vec, inl, inr, refl, ap, sym, ◌∙◌, subst}
+use Rattle.std.proofs.Common.{◌≡◌, ℕ, ◌≤◌, List, [], length, None, Result, Ok, Err, Vec, inl, inr, refl, ap, sym, ◌∙◌, subst}
 use Rattle.std.specs.Result.{IsErr, IsErrAnd}
 use Rattle.std.specs.declared.alloc.Global.{Global}
 use Rattle.std.proofs.lemmas.Bool.{false≢true}
 use Rattle.sqlite.specs.Store.{Ghosts}
 use Rattle.sieve_syntax.specs.Tree.{CommandTrees}
-use Rattle.sieve_syntax.specs.View.{tree_of}
-use Rattle.sieve_syntax.specs.declared.tree.Script.{Script}
 use Rattle.sieve_meaning.specs.Case.{Facts}
 use Rattle.sieve_meaning.specs.Outcome as meaning
 use Rattle.sieve_meaning.specs.Reading.{program_of}
@@ -15,7 +13,6 @@ use Rattle.filing_case.specs.Message.{case_of}
 use Rattle.filing_image.specs.Program.{Program}
 use Rattle.filing_table.specs.Ends.{HasOutcome}
 use Rattle.script_library.specs.Libraries.{Scripts, library_of}
-use Rattle.record_store.specs.Stores as stores
 use Rattle.record_store.specs.declared.store.Line.{Line}
 use Rattle.filing_commands.specs.Answers.{Answer, captured}
 use Rattle.filing_commands.specs.Calls.{Calls}
@@ -23,9 +20,9 @@ use Rattle.filing_commands.specs.Faults.{refused_by}
 use Rattle.filing_commands.specs.Limits.{greatest_image, greatest_message, greatest_script}
 use Rattle.filing_commands.specs.Office.{Office, PlainCommand, OfficeStep, Refuses, GivesUp, LacksMemory, IsFiled, IsTried, file, try_image}
 use Rattle.filing_commands.specs.Parts.{IsGood, IsGoodImage, RefusesImage, RefusesScript}
-use Rattle.filing_commands.specs.Scripts.{meanings_of, library}
+use Rattle.filing_commands.specs.Scripts.{library}
 use Rattle.filing_commands.specs.Standing.{Standing, plain}
-use Rattle.filing_commands.specs.Told.{told_lines, told_outcome, outcome_view}
+use Rattle.filing_commands.specs.Told.{told_lines, told_outcome}
 use Rattle.filing_commands.specs.declared.fault.DeskFault.{DeskFault}
 use Rattle.filing_commands.specs.declared.fault.DeskFault.TheVariants.{NoMemory}
 use Rattle.filing_commands.specs.declared.told.Outcome.{Outcome}

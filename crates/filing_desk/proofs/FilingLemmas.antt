@@ -7,7 +7,6 @@ use Rattle.std.proofs.lemmas.Bool.{false≢true}
 use Rattle.sqlite.specs.Store.{Ghosts}
 use Rattle.class_plan.specs.Plans.{Listing}
 use Rattle.sieve_meaning.specs.Case.{Facts}
-use Rattle.filing_image.specs.Program.{Program}
 use Rattle.filing_machine.specs.Runs.{Stands}
 use Rattle.record_store.specs.Archive.{Archive, capture, captured, captured_lines, has_room}
 use Rattle.record_store.specs.Stores.{AreClasses, Becomes, StandsFor, is_trouble, line_view}
@@ -16,7 +15,6 @@ use Rattle.record_store.specs.declared.fault.StoreFault.TheVariants as fault
 use Rattle.record_store.specs.declared.store.Line.{Line}
 use Rattle.record_store.specs.declared.store.Store.{Store}
 use Rattle.filing_commands.specs.Faults.{refused_by, store_fault, store_number}
-use Rattle.filing_commands.specs.Pinning.{case_in}
 use Rattle.filing_commands.specs.Standing.{Flight}
 use Rattle.filing_commands.specs.Told.{told_capture}
 use Rattle.filing_commands.specs.declared.fault.DeskFault.{DeskFault}
@@ -26,7 +24,7 @@ use Rattle.filing_flights.specs.Flights.{IsFound}
 use Rattle.filing_flights.specs.Held.{Held, facts_in}
 use Rattle.filing_desk.specs.Filing.{Files, IsNotFiled}
 use Rattle.filing_desk.specs.Standing.{IsShownBy}
-use Rattle.filing_desk.proofs.FlightLemmas.{none_found, some_found}
+use Rattle.filing_desk.proofs.FlightLemmas.{none_found}
 use Rattle.filing_desk.proofs.StoreLemmas.{told, trouble_number}
 
 -- what is told of a fault

@@ -1,5 +1,5 @@
 -- Captures in flight of a desk: their turns, and their ends.
-use Rattle.std.proofs.Common.{◌≡◌, ℕ, ◌+◌, ◌==◌, ◌⊎◌, List, [], ◌∷◌, ◌++◌, map, pos, Bool, true, false, not, if◌then◌else◌, Option, Some, None, Result, Ok, Err, Vec, inl, inr, refl, ap, sym, ◌∙◌, subst}
+use Rattle.std.proofs.Common.{◌≡◌, ℕ, ◌+◌, ◌==◌, List, [], ◌∷◌, map, Bool, true, false, not, if◌then◌else◌, Option, Some, None, Result, Ok, Err, Vec, inl, inr, refl, ap, sym, ◌∙◌, subst}
 use Rattle.std.specs.Prelude.{nat_lt, unsigned_abs, All}
 use Rattle.std.specs.List.{AllByRecursion}
 use Rattle.std.specs.declared.alloc.Global.{Global}
@@ -7,7 +7,7 @@ use Rattle.sqlite.specs.Store.{Ghosts}
 use Rattle.sqlite.specs.State.{HasCleanDisk}
 use Rattle.sqlite.specs.Held.{state}
 use Rattle.class_plan.specs.Calendar.{number_of_day}
-use Rattle.class_plan.specs.Plans.{Listing, has}
+use Rattle.class_plan.specs.Plans.{Listing}
 use Rattle.sieve_meaning.specs.Case.{Facts}
 use Rattle.sieve_meaning.specs.Outcome.{Outcome}
 use Rattle.sieve_meaning.specs.Paths.{IsIncreasing}
@@ -22,15 +22,14 @@ use Rattle.record_store.specs.declared.store.Store.{Store}
 use Rattle.filing_commands.specs.Answers.{Answer, filed, refused}
 use Rattle.filing_commands.specs.Calls.{Calls}
 use Rattle.filing_commands.specs.Faults.{refused_by}
-use Rattle.filing_commands.specs.Office.{Office, IsTrouble, with_archive}
-use Rattle.filing_commands.specs.Pinning.{IsAlone}
+use Rattle.filing_commands.specs.Office.{with_archive}
 use Rattle.filing_commands.specs.Standing.{Standing, Flight, Step, FinishStep, flight_of, grant, granting, without, turn, finish}
 use Rattle.filing_commands.specs.declared.fault.DeskFault.{DeskFault}
 use Rattle.filing_flights.specs.Flights.{AreHeld, Finds, IsFound, Removes, Turns}
 use Rattle.filing_flights.specs.Held.{Held, Holds, IsClass, IsOutcome, TellsEnd}
 use Rattle.filing_flights.proofs.PlanLemmas.{HasOpen, are_classes}
 use Rattle.filing_officers.specs.Register.{office_of}
-use Rattle.filing_desk.specs.Filing.{Files, IsNotFiled}
+use Rattle.filing_desk.specs.Filing.{Files}
 use Rattle.filing_desk.specs.Standing.{AreOpenPaths, HasPathsOf, IsClean, StandsFor}
 use Rattle.filing_desk.specs.declared.desk.Desk.{Desk}
 use Rattle.filing_desk.proofs.ClassLemmas.{captured_plan}

@@ -3,6 +3,7 @@ pub mod NumberLemmas
 pub mod StoreLemmas
 pub mod StepLemmas
 pub mod ClassLemmas
+pub mod RecordCommands
 pub mod FaultLemmas
 pub mod DueLemmas
 pub mod PlanLemmas

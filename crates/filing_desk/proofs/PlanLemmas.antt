@@ -1,9 +1,8 @@
 -- Plans that are taken over, or are not.
-use Rattle.std.proofs.Common.{◌≡◌, ℕ, ◌≤◌, ◌<◌, ◌⊎◌, ◌≢◌, List, length, Bool, true, false, if◌then◌else◌, Ok, Err, inl, inr, refl, ap, sym, ◌∙◌, subst}
+use Rattle.std.proofs.Common.{◌≡◌, ℕ, ◌≤◌, ◌<◌, ◌⊎◌, ◌≢◌, List, length, Bool, true, false, if◌then◌else◌, Ok, Err, inl, inr, refl, sym, subst}
 use Rattle.sqlite.specs.Store.{Ghosts}
 use Rattle.class_plan.specs.Plans.{Listing, keeps}
 use Rattle.class_plan.specs.Document.{plan_of_text}
-use Rattle.class_plan.specs.Faults.{number_of}
 use Rattle.class_plan.specs.declared.faults.PlanFault.{PlanFault}
 use Rattle.class_plan.specs.declared.faults.PlanFault.TheVariants as plans
 use Rattle.class_plan.specs.declared.faults.PlanFault.TheVariants.{PathDropped}
@@ -15,7 +14,7 @@ use Rattle.filing_commands.specs.Faults.{refused_by, plan_fault}
 use Rattle.filing_commands.specs.Limits.{greatest_plan}
 use Rattle.filing_commands.specs.Office.{Office, OfficeStep, set_plan, IsRefused}
 use Rattle.filing_commands.specs.Parts.{IsPlanOf}
-use Rattle.filing_commands.specs.Standing.{Standing, plain}
+use Rattle.filing_commands.specs.Standing.{plain}
 use Rattle.filing_commands.specs.declared.fault.DeskFault.{DeskFault}
 use Rattle.filing_commands.specs.declared.fault.DeskFault.TheVariants as faults
 use Rattle.filing_desk.specs.Standing.{IsClean, StandsFor}

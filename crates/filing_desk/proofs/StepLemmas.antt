@@ -1,5 +1,5 @@
 -- Calls of a desk that have nothing to do with captures in flight.
-use Rattle.std.proofs.Common.{◌≡◌, ℕ, ◌≤◌, ◌⊎◌, List, [], ◌∷◌, length, Bool, true, false, Option, None, is_some, Result, Ok, Err, inl, inr, refl, ap, sym, ◌∙◌, subst}
+use Rattle.std.proofs.Common.{◌≡◌, ℕ, List, [], ◌∷◌, Bool, true, false, Option, None, Result, Ok, Err, inl, inr, refl, ap, sym, ◌∙◌, subst}
 use Rattle.std.specs.Result.{IsErr, IsErrAnd}
 use Rattle.std.proofs.lemmas.Bool.{false≢true}
 use Rattle.std.specs.List.{AllByRecursion}
@@ -13,8 +13,8 @@ use Rattle.record_store.specs.declared.store.Store.{Store}
 use Rattle.record_store.specs.declared.fault.StoreFault.{StoreFault}
 use Rattle.filing_commands.specs.Answers.{Answer, done, refused}
 use Rattle.filing_commands.specs.Calls.{Calls}
-use Rattle.filing_commands.specs.Faults.{refused_by, store_fault, store_number, has_place}
-use Rattle.filing_commands.specs.Office.{Office, PlainCommand, OfficeRule, OfficeStep, Settles, Refuses, GivesUp, IsMade, IsRefused, IsTrouble, with_archive}
+use Rattle.filing_commands.specs.Faults.{refused_by, store_fault, store_number}
+use Rattle.filing_commands.specs.Office.{Office, PlainCommand, OfficeStep, Settles, Refuses, GivesUp, IsMade, IsRefused, IsTrouble, with_archive}
 use Rattle.filing_commands.specs.Standing.{Standing, Flight, Step, plain}
 use Rattle.filing_commands.specs.Told.{told_done}
 use Rattle.filing_commands.specs.declared.fault.DeskFault.{DeskFault}

@@ -1,12 +1,12 @@
 -- Refusals of a store, as refusals of a desk.
-use Rattle.std.proofs.Common.{◌≡◌, ℕ, Bool, true, false, Result, Ok, Err, None, inl, inr, refl}
+use Rattle.std.proofs.Common.{◌≡◌, true, false, None, inl, inr, refl}
 use Rattle.class_plan.specs.declared.faults.PlanFault.{PlanFault}
 use Rattle.class_plan.specs.declared.faults.PlanFault.TheVariants as plans
 use Rattle.class_plan.specs.Faults.{number_of}
 use Rattle.record_store.specs.Stores.{is_trouble}
 use Rattle.record_store.specs.declared.fault.StoreFault.{StoreFault}
 use Rattle.record_store.specs.declared.fault.StoreFault.TheVariants as faults
-use Rattle.filing_commands.specs.Answers.{Answer, refused}
+use Rattle.filing_commands.specs.Answers.{refused}
 use Rattle.filing_commands.specs.Faults.{refused_by, store_fault, store_number, plan_fault, has_place}
 use Rattle.filing_commands.specs.Office.{IsTrouble}
 

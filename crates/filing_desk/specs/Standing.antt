@@ -1,5 +1,5 @@
 -- The states that a desk stands for.
-use Rattle.std.specs.Prelude.{◌≡◌, ℕ, List, Bool, true, Option, Some, None, min}
+use Rattle.std.specs.Prelude.{◌≡◌, ℕ, List, true, Option, Some, None, min}
 use Rattle.std.specs.List.{AllByRecursion}
 use Rattle.sqlite.specs.Store.{Ghosts}
 use Rattle.sqlite.specs.State.{HasCleanDisk}
@@ -10,7 +10,7 @@ use Rattle.filing_case.specs.Message.{is_among}
 use Rattle.filing_machine.specs.Runs.{Stands, Stored}
 use Rattle.record_store.specs.Stores as stores
 use Rattle.filing_commands.specs.Pinning.{case_in}
-use Rattle.filing_commands.specs.Standing.{Standing, Flight, begin_refusal}
+use Rattle.filing_commands.specs.Standing.{Standing, Flight}
 use Rattle.filing_flights.specs.Flights.{AreHeld}
 use Rattle.filing_officers.specs.Register.{office_of}
 use Rattle.filing_desk.specs.declared.desk.Desk.{Desk}

@@ -1,19 +1,17 @@
 //! The calls of the store.
 
-ghost use Rattle.std.specs.Prelude.{◌≡◌, ℕ, List, ◌≤◌, ◌^◌, pos, MatchResult};
+ghost use Rattle.std.specs.Prelude.{◌≡◌, ℕ, ◌≤◌, ◌^◌, pos, MatchResult};
 ghost use Rattle.jiff.specs.Words.{epoch_day, IsBetween};
 ghost use Rattle.record_store.specs.declared.fault.StoreFault as faults;
 ghost use Rattle.record_store.specs.declared.fault.StoreFault.TheVariants.{NoRecord};
 ghost use Rattle.filing_commands.specs.Limits.{greatest_plan, last_day};
 ghost use Rattle.filing_commands.specs.Office as office;
-ghost use Rattle.filing_commands.specs.Payloads.{IsOf};
 ghost use Rattle.filing_commands.specs.Standing as commands;
 ghost use Rattle.filing_commands.specs.Told.{told_done, told_lines};
 
 use crate::desk::Desk;
-use crate::limits::GREATEST_PLAN;
 use class_plan::{Date, Plan, day_number};
-use filing_commands::{DeskFault, Payload};
+use filing_commands::{DeskFault, GREATEST_PLAN, Payload};
 use jiff::civil::date;
 use record_store::{Line, StoreFault};
 use sqlite::Alter;
@@ -45,7 +43,7 @@ fn day_from_1970(day: Date) -> Date
 }
 
 impl<S: Alter> Desk<S> {
-    ghost use Rattle.filing_commands.specs.Calls.{Calls};
+    ghost use Rattle.filing_commands.specs.Calls.{Calls, CallsOn, CallsWith};
     ghost use Rattle.filing_desk.specs.Standing.{IsClean, StandsFor};
 
     /// Adds a class, as `Registry` says.
@@ -59,7 +57,8 @@ impl<S: Alter> Desk<S> {
 
     /// Takes over a plan, as `Registry` says.
     pub fn set_plan(&mut self, text: &Payload) -> Result<(), DeskFault>
-        ensures { (t : List ℕ) → IsOf greatest_plan text.now t → Calls (IsClean S.Store) (StandsFor S.Store) self.old (commands.plain (office.set_plan t)) (told_done result) self.new }
+        ensures { CallsWith (IsClean S.Store) (StandsFor S.Store) self.old greatest_plan text.now (λ t. commands.plain (office.set_plan t))
+            (told_done result) self.new }
     {
         let octets = text.octets(GREATEST_PLAN, DeskFault::PlanTooLong)?;
         let plan = Plan::from_toml(self.alloc, octets)?;
@@ -88,7 +87,7 @@ impl<S: Alter> Desk<S> {
 
     /// The due list of a day, as `Registry` says.
     pub fn due(&mut self, day: Date) -> Result<Vec<Line>, DeskFault>
-        ensures { (n : ℕ) → epoch_day day ≡ pos n → n ≤ last_day → Calls (IsClean S.Store) (StandsFor S.Store) self.old (commands.plain (office.due n)) (told_lines result) self.new }
+        ensures { CallsOn (IsClean S.Store) (StandsFor S.Store) self.old day (λ n. commands.plain (office.due n)) (told_lines result) self.new }
     {
         let lines = self.store.due(day_from_1970(day))?;
         Ok(lines)
@@ -96,7 +95,8 @@ impl<S: Alter> Desk<S> {
 
     /// Destroys a record, as `Registry` says.
     pub fn destroy(&mut self, number: u64, day: Date) -> Result<(), DeskFault>
-        ensures { (n : ℕ) → epoch_day day ≡ pos n → n ≤ last_day → Calls (IsClean S.Store) (StandsFor S.Store) self.old (commands.plain (office.destroy number n)) (told_done result) self.new }
+        ensures { CallsOn (IsClean S.Store) (StandsFor S.Store) self.old day (λ n. commands.plain (office.destroy number n))
+            (told_done result) self.new }
     {
         let number = record_number(number)?;
         self.store.destroy(number, day_from_1970(day))?;

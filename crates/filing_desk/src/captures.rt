@@ -1,6 +1,6 @@
 //! Captures in flight.
 
-ghost use Rattle.std.specs.Prelude.{◌≡◌, ℕ, List, ◌≤◌, ◌<◌, ◌/◌, ◌⊎◌, pos, true, false, length, map, nat_lt, Some, None, IfOk, IfErr, OnOk, MatchOption, MatchResult};
+ghost use Rattle.std.specs.Prelude.{◌≡◌, ℕ, List, ◌≤◌, ◌<◌, ◌/◌, ◌⊎◌, pos, true, false, length, nat_lt, Some, None, IfOk, IfErr, OnOk, MatchOption, MatchResult};
 ghost use Rattle.jiff.specs.Words.{epoch_day};
 ghost use Rattle.class_plan.specs.Calendar.{number_of_day};
 ghost use Rattle.class_plan.specs.Dates.{IsCaptureDay};
@@ -13,15 +13,14 @@ ghost use Rattle.filing_commands.specs.Standing as commands;
 ghost use Rattle.filing_commands.specs.Standing.{Standing, flight_of};
 ghost use Rattle.filing_commands.specs.Told.{told_capture, told_ticket, told_turn};
 ghost use Rattle.filing_commands.specs.declared.fault.DeskFault.TheVariants.{NoMemory};
-ghost use Rattle.filing_desk.specs.Beginning.{IsEntered, IsNumbered, KeepsAll, against_begin};
+ghost use Rattle.filing_desk.specs.Beginning.{IsEntered, IsNumbered, IsShort, KeepsAll, against_begin};
 ghost use Rattle.filing_desk.specs.Filing.{Files};
 ghost use Rattle.filing_desk.specs.Standing.{AreOpenPaths, IsShownBy};
 
 use crate::desk::Desk;
-use crate::limits::GREATEST_MESSAGE;
 use class_plan::{Date, day_of};
-use filing_commands::{Capture, DeskFault, Payload, Turn};
-use filing_flights::{Flight, PinnedPaths};
+use filing_commands::{Capture, DeskFault, GREATEST_MESSAGE, Payload, Turn};
+use filing_flights::{Flight, PinnedPaths, class_paths};
 use filing_machine::Machine;
 use filing_verify::Verified;
 use record_store::{Line, Store, StoreFault, are_classes};
@@ -31,7 +30,8 @@ use std::alloc::{AllocError, Global};
 
 /// Whether a payload has more octets than a message may have.
 fn is_too_long(message: &Payload) -> bool
-    ensures { (m : List ℕ) → IsOf greatest_message message.now m → result ≡ nat_lt greatest_message (length m) }
+    ensures told { (m : List ℕ) → IsOf greatest_message message.now m → result ≡ nat_lt greatest_message (length m) }
+    ensures short { result ≡ false → IsShort greatest_message message.now }
 {
     match message {
         Payload::Whole(octets) => octets.len() > GREATEST_MESSAGE,
@@ -42,30 +42,15 @@ fn is_too_long(message: &Payload) -> bool
 
 /// The octets of a message, which the caller has found not too long; 99 where there was no memory for them.
 fn octets_of(message: Payload) -> Result<Vec<u8>, DeskFault>
+    requires { IsShort greatest_message message }
     ensures octets { (m : List ℕ) → IsOf greatest_message message m → IfOk result (λ v. v.items ≡ m) }
     ensures within { IfOk result (λ v. length v.items ≤ greatest_message) }
     ensures refused { IfErr result (λ f. f ≡ NoMemory) }
 {
     match message {
-        Payload::Whole(octets) => {
-            if octets.len() > GREATEST_MESSAGE {
-                return Err(DeskFault::NoMemory);
-            }
-            Ok(octets)
-        }
+        Payload::Whole(octets) => Ok(octets),
         Payload::TooLong | Payload::NoMemory => Err(DeskFault::NoMemory),
     }
-}
-
-/// The paths of a set.
-fn listed(alloc: Global, paths: &Paths) -> Result<Vec<Vec<u8>>, AllocError>
-    ensures { IfOk result (λ v. map (λ p. p.items) v.items ≡ paths.now) }
-{
-    let mut listed = Vec::new(alloc);
-    for path in paths.as_slice() {
-        listed.push(Vec::from_slice(alloc, path.as_slice())?)?;
-    }
-    Ok(listed)
 }
 
 /// Makes the records of a capture in a store, whole or not at all. 87 where the numbers are used up, 89 and 99; a path that is no class
@@ -79,7 +64,7 @@ fn file_outcome<S: Alter>(
     ensures files { Files S.Store store.old store.new flight.now.message (number_of_day flight.now.day) classes.now result }
     ensures falls { Falls S.Store store.old store.new }
 {
-    let classes = listed(alloc, classes)?;
+    let classes = class_paths(alloc, classes)?;
     if !are_classes(store.plan(), classes.as_slice()) {
         return Err(DeskFault::Store(StoreFault::NoArchive));
     }
@@ -88,15 +73,17 @@ fn file_outcome<S: Alter>(
 }
 
 impl<S: Alter> Desk<S> {
-    ghost use Rattle.filing_commands.specs.Calls.{Calls};
+    ghost use Rattle.filing_commands.specs.Calls.{Calls, CallsWith};
     ghost use Rattle.filing_desk.specs.Standing.{IsClean, StandsFor};
 
     /// The day of a moment, where nothing speaks against one more capture: 94, 95, 90 and 97 in this order.
     fn judge_begin(&self, moment: u64, message: &Payload) -> Result<Date, DeskFault>
         ensures day { IfOk result (λ d. IsCaptureDay d × (epoch_day d ≡ pos (moment / 86400))) }
+        ensures short { OnOk result (IsShort greatest_message message.now) }
         ensures few { OnOk result ((length self.now.flights < 64) × (self.now.last < 4294967295)) }
         ensures allowed { (m : List ℕ) → IsOf greatest_message message.now m → OnOk result (against_begin self.now moment (length m) ≡ None) }
-        ensures refused { (m : List ℕ) → IsOf greatest_message message.now m → IfErr result (λ f. IsNumbered f (against_begin self.now moment (length m))) }
+        ensures refused { (m : List ℕ) → IsOf greatest_message message.now m
+            → IfErr result (λ f. IsNumbered f (against_begin self.now moment (length m))) }
     {
         let Some(day) = day_of(moment) else {
             return Err(DeskFault::BadMoment);
@@ -155,7 +142,8 @@ impl<S: Alter> Desk<S> {
         moment: u64,
         message: Payload,
     ) -> Result<(u32, u32), DeskFault>
-        ensures { (m : List ℕ) → IsOf greatest_message message m → Calls (IsClean S.Store) (StandsFor S.Store) self.old (commands.begin officer.now moment m) (told_ticket result) self.new }
+        ensures { CallsWith (IsClean S.Store) (StandsFor S.Store) self.old greatest_message message (λ m. commands.begin officer.now moment m)
+            (told_ticket result) self.new }
     {
         let day = self.judge_begin(moment, &message)?;
         let octets = octets_of(message)?;
@@ -195,7 +183,8 @@ impl<S: Alter> Desk<S> {
 
     /// What is pinned for a capture in flight, and its machine; none where no capture in flight has the ticket.
     pub fn in_flight(&self, ticket: u64) -> Option<(&Verified, &Machine)>
-        ensures { (s : Standing) → StandsFor S.Store self.now s → MatchOption result (flight_of ticket s.flights ≡ None) (λ p. IsShownBy (flight_of ticket s.flights) p.0.now p.1.now) }
+        ensures { (s : Standing) → StandsFor S.Store self.now s → MatchOption result (flight_of ticket s.flights ≡ None)
+            (λ p. IsShownBy (flight_of ticket s.flights) p.0.now p.1.now) }
     {
         match self.flights.get(ticket) {
             Some(flight) => Some((flight.program(), flight.machine())),

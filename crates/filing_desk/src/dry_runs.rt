@@ -1,6 +1,6 @@
 //! Dry runs: what a script or an image captures a message in, with nothing stored.
 
-ghost use Rattle.std.specs.Prelude.{◌≡◌, ℕ, List, [], false, Some, None, IfOk, IfErr};
+ghost use Rattle.std.specs.Prelude.{◌≡◌, ℕ, [], false, Some, None, IfOk, IfErr};
 ghost use Rattle.sieve_syntax.specs.View.{tree_of};
 ghost use Rattle.sieve_meaning.specs.Reading.{program_of};
 ghost use Rattle.sieve_meaning.specs.Outcome.{outcome_at, outcome};
@@ -9,7 +9,6 @@ ghost use Rattle.script_library.specs.Libraries.{library_of};
 ghost use Rattle.filing_table.specs.Ends.{HasOutcome};
 ghost use Rattle.filing_commands.specs.Limits.{greatest_image, greatest_message, greatest_script};
 ghost use Rattle.filing_commands.specs.Office as office;
-ghost use Rattle.filing_commands.specs.Payloads.{IsOf};
 ghost use Rattle.filing_commands.specs.Standing as commands;
 ghost use Rattle.filing_commands.specs.Told.{outcome_view, told_outcome};
 ghost use Rattle.filing_commands.specs.declared.fault.DeskFault.TheVariants.{NoMemory};
@@ -54,7 +53,8 @@ fn outcome_of<C: Case>(
     script: &Checked,
     shelves: Shelves<'_>,
 ) -> Result<Outcome, DeskFault>
-    ensures outcome { IfOk result (λ o. outcome_view o ≡ outcome (C.facts case.now) (library_of (scripts_of shelves.entry)) None (program_of (tree_of script.now.script))) }
+    ensures outcome { IfOk result (λ o. outcome_view o ≡ outcome (C.facts case.now) (library_of (scripts_of shelves.entry)) None
+        (program_of (tree_of script.now.script))) }
     ensures refused { IfErr result (λ f. f ≡ NoMemory) }
 {
     match compile_with(alloc, script, None, shelves) {
@@ -71,12 +71,13 @@ fn outcome_of<C: Case>(
 }
 
 impl<S: Alter> Desk<S> {
-    ghost use Rattle.filing_commands.specs.Calls.{Calls};
+    ghost use Rattle.filing_commands.specs.Calls.{CallsWithTwo};
     ghost use Rattle.filing_desk.specs.Standing.{IsClean, StandsFor};
 
     /// What an image captures a message in, as `Registry` says.
     pub fn try_image(&self, image: &Payload, message: &Payload) -> Result<Outcome, DeskFault>
-        ensures { (i m : List ℕ) → IsOf greatest_image image.now i → IsOf greatest_message message.now m → Calls (IsClean S.Store) (StandsFor S.Store) self.now (commands.plain (office.try_image i m)) (told_outcome result) self.now }
+        ensures { CallsWithTwo (IsClean S.Store) (StandsFor S.Store) self.now (greatest_image, greatest_message) image.now message.now
+            (λ i m. commands.plain (office.try_image i m)) (told_outcome result) self.now }
     {
         let program = judge_image(self.alloc, image)?;
         let case = judge_message(self.alloc, self.store.plan(), message)?;
@@ -86,7 +87,8 @@ impl<S: Alter> Desk<S> {
 
     /// What a script captures a message in, as `Registry` says.
     pub fn file(&self, script: &Payload, message: &Payload) -> Result<Outcome, DeskFault>
-        ensures { (s m : List ℕ) → IsOf greatest_script script.now s → IsOf greatest_message message.now m → Calls (IsClean S.Store) (StandsFor S.Store) self.now (commands.plain (office.file s m)) (told_outcome result) self.now }
+        ensures { CallsWithTwo (IsClean S.Store) (StandsFor S.Store) self.now (greatest_script, greatest_message) script.now message.now
+            (λ s m. commands.plain (office.file s m)) (told_outcome result) self.now }
     {
         let checked = judge_script(self.alloc, script)?;
         let case = judge_message(self.alloc, self.store.plan(), message)?;

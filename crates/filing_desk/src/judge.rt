@@ -11,9 +11,8 @@ ghost use Rattle.filing_commands.specs.Payloads.{IsOf};
 ghost use Rattle.filing_desk.specs.Judging.{IsFaultOf, IsTooLong};
 
 use crate::classes::PlanClasses;
-use crate::limits::{GREATEST_IMAGE, GREATEST_MESSAGE, GREATEST_SCRIPT};
 use class_plan::Plan;
-use filing_commands::{DeskFault, Payload};
+use filing_commands::{DeskFault, GREATEST_IMAGE, GREATEST_MESSAGE, GREATEST_SCRIPT, Payload};
 use filing_image::decode;
 use filing_machine::WholeCase;
 use filing_verify::{Verified, verify};
@@ -77,7 +76,8 @@ pub fn judge_message<'a>(
     message: &Payload,
 ) -> Result<WholeCase<PlanClasses<'a>>, DeskFault>
     ensures short { (m : List ℕ) → IsOf greatest_message message.now m → OnOk result (length m ≤ greatest_message) }
-    ensures case { (m : List ℕ) → IsOf greatest_message message.now m → IfOk result (λ c. facts_by (λ p. is_open_in (p.0).now) c ≡ case_of m (is_open_in plan.now)) }
+    ensures case { (m : List ℕ) → IsOf greatest_message message.now m
+        → IfOk result (λ c. facts_by (λ p. is_open_in (p.0).now) c ≡ case_of m (is_open_in plan.now)) }
     ensures refused { (m : List ℕ) → IsOf greatest_message message.now m → IfErr result (IsFaultOf (IsTooLong m) greatest_message m) }
 {
     let octets = message.octets(GREATEST_MESSAGE, DeskFault::MessageTooLong)?;

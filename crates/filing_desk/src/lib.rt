@@ -4,6 +4,7 @@
 //! - `archive`: the calls of its store;
 //! - `officers`: the scripts that are kept, and what officers set;
 //! - `captures`: captures in flight;
+//! - `pieces`: messages that come in pieces;
 //! - `dry_runs`: runs that store nothing;
 //! - `judge`: payloads as scripts, images and cases of messages;
 //! - `registry`: the desk as what a session talks to.
@@ -18,9 +19,8 @@ mod classes;
 mod desk;
 mod dry_runs;
 mod judge;
-mod limits;
 mod officers;
+mod pieces;
 mod registry;
 
 pub use desk::Desk;
-pub use limits::{GREATEST_IMAGE, GREATEST_MESSAGE, GREATEST_PLAN, GREATEST_SCRIPT};

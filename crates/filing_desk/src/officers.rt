@@ -1,9 +1,8 @@
 //! The scripts that are kept, and what officers set.
 
-ghost use Rattle.std.specs.Prelude.{ℕ, List, Ok};
+ghost use Rattle.std.specs.Prelude.{Ok};
 ghost use Rattle.filing_commands.specs.Limits.{greatest_image, greatest_script};
 ghost use Rattle.filing_commands.specs.Office as office;
-ghost use Rattle.filing_commands.specs.Payloads.{IsOf};
 ghost use Rattle.filing_commands.specs.Standing as commands;
 ghost use Rattle.filing_commands.specs.Told.{told_done};
 
@@ -13,7 +12,7 @@ use filing_commands::{DeskFault, Payload};
 use sqlite::Alter;
 
 impl<S: Alter> Desk<S> {
-    ghost use Rattle.filing_commands.specs.Calls.{Calls};
+    ghost use Rattle.filing_commands.specs.Calls.{Calls, CallsWith};
     ghost use Rattle.filing_desk.specs.Standing.{IsClean, StandsFor};
 
     /// Keeps a script of an officer, as `Registry` says.
@@ -23,7 +22,8 @@ impl<S: Alter> Desk<S> {
         name: &[u8],
         text: &Payload,
     ) -> Result<(), DeskFault>
-        ensures { (t : List ℕ) → IsOf greatest_script text.now t → Calls (IsClean S.Store) (StandsFor S.Store) self.old (commands.plain (office.set_script officer.now name.now t)) (told_done result) self.new }
+        ensures { CallsWith (IsClean S.Store) (StandsFor S.Store) self.old greatest_script text.now
+            (λ t. commands.plain (office.set_script officer.now name.now t)) (told_done result) self.new }
     {
         let script = judge_script(self.alloc, text)?;
         self.officers.set_script(officer, name, script)?;
@@ -32,7 +32,8 @@ impl<S: Alter> Desk<S> {
 
     /// Keeps a global script, as `Registry` says.
     pub fn set_global(&mut self, name: &[u8], text: &Payload) -> Result<(), DeskFault>
-        ensures { (t : List ℕ) → IsOf greatest_script text.now t → Calls (IsClean S.Store) (StandsFor S.Store) self.old (commands.plain (office.set_global name.now t)) (told_done result) self.new }
+        ensures { CallsWith (IsClean S.Store) (StandsFor S.Store) self.old greatest_script text.now
+            (λ t. commands.plain (office.set_global name.now t)) (told_done result) self.new }
     {
         let script = judge_script(self.alloc, text)?;
         self.officers.set_global(name, script)?;
@@ -56,7 +57,8 @@ impl<S: Alter> Desk<S> {
 
     /// Sets an image as an officer's program, as `Registry` says.
     pub fn set_image(&mut self, officer: &[u8], image: &Payload) -> Result<(), DeskFault>
-        ensures { (i : List ℕ) → IsOf greatest_image image.now i → Calls (IsClean S.Store) (StandsFor S.Store) self.old (commands.plain (office.set_image officer.now i)) (told_done result) self.new }
+        ensures { CallsWith (IsClean S.Store) (StandsFor S.Store) self.old greatest_image image.now
+            (λ i. commands.plain (office.set_image officer.now i)) (told_done result) self.new }
     {
         let program = judge_image(self.alloc, image)?;
         self.officers.set_image(officer, program)?;

@@ -14,7 +14,7 @@ use Rattle.filing_commands.specs.Standing.{Flight, IsInterrupted, turned}
 use Rattle.filing_flights.specs.Machines.{HasMade, IsStopped}
 use Rattle.filing_flights.specs.Held.{Held, Holds, IsGranted, IsOutcome, StopsShort, TellsEnd, TellsTurns, facts_in, granting_more}
 use Rattle.filing_flights.proofs.Lengths.{ended_at, runs_at, running_before, made_by}
-use Rattle.filing_flights.proofs.Alone.{pinned_alone}
+use Rattle.filing_commands.proofs.Alone.{pinned_alone}
 
 -- the same capture with another machine
 abbrev pub with_machine : Held → Stored → Held

@@ -1,7 +1,6 @@
 pub mod ResultLemmas
 pub mod PathLemmas
 pub mod Lengths
-pub mod Alone
 pub mod HeldLemmas
 pub mod ClassLemmas
 pub mod FlightsLemmas

@@ -1,5 +1,5 @@
 -- What is kept of a capture in flight, and what its calls say of the flight that it holds.
-use Rattle.std.specs.Prelude.{◌≡◌, ℕ, pos, ◌+◌, ◌⊎◌, min, List, Bool, true, not, nat_lt, is_some, if◌then◌else◌}
+use Rattle.std.specs.Prelude.{◌≡◌, ℕ, pos, ◌+◌, ◌⊎◌, min, List, Bool, true, not, nat_lt, is_some, Ok}
 use Rattle.jiff.specs.Words.{epoch_day}
 use Rattle.jiff_core.specs.declared.civil.date.Date.{Date}
 use Rattle.sieve_meaning.specs.Case.{Facts}
@@ -9,9 +9,9 @@ use Rattle.filing_case.specs.Message.{is_among}
 use Rattle.filing_case.specs.Whole.{facts_by}
 use Rattle.filing_case.specs.declared.whole.WholeCase.{WholeCase}
 use Rattle.filing_machine.specs.Runs.{Stored}
-use Rattle.filing_commands.specs.Answers.{Answer, ended, running}
 use Rattle.filing_commands.specs.Pinning.{IsAlone, case_in}
 use Rattle.filing_commands.specs.Standing.{Flight, IsInterrupted, IsPinned, turned}
+use Rattle.filing_commands.specs.Told.{told_turn}
 use Rattle.filing_commands.specs.declared.told.Turn.{Turn}
 
 -- what is kept of a capture in flight; of its case, the paths that were open at its beginning
@@ -57,12 +57,9 @@ StopsShort old count new = (f : Flight) → Holds old f → (made : ℕ) × IsIn
 abbrev pub TellsEnd : Held → Bool → Type 0
 TellsEnd x b = (f : Flight) → Holds x f → b ≡ not (nat_lt f.granted f.run_length)
 
-abbrev pub told : Turn → Answer
-told t = if t.ended then ended t.steps else running t.steps
-
 -- what is answered to the turns of the flight so far
 abbrev pub TellsTurns : Held → Turn → Type 0
-TellsTurns x t = (f : Flight) → Holds x f → told t ≡ turned f f.granted
+TellsTurns x t = (f : Flight) → Holds x f → told_turn (Ok t) ≡ turned f f.granted
 
 -- the outcome is what the capture makes alone of what stood at the flight's beginning
 abbrev pub IsOutcome : Held → Outcome → Type 0

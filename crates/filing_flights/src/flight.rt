@@ -14,15 +14,12 @@ ghost use Rattle.filing_flights.specs.Machines.{HasMade, IsStopped};
 use crate::paths::PinnedPaths;
 use class_plan::Date;
 use filing_case::{Case, WholeCase};
-use filing_commands::Turn;
+use filing_commands::{GREATEST_MESSAGE, Turn};
 use filing_machine::{Machine, Outcome};
 use filing_verify::Verified;
 use std::alloc::{AllocError, Global};
 use std::marker::Model;
 use std::rc::Rc;
-
-/// The most octets of a message.
-const MOST_OCTETS: usize = 8_388_608;
 
 /// A capture in flight: what is pinned for it, and its machine, which stands on the run of the pinned program in the pinned
 /// case.
@@ -59,7 +56,7 @@ impl Flight {
         paths: PinnedPaths,
         day: Date,
     ) -> Result<Flight, AllocError>
-        requires length { length message.items ≤ MOST_OCTETS }
+        requires length { length message.items ≤ GREATEST_MESSAGE }
         requires day { IsCaptureDay day }
         ensures { IfOk result (HoldsBegun ticket program.value message.items paths day) }
     {

@@ -2,3 +2,5 @@ pub mod Sound
 pub mod Ready
 pub mod Ends
 pub mod PlaceLemmas
+pub mod FindLemmas
+pub mod TopLemmas

@@ -1,3 +1,4 @@
 pub mod Items
 pub mod Seen
 pub mod Runs
+pub mod Tops

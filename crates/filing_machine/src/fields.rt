@@ -1,11 +1,12 @@
 //! Fields by name, and whether their values match a key.
 
 ghost use Rattle.std.specs.Prelude.{◌≡◌, ◌<◌, length, map, All, IfOk};
-ghost use Rattle.std.specs.List.{list_any};
+ghost use Rattle.std.specs.List.{list_any, find};
 ghost use Rattle.sieve_meaning.specs.Truth.{has_field as has_field_of};
 ghost use Rattle.sieve_meaning.specs.Matching.{key_matches as key_matches_by};
 ghost use Rattle.filing_table.specs.Machine.{values_of, compared};
 ghost use Rattle.filing_case.specs.Fields.{field_at};
+ghost use Rattle.filing_machine.specs.Tops.{value_matches};
 
 use crate::places::FieldPlaces;
 use filing_case::Case;
@@ -44,31 +45,46 @@ pub fn fields_named<C: Case>(
 
 /// Whether the value of one of the fields matches a key, by the number of the comparison: 0 `:is`, 2 `:contains`, 4
 /// `:matches` under `i;octet`, and one more for the same under `i;ascii-casemap`.
+#[tactic(auto, using(crate::proofs::FindLemmas::is_some_find, crate::proofs::FindLemmas::any_of_map))]
 pub fn any_matches<C: Case>(case: &C, fields: &FieldPlaces, comparison: u8, key: &[u8]) -> bool
     requires { All (λ place. place < length (C.facts case.now).fields) fields.now }
     ensures { result ≡ list_any (compared comparison key.now) (map (λ place. (field_at (C.facts case.now) place).value) fields.now) }
 {
-    let (match_type, comparator) = comparison_of(comparison);
-    any_value_matches(case, fields, match_type, comparator, key)
+    first_match(case, fields, comparison, key).is_some()
 }
 
-/// Whether the value of one of the fields matches a key.
-fn any_value_matches<C: Case>(
+/// The first of the fields whose value matches a key, by the number of the comparison; none where no value does.
+pub fn first_match<C: Case>(
+    case: &C,
+    fields: &FieldPlaces,
+    comparison: u8,
+    key: &[u8],
+) -> Option<usize>
+    requires { All (λ place. place < length (C.facts case.now).fields) fields.now }
+    ensures { result ≡ find (value_matches (C.facts case.now) comparison key.now) fields.now }
+{
+    let (match_type, comparator) = comparison_of(comparison);
+    first_value_match(case, fields, match_type, comparator, key)
+}
+
+/// The first of the fields whose value matches a key.
+fn first_value_match<C: Case>(
     case: &C,
     fields: &FieldPlaces,
     match_type: MatchType,
     comparator: Comparator,
     key: &[u8],
-) -> bool
+) -> Option<usize>
     requires { All (λ place. place < length (C.facts case.now).fields) fields.now }
-    ensures { result ≡ list_any (key_matches_by match_type comparator key.now) (map (λ place. (field_at (C.facts case.now) place).value) fields.now) }
+    ensures { result ≡ find (λ place. key_matches_by match_type comparator key.now (field_at (C.facts case.now) place).value) fields.now }
 {
     for index in 0..fields.count() {
-        if key_matches(match_type, key, case.value(fields.at(index)), comparator) {
-            return true;
+        let field = fields.at(index);
+        if key_matches(match_type, key, case.value(field), comparator) {
+            return Some(field);
         }
     }
-    false
+    None
 }
 
 /// The comparison of a number, the same for each number from 5 on.

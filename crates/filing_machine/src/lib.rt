@@ -13,8 +13,10 @@ mod outcome;
 mod places;
 mod stack;
 mod state;
+mod top;
 
 pub use filing_case::{Case, OpenPaths, PieceCase, WholeCase};
 pub use laws::every_run_ends;
 pub use machine::{Machine, run};
 pub use outcome::Outcome;
+pub use top::Top;

@@ -1,16 +1,21 @@
 //! The machine.
 
-ghost use Rattle.std.specs.Prelude.{◌≡◌, ◌≤◌, ◌+◌, IfOk, IsOk, OnErr, OnOk, None, is_some, true};
+ghost use Rattle.std.specs.Prelude.{◌≡◌, ◌≤◌, ◌+◌, IfOk, IsOk, IfSome, OnErr, OnOk, None, is_some, true};
+ghost use Rattle.std.specs.List.{AllByRecursion};
 ghost use Rattle.filing_image.specs.Program.{Program};
 ghost use Rattle.sieve_meaning.specs.Case.{Facts};
 ghost use Rattle.filing_table.specs.Machine.{At, step, start};
 ghost use Rattle.filing_table.specs.Ends.{HasOutcome};
 ghost use Rattle.filing_machine.specs.Runs.{seen, Stands, IsModestAt, answer, Leaves};
+ghost use Rattle.filing_machine.specs.Seen.{state, InCase};
+ghost use Rattle.filing_machine.specs.Tops.{top_of_stack, any_on_top, value_matches};
 
 use crate::act::act;
+use crate::fields::first_match;
 use crate::outcome::Outcome;
 use crate::stack::Stack;
-use crate::state::Standing;
+use crate::state::{Item, Standing};
+use crate::top::Top;
 use filing_case::Case;
 use filing_verify::Verified;
 use sieve_meaning::{Paths, captured_classes};
@@ -85,6 +90,39 @@ impl Machine {
         ensures { result ≡ is_some self.now.end }
     {
         self.end.is_some()
+    }
+
+    /// The place of the next instruction; of the last one, once the run has ended.
+    pub fn place(&self) -> usize
+        ensures { result ≡ self.now.at.place }
+    {
+        self.at.place
+    }
+
+    /// What stands on the top of the stack; none where that is empty.
+    pub fn top(&self) -> Option<Top>
+        ensures { (c : Facts) → result ≡ top_of_stack (state c self.now.at).stack }
+    {
+        match self.at.stack.top()? {
+            Item::Truth(truth) => Some(Top::Truth(*truth)),
+            Item::Fields(fields) => Some(Top::Values(fields.count())),
+            Item::Count(count) => Some(Top::Number(*count)),
+        }
+    }
+
+    /// Where a list stands on the top of the stack, the first field of it, by its place in the header from 0, whose value
+    /// matches a key; none where no value does, or where no list stands there. The comparison is that of MATCH: 0 `:is`,
+    /// 2 `:contains`, 4 `:matches` under `i;octet`, and one more for the same under `i;ascii-casemap`. The caller sees to it
+    /// that the machine stands in a run in this case.
+    pub fn first_match<C: Case>(&self, case: &C, comparison: u8, key: &[u8]) -> Option<usize>
+        requires { AllByRecursion (InCase (C.facts case.now)) self.now.at.stack }
+        ensures matches { IfSome result (λ f. value_matches (C.facts case.now) comparison key.now f ≡ true) }
+        ensures found { is_some result ≡ any_on_top comparison key.now (state (C.facts case.now) self.now.at).stack }
+    {
+        match self.at.stack.top()? {
+            Item::Fields(fields) => first_match(case, fields, comparison, key),
+            _ => None,
+        }
     }
 
     /// How many steps the run has made.

@@ -1,6 +1,6 @@
 //! A stack that never asks for memory.
 
-ghost use Rattle.std.specs.Prelude.{◌≡◌, ◌≤◌, ◌<◌, List, [], ◌∷◌, length, reverse, IfOk, MatchOption, vec_capacity};
+ghost use Rattle.std.specs.Prelude.{◌≡◌, ◌≤◌, ◌<◌, List, [], ◌∷◌, length, reverse, slice_get, option_copied, IfOk, MatchOption, vec_capacity};
 ghost use Rattle.filing_machine.specs.declared.state.Item.{Item as ItemType};
 ghost use Rattle.filing_machine.specs.Items.{HasTruth, HasFields, HasCount};
 
@@ -48,6 +48,13 @@ impl Stack {
         ensures { MatchOption result (self.old ≡ []) (λ item. self.old ≡ item ∷ self.new) }
     {
         self.items.pop()
+    }
+
+    /// The item on the top; none where the stack is empty.
+    pub fn top(&self) -> Option<&Item>
+        ensures { option_copied result ≡ slice_get self.now 0 }
+    {
+        self.items.as_slice().last()
     }
 
     /// Takes the truth on the top away.

@@ -18,11 +18,14 @@ civil_from None month day = None
 
 -- the year, the month and the day of a word: four, two and two digits
 abbrev pub civil_of : List ℕ → Option Civil
-civil_of word = if has_dashes word then civil_from (number_in 9999 (take 4 word)) (number_in 12 (take 2 (drop 5 word))) (number_in 31 (take 2 (drop 8 word))) else None
+civil_of word =
+    if has_dashes word then civil_from (number_in 9999 (take 4 word)) (number_in 12 (take 2 (drop 5 word))) (number_in 31 (take 2 (drop 8 word))) else None
 
 -- a date that the calendar has, in the years 1970 to 9999
 abbrev pub is_real : Civil → Bool
-is_real c = nat_le 1970 c.year && nat_le c.year 9999 && nat_le 1 c.month && nat_le c.month 12 && nat_le 1 c.day && nat_le c.day (days_in_month (pos c.year) c.month)
+is_real c =
+    nat_le 1970 c.year && nat_le c.year 9999 && nat_le 1 c.month && nat_le c.month 12
+    && nat_le 1 c.day && nat_le c.day (days_in_month (pos c.year) c.month)
 
 abbrev pub real_day : Option Civil → Option ℕ
 real_day (Some c) = if is_real c then Some (number_of c) else None

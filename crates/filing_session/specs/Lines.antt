@@ -27,7 +27,8 @@ cut_at (x ∷ xs) = Cut
 -- the first line of an input; a line has at most 512 octets
 unfoldable pub line_of : List ℕ → Line
 line_of input =
-    if nat_lt (line_length input) (length input) && nat_le (line_length input) 512 then Whole (take (line_length input) input) (drop (line_length input + 1) input)
+    if nat_lt (line_length input) (length input) && nat_le (line_length input) 512
+    then Whole (take (line_length input) input) (drop (line_length input + 1) input)
     else if nat_lt 512 (length input) then TooLong (drop 513 input)
     else cut_at input
 

@@ -18,5 +18,6 @@ IsRead size limit None old new = (length old < size) × (new ≡ [])
 -- and so are two payloads, one behind the other
 abbrev pub AreRead : (sizes limits : ℕ × ℕ) → Option (Payload × Payload) → (old new : List ℕ) → Type 0
 AreRead sizes limits (Some p) old new =
-    (sizes.0 + sizes.1 ≤ length old) × (new ≡ drop (sizes.0 + sizes.1) old) × IsOf limits.0 p.0 (take sizes.0 old) × IsOf limits.1 p.1 (take sizes.1 (drop sizes.0 old)) × IsWithin limits.0 p.0 × IsWithin limits.1 p.1
+    (sizes.0 + sizes.1 ≤ length old) × (new ≡ drop (sizes.0 + sizes.1) old)
+    × IsOf limits.0 p.0 (take sizes.0 old) × IsOf limits.1 p.1 (take sizes.1 (drop sizes.0 old)) × IsWithin limits.0 p.0 × IsWithin limits.1 p.1
 AreRead sizes limits None old new = (length old < sizes.0 + sizes.1) × (new ≡ [])

@@ -1,5 +1,5 @@
 -- The commands of a session's octets, the runs of a desk that they lead to, and the octets of its answers.
-use Rattle.std.specs.Prelude.{◌≡◌, ℕ, zero, suc, ◌+◌, List, [], ◌∷◌, ◌++◌, if◌then◌else◌, nat_le, None, length, take, drop, codes, flat_map}
+use Rattle.std.specs.Prelude.{◌≡◌, ◌⊎◌, ℕ, zero, suc, ◌+◌, List, [], ◌∷◌, ◌++◌, if◌then◌else◌, nat_le, None, length, take, drop, codes, flat_map}
 use Rattle.filing_commands.specs.Answers.{Answer, refused}
 use Rattle.filing_commands.specs.Office as office
 use Rattle.filing_commands.specs.Standing.{Command, plain, begin}
@@ -71,6 +71,10 @@ unfoldable pub session_of : ℕ → List ℕ → Session
 session_of zero input = record { items = []; ending = ending.Limit }
 session_of (suc most) input = go_on (heard input) (λ rest. session_of most rest)
 
+-- the session of an input: it has 1,000,000 items at most
+abbrev pub session_in : List ℕ → Session
+session_in input = session_of 1000000 input
+
 -- what is left unread: behind an item what is left of the rest, and behind the end all
 abbrev pub left_behind : Heard → (List ℕ → List ℕ) → List ℕ
 left_behind (Got item rest) next = next rest
@@ -112,20 +116,28 @@ module _ {D : Type 0} (Does : D → Command → Answer → D → Type 0) where
 
   -- all items were done, and all answers and the ending were written
   abbrev pub IsServed : Session → D → (old written : List ℕ) → D → Type 0
-  IsServed session s old written new = (answers : List Answer) × Run s session.items answers new × (written ≡ old ++ answers_octets answers ++ ending_octets session.ending)
+  IsServed session s old written new =
+      (answers : List Answer) × Run s session.items answers new × (written ≡ old ++ answers_octets answers ++ ending_octets session.ending)
 
   -- some first items were done, and all their answers were written
   abbrev pub IsAnswered : Session → D → (old written : List ℕ) → D → Type 0
-  IsAnswered session s old written new = (n : ℕ) × (answers : List Answer) × Run s (take n session.items) answers new × (written ≡ old ++ answers_octets answers)
+  IsAnswered session s old written new =
+      (n : ℕ) × (answers : List Answer) × Run s (take n session.items) answers new × (written ≡ old ++ answers_octets answers)
 
   -- some first items were done, all their answers but the last were written, and of the last a prefix
   abbrev pub IsCutInAnswer : Session → D → (old written : List ℕ) → D → Type 0
   IsCutInAnswer session s old written new =
-      (n : ℕ) × (answers : List Answer) × (last : Answer) × Run s (take n session.items) (answers ++ last ∷ []) new × IsBehind (old ++ answers_octets answers) (reply_octets last) written
+      (n : ℕ) × (answers : List Answer) × (last : Answer) × Run s (take n session.items) (answers ++ last ∷ []) new
+      × IsBehind (old ++ answers_octets answers) (reply_octets last) written
 
   -- all items were done, all their answers were written, and of the ending a prefix
   abbrev pub IsCutInEnding : Session → D → (old written : List ℕ) → D → Type 0
-  IsCutInEnding session s old written new = (answers : List Answer) × Run s session.items answers new × IsBehind (old ++ answers_octets answers) (ending_octets session.ending) written
+  IsCutInEnding session s old written new =
+      (answers : List Answer) × Run s session.items answers new × IsBehind (old ++ answers_octets answers) (ending_octets session.ending) written
+
+  -- of what is to be written a rest is missing, of the last answer or of the ending
+  abbrev pub IsCut : Session → D → (old written : List ℕ) → D → Type 0
+  IsCut session s old written new = IsCutInAnswer session s old written new ⊎ IsCutInEnding session s old written new
 
 -- the input ended, between items or inside one
 abbrev pub EndsByInput : Ending → Type 0

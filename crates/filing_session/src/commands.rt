@@ -1,30 +1,20 @@
 //! What each command does, once its payloads are read.
 
-ghost use Rattle.std.specs.Prelude.{ℕ, List, ◌≡◌, None};
+ghost use Rattle.std.specs.Prelude.{◌≡◌, None};
 ghost use Rattle.filing_commands.specs.Answers.{refused as refused_answer};
-ghost use Rattle.filing_commands.specs.Calls.{Calls};
+ghost use Rattle.filing_commands.specs.Calls.{Calls, CallsWith, CallsWithTwo};
 ghost use Rattle.filing_commands.specs.Faults.{refused_by};
-ghost use Rattle.filing_commands.specs.Payloads.{IsOf};
 ghost use Rattle.filing_commands.specs.Told.{told_capture, told_done, told_lines, told_outcome, told_ticket, told_turn};
 ghost use Rattle.filing_session.specs.Commands.{command_of, one_command, one_limit, two_command, two_limits};
 ghost use Rattle.filing_session.specs.Replies.{answer_of};
 
 use crate::reply::Reply;
 use crate::requests::{NoPayload, OnePayload, TwoPayloads};
-use filing_commands::{Capture, DeskFault, Outcome, Payload, Refusal, Registry, Turn};
+use filing_commands::{
+    Capture, DeskFault, GREATEST_IMAGE, GREATEST_MESSAGE, GREATEST_PLAN, GREATEST_SCRIPT, Outcome,
+    Payload, Refusal, Registry, Turn,
+};
 use record_store::Line;
-
-/// How long a script is at most, in octets.
-const GREATEST_SCRIPT: usize = 262_144;
-
-/// How long a message is at most, in octets.
-const GREATEST_MESSAGE: usize = 8_388_608;
-
-/// How long the text of a plan is at most, in octets.
-const GREATEST_PLAN: usize = 1_048_576;
-
-/// How long an image is at most, in octets.
-const GREATEST_IMAGE: usize = 16_777_216;
 
 /// A refusal that has no offset.
 pub fn refused(number: u8) -> Reply
@@ -147,7 +137,7 @@ pub fn limits_of_two(command: TwoPayloads) -> (usize, usize)
 
 /// Does what one payload is for. A message is given away, and not copied.
 pub fn do_one<R: Registry>(registry: &mut R, command: OnePayload<'_>, payload: Payload) -> Reply
-    ensures { (octets : List ℕ) → IsOf (one_limit command.entry) payload octets → Calls R.clean R.stands registry.old (one_command command.entry octets) (answer_of result) registry.new }
+    ensures { CallsWith R.clean R.stands registry.old (one_limit command.entry) payload (one_command command.entry) (answer_of result) registry.new }
 {
     match command {
         OnePayload::SetPlan => settled(registry.set_plan(&payload)),
@@ -167,7 +157,8 @@ pub fn do_two<R: Registry>(
     first: &Payload,
     second: &Payload,
 ) -> Reply
-    ensures { (a b : List ℕ) → IsOf (two_limits command).0 first.now a → IsOf (two_limits command).1 second.now b → Calls R.clean R.stands registry.now (two_command command a b) (answer_of result) registry.now }
+    ensures { CallsWithTwo R.clean R.stands registry.now (two_limits command) first.now second.now (two_command command)
+        (answer_of result) registry.now }
 {
     match command {
         TwoPayloads::File => captured(registry.file(first, second)),

@@ -49,7 +49,8 @@ fn answer_one<S: Source, R: Registry>(
     command: OnePayload<'_>,
     size: usize,
 ) -> Result<Said, ReadFault>
-    ensures said { S.tells → IfOk result (λ a. Answers (Calls R.clean R.stands) registry.old (with_payload size (one_command command.entry) (S.left source.old)) a registry.new (S.left source.new)) }
+    ensures said { S.tells → IfOk result (λ a. Answers (Calls R.clean R.stands) registry.old
+        (with_payload size (one_command command.entry) (S.left source.old)) a registry.new (S.left source.new)) }
     ensures same { OnErr result (registry.new ≡ registry.old) }
     ensures ends { TellsEnd (SaysEnd result) (S.ends source.old) (S.ends source.new) }
     ensures troubles { TellsTroubles S.failures S.interruptions S.most_interruptions result source.old source.new }
@@ -68,7 +69,8 @@ fn answer_two<S: Source, R: Registry>(
     command: TwoPayloads,
     sizes: (usize, usize),
 ) -> Result<Said, ReadFault>
-    ensures said { S.tells → IfOk result (λ a. Answers (Calls R.clean R.stands) registry.now (with_payloads sizes.0 sizes.1 (two_command command) (S.left source.old)) a registry.now (S.left source.new)) }
+    ensures said { S.tells → IfOk result (λ a. Answers (Calls R.clean R.stands) registry.now
+        (with_payloads sizes.0 sizes.1 (two_command command) (S.left source.old)) a registry.now (S.left source.new)) }
     ensures ends { TellsEnd (SaysEnd result) (S.ends source.old) (S.ends source.new) }
     ensures troubles { TellsTroubles S.failures S.interruptions S.most_interruptions result source.old source.new }
 {
@@ -86,7 +88,8 @@ fn answer<S: Source, R: Registry>(
     registry: &mut R,
     request: &Request<'_>,
 ) -> Result<Said, ReadFault>
-    ensures said { S.tells → IfOk result (λ a. Answers (Calls R.clean R.stands) registry.old (heard_line (asked_as request.now) (S.left source.old)) a registry.new (S.left source.new)) }
+    ensures said { S.tells → IfOk result (λ a. Answers (Calls R.clean R.stands) registry.old
+        (heard_line (asked_as request.now) (S.left source.old)) a registry.new (S.left source.new)) }
     ensures same { OnErr result (registry.new ≡ registry.old) }
     ensures ends { TellsEnd (SaysEnd result) (S.ends source.old) (S.ends source.new) }
     ensures troubles { TellsTroubles S.failures S.interruptions S.most_interruptions result source.old source.new }
@@ -110,7 +113,8 @@ pub fn next<S: Source, R: Registry>(
     registry: &mut R,
     line: &mut LineBuffer,
 ) -> Result<Said, ReadFault>
-    ensures said { S.tells → IfOk result (λ a. Answers (Calls R.clean R.stands) registry.old (heard (S.left source.old)) a registry.new (S.left source.new)) }
+    ensures said { S.tells → IfOk result (λ a. Answers (Calls R.clean R.stands) registry.old
+        (heard (S.left source.old)) a registry.new (S.left source.new)) }
     ensures same { OnErr result (registry.new ≡ registry.old) }
     ensures ends { TellsEnd (SaysEnd result) (S.ends source.old) (S.ends source.new) }
     ensures troubles { TellsTroubles S.failures S.interruptions S.most_interruptions result source.old source.new }

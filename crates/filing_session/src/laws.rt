@@ -11,8 +11,12 @@ use filing_commands::Registry;
 /// What `serve` says of a registry before and after it holds of the states that the registry stands for: each state that it stood
 /// for leads, by what the commands do to states, to one that it stands for after the session.
 pub fn sessions_refine_states<R: Registry>()
-    ensures served { (session : Session) (old written : List ℕ) → Refines R.clean R.stands (λ desk. IsServed (Calls R.clean R.stands) session desk old written) (λ s. IsServed Step session s old written) }
-    ensures answered { (session : Session) (old written : List ℕ) → Refines R.clean R.stands (λ desk. IsAnswered (Calls R.clean R.stands) session desk old written) (λ s. IsAnswered Step session s old written) }
-    ensures cut_in_answer { (session : Session) (old written : List ℕ) → Refines R.clean R.stands (λ desk. IsCutInAnswer (Calls R.clean R.stands) session desk old written) (λ s. IsCutInAnswer Step session s old written) }
-    ensures cut_in_ending { (session : Session) (old written : List ℕ) → Refines R.clean R.stands (λ desk. IsCutInEnding (Calls R.clean R.stands) session desk old written) (λ s. IsCutInEnding Step session s old written) }
+    ensures served { (session : Session) (old written : List ℕ) → Refines R.clean R.stands
+        (λ desk. IsServed (Calls R.clean R.stands) session desk old written) (λ s. IsServed Step session s old written) }
+    ensures answered { (session : Session) (old written : List ℕ) → Refines R.clean R.stands
+        (λ desk. IsAnswered (Calls R.clean R.stands) session desk old written) (λ s. IsAnswered Step session s old written) }
+    ensures cut_in_answer { (session : Session) (old written : List ℕ) → Refines R.clean R.stands
+        (λ desk. IsCutInAnswer (Calls R.clean R.stands) session desk old written) (λ s. IsCutInAnswer Step session s old written) }
+    ensures cut_in_ending { (session : Session) (old written : List ℕ) → Refines R.clean R.stands
+        (λ desk. IsCutInEnding (Calls R.clean R.stands) session desk old written) (λ s. IsCutInEnding Step session s old written) }
 {}

@@ -172,7 +172,8 @@ fn write_records<K: Sink>(sink: &mut K, lines: &[Line]) -> Result<(), WriteFault
 
 /// Writes the lines of a whole capture.
 fn write_capture<K: Sink>(sink: &mut K, capture: &Capture) -> Result<(), WriteFault>
-    ensures written { K.tells → Writes result (K.written sink.old) (capture_octets capture.now.fault (map line_view capture.now.lines.items)) (K.written sink.new) }
+    ensures written { K.tells → Writes result (K.written sink.old)
+        (capture_octets capture.now.fault (map line_view capture.now.lines.items)) (K.written sink.new) }
     ensures troubles { TellsTroubles K.failures K.interruptions K.most_interruptions result sink.old sink.new }
 {
     write_faults(sink, capture.fault)?;

@@ -1,8 +1,8 @@
 //! The session: lines are read, done and answered, one after the other.
 
-ghost use Rattle.std.specs.Prelude.{◌≡◌, ◌≢◌, ◌⊎◌, OnOk, Ok, Err, IsErrOf};
+ghost use Rattle.std.specs.Prelude.{◌≡◌, ◌≢◌, OnOk, Ok, Err, IsErrOf};
 ghost use Rattle.filing_commands.specs.Calls.{Calls};
-ghost use Rattle.filing_session.specs.Session.{session_of, ending_octets, left_by, IsServed, IsAnswered, IsCutInAnswer, IsCutInEnding, EndsByInput};
+ghost use Rattle.filing_session.specs.Session.{session_in, ending_octets, left_by, IsServed, IsAnswered, IsCut, EndsByInput};
 ghost use Rattle.filing_session.specs.Streams.{Rises, GivesUp, TellsTroubles, TriesOn};
 ghost use Rattle.filing_session.specs.Written.{Writes};
 
@@ -69,16 +69,19 @@ pub fn serve<S: Source, K: Sink, R: Registry>(
     sink: &mut K,
     registry: &mut R,
 ) -> Result<(), ServeFault>
-    ensures ok { S.tells → K.tells → OnOk result (IsServed (Calls R.clean R.stands) (session_of 1000000 (S.left source.old)) registry.old (K.written sink.old) (K.written sink.new) registry.new) }
-    ensures unheard { S.tells → K.tells → IsErrOf result ServeFault.Read → IsAnswered (Calls R.clean R.stands) (session_of 1000000 (S.left source.old)) registry.old (K.written sink.old) (K.written sink.new) registry.new }
-    ensures unsaid { S.tells → K.tells → IsErrOf result ServeFault.Write →
-        IsCutInAnswer (Calls R.clean R.stands) (session_of 1000000 (S.left source.old)) registry.old (K.written sink.old) (K.written sink.new) registry.new ⊎ IsCutInEnding (Calls R.clean R.stands) (session_of 1000000 (S.left source.old)) registry.old (K.written sink.old) (K.written sink.new) registry.new }
+    ensures ok { S.tells → K.tells → OnOk result (IsServed (Calls R.clean R.stands) (session_in (S.left source.old))
+        registry.old (K.written sink.old) (K.written sink.new) registry.new) }
+    ensures unheard { S.tells → K.tells → IsErrOf result ServeFault.Read → IsAnswered (Calls R.clean R.stands) (session_in (S.left source.old))
+        registry.old (K.written sink.old) (K.written sink.new) registry.new }
+    ensures unsaid { S.tells → K.tells → IsErrOf result ServeFault.Write → IsCut (Calls R.clean R.stands) (session_in (S.left source.old))
+        registry.old (K.written sink.old) (K.written sink.new) registry.new }
     ensures read { IsErrOf result ServeFault.Read → GivesUp (S.failures source.old) (S.failures source.new) (S.interruptions source.new) }
     ensures write { IsErrOf result ServeFault.Write → GivesUp (K.failures sink.old) (K.failures sink.new) (K.interruptions sink.new) }
     ensures outlasts { OnOk result ((S.failures source.new ≡ S.failures source.old) × (K.failures sink.new ≡ K.failures sink.old)) }
     ensures reads { TriesOn result (S.interruptions source.old) (S.most_interruptions source.old) (S.most_interruptions source.new) }
     ensures writes { TriesOn result (K.interruptions sink.old) (K.most_interruptions sink.old) (K.most_interruptions sink.new) }
-    ensures ending { S.tells → K.tells → result ≡ Ok tt → EndsByInput (session_of 1000000 (S.left source.old)).ending → Rises (S.ends source.old) (S.ends source.new) }
+    ensures ending { S.tells → K.tells → result ≡ Ok tt → EndsByInput (session_in (S.left source.old)).ending
+        → Rises (S.ends source.old) (S.ends source.new) }
     ensures unread { S.tells → K.tells → result ≡ Ok tt → S.left source.new ≡ left_by 1000000 (S.left source.old) }
 {
     let mut line = LineBuffer::new();

@@ -14,7 +14,8 @@ use itoa::Buffer;
 
 /// The date that tells the day of a due date: that date, which is one of the years 1970 to 9999.
 fn told_date(due: Date) -> Option<Date>
-    ensures { MatchOption result (last_day < number_of_day due) (λ d. IsBetween (pos 0) (pos 2932896) (epoch_day d) × (epoch_day d ≡ pos (number_of_day due))) }
+    ensures { MatchOption result (last_day < number_of_day due)
+        (λ d. IsBetween (pos 0) (pos 2932896) (epoch_day d) × (epoch_day d ≡ pos (number_of_day due))) }
 {
     date_of(day_number(due).abs())
 }
@@ -28,7 +29,8 @@ fn dash_before(part: u8) -> &'static [u8]
 
 /// Writes a date by its year, its month and its day, and the end of its line.
 fn write_civil<K: Sink>(sink: &mut K, year: u16, month: u8, day: u8) -> Result<(), WriteFault>
-    ensures written { K.tells → Writes result (K.written sink.old) (civil_octets (record { year = year; month = month; day = day }) ++ codes "\n") (K.written sink.new) }
+    ensures written { K.tells → Writes result (K.written sink.old)
+        (civil_octets (record { year = year; month = month; day = day }) ++ codes "\n") (K.written sink.new) }
     ensures troubles { TellsTroubles K.failures K.interruptions K.most_interruptions result sink.old sink.new }
 {
     let mut year_text = Buffer::new();

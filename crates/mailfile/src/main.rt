@@ -29,14 +29,11 @@ fn desk_over<S: Alter + Drop>(alloc: Global, conn: Connection<S>) -> Option<Desk
     Desk::new(alloc, store).ok()
 }
 
-/// Serves a session over a database, from standard input to standard output.
-fn serve_over<S: Alter + Drop>(rt: &HostRuntime, conn: Connection<S>) -> ExitCode {
-    let Some(mut desk) = desk_over(rt.alloc(), conn) else {
-        return end_without_store(rt);
-    };
+/// Serves a session at a desk, from standard input to standard output.
+fn serve_at<S: Alter + Drop>(rt: &HostRuntime, desk: &mut Desk<S>) -> ExitCode {
     let mut input = Input::new(rt.stdin());
     let mut output = Output::new(rt.stdout());
-    match serve(rt.alloc(), &mut input, &mut output, &mut desk) {
+    match serve(rt.alloc(), &mut input, &mut output, desk) {
         Ok(()) => ExitCode::SUCCESS,
         Err(fault) => {
             let _ = eprintln!(rt; "mailfile: {fault}");
@@ -47,18 +44,27 @@ fn serve_over<S: Alter + Drop>(rt: &HostRuntime, conn: Connection<S>) -> ExitCod
 
 /// Serves a session over the store in memory.
 fn serve_in_memory(rt: &HostRuntime) -> ExitCode {
-    match Connection::open_in_memory(rt.alloc()) {
-        Ok(conn) => serve_over(rt, conn),
-        Err(_) => end_without_store(rt),
-    }
+    let Ok(conn) = Connection::open_in_memory(rt.alloc()) else {
+        return end_without_store(rt);
+    };
+    let Some(mut desk) = desk_over(rt.alloc(), conn) else {
+        return end_without_store(rt);
+    };
+    serve_at(rt, &mut desk)
 }
 
-/// Serves a session over the store in a file, whose pages end in check sums where the file is new.
+/// Serves a session over the store in a file, whose pages end in check sums where the file is new. At the end what the log of the
+/// database has is copied into the file; where that fails it stays in the log, in which the next opening finds it.
 fn serve_in_file(rt: &HostRuntime, path: &str) -> ExitCode {
-    match Connection::open_with_sums(rt, path) {
-        Ok(conn) => serve_over(rt, conn),
-        Err(_) => end_without_store(rt),
-    }
+    let Ok(conn) = Connection::open_with_sums(rt, path) else {
+        return end_without_store(rt);
+    };
+    let Some(mut desk) = desk_over(rt.alloc(), conn) else {
+        return end_without_store(rt);
+    };
+    let status = serve_at(rt, &mut desk);
+    let _ = desk.into_store().into_connection().close();
+    status
 }
 
 /// Ends without a session, where there is no store.

@@ -20,7 +20,8 @@ use Rattle.record_tables.specs.declared.rows.RecordRow.{RecordRow}
 use Rattle.record_rows.specs.Judged as judged
 use Rattle.record_rows.specs.Judged.{is_one_of, IsSound, AreRows}
 use Rattle.record_store.specs.Archive.{Archive, Hold, IsArchive, IsRecord, is_live, is_named, has_message, has_number, due_of, past_all, is_hold}
-use Rattle.record_store.specs.Adoption.{TellsRows, IsOverview, IsJudged, IsKeyed, named_hold, sorted_holds, day_by, days_by}
+use Rattle.record_store.specs.Adoption.{TellsRows, IsOverview, IsJudged, IsKeyed, named_hold, sorted_holds}
+use Rattle.record_store.specs.Revisions.{dues_in}
 use Rattle.record_store.specs.Captures.{due_before}
 use Rattle.record_store.specs.Counts.{count_at, tally}
 use Rattle.record_store.specs.Stores.{has_due, due_row, due_rows, hold_count, live_count}
@@ -213,39 +214,6 @@ others_are a is rs ms m records messages =
           omega (arith, zero)
     ]
 
--- ---- due days
-
-one_day : (f : Record → Due) (r : Record) (F : List Record) (d : Bool) (o : Option ℕ) → f r ≡ record { number = r.number; day = unwrap_or o 0 } → due_before r.number (cond d None o) (map f F) ≡ map f (cond (not d && is_some o) (r ∷ F) F)
-one_day f r F true o e = refl
-one_day f r F false None e = refl
-one_day f r F false (Some x) e = ap (λ z. z ∷ map f F) (sym e)
-
-days_are : (a : Archive) (rs : List Record) → days_by a.plan rs ≡ map (due_row a) (filter (has_due a) rs)
-days_are a [] = refl
-days_are a (r ∷ rs) = ap (due_before r.number (day_by a.plan r)) (days_are a rs) ∙ one_day (due_row a) r (filter (has_due a) rs) r.destroyed (due_of a r) refl
-
-pub days_due : (a : Archive) → days_by a.plan a.records ≡ due_rows a
-days_due a = days_are a a.records
-
-day_above : (n k : ℕ) (o : Option ℕ) (ds : List Due) → n < k → AllByRecursion (λ (d : Due). n < d.number) ds → AllByRecursion (λ (d : Due). n < d.number) (due_before k o ds)
-day_above n k None ds low h = h
-day_above n k (Some x) ds low h = (low, h)
-
-days_above : (p : Listing) (n : ℕ) (rs : List Record) → AllByRecursion (λ (r : Record). n < r.number) rs → AllByRecursion (λ (d : Due). n < d.number) (days_by p rs)
-days_above p n [] h = tt
-days_above p n (r ∷ rs) h = day_above n r.number (day_by p r) (days_by p rs) h.0 (days_above p n rs h.1)
-
-day_first : (k : ℕ) (o : Option ℕ) (ds : List Due) → AllByRecursion (λ (d : Due). k < d.number) ds → AreAscending ds → AreAscending (due_before k o ds)
-day_first k None ds low up = up
-day_first k (Some x) ds low up = (low, up)
-
-days_rise : (p : Listing) (rs : List Record) → IsAscending (λ (x y : Record). x.number < y.number) rs → AreAscending (days_by p rs)
-days_rise p [] up = tt
-days_rise p (r ∷ rs) up = day_first r.number (day_by p r) (days_by p rs) (days_above p r.number rs up.0) (days_rise p rs up.1)
-
-pub days_ascend : (p : Listing) (rs : List Record) → IsStrictlySortedBy nat_cmp (map (λ (r : Record). r.number) rs) → AreAscending (days_by p rs)
-days_ascend p rs sorted = days_rise p rs (numbers_rise (λ (r : Record). r.number) rs sorted)
-
 -- ---- an archive's numbers have 32 bits
 
 pub records_fit : (a : Archive) → IsArchive a → AllByRecursion FitsRecord a.records
@@ -291,16 +259,11 @@ rows_back a plan rs ms hs same records messages holds rows =
     subst (λ p. AreRows p a.records (map (λ (m : Message). m.number) a.messages) (sorted_holds a)) same
     (subst (λ l. AreRows plan l (map (λ (m : Message). m.number) a.messages) (sorted_holds a)) records (subst (λ l. AreRows plan (map record_of rs) l (sorted_holds a)) messages (subst (λ l. AreRows plan (map record_of rs) ms l) holds rows)))
 
-pub days_small : (p : Listing) (rs : List RecordRow) → All (IsSound p) (map record_of rs) → All (λ (r : RecordRow). r.day ≤ 84005) rs
-days_small p rs sound =
-    All-from_recursion (λ (r : RecordRow). r.day ≤ 84005) rs
-    (all_weaker (λ (r : RecordRow). IsSound p (record_of r)) (λ (r : RecordRow). r.day ≤ 84005) (λ r h. h.day) rs (all_unmap (IsSound p) record_of rs (recursion_from_All (IsSound p) (map record_of rs) sound)))
-
 pub is_overview : (f : Overview) (a : Archive) (plan : Listing) (rs : List RecordRow) (ms : List ℕ) (hs : List HoldRow) → plan ≡ a.plan → IsKeyed a → map record_of rs ≡ a.records → ms ≡ map (λ (m : Message). m.number) a.messages
     → map named_of hs ≡ sorted_holds a → AreRows plan (map record_of rs) ms (map named_of hs) → f.plan ≡ plan → f.next ≡ past_all 1 (map record_of rs) → f.next ≤ 2 ^ 32
     → ((n : ℕ) → count_at f.held n ≡ tally (λ (h : HoldRow). h.record == n) hs)
     → ((m : ℕ) → count_at f.others m ≡ tally (λ (r : RecordRow). not r.destroyed && (r.message == m)) rs - tally (λ (k : ℕ). k == m) ms)
-    → map due_at f.dues.items ≡ days_by plan (map record_of rs) → IsOverview f a
+    → map due_at f.dues.items ≡ dues_in plan (map record_of rs) → IsOverview f a
 is_overview f a plan rs ms hs same keyed records messages holds rows own next small held others dues =
     let fit = small_below f.next a.records (next ∙ ap (past_all 1) records) small in
     let archive = rows-archive a keyed fit (rows_back a plan rs ms hs same records messages holds rows) in
@@ -309,7 +272,7 @@ is_overview f a plan rs ms hs same keyed records messages holds rows own next sm
       next = next ∙ ap (past_all 1) records;
       held = λ n. held n ∙ held_is a hs n holds;
       others = λ m. others m ∙ others_are a archive rs ms m records messages;
-      dues = dues ∙ (λ i. days_by (same i) (records i)) ∙ days_due a;
+      dues = dues ∙ (λ i. dues_in (same i) (records i));
       archive = archive;
     }
 

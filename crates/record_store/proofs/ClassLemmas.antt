@@ -3,7 +3,6 @@ use Rattle.std.proofs.Common.{◌≡◌, ℕ, Bool, true, false, cond, ◌&&◌,
 use Rattle.std.specs.Str.{bytes_eq}
 use Rattle.std.specs.List.{AllByRecursion, All}
 use Rattle.std.specs.Cmp.Lexicographic.{slice_cmp}
-use Rattle.std.specs.Ordering.{match_ordering}
 use Rattle.std.proofs.lemmas.Map.Text.{is_eq-slice_cmp}
 use Rattle.std.proofs.lemmas.List.{map-append}
 use Rattle.std.proofs.lemmas.List.Elements.{recursion_from_All}
@@ -13,13 +12,12 @@ use Rattle.sqlite.specs.Store.{Ghosts}
 use Rattle.sqlite.specs.Effect.{Database}
 use Rattle.sqlite.specs.Held.{state}
 use Rattle.sqlite.proofs.StateLemmas.{survives_weaker}
-use Rattle.class_plan.specs.declared.faults.PlanFault.TheVariants.{PathTwice}
-use Rattle.class_plan.specs.Changes.{added, speaks_against, with_class}
+use Rattle.class_plan.specs.Changes.{added, with_class}
 use Rattle.class_plan.specs.Calendar.{due_on, due_by}
 use Rattle.class_plan.specs.Paths.{ancestors}
 use Rattle.class_plan.specs.Plans.{Row, Listing, IsPlan, found, has, put, open_row, own_at, first_own, schedule_at}
-use Rattle.class_plan.proofs.Judged.{judged-made}
-use Rattle.class_plan.proofs.Put.{put-cons, has-put, say-put}
+use Rattle.class_plan.proofs.Put.{placed, put-cons, has-put, say-put}
+use Rattle.class_plan.proofs.Removed.{head_other, tail_other, added-new}
 use Rattle.record_tables.specs.Rows.{Record}
 use Rattle.record_tables.specs.Changes as tables
 use Rattle.record_tables.specs.Changes.{Listed, Rule, Turns, Always}
@@ -32,45 +30,27 @@ use Rattle.record_store.specs.declared.store.Store.{Store}
 
 -- ---- the plan
 
--- a class that was not there is new
-pub is_new : (p q : Listing) (path : List ℕ) → added p path ≡ Ok q → (q ≡ with_class p path) × (has p.rows path ≡ false)
-is_new p q path e =
-    let made = judged-made (speaks_against p path) (with_class p path) q (sym e) in
-    (made.0, made.1 PathTwice (omega arith))
-
--- the head and the tail of rows without a path
-parts_without : (x : Row) (xs : List Row) (path : List ℕ) → has (x ∷ xs) path ≡ false → (bytes_eq path x.path ≡ false) × (has xs path ≡ false)
-parts_without x xs path h = go (bytes_eq path x.path) h
-  where
-    go : (b : Bool) → is_some (cond b (Some x) (found path xs)) ≡ false → (b ≡ false) × (has xs path ≡ false)
-    go true h = absurd (true≢false h)
-    go false h = (refl, h)
-
 -- no row has the path, so none compares as equal
 not_equal : (r x : Row) → bytes_eq r.path x.path ≡ false → Equal ≡ slice_cmp nat_cmp r.path x.path → ⊥
 not_equal r x apart e = true≢false (ap is_eq e ∙ is_eq-slice_cmp r.path x.path ∙ apart)
 
--- what a put gives, in its three cases
-abbrev placed : Ordering → Row → Row → List Row → List Row
-placed o r x xs = match_ordering o (r ∷ x ∷ xs) (r ∷ xs) (x ∷ put r xs)
-
 put_permutes : (r : Row) (xs : List Row) → has xs r.path ≡ false → IsPermutation (xs ++ r ∷ []) (put r xs)
 put_permutes r [] h = IsPermutation-refl (r ∷ [])
-put_permutes r (x ∷ xs) h = subst (IsPermutation ((x ∷ xs) ++ r ∷ [])) (sym (put-cons r x xs)) (go (slice_cmp nat_cmp r.path x.path) refl (put_permutes r xs (parts_without x xs r.path h).1))
+put_permutes r (x ∷ xs) h = subst (IsPermutation ((x ∷ xs) ++ r ∷ [])) (sym (put-cons r x xs)) (go (slice_cmp nat_cmp r.path x.path) refl (put_permutes r xs (tail_other r.path x xs h)))
   where
     go : (o : Ordering) → o ≡ slice_cmp nat_cmp r.path x.path → IsPermutation (xs ++ r ∷ []) (put r xs) → IsPermutation ((x ∷ xs) ++ r ∷ []) (placed o r x xs)
     go Less e more = IsPermutation-to_front (x ∷ xs) r
-    go Equal e more = absurd (not_equal r x (parts_without x xs r.path h).0 e)
+    go Equal e more = absurd (not_equal r x (head_other r.path x xs h) e)
     go Greater e more = IsPermutation-cons x (xs ++ r ∷ []) (put r xs) more
 
 -- an open class without a schedule adds no row of one
 rules_stay : (path : List ℕ) (xs : List Row) → has xs path ≡ false → own_rules (put (open_row path) xs) ≡ own_rules xs
 rules_stay path [] h = refl
-rules_stay path (x ∷ xs) h = ap own_rules (put-cons (open_row path) x xs) ∙ go (slice_cmp nat_cmp path x.path) refl (rules_stay path xs (parts_without x xs path h).1)
+rules_stay path (x ∷ xs) h = ap own_rules (put-cons (open_row path) x xs) ∙ go (slice_cmp nat_cmp path x.path) refl (rules_stay path xs (tail_other path x xs h))
   where
     go : (o : Ordering) → o ≡ slice_cmp nat_cmp path x.path → own_rules (put (open_row path) xs) ≡ own_rules xs → own_rules (placed o (open_row path) x xs) ≡ own_rules (x ∷ xs)
     go Less e more = refl
-    go Equal e more = absurd (not_equal (open_row path) x (parts_without x xs path h).0 e)
+    go Equal e more = absurd (not_equal (open_row path) x (head_other path x xs h) e)
     go Greater e more = ap (with_own x.path x.schedule) more
 
 -- ---- schedules
@@ -177,7 +157,7 @@ module _ (a : Archive) (p q : Listing) (path : List ℕ) (same : p ≡ a.plan) (
   by_archive = subst (λ l. added l path ≡ Ok q) same made
 
   news : (q ≡ with_class a.plan path) × (has a.plan.rows path ≡ false)
-  news = is_new a.plan q path by_archive
+  news = added-new a.plan q path by_archive
 
   pub is_added : add_class a path ≡ Ok (with_plan a q)
   is_added = ap (plan_answer a) by_archive

@@ -1,19 +1,28 @@
 -- A command that is judged first and then done.
-use Rattle.std.proofs.Common.{◌≡◌, ◌-◌, ℕ, false, sym, subst, ◌∙◌, arith, IsTrue, Result, Ok}
+use Rattle.std.proofs.Common.{◌≡◌, ◌-◌, ℕ, false, true, refl, sym, subst, ◌∙◌, arith, IsTrue, Result, Ok}
 use Rattle.sqlite.specs.Store.{Ghosts}
 use Rattle.sqlite.specs.Tree.{Trees}
 use Rattle.sqlite.specs.Effect.{Database}
 use Rattle.sqlite.specs.State.{HasCleanDisk, Survives}
 use Rattle.sqlite.specs.Held.{Held, state}
+use Rattle.sqlite.specs.declared.error.Error.{Error}
+use Rattle.sqlite.specs.declared.error.Error.TheVariants.{SqliteFailure}
+use Rattle.sqlite.specs.declared.error.ErrorCode.TheVariants.{OutOfMemory}
 use Rattle.sqlite.proofs.StateLemmas.{survives_then, survives_weaker}
 use Rattle.record_tables.specs.Rows.{Tables}
 use Rattle.record_tables.specs.Changes.{Turns}
 use Rattle.record_tables.specs.Lookups.{Looks}
 use Rattle.record_store.specs.Archive.{Archive, IsArchive, next_number}
 use Rattle.record_store.specs.Counts.{count_at}
-use Rattle.record_store.specs.Stores.{StandsFor, StoresArchive, Becomes, live_count, hold_count, Leaves, LeavesAll, LeavesMade}
+use Rattle.record_store.specs.Faults.{fault_of}
+use Rattle.record_store.specs.Stores.{is_trouble, StandsFor, StoresArchive, Becomes, live_count, hold_count, Leaves, LeavesAll, LeavesMade}
 use Rattle.record_store.specs.declared.fault.StoreFault.{StoreFault}
 use Rattle.record_store.specs.declared.store.Store.{Store}
+
+-- a refusal of `sqlite` comes from the world
+pub is_trouble-fault_of : (e : Error) → is_trouble (fault_of e) ≡ true
+is_trouble-fault_of (SqliteFailure OutOfMemory) = refl
+is_trouble-fault_of e = refl
 
 becomes : {S : Type 0} (g : Ghosts S) (new : Store S) (r : Result Archive StoreFault) (b : Archive) → r ≡ Ok b → StandsFor g new b → Becomes g new r
 becomes g new r b e s = subst (Becomes g new) (sym e) s

@@ -1,5 +1,5 @@
 -- What a database holds of an archive when a store is opened over it, and what is read of it.
-use Rattle.std.specs.Prelude.{◌<◌, ◌^◌, ◌≡◌, ◌≢◌, ◌⊎◌, ℕ, ◌-◌, if◌then◌else◌, false, List, [], ◌∷◌, map, Option, None, codes, IsPermutation}
+use Rattle.std.specs.Prelude.{◌<◌, ◌^◌, ◌≡◌, ◌≢◌, ◌⊎◌, ℕ, ◌-◌, false, List, [], ◌∷◌, map, codes, IsPermutation}
 use Rattle.std.specs.List.{AllByRecursion}
 use Rattle.sqlite.specs.Store.{Ghosts}
 use Rattle.sqlite.specs.Schema.{Schema}
@@ -10,10 +10,9 @@ use Rattle.sqlite.specs.Held.{Held, state}
 use Rattle.sqlite_keyed.specs.Lists.{sort_by}
 use Rattle.sqlite_trees.specs.Tree.{IsAscending}
 use Rattle.class_plan.specs.Plans.{Listing, IsPlan}
-use Rattle.class_plan.specs.Calendar.{due_on}
 use Rattle.class_plan.specs.Texts.{text_of}
 use Rattle.record_tables.specs.Tables.{IsArchiveSchema, no_schema, first_schema, dated_schema}
-use Rattle.record_tables.specs.Rows.{Tables, Message, Record, Due, Stores, StoresFirst, StoresCommon, AreKeyed}
+use Rattle.record_tables.specs.Rows.{Tables, Message, Record, Stores, StoresFirst, StoresCommon, AreKeyed}
 use Rattle.record_tables.specs.Changes.{Listed, Rule}
 use Rattle.record_tables.specs.Reads.{Named, Pair, listed, paired, named_cmp, ArePaired, AreListed, AreRules}
 use Rattle.record_tables.specs.Typed.{record_of, named_of, listed_of, rule_of, due_of}
@@ -22,7 +21,6 @@ use Rattle.record_rows.specs.Judged.{AreRows}
 use Rattle.record_rows.specs.Rules.{rules_of, classes_of}
 use Rattle.record_rows.specs.Texts.{text_row}
 use Rattle.record_store.specs.Archive.{Archive, Hold, IsArchive, empty_archive, is_hold, next_number}
-use Rattle.record_store.specs.Captures.{due_before}
 use Rattle.record_store.specs.Counts.{count_at}
 use Rattle.record_store.specs.Stores.{Keeps, StoresArchive, hold_of, hold_count, live_count, due_rows}
 use Rattle.record_store.specs.declared.overview.ArchiveRows.{ArchiveRows}
@@ -162,15 +160,6 @@ pub record IsJudged (p : Listing) (r : ArchiveRows) : Type 0 where
 pub record TellsTexts (r : TextRows) (p : Listing) : Type 0 where
   pub root : r.root.items ≡ text_of p.root
   pub classes : map listed_of r.classes.items ≡ map text_row p.rows
-
--- the due day of a live record
-abbrev pub day_by : Listing → Record → Option ℕ
-day_by p r = if r.destroyed then None else due_on p r.path r.day
-
--- the due days of live records by a plan, in the order of the records
-abbrev pub days_by : Listing → List Record → List Due
-days_by p [] = []
-days_by p (r ∷ rs) = due_before r.number (day_by p r) (days_by p rs)
 
 -- what a store over the archive keeps beside the connection, and the due days
 pub record IsOverview (f : Overview) (a : Archive) : Type 0 where

@@ -1,14 +1,15 @@
 //! Classes that are added to the plan.
 
-ghost use Rattle.std.specs.Prelude.{◌≡◌, true, false, Ok, Err, IsTrue, IfOk, IfErr, OnOk, OnErr};
+ghost use Rattle.std.specs.Prelude.{◌≡◌, true, false, Ok, Err, IfErr, OnOk, OnErr};
 ghost use Rattle.std.specs.List.{All};
 ghost use Rattle.class_plan.specs.Calendar.{due_on};
 ghost use Rattle.class_plan.specs.Changes.{added};
+ghost use Rattle.class_plan.specs.Plans.{IsPlan};
 ghost use Rattle.record_tables.specs.Steps.{CommitsWhole, Makes, IsUndone, WasOpen};
 ghost use Rattle.record_store.specs.Archive as archive;
 ghost use Rattle.record_store.specs.Archive.{Archive};
-ghost use Rattle.record_store.specs.Revisions.{IsClassAdded, with_plan};
-ghost use Rattle.record_store.specs.Stores.{StandsFor, Obeys, Leaves, LeavesMade, Falls, Quietly, is_trouble};
+ghost use Rattle.record_store.specs.Revisions.{IsClassAdded};
+ghost use Rattle.record_store.specs.Stores.{StandsFor, Obeys, Leaves, Falls, Quietly, is_trouble};
 
 use crate::fault::StoreFault;
 use crate::store::Store;
@@ -32,52 +33,40 @@ fn put_class<S: Alter>(conn: &mut Connection<S>, path: &[u8]) -> Result<(), Erro
     Ok(())
 }
 
+/// Adds an open class to a plan: 52, 53, 54 and 56.
+fn plan_class(plan: &mut Plan, path: &[u8]) -> Result<(), StoreFault>
+    ensures ok { OnOk result (added plan.old path.now ≡ Ok plan.new) }
+    ensures err { IfErr result (λ f. is_trouble f ≡ false → (a : Archive) → archive.plan_answer a (added plan.old path.now) ≡ Err f) }
+    ensures unchanged { OnErr result (plan.new ≡ plan.old) }
+    ensures plans { IsPlan plan.old × IsPlan plan.new }
+{
+    match plan.add(path) {
+        Ok(()) => Ok(()),
+        Err(PlanFault::NoMemory) => Err(StoreFault::NoMemory),
+        Err(fault) => Err(StoreFault::Plan(fault)),
+    }
+}
+
 impl<S: Alter> Store<S> {
-    /// The plan with one more open class: 52, 53, 54 and 56.
-    fn plan_with(&self, path: &[u8]) -> Result<Plan, StoreFault>
-        ensures ok { IfOk result (λ p. added self.now.plan path.now ≡ Ok p) }
-        ensures err { IfErr result (λ f. is_trouble f ≡ false → (a : Archive) → archive.plan_answer a (added self.now.plan path.now) ≡ Err f) }
-    {
-        let mut plan = self.plan.copy()?;
-        match plan.add(path) {
-            Ok(()) => Ok(plan),
-            Err(PlanFault::NoMemory) => Err(StoreFault::NoMemory),
-            Err(fault) => Err(StoreFault::Plan(fault)),
-        }
-    }
-
-    /// Puts the plan with one more class in place of the plan.
-    fn place_class(&mut self, plan: Plan, path: &[u8]) -> Result<(), StoreFault>
-        requires { added self.old.plan path.now ≡ Ok plan }
-        ensures ok { OnOk result ((a : Archive) → StandsFor S.Store self.old a → StandsFor S.Store self.new (with_plan a plan)) }
-        ensures plan { OnOk result (self.new.plan ≡ plan) }
-        ensures err { OnErr result ((a : Archive) → StandsFor S.Store self.old a → StandsFor S.Store self.new a) }
-        ensures trouble { IfErr result (λ f. is_trouble f ≡ true) }
-        ensures falls { Falls S.Store self.old self.new }
-        ensures crash { LeavesMade S.Store self.old self.new (λ a. Ok (with_plan a plan)) (λ a. with_plan a plan) }
-    {
-        if !self.conn.is_autocommit() {
-            return Err(StoreFault::BUSY);
-        }
-        match put_class(&mut self.conn, path) {
-            Ok(()) => {
-                self.plan = plan;
-                Ok(())
-            }
-            Err(error) => Err(StoreFault::from(error)),
-        }
-    }
-
     /// Adds an open class without a schedule of its own; no due date changes. 52 where the path is not well made, 53 where its
     /// parent is no class, 54 where it is a class, 56 where there are 4,096 classes; the smallest of these.
     pub fn add_class(&mut self, path: &[u8]) -> Result<(), StoreFault>
         ensures obeys { Obeys S.Store self.old self.new result (λ a. archive.add_class a path.now) Quietly }
-        ensures dues { OnOk result ((a : Archive) → StandsFor S.Store self.old a → All (λ r. due_on self.new.plan r.path r.day ≡ due_on self.old.plan r.path r.day) a.records) }
+        ensures dues { OnOk result ((a : Archive) → StandsFor S.Store self.old a
+            → All (λ r. due_on self.new.plan r.path r.day ≡ due_on self.old.plan r.path r.day) a.records) }
         ensures falls { Falls S.Store self.old self.new }
         ensures crash { Leaves S.Store self.old self.new (λ a. archive.add_class a path.now) }
     {
-        let plan = self.plan_with(path)?;
-        self.place_class(plan, path)?;
-        Ok(())
+        if !self.conn.is_autocommit() {
+            return Err(StoreFault::BUSY);
+        }
+        plan_class(&mut self.plan, path)?;
+        match put_class(&mut self.conn, path) {
+            Ok(()) => Ok(()),
+            Err(error) => {
+                self.plan.remove(path);
+                Err(StoreFault::from(error))
+            }
+        }
     }
 }

@@ -1,18 +1,17 @@
 //! The rows of messages, records and holds, and what a store keeps of them beside the connection.
 
-ghost use Rattle.std.specs.Prelude.{◌≡◌, ◌≤◌, map, Err, IfOk};
-ghost use Rattle.std.specs.List.{All};
+ghost use Rattle.std.specs.Prelude.{◌≡◌, map, Err, IfOk};
 ghost use Rattle.sqlite.specs.State.{HasCleanDisk};
 ghost use Rattle.sqlite.specs.Held.{state};
 ghost use Rattle.record_tables.specs.Tables.{HasCommonTables};
 ghost use Rattle.record_tables.specs.Changes.{AreAscending};
 ghost use Rattle.record_tables.specs.Steps.{ReadsAlone};
-ghost use Rattle.record_tables.specs.Typed.{record_of, due_of};
+ghost use Rattle.record_tables.specs.Typed.{due_of};
 ghost use Rattle.record_store.specs.Archive.{Archive, IsArchive};
-ghost use Rattle.record_store.specs.Adoption.{FindsCommon, AreOnce, IsKeyed, TellsRows, IsOverview, IsJudged, Sees, day_by, days_by};
+ghost use Rattle.record_store.specs.Adoption.{FindsCommon, AreOnce, IsKeyed, TellsRows, IsOverview, IsJudged, Sees};
 
 use crate::counts::Counts;
-use crate::plan_days::due_day_of;
+use crate::plan_days::due_rows_by;
 use crate::tallies::{held_counts, next_after, other_counts};
 use class_plan::Plan;
 use record_rows::are_rows_of;
@@ -20,7 +19,7 @@ use record_tables::fault::Fault;
 use record_tables::read::{holds, message_numbers, records};
 use record_tables::rows::{DueRow, HoldRow, RecordRow};
 use sqlite::{Alter, Connection};
-use std::alloc::{AllocError, Global};
+use std::alloc::Global;
 
 /// The rows of the tables that both versions keep alike, in the order of their keys.
 #[derive(Drop)]
@@ -61,35 +60,6 @@ pub(crate) fn archive_rows<S: Alter>(
     })
 }
 
-/// The due day of a live record.
-fn due_day(plan: &Plan, row: &RecordRow) -> Option<u32>
-    requires { row.now.day ≤ 84005 }
-    ensures { result ≡ day_by plan.now (record_of row.now) }
-{
-    if row.destroyed {
-        None
-    } else {
-        due_day_of(plan, row.path.as_slice(), row.day)
-    }
-}
-
-/// The due days of live records by a plan.
-fn due_days(alloc: Global, plan: &Plan, records: &[RecordRow]) -> Result<Vec<DueRow>, AllocError>
-    requires { All (λ r. r.day ≤ 84005) records.now }
-    ensures { IfOk result (λ v. map due_of v.items ≡ days_by plan.now (map record_of records.now)) }
-{
-    let mut dues = Vec::new(alloc);
-    for record in records {
-        if let Some(day) = due_day(plan, record) {
-            dues.push(DueRow {
-                record: record.number,
-                day,
-            })?;
-        }
-    }
-    Ok(dues)
-}
-
 /// What a store over rows with a plan keeps beside the connection, where they are an archive's.
 pub(crate) fn gather(alloc: Global, plan: Plan, rows: &ArchiveRows) -> Result<Overview, Fault>
     ensures found { IfOk result (λ f. (a : Archive) → plan ≡ a.plan → IsKeyed a → TellsRows rows.now a → IsOverview f a) }
@@ -106,7 +76,7 @@ pub(crate) fn gather(alloc: Global, plan: Plan, rows: &ArchiveRows) -> Result<Ov
     }
     let held = held_counts(alloc, holds)?;
     let others = other_counts(alloc, records, messages)?;
-    let dues = due_days(alloc, &plan, records)?;
+    let dues = due_rows_by(alloc, &plan, records)?;
     Ok(Overview {
         plan,
         next: next_after(records),

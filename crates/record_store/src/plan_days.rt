@@ -1,21 +1,23 @@
 //! Due days by a plan.
 
-ghost use Rattle.std.specs.Prelude.{◌≡◌, ◌≤◌, ◌<◌, ◌++◌, [], ◌∷◌, map, true, IfOk, IfErr, OnOk};
+ghost use Rattle.std.specs.Prelude.{◌≡◌, ◌≤◌, ◌<◌, ◌++◌, [], ◌∷◌, map, true, IfOk, OnOk};
 ghost use Rattle.std.specs.List.{AllByRecursion};
 ghost use Rattle.class_plan.specs.Calendar.{due_on};
 ghost use Rattle.record_tables.specs.Changes.{AreAscending};
 ghost use Rattle.record_tables.specs.Typed.{record_of, due_of};
 ghost use Rattle.record_store.specs.Revisions.{dues_in};
-ghost use Rattle.record_store.specs.Stores.{is_trouble};
 
 use crate::captures::number_of;
-use crate::fault::StoreFault;
 use class_plan::{Plan, date_of};
 use record_tables::rows::{DueRow, RecordRow};
+use sqlite::{Error, ErrorCode};
 use std::alloc::Global;
 
 /// The number of the last day on which a record may be captured, 2199-12-31.
 pub(crate) const LAST_CAPTURE_DAY: u32 = 84_005;
+
+/// The refusal of records that no archive has.
+const CORRUPT: Error = Error::SqliteFailure(ErrorCode::DatabaseCorrupt);
 
 /// The day on which a record of a class falls due that was captured on a day, both in days since 1970-01-01: `None` where the
 /// class's schedule is permanent, and where the path is no class.
@@ -42,32 +44,30 @@ fn is_after(dues: &[DueRow], number: u32) -> bool
 }
 
 /// Adds a due day after those of records with smaller numbers.
-fn push_in_order(dues: &mut Vec<DueRow>, due: DueRow) -> Result<(), StoreFault>
+fn push_in_order(dues: &mut Vec<DueRow>, due: DueRow) -> Result<(), Error>
     requires { AreAscending (map due_of dues.old.items) }
     ensures items { OnOk result (dues.new.items ≡ dues.old.items ++ due ∷ []) }
     ensures ascending { OnOk result (AreAscending (map due_of dues.new.items)) }
-    ensures trouble { IfErr result (λ f. is_trouble f ≡ true) }
 {
     if is_after(dues.as_slice(), due.record) {
         dues.push(due)?;
         Ok(())
     } else {
-        Err(StoreFault::LOST)
+        Err(CORRUPT)
     }
 }
 
 /// Adds the due day of a record by a plan, if it is live and has one.
-fn push_due_row(dues: &mut Vec<DueRow>, plan: &Plan, row: &RecordRow) -> Result<(), StoreFault>
+fn push_due_row(dues: &mut Vec<DueRow>, plan: &Plan, row: &RecordRow) -> Result<(), Error>
     requires { AreAscending (map due_of dues.old.items) }
     ensures rows { OnOk result (map due_of dues.new.items ≡ map due_of dues.old.items ++ dues_in plan.now (record_of row.now ∷ [])) }
     ensures ascending { OnOk result (AreAscending (map due_of dues.new.items)) }
-    ensures trouble { IfErr result (λ f. is_trouble f ≡ true) }
 {
     if row.destroyed {
         return Ok(());
     }
     if row.day > LAST_CAPTURE_DAY {
-        return Err(StoreFault::LOST);
+        return Err(CORRUPT);
     }
     match due_day_of(plan, row.path.as_slice(), row.day) {
         Some(day) => push_in_order(
@@ -82,15 +82,14 @@ fn push_due_row(dues: &mut Vec<DueRow>, plan: &Plan, row: &RecordRow) -> Result<
 }
 
 /// The due days of the live records by a plan, in the order of the records. Records that are out of order, or were captured after
-/// 2199, are refused by 89, as no archive has them.
+/// 2199, are refused as a database that is corrupt, as no archive has them.
 pub(crate) fn due_rows_by(
     alloc: Global,
     plan: &Plan,
     records: &[RecordRow],
-) -> Result<Vec<DueRow>, StoreFault>
+) -> Result<Vec<DueRow>, Error>
     ensures rows { IfOk result (λ v. map due_of v.items ≡ dues_in plan.now (map record_of records.now)) }
     ensures ascending { IfOk result (λ v. AreAscending (map due_of v.items)) }
-    ensures trouble { IfErr result (λ f. is_trouble f ≡ true) }
 {
     let mut dues = Vec::new(alloc);
     for row in records {

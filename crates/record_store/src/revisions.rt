@@ -9,7 +9,7 @@ ghost use Rattle.record_tables.specs.Changes.{AreAscending};
 ghost use Rattle.record_tables.specs.Typed.{record_of, due_of};
 ghost use Rattle.record_store.specs.Archive as archive;
 ghost use Rattle.record_store.specs.Archive.{Archive};
-ghost use Rattle.record_store.specs.Revisions.{IsRevision, with_plan};
+ghost use Rattle.record_store.specs.Revisions.{IsRevision, with_plan, dues_in};
 ghost use Rattle.record_store.specs.Stores.{StandsFor, ObeysRows, Tells, Leaves, LeavesAll, LeavesAllowed, Falls, Quietly, is_trouble};
 
 use crate::fault::StoreFault;
@@ -59,6 +59,18 @@ impl<S: Alter> Store<S> {
         }
     }
 
+    /// The due days of records by a plan.
+    fn due_rows(&self, plan: &Plan, rows: &[RecordRow]) -> Result<Vec<DueRow>, StoreFault>
+        ensures rows { IfOk result (λ v. map due_of v.items ≡ dues_in plan.now (map record_of rows.now)) }
+        ensures ascending { IfOk result (λ v. AreAscending (map due_of v.items)) }
+        ensures trouble { IfErr result (λ f. is_trouble f ≡ true) }
+    {
+        match due_rows_by(self.alloc, plan, rows) {
+            Ok(dues) => Ok(dues),
+            Err(error) => Err(StoreFault::from(error)),
+        }
+    }
+
     /// Puts a plan in place of the plan, with the due days by it.
     fn place_plan(&mut self, plan: Plan, dues: &[DueRow]) -> Result<(), StoreFault>
         requires { AreAscending (map due_of dues.now) }
@@ -90,7 +102,7 @@ impl<S: Alter> Store<S> {
     {
         let kept = self.judge_revision(plan)?;
         let rows = self.all_records()?;
-        let dues = due_rows_by(self.alloc, &kept, rows.as_slice())?;
+        let dues = self.due_rows(&kept, rows.as_slice())?;
         self.place_plan(kept, dues.as_slice())?;
         Ok(())
     }

@@ -33,9 +33,8 @@ use Rattle.sqlite_sql.specs.declared.ops.CompareOp.TheVariants.{Le}
 use Rattle.record_tables.specs.Tables.{Foreign, common_beside, archive_beside, scheduled, HasCommonTables, IsArchiveSchema}
 use Rattle.record_tables.specs.Rows.{Tables, Stores, StoresCommon, AreKeyed, Message, message_key, message_row, Record, record_key, record_row, Hold, hold_key, hold_row, Setting, setting_key, setting_row, Class, class_key, class_row, Schedule, schedule_key, schedule_row, Due, due_key, due_row, as_flag}
 use Rattle.record_tables.specs.Changes.{Listed, Rule}
-use Rattle.record_tables.specs.Reads.{shown_record, ReadsRecord, shown_number, ReadsNumber, numbers_of, shown_due, ReadsDue, FitsDue, is_by, due_cmp, dues_by, shown_class, ReadsClass, listed, AreListed, shown_rule, ReadsRule, rule, AreRules, Named, named, shown_hold, ReadsHold, named_cmp, AreNamed, Pair, paired, shown_pair, ReadsPair, ArePaired}
+use Rattle.record_tables.specs.Reads.{shown_record, ReadsRecord, shown_number, ReadsNumber, numbers_of, shown_class, ReadsClass, listed, AreListed, shown_rule, ReadsRule, rule, AreRules, Named, named, shown_hold, ReadsHold, named_cmp, AreNamed, Pair, paired, shown_pair, ReadsPair, ArePaired}
 use Rattle.record_tables.proofs.Texts
-use Rattle.record_tables.proofs.TypedLemmas.{fits_kept}
 
 pub shows_records : (old new : State) (rows : List Row) (t : Tables) → StoresCommon old.now t → AreKeyed t → Shown Texts.select_records [] old new rows → rows ≡ map shown_record t.records
 shows_records old new rows t s keyed h =
@@ -58,20 +57,6 @@ shows_numbers old new rows t s keyed h =
     let source = last_table db 0 message_row message_key t.messages s.messages keyed.messages (at_end db) in
     let all = answer_by_keys Texts.numbers_query db [] source (λ _. true) (λ r. refl) (λ r. r) (λ (m : Message). shown_number m.number) (λ r. refl) refl refl (λ x y. last_key (value_cmp-Int (message_key x) (message_key y))) rows answer in
     sym (map-id rows) ∙ all ∙ ap (map (λ (m : Message). shown_number m.number)) (unfiltered t.messages refl) ∙ sym (map-map shown_number (λ (m : Message). m.number) t.messages)
-
--- the due days are answered in the order of the days, and on a day in that of the records
-pub shows_dues : (old new : State) (rows : List Row) (day : ℕ) (t : Tables) → Stores old.now t → AreKeyed t → Shown Texts.select_dues (Int (pos day) ∷ []) old new rows → rows ≡ map shown_due (dues_by day t)
-shows_dues old new rows day t s keyed h =
-    let f = s.schema.foreign in
-    let is = Texts.select_dues_is f in
-    let params : Row = Int (pos day) ∷ [] in
-    let read = reads_as Texts.select_dues params old new (archive_beside f) s.schema.is _ is.is is.plain is.unlisted rows h in
-    let db = overlay old.now.trees [] in
-    let answer : IsAnswer Texts.dues_query db params rows = read.answer Null in
-    let source = last_table db 10 due_row due_key t.dues s.dues keyed.dues (at_end db) in
-    let all = answer_sorted Texts.dues_query db params source (is_by day) (λ d. last_term (at_ints false Le (pos d.day) (pos day))) (λ r. r) shown_due (λ d. refl) refl refl due_cmp
-    (λ x y less. no_tie_after (int_cmp (pos x.day) (pos y.day)) (no_tie less)) (λ x y. then_key (value_cmp-Int (pos x.day) (pos y.day)) (last_key (value_cmp-Int (due_key x) (due_key y)))) rows answer in
-    sym (map-id rows) ∙ all
 
 -- an answer in an order that leaves no tie among these values
 module _ {X Y : Type 0} (q : Query) (db : Trees) (params : Row) (key : X → ℤ) (to_row : X → Row) (tree : ℕ) (xs : List X) (stored : db tree ≡ map to_row xs) (in_order : IsKeyedBy key xs)
@@ -178,16 +163,3 @@ failed_still sql params old new e (inr h) = go h.0.returning h.2
 pub still_seen : (old new : State) → (IsTrue old.is_open → old.now ≡ old.committed) → IsUnchanged old new ⊎ IsRolledBack old new → IsTrue new.is_open → IsTrue old.is_open × (new.now ≡ old.now)
 still_seen old new settled (inl h) is_open = (h.0.was_open, h.0.now_is)
 still_seen old new settled (inr h) is_open = let was = h.was_open is_open in (was, (h.undone is_open).0 ∙ sym (settled was))
-
-all_inserted : {X : Type 0} (cmp : X → X → Ordering) (P : X → Type 0) (new : X) (xs : List X) → P new → AllByRecursion P xs → AllByRecursion P (insert_sorted cmp new xs)
-all_inserted cmp P new [] h all = (h, tt)
-all_inserted cmp P new (x ∷ xs) h all =
-    elim (is_gt (cmp new x)) as (λ b. AllByRecursion P (cond b (x ∷ insert_sorted cmp new xs) (new ∷ x ∷ xs))) [ true ↦ (all.0, all_inserted cmp P new xs h all.1) | false ↦ (h, all) ]
-
-all_sorted : {X : Type 0} (cmp : X → X → Ordering) (P : X → Type 0) (xs : List X) → AllByRecursion P xs → AllByRecursion P (sort_by cmp xs)
-all_sorted cmp P [] h = tt
-all_sorted cmp P (x ∷ xs) h = all_inserted cmp P x (sort_by cmp xs) h.0 (all_sorted cmp P xs h.1)
-
--- the due days that a query shows fit, where all do
-pub fits_sorted : (day : ℕ) (t : Tables) → AllByRecursion FitsDue t.dues → AllByRecursion FitsDue (dues_by day t)
-fits_sorted day t h = all_sorted due_cmp FitsDue (filter (is_by day) t.dues) (fits_kept FitsDue (is_by day) t.dues h)

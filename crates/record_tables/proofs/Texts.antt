@@ -195,19 +195,6 @@ pub select_records_is : (foreign : Foreign) → Asks (common_beside foreign) sel
 unfolding understood everything
 select_records_is foreign = record { is = refl; plain = (refl, refl); unlisted = refl }
 
-abbrev pub select_dues : List ℕ
-select_dues = codes "SELECT record, day FROM due_day WHERE day <= ?1 ORDER BY day, record"
-
-abbrev pub due_test : List Term
-due_test = op2 (Compare Le Binary) (col 1 2) (col 0 0) ∷ []
-
-abbrev pub dues_query : Query
-dues_query = record (on_table 10 due_test (col 1 0 ∷ col 1 2 ∷ [])) { order = (col 1 2, ascending Binary) ∷ (col 1 0, ascending Binary) ∷ [] }
-
-pub select_dues_is : (foreign : Foreign) → Asks (archive_beside foreign) select_dues (Select (alone dues_query) (codes "record" ∷ codes "day" ∷ []))
-unfolding understood everything
-select_dues_is foreign = record { is = refl; plain = (refl, refl); unlisted = refl }
-
 abbrev pub select_classes : List ℕ
 select_classes = codes "SELECT path, is_open, schedule FROM class ORDER BY path"
 

@@ -14,9 +14,9 @@ use Rattle.sqlite_keyed.specs.Lists.{sort_by}
 use Rattle.record_tables.specs.declared.fault.Fault.{Fault}
 use Rattle.record_tables.specs.declared.fault.Fault.TheVariants.{NoArchive}
 use Rattle.record_tables.specs.Faults.{fault_of}
-use Rattle.record_tables.specs.Rows.{Record, Due, as_flag}
+use Rattle.record_tables.specs.Rows.{Record, as_flag}
 use Rattle.record_tables.specs.Changes.{Listed, Rule}
-use Rattle.record_tables.specs.Reads.{Named, Pair, shown_record, ReadsRecord, FitsRecord, shown_number, ReadsNumber, FitsNumber, shown_hold, ReadsHold, FitsHold, shown_pair, ReadsPair, shown_class, ReadsClass, shown_rule, ReadsRule, FitsRule, shown_due, ReadsDue, FitsDue}
+use Rattle.record_tables.specs.Reads.{Named, Pair, shown_record, ReadsRecord, FitsRecord, shown_number, ReadsNumber, FitsNumber, shown_hold, ReadsHold, FitsHold, shown_pair, ReadsPair, shown_class, ReadsClass, shown_rule, ReadsRule, FitsRule}
 
 pub on_err : {T E : Type 0} (r : Result T E) (P : Type 0) → P → OnErr r P
 on_err (Ok x) P p = tt
@@ -146,27 +146,8 @@ one_rule r q h =
 pub can_rule : (r : Rule) → FitsRule r → (q : Rule) × (FitsRule q × ReadsRule (shown_rule r) q)
 can_rule r fits = (r, (fits, record { path = refl; count = refl; unit = refl; action = refl; year_end = refl }))
 
-pub one_due : (r q : Due) → ReadsDue (shown_due r) q → q ≡ r
-one_due r q h =
-    let number : q.number ≡ r.number = let e = h.number in cc in
-    let day : q.day ≡ r.day = let e = h.day in cc in
-    λ i. record { number = number i; day = day i }
-
-pub can_due : (r : Due) → FitsDue r → (q : Due) × (FitsDue q × ReadsDue (shown_due r) q)
-can_due r fits = (r, (fits, record { number = refl; day = refl }))
-
 pub one_number : (r q : ℕ) → ReadsNumber (shown_number r) q → q ≡ r
 one_number r q h = let e = h in cc
 
 pub can_number : (r : ℕ) → FitsNumber r → (q : ℕ) × (FitsNumber q × ReadsNumber (shown_number r) q)
 can_number r fits = (r, (fits, refl))
-
--- ---- due days that are sorted and chosen all fit
-
-pub fits_kept : {A : Type 0} (P : A → Type 0) (p : A → Bool) (xs : List A) → AllByRecursion P xs → AllByRecursion P (filter p xs)
-fits_kept P p [] h = tt
-fits_kept P p (x ∷ xs) h = go (p x) refl (fits_kept P p xs h.1)
-  where
-    go : (b : Bool) → p x ≡ b → AllByRecursion P (filter p xs) → AllByRecursion P (Rattle.std.proofs.Common.cond b (x ∷ filter p xs) (filter p xs))
-    go true e k = (h.0, k)
-    go false e k = k

@@ -16,9 +16,9 @@ use Rattle.sqlite.specs.Store.{Ghosts}
 use Rattle.sqlite.specs.State.{State, HasCleanDisk}
 use Rattle.sqlite.specs.Held.{Held, state}
 use Rattle.sqlite_catalog.specs.Change.{KeepsRows}
-use Rattle.record_tables.specs.Tables.{no_schema, first_schema, dated_schema}
+use Rattle.record_tables.specs.Tables.{no_schema, first_schema, dated_schema, archive_schema, IsArchiveSchema}
 use Rattle.record_tables.specs.Rows.{Tables, Due, Stores, StoresFirst, StoresKeyed, AreKeyed}
-use Rattle.record_tables.specs.Changes.{Listed, Rule, with_version, with_plan}
+use Rattle.record_tables.specs.Changes.{Listed, Rule, with_version, with_plan, without_dues}
 
 abbrev pub AreEmpty : List Table → Trees → Type 0
 AreEmpty tables trees = AllByRecursion (λ (t : Table). trees t.tree ≡ []) tables
@@ -49,10 +49,10 @@ module _ {S : Type 0} (g : Ghosts S) (old new : Held S) where
   abbrev pub GoesOnIn : {T E : Type 0} → Result T E → Type 0
   GoesOnIn result = HasCleanDisk (state g new) → IsTrue (state g old).in_transaction → OnOk result (GoesOn (state g old) (state g new))
 
--- version 1's table of due days is dropped
-pub record Drops (old new : State) : Type 0 where
-  pub schema : old.now.schema ≡ dated_schema → new.now.schema ≡ first_schema
-  pub kept : old.now.schema ≡ dated_schema → KeepsRows first_schema.tables old.now.trees new.now.trees
+-- the table of due days is dropped, which stands after these others
+pub record Drops (old new : State) (before after : Schema) : Type 0 where
+  pub schema : old.now.schema ≡ before → new.now.schema ≡ after
+  pub kept : old.now.schema ≡ before → KeepsRows after.tables old.now.trees new.now.trees
   pub committed : new.committed ≡ old.committed
   pub mode : new.in_transaction ≡ old.in_transaction
   pub is_open : new.is_open ≡ old.is_open
@@ -61,6 +61,17 @@ pub record Drops (old new : State) : Type 0 where
 pub record TellsDues (schema : Schema) (has_dues : Bool) : Type 0 where
   pub without : schema ≡ first_schema → has_dues ≡ false
   pub with_them : schema ≡ dated_schema → has_dues ≡ true
+
+-- in version 2 without other tables all due days are gone, and nothing else
+pub record Empties (old new : State) : Type 0 where
+  pub stored : (t : Tables) → Stores old.now t → AreKeyed t → old.now.schema ≡ archive_schema → StoresKeyed new.now (without_dues t)
+  pub committed : new.committed ≡ old.committed
+  pub mode : new.in_transaction ≡ old.in_transaction
+  pub is_open : new.is_open ≡ old.is_open
+
+-- where it is told so, there are the tables of version 2 alone
+abbrev pub TellsAlone : Schema → Bool → Type 0
+TellsAlone schema is_alone = is_alone ≡ true → IsArchiveSchema schema → schema ≡ archive_schema
 
 -- the tables are laid where there were none, and have this plan and no other row
 pub record IsLaid (schedules : List Rule) (classes : List Listed) (old new : Database) : Type 0 where

@@ -50,14 +50,6 @@ numbers_of t = map (λ (m : Message). m.number) t.messages
 abbrev pub shown_due : Due → Row
 shown_due d = Int (pos d.number) ∷ Int (pos d.day) ∷ []
 
-pub record ReadsDue (row : Row) (d : Due) : Type 0 where
-  pub number : column row 0 ≡ Int (pos d.number)
-  pub day : column row 1 ≡ Int (pos d.day)
-
-pub record FitsDue (d : Due) : Type 0 where
-  pub number : d.number < 2 ^ 32
-  pub day : d.day < 2 ^ 32
-
 -- not later than the day
 abbrev pub is_by : ℕ → Due → Bool
 is_by day d = int_le (pos d.day) (pos day)

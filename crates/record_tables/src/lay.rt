@@ -6,9 +6,9 @@ ghost use Rattle.sqlite.specs.Table.{Table};
 ghost use Rattle.sqlite.specs.Change.{created, indexed, next_tree};
 ghost use Rattle.sqlite.specs.Held.{state};
 ghost use Rattle.sqlite.specs.State.{HasCleanDisk};
-ghost use Rattle.record_tables.specs.Tables.{no_schema, first_schema, archive_schema, schedule_table, due_table};
+ghost use Rattle.record_tables.specs.Tables.{no_schema, first_schema, dated_schema, archive_schema, schedule_table, due_table};
 ghost use Rattle.record_tables.specs.Shapes.{schema_6, archive_tables};
-ghost use Rattle.record_tables.specs.Layouts.{Defines, DefinesIndex, LaysIn, GoesOnIn, Drops, TellsDues, IsLaid, IsWidened, IsMoved};
+ghost use Rattle.record_tables.specs.Layouts.{Defines, DefinesIndex, LaysIn, GoesOnIn, Drops, Empties, TellsDues, IsLaid, IsWidened, IsMoved};
 ghost use Rattle.record_tables.specs.Steps.{Inside, PutsIn, KeepsIn, CommitsNothing, CommitsWhole, Makes, IsCommitted, IsUndone, WasOpen};
 ghost use Rattle.record_tables.specs.Changes.{Always, AreAscending, with_plan, with_version};
 ghost use Rattle.record_tables.specs.Typed.{due_of, listed_of, rule_of};
@@ -161,11 +161,24 @@ pub fn lay<S: Alter>(
 
 fn drop_dues<S: Alter>(tx: &mut Transaction<'_, S>) -> Result<(), Error>
     ensures same_reference { tx.new.conn.ghost_name ≡ tx.old.conn.ghost_name }
-    ensures ok { OnOk result (Inside S.Store tx.old.conn.now tx.new.conn.now (Drops (state S.Store tx.old.conn.now) (state S.Store tx.new.conn.now))) }
+    ensures first { OnOk result (Inside S.Store tx.old.conn.now tx.new.conn.now (Drops (state S.Store tx.old.conn.now) (state S.Store tx.new.conn.now) dated_schema first_schema)) }
+    ensures second { OnOk result (Inside S.Store tx.old.conn.now tx.new.conn.now (Drops (state S.Store tx.old.conn.now) (state S.Store tx.new.conn.now) archive_schema schema_6)) }
     ensures err { KeepsIn S.Store tx.old.conn.now tx.new.conn.now result }
     ensures survives { CommitsNothing S.Store tx.old.conn.now tx.new.conn.now }
 {
     tx.execute("DROP TABLE due_day", &[])?;
+    Ok(())
+}
+
+/// Takes all due days out of version 2, by a table that is laid in place of theirs: a deletion takes out row by row.
+pub(crate) fn empty_dues<S: Alter>(tx: &mut Transaction<'_, S>) -> Result<(), Error>
+    ensures same_reference { tx.new.conn.ghost_name ≡ tx.old.conn.ghost_name }
+    ensures ok { OnOk result (Inside S.Store tx.old.conn.now tx.new.conn.now (Empties (state S.Store tx.old.conn.now) (state S.Store tx.new.conn.now))) }
+    ensures err { KeepsIn S.Store tx.old.conn.now tx.new.conn.now result }
+    ensures survives { CommitsNothing S.Store tx.old.conn.now tx.new.conn.now }
+{
+    drop_dues(tx)?;
+    lay_dues(tx)?;
     Ok(())
 }
 

@@ -2,7 +2,7 @@
 
 ghost use Rattle.std.specs.Prelude.{◌≡◌, ◌↔◌, IsTrue, [], ◌∷◌, Some, None, option_map, drop};
 ghost use Rattle.record_tables.specs.Tables.{strict_column, keyed_table, uniquely_keyed_table, message_table, record_table, hold_table, meta_table, class_table, schedule_table, due_table, no_schema, first_schema, dated_schema, IsArchiveSchema};
-ghost use Rattle.record_tables.specs.Layouts.{TellsDues};
+ghost use Rattle.record_tables.specs.Layouts.{TellsDues, TellsAlone};
 ghost use Rattle.record_tables.specs.Layout.{IsTable, HasTable, Lacks, HasNone, HasCommon, IsLayout, table_of};
 
 use sqlite_items::Items;
@@ -362,6 +362,13 @@ pub(crate) fn has_dues(schema: &Schema) -> bool
 {
     let lacks_dues = lacks(schema, b"due_day");
     !lacks_dues
+}
+
+/// Whether a database of version 2 has no tables but its own.
+pub(crate) fn is_alone(schema: &Schema) -> bool
+    ensures { TellsAlone schema.now result }
+{
+    schema.tables.len() == 7 && schema.indexes.len() == 5 && schema.views.is_empty()
 }
 
 fn judge(schema: &Schema) -> Layout

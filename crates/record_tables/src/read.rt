@@ -7,15 +7,14 @@ ghost use Rattle.sqlite.specs.Held.{state};
 ghost use Rattle.record_tables.specs.Tables.{HasCommonTables, IsArchiveSchema};
 ghost use Rattle.record_tables.specs.Rows.{Tables, Stores, StoresCommon, AreKeyed};
 ghost use Rattle.record_tables.specs.Changes.{Listed, Rule};
-ghost use Rattle.record_tables.specs.Reads.{Named, Pair, FitsRecord, FitsNumber, FitsHold, FitsRule, FitsDue, AreNamed, ArePaired, AreListed, AreRules, numbers_of, dues_by};
-ghost use Rattle.record_tables.specs.Typed.{record_of, named_of, pair_of, listed_of, rule_of, due_of};
+ghost use Rattle.record_tables.specs.Reads.{Named, Pair, FitsRecord, FitsNumber, FitsHold, FitsRule, AreNamed, ArePaired, AreListed, AreRules, numbers_of};
+ghost use Rattle.record_tables.specs.Typed.{record_of, named_of, pair_of, listed_of, rule_of};
 ghost use Rattle.record_tables.specs.Steps.{CommitsNothingOf, IsStill, Falls, IsIdle, ReadsAlone};
 
 use crate::fault::Fault;
 use crate::query::rows_of;
-use crate::rows::{ClassRow, DueRow, HoldRow, RecordRow, ScheduleRow, SettingRow};
+use crate::rows::{ClassRow, HoldRow, RecordRow, ScheduleRow, SettingRow};
 use crate::typed::rows_in;
-use sqlite::types::ToSql;
 use sqlite::{Alter, Connection};
 use std::alloc::Global;
 
@@ -124,29 +123,6 @@ pub fn schedules<S: Alter>(
         conn,
         "SELECT path, count, unit, action, year_end FROM schedule ORDER BY path",
         &[],
-    )?;
-    rows_in(alloc, rows.as_slice())
-}
-
-/// The due days up to a day, by day and then by record.
-pub fn dues_by<S: Alter>(
-    alloc: Global,
-    conn: &mut Connection<S>,
-    day: u32,
-) -> Result<Vec<DueRow>, Fault>
-    ensures all { HasCleanDisk (state S.Store conn.new) → IfOk result (λ all. (t : Tables) → Stores (state S.Store conn.old).now t → AreKeyed t → map due_of all.items ≡ dues_by day t) }
-    ensures none { HasCleanDisk (state S.Store conn.new) → result ≡ Err Fault.NoArchive → (t : Tables) → Stores (state S.Store conn.old).now t → AreKeyed t → AllByRecursion FitsDue t.dues → ⊥ }
-    ensures same { ReadsAlone S.Store conn.old conn.new result (IsArchiveSchema (state S.Store conn.old).now.schema) }
-    ensures still { IsStill S.Store conn.old conn.new (IsArchiveSchema (state S.Store conn.old).now.schema) }
-    ensures was_open { HasCleanDisk (state S.Store conn.new) → OnOk result (IsTrue (state S.Store conn.old).is_open) }
-    ensures falls { Falls S.Store conn.old conn.new }
-    ensures idle { IsIdle S.Store conn.old conn.new }
-    ensures survives { CommitsNothingOf S.Store conn.old conn.new (IsArchiveSchema (state S.Store conn.old).now.schema) }
-{
-    let rows = rows_of(
-        conn,
-        "SELECT record, day FROM due_day WHERE day <= ?1 ORDER BY day, record",
-        &[day.to_sql()],
     )?;
     rows_in(alloc, rows.as_slice())
 }

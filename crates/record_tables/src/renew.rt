@@ -2,9 +2,13 @@
 
 ghost use Rattle.std.specs.Prelude.{◌≡◌, OnOk, false, map};
 ghost use Rattle.record_tables.specs.Changes.{Always, HasNoClasses, HasNoSchedules, HasNoDues, IsPastDues, AreAscending, with_due, with_dues, with_class, with_classes, with_schedules, with_version, with_plan, IsRevised};
+ghost use Rattle.sqlite.specs.Held.{state};
+ghost use Rattle.record_tables.specs.Layouts.{TellsAlone};
 ghost use Rattle.record_tables.specs.Typed.{due_of, listed_of, rule_of};
 ghost use Rattle.record_tables.specs.Steps.{PutsIn, KeepsIn, CommitsNothing, CommitsWhole, Makes, IsCommitted, IsUndone, WasOpen};
 
+use crate::lay::empty_dues;
+use crate::layout::is_alone;
 use crate::rows::{ClassRow, DueRow, ScheduleRow};
 use crate::writes::{
     clear_classes, clear_dues, clear_schedules, clear_settings, insert_class, insert_due,
@@ -37,7 +41,7 @@ fn insert_dues<S: Alter>(tx: &mut Transaction<'_, S>, dues: &[DueRow]) -> Result
 }
 
 /// Puts these due days in place of those that are there.
-pub fn renew_dues<S: Alter>(tx: &mut Transaction<'_, S>, dues: &[DueRow]) -> Result<(), Error>
+fn renew_dues<S: Alter>(tx: &mut Transaction<'_, S>, dues: &[DueRow]) -> Result<(), Error>
     requires { AreAscending (map due_of dues.now) }
     ensures same_reference { tx.new.conn.ghost_name ≡ tx.old.conn.ghost_name }
     ensures ok { OnOk result (PutsIn S.Store tx.old.conn.now tx.new.conn.now Always (with_dues (map due_of dues.now))) }
@@ -151,6 +155,31 @@ pub(crate) fn put_plan<S: Alter>(
     Ok(())
 }
 
+/// Puts the rows of a plan and the due days by it in place of those that are there, where it is told whether there are other tables.
+fn renew_plan<S: Alter>(
+    tx: &mut Transaction<'_, S>,
+    is_alone: bool,
+    schedules: &[ScheduleRow],
+    classes: &[ClassRow],
+    dues: &[DueRow],
+) -> Result<(), Error>
+    requires ascending { AreAscending (map due_of dues.now) }
+    requires alone { TellsAlone (state S.Store tx.old.conn.now).now.schema is_alone }
+    ensures same_reference { tx.new.conn.ghost_name ≡ tx.old.conn.ghost_name }
+    ensures ok { OnOk result (PutsIn S.Store tx.old.conn.now tx.new.conn.now Always (with_plan (map rule_of schedules.now) (map listed_of classes.now) (map due_of dues.now))) }
+    ensures err { KeepsIn S.Store tx.old.conn.now tx.new.conn.now result }
+    ensures survives { CommitsNothing S.Store tx.old.conn.now tx.new.conn.now }
+{
+    if is_alone {
+        empty_dues(tx)?;
+        put_plan(tx, schedules, classes, dues)?;
+        Ok(())
+    } else {
+        put_plan(tx, schedules, classes, dues)?;
+        Ok(())
+    }
+}
+
 /// Puts the rows of a plan in place of those that are there, and the due days by it: all or nothing, also over
 /// a crash. The schedules and the classes come in any order, the due days in the order of their records.
 pub fn replace_plan<S: Alter>(
@@ -168,9 +197,10 @@ pub fn replace_plan<S: Alter>(
     ensures was_open { WasOpen S.Store conn.old conn.new }
     ensures crash { CommitsWhole S.Store conn.old conn.new (IsRevised (map rule_of schedules.now) (map listed_of classes.now) (map due_of dues.now)) }
 {
+    let alone = is_alone(conn.schema());
     let _settled = conn.is_autocommit();
     let mut tx = conn.transaction();
-    put_plan(&mut tx, schedules, classes, dues)?;
+    renew_plan(&mut tx, alone, schedules, classes, dues)?;
     tx.commit()?;
     Ok(())
 }

@@ -4,14 +4,14 @@ ghost use Rattle.std.specs.Prelude.{◌≡◌, ◌≢◌, ℕ, List, pos, IfOk, 
 ghost use Rattle.std.specs.List.{AllZip, AllByRecursion};
 ghost use Rattle.sqlite.specs.Order.{column};
 ghost use Rattle.sqlite.specs.declared.types.Value.{Value};
-ghost use Rattle.record_tables.specs.Rows.{Record, Due};
+ghost use Rattle.record_tables.specs.Rows.{Record};
 ghost use Rattle.record_tables.specs.Changes.{Listed, Rule};
-ghost use Rattle.record_tables.specs.Reads.{Named, Pair, ReadsNumber, FitsNumber, ReadsRecord, FitsRecord, ReadsHold, FitsHold, ReadsPair, ReadsClass, ReadsRule, FitsRule, ReadsDue, FitsDue};
-ghost use Rattle.record_tables.specs.Typed.{record_of, named_of, pair_of, listed_of, rule_of, due_of};
+ghost use Rattle.record_tables.specs.Reads.{Named, Pair, ReadsNumber, FitsNumber, ReadsRecord, FitsRecord, ReadsHold, FitsHold, ReadsPair, ReadsClass, ReadsRule, FitsRule};
+ghost use Rattle.record_tables.specs.Typed.{record_of, named_of, pair_of, listed_of, rule_of};
 
 use crate::cells::{flag_at, is_null_at, number_at, text_at};
 use crate::fault::Fault;
-use crate::rows::{ClassRow, DueRow, HoldRow, RecordRow, ScheduleRow, SettingRow};
+use crate::rows::{ClassRow, HoldRow, RecordRow, ScheduleRow, SettingRow};
 use sqlite::Row;
 use std::alloc::Global;
 
@@ -121,18 +121,6 @@ impl FromRow for ScheduleRow {
             action,
             year_end,
         })
-    }
-}
-
-impl FromRow for DueRow {
-    ghost reads = { λ row r. ReadsDue row (due_of r) };
-
-    ghost is_readable = { λ row. (r : Due) × (FitsDue r × ReadsDue row r) };
-
-    fn from_row(_alloc: Global, row: &Row) -> Result<DueRow, Fault> {
-        let record = number_at(row, 0)?;
-        let day = number_at(row, 1)?;
-        Ok(DueRow { record, day })
     }
 }
 

@@ -1,9 +1,10 @@
 //! Measures the parts of Mailfile on inputs that it makes. Each measure is run once on a small input, and what it answered is told;
 //! or each is run so often on an input of so many octets and on one of half as many, and the least time of each is told, beside that
-//! of a plain pass over the same input; or the memory of a case is told, each in a process of its own. `./bench` at the top of the
-//! repository runs the built program and writes the table.
+//! of a plain pass over the same input; or the memory of a case is told, each in a process of its own; or the times of the store are.
+//! `./bench` at the top of the repository runs the built program and writes the table.
 
 mod baselines;
+pub mod captures;
 mod command_memory;
 mod filings;
 mod includes;
@@ -14,6 +15,7 @@ mod plans;
 mod rows;
 mod settings;
 mod stages;
+pub mod store;
 mod timing;
 mod trees;
 
@@ -73,7 +75,8 @@ pub fn tell_answers(rt: &(impl Print + AllocGlobal)) -> Result<()> {
         let (title, answer) = (row.title, answer_of(rt.alloc(), row, FEW_OCTETS)?);
         println!(rt; "{title}: {answer}")?;
     }
-    Ok(())
+    store::tell_answers(rt)?;
+    captures::tell_answers(rt)
 }
 
 /// Tells what each measure takes, in so many rounds, on an input of so many octets and on one of half as many.

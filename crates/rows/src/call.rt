@@ -18,6 +18,7 @@ pub enum Call {
     Value,
     Case,
     Plan,
+    PlanCuts,
     Revise,
     Parts,
     PlanDue,
@@ -35,16 +36,18 @@ pub enum Call {
     Changes,
     Run,
     Compile,
+    Edits,
     Own,
     Size,
     Put,
     Find,
     Streams,
     Unread,
+    BeginPieces,
 }
 
 /// Each call's word.
-const WORDS: [(&str, Call); 38] = [
+const WORDS: [(&str, Call); 41] = [
     ("tokens", Call::Tokens),
     ("lengths", Call::Lengths),
     ("tree", Call::Tree),
@@ -60,6 +63,7 @@ const WORDS: [(&str, Call); 38] = [
     ("value", Call::Value),
     ("case", Call::Case),
     ("plan", Call::Plan),
+    ("plan_cuts", Call::PlanCuts),
     ("revise", Call::Revise),
     ("parts", Call::Parts),
     ("plan_due", Call::PlanDue),
@@ -77,12 +81,14 @@ const WORDS: [(&str, Call); 38] = [
     ("changes", Call::Changes),
     ("run", Call::Run),
     ("compile", Call::Compile),
+    ("edits", Call::Edits),
     ("own", Call::Own),
     ("size", Call::Size),
     ("put", Call::Put),
     ("find", Call::Find),
     ("streams", Call::Streams),
     ("unread", Call::Unread),
+    ("begin_pieces", Call::BeginPieces),
 ];
 
 impl Call {

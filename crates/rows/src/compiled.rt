@@ -1,10 +1,12 @@
 //! What the compiler answers, where scripts include others, and what the runs of their images capture.
 
+use crate::images::over_budget;
 use crate::messages::{octet_case, whole_case};
 use crate::runs::{OWN_CASE, outcome_of, outcome_of_both};
 use crate::told::{refused, word};
 use anyhow::{Result, bail};
 use filing_gen::compile as compile_script;
+use filing_image::encode;
 use filing_machine::Outcome;
 use filing_verify::Verified;
 use script_library::{Library, LibraryFault};
@@ -146,6 +148,24 @@ pub fn compile(
     let (whole, octets) = (whole_case(alloc, message)?, octet_case(alloc, message)?);
     let outcome = outcome_of_both(alloc, &program, &whole, &octets)?;
     told(alloc, program.budget(), &outcome)
+}
+
+/// Messages that changed images are run on.
+const MESSAGES: [&[u8]; 3] = [
+    b"\r\n",
+    b"Subject: Your INVOICE\r\n\r\n",
+    b"From: a\r\nSubject: b\r\nSubject: c\r\n\r\nbody",
+];
+
+/// How many changes of a script's image in one octet run over their budget on some messages.
+pub fn edits(alloc: Global, library: &Library, script: &[u8], known_as: &[u8]) -> Result<Vec<u8>> {
+    match program(alloc, library, script, known_as)? {
+        Ok(program) => {
+            let octets = encode(alloc, program.image())?;
+            over_budget(alloc, octets.as_slice(), &MESSAGES)
+        }
+        Err(number) => refused(alloc, number),
+    }
 }
 
 /// The budget of a script's image, and what the image's run captures in the tests' own case.

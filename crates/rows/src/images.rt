@@ -5,8 +5,8 @@ use crate::runs::outcome_of;
 use crate::told::{refused, word};
 use anyhow::{Context, Result, bail};
 use filing_image::{Image, Instruction, decode, encode};
-use filing_machine::Outcome;
-use filing_verify::verify as verify_image;
+use filing_machine::{Outcome, WholeCase, run as run_image};
+use filing_verify::{Verified, verify as verify_image};
 use std::alloc::Global;
 use std::str;
 
@@ -53,15 +53,82 @@ pub fn long_text(alloc: Global, size: &[u8]) -> Result<Vec<u8>> {
     }
 }
 
-/// By which number octets are refused, as an image or by the verifier; 0 where their image may run.
-fn refusal(alloc: Global, octets: &[u8]) -> u8 {
+/// The program of some octets, or by which number they are refused, as an image or by the verifier.
+fn verified(alloc: Global, octets: &[u8]) -> Result<Verified, u8> {
     match decode(alloc, octets) {
-        Err(fault) => fault.number(),
+        Err(fault) => Err(fault.number()),
         Ok(image) => match verify_image(alloc, image) {
-            Err((fault, _)) => fault.number(),
-            Ok(_) => 0,
+            Err((fault, _)) => Err(fault.number()),
+            Ok(program) => Ok(program),
         },
     }
+}
+
+/// By which number octets are refused, as an image or by the verifier; 0 where their image may run.
+fn refusal(alloc: Global, octets: &[u8]) -> u8 {
+    match verified(alloc, octets) {
+        Err(number) => number,
+        Ok(_) => 0,
+    }
+}
+
+/// What becomes of octets that may be an image, where that is run in some cases.
+#[derive(Clone, Copy, PartialEq)]
+pub enum Verdict {
+    /// By this number.
+    Refused(u8),
+    /// Each run kept to the budget.
+    WithinBudget,
+    /// Some run made more steps.
+    OverBudget,
+}
+
+/// What becomes of octets that may be an image.
+pub fn judge_image(alloc: Global, octets: &[u8], cases: &[WholeCase]) -> Result<Verdict> {
+    let program = match verified(alloc, octets) {
+        Ok(program) => program,
+        Err(number) => return Ok(Verdict::Refused(number)),
+    };
+    for case in cases {
+        if run_image(alloc, &program, case)?.steps > u64::from(program.budget()) {
+            return Ok(Verdict::OverBudget);
+        }
+    }
+    Ok(Verdict::WithinBudget)
+}
+
+/// An octet in the place of another: 0, 255, and the next one.
+fn others(octet: u8) -> [u8; 3] {
+    [0, 255, octet.wrapping_add(1)]
+}
+
+/// How many changes of an image in one octet run over their budget.
+fn count_over(alloc: Global, octets: &[u8], place: usize, cases: &[WholeCase]) -> Result<usize> {
+    let mut changed = Vec::from_slice(alloc, octets)?;
+    let mut count = 0usize;
+    for value in others(octets.get(place).copied().unwrap_or(0)) {
+        if let Some(octet) = changed.get_mut(place) {
+            *octet = value;
+        }
+        if judge_image(alloc, changed.as_slice(), cases)? == Verdict::OverBudget {
+            count = count.saturating_add(1);
+        }
+    }
+    Ok(count)
+}
+
+/// How many changes of an image in one octet, to 0, to 255 and to the next one, run over their budget on some messages; the others
+/// are refused, or keep to it.
+pub fn over_budget(alloc: Global, octets: &[u8], messages: &[&'static [u8]]) -> Result<Vec<u8>> {
+    let mut cases = Vec::new(alloc);
+    for message in messages {
+        cases.push(whole_case(alloc, message)?)?;
+    }
+    let mut over = 0usize;
+    for place in 0..octets.len() {
+        over = over.saturating_add(count_over(alloc, octets, place, cases.as_slice())?);
+    }
+    Ok(format!(in alloc; "{over} over their budget")?.into_bytes())
 }
 
 /// Whether the image of some octets may run.

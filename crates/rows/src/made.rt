@@ -2,11 +2,11 @@
 //! have the same outcome by the script's image (`filing_gen`, `filing_machine`) and by its tree (`plain_evaluator`); each other
 //! one is shown. What follows counts the outcomes of each kind, so that it shows that each kind was met.
 
-mod chance;
-mod libraries;
-mod messages;
+pub mod chance;
+pub mod libraries;
+pub mod messages;
 mod outcomes;
-mod scripts;
+pub mod scripts;
 mod sides;
 
 use crate::compiled::{checked, keep};
@@ -51,6 +51,12 @@ fn library_of(alloc: Global, scripts: &[Included]) -> Result<Library> {
         keep(alloc, &mut library, script.location, name, text)?;
     }
     Ok(library)
+}
+
+/// A library that is made by chance.
+pub fn library_by_chance(alloc: Global, chance: &mut Chance) -> Result<Library> {
+    let scripts = included_scripts(alloc, chance)?;
+    library_of(alloc, scripts.as_slice())
 }
 
 /// What is made by chance for a row.

@@ -1,7 +1,12 @@
-//! Plays a table of calls (`src/row.rt`) and one of sessions (`src/sessions.rt`), and compares the outcomes of scripts that are
-//! made by chance (`src/made.rt`). Standard input has the calls and, after a line `[sessions]`, the sessions. Then each measure is
-//! run once (`src/bench.rt`). With words on its command line the program measures alone: `rows OCTETS ROUNDS` tells times, and
-//! `rows memory INDEX` memory.
+//! Plays a table of calls (`src/row.rt`) and one of sessions (`src/sessions.rt`), compares the outcomes of scripts that are made by
+//! chance (`src/made.rt`), and plays sessions with their turns shuffled (`src/shuffled.rt`). Standard input has the calls and, after
+//! a line `[sessions]`, the sessions. Then each measure is run once (`src/bench.rt`). With words on its command line the program
+//! does another thing alone:
+//!
+//! - `rows OCTETS ROUNDS` tells times, `rows memory INDEX` memory, `rows store RECORDS HOLDS ROUNDS PATH WORDS` times of the store,
+//!   and `rows captures ROUNDS FOLDER` what captures in flight take;
+//! - `rows hostile SEED COUNT` hands hostile inputs to the calls (`src/hostile.rt`);
+//! - `rows failing` lets reads, writes and files fail (`src/trials.rt`, `src/stops.rt`).
 #![tactic(auto)]
 
 mod bench;
@@ -9,18 +14,23 @@ mod call;
 mod compiled;
 mod desks;
 mod given;
+mod hostile;
 mod images;
 mod made;
 mod matching;
 mod messages;
+mod pieces;
 mod plans;
 mod row;
 mod runs;
 mod sessions;
+mod shuffled;
+mod stops;
 mod streams;
 mod tokens;
 mod told;
 mod trees;
+mod trials;
 
 use anyhow::{Context, Result};
 use call::Call;
@@ -50,6 +60,7 @@ fn answer(alloc: Global, library: &mut Library, row: &Row) -> Result<Vec<u8>> {
         Call::Value => messages::value(alloc, first),
         Call::Case => messages::case(alloc, first, second, third),
         Call::Plan => plans::plan(alloc, first),
+        Call::PlanCuts => trials::plan_cuts(alloc, first),
         Call::Revise => plans::revise(alloc, first, second),
         Call::Parts => plans::parts(alloc, first, second, third),
         Call::PlanDue => plans::plan_due(alloc, first, second, third),
@@ -67,12 +78,14 @@ fn answer(alloc: Global, library: &mut Library, row: &Row) -> Result<Vec<u8>> {
         Call::Changes => images::changes(alloc, first),
         Call::Run => images::run(alloc, first, second),
         Call::Compile => compiled::compile(alloc, library, first, second, third),
+        Call::Edits => compiled::edits(alloc, library, first, second),
         Call::Own => compiled::own(alloc, library, first),
         Call::Size => compiled::size(alloc, library, first, second),
         Call::Put => compiled::put(alloc, library, first, second, third),
         Call::Find => compiled::find(alloc, library, first, second),
         Call::Streams => streams::streams(alloc, first),
         Call::Unread => streams::unread(alloc, first),
+        Call::BeginPieces => pieces::begin(alloc, first),
     }
 }
 
@@ -112,15 +125,29 @@ fn main(rt: HostRuntime) -> Result<()> {
     if let Some(index) = bench::memory_asked_for(&rt)? {
         return bench::memory::tell(&rt, index);
     }
+    if let Some(wanted) = bench::store::asked_for(&rt)? {
+        return bench::store::tell_times(&rt, &wanted);
+    }
+    if let Some((rounds, folder)) = bench::captures::asked_for(&rt)? {
+        return bench::captures::tell(&rt, rounds, folder.as_str());
+    }
     if let Some((octets, rounds)) = bench::asked_for(&rt)? {
         return bench::tell_times(&rt, octets, rounds);
+    }
+    if let Some((seed, count)) = hostile::asked_for(&rt)? {
+        return hostile::tell(&rt, seed, count);
     }
     let mut text = String::new(rt.alloc());
     rt.reader().read_to_string(&mut text)?;
     let tables = text.as_str().split_once("\n[sessions]\n");
     let (calls, cases) = tables.context("the sessions are missing")?;
+    if trials::are_asked_for(&rt)? {
+        trials::fail_cases(&rt, cases)?;
+        return stops::stop_all(&rt);
+    }
     play_calls(&rt, calls)?;
     sessions::play_all(&rt, cases)?;
     made::compare_all(&rt)?;
+    shuffled::compare_all(&rt)?;
     bench::tell_answers(&rt)
 }

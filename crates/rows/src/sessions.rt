@@ -10,13 +10,15 @@
 //! - `message TEXT` files that message by the script, or tries the image on it, with the line that tells their lengths, and
 //!   `messages N TEXT` one of TEXT N times;
 //! - `want TEXT` is a line that is to be answered, and `wants N TEXT` N such lines; one that ends with `*` tells only what the line
-//!   begins with.
+//!   begins with;
+//! - `cut` has the case also played cut after each octet (`src/trials.rt`); then each line of input is one command.
 //!
 //! In TEXT `\n`, `\r`, `\s` (a space) and `\xHH` are octets, and a backslash before another octet is left out (`row_text`).
 //! Empty lines and those that begin with `#` are passed over, and so is
 //! what stands before the first case.
 
 use crate::desks::desk_in_memory;
+use crate::trials::cut_anywhere;
 use anyhow::{Context, Result, bail};
 use filing_session::memory::{MemorySink, MemorySource};
 use filing_session::serve;
@@ -26,9 +28,13 @@ use std::{io, str};
 
 /// A session and the lines that it is to be answered.
 #[derive(Drop)]
-struct Case {
-    name: String,
-    input: Vec<u8>,
+pub struct Case {
+    pub name: String,
+    pub input: Vec<u8>,
+    /// Where each line of input ends.
+    pub ends: Vec<usize>,
+    /// Whether it is also cut after each octet.
+    pub is_cut: bool,
     /// The command that takes the program and a message.
     command: &'static str,
     /// The script or image.
@@ -42,15 +48,18 @@ impl Case {
         Ok(Case {
             name: String::from_str(alloc, name)?,
             input: Vec::new(alloc),
+            ends: Vec::new(alloc),
+            is_cut: false,
             command: "FILE",
             program: Vec::new(alloc),
             wanted: Vec::new(alloc),
         })
     }
 
-    /// Adds input.
+    /// Adds a line of input.
     fn send(&mut self, octets: &[u8]) -> Result<(), AllocError> {
-        self.input.extend_from_slice(octets)
+        self.input.extend_from_slice(octets)?;
+        Ok(self.ends.push(self.input.len())?)
     }
 
     /// Adds to the script.
@@ -68,7 +77,7 @@ impl Case {
     fn keep_global(&mut self, alloc: Global, name: &str, text: &[u8]) -> Result<(), AllocError> {
         let length = text.len();
         let line = format!(in alloc; "GLOBAL {name} {length}\n")?;
-        self.send(line.as_str().as_bytes())?;
+        self.input.extend_from_slice(line.as_str().as_bytes())?;
         self.send(text)
     }
 
@@ -76,7 +85,7 @@ impl Case {
     fn file(&mut self, alloc: Global, message: &[u8]) -> Result<(), AllocError> {
         let (command, program, message_length) = (self.command, self.program.len(), message.len());
         let line = format!(in alloc; "{command} {program} {message_length}\n")?;
-        self.send(line.as_str().as_bytes())?;
+        self.input.extend_from_slice(line.as_str().as_bytes())?;
         self.input.extend_from_slice(self.program.as_slice())?;
         self.send(message)
     }
@@ -189,6 +198,10 @@ fn read_other(alloc: Global, case: &mut Case, word: &str, text: &str) -> Result<
             case.set_program("TRY", hex_octets(alloc, text)?);
             Ok(())
         }
+        "cut" => {
+            case.is_cut = true;
+            Ok(())
+        }
         _ => bail!("{word}: no such word"),
     }
 }
@@ -248,22 +261,38 @@ fn judge(rt: &(impl Print + AllocGlobal), case: &Case) -> io::Result<()> {
     println!(rt; "{name} failed\nanswered:\n{answered}wanted:\n{wanted}")
 }
 
-/// Plays the case of a text, whose first line is its name, and tells how it went.
-fn play_case(rt: &(impl Print + AllocGlobal), text: &str) -> Result<()> {
+/// The case of a text, whose first line is its name.
+fn read_case(alloc: Global, text: &str) -> Result<Case> {
     let (name, lines) = text.split_once('\n').context("a case is empty")?;
-    let mut case = Case::new(rt.alloc(), name)?;
+    let mut case = Case::new(alloc, name)?;
     for line in lines.lines() {
         if !line.is_empty() && !line.starts_with('#') {
-            read_line(rt.alloc(), &mut case, line)?;
+            read_line(alloc, &mut case, line)?;
         }
     }
-    Ok(judge(rt, &case)?)
+    Ok(case)
 }
 
 /// Plays all cases, and tells how each went.
 pub fn play_all(rt: &(impl Print + AllocGlobal), table: &str) -> Result<()> {
     for text in table.split("\ncase ").skip(1) {
-        play_case(rt, text)?;
+        let case = read_case(rt.alloc(), text)?;
+        judge(rt, &case)?;
+        if case.is_cut {
+            cut_anywhere(rt.alloc(), &case)?;
+        }
     }
     Ok(())
+}
+
+/// The cases that are also cut after each octet.
+pub fn cut_cases(alloc: Global, table: &str) -> Result<Vec<Case>> {
+    let mut cases = Vec::new(alloc);
+    for text in table.split("\ncase ").skip(1) {
+        let case = read_case(alloc, text)?;
+        if case.is_cut {
+            cases.push(case)?;
+        }
+    }
+    Ok(cases)
 }

@@ -7,6 +7,7 @@ use record_tables::layout::{Layout, layout_of};
 use record_tables::read;
 use record_tables::renew::replace_plan;
 use record_tables::rows::DueRow;
+use record_tables::stored_dues::are_dues;
 use sqlite::{Alter, Connection, MemStore};
 use std::alloc::Global;
 use std::process::Abort;
@@ -51,23 +52,23 @@ fn laid_and_replaced(rt: HostRuntime) -> Result<(), Fail> {
     lay(&mut conn, rules.as_slice(), listed.as_slice())?;
     assert_eq!(rt; layout_of(conn.schema()), Layout::Second);
     has_plan(&rt, rt.alloc(), &mut conn)?;
-    assert!(rt; conn.is_autocommit());
-    replace_plan(
-        &mut conn,
-        rules.as_slice(),
-        listed.as_slice(),
-        &[
-            DueRow { record: 1, day: 30 },
-            DueRow { record: 2, day: 20 },
-            DueRow { record: 3, day: 30 },
-        ],
-    )?;
-    has_plan(&rt, rt.alloc(), &mut conn)?;
-    let all = rows(read::dues_by(rt.alloc(), &mut conn, 29))?;
-    assert_eq!(rt; all.len(), 1);
-    let all = rows(read::dues_by(rt.alloc(), &mut conn, 30))?;
-    assert_eq!(rt; all.len(), 3);
-    assert!(rt; all[0].record == 2 && all[1].record == 1 && all[2].record == 3);
+    for (beside, day) in [("", 30), ("CREATE TABLE later (x)", 40), ("", 50)] {
+        conn.execute_batch(beside)?;
+        assert!(rt; conn.is_autocommit());
+        replace_plan(
+            &mut conn,
+            rules.as_slice(),
+            listed.as_slice(),
+            &[DueRow { record: 1, day }, DueRow { record: 2, day: 20 }],
+        )?;
+        has_plan(&rt, rt.alloc(), &mut conn)?;
+        assert!(rt;
+            are_dues(
+                &mut conn,
+                &[DueRow { record: 1, day }, DueRow { record: 2, day: 20 }]
+            )?
+        );
+    }
     Ok(())
 }
 
@@ -107,9 +108,11 @@ fn moves(
     assert!(rt; holds[0].record == 3);
     let numbers = rows(read::message_numbers(alloc, &mut conn))?;
     assert_eq!(rt; numbers.as_slice(), [2].as_slice());
-    let dues = rows(read::dues_by(alloc, &mut conn, 4_000_000))?;
-    assert_eq!(rt; dues.len(), 1);
-    assert!(rt; dues[0].record == 2 && dues[0].day == 20088);
+    let due = DueRow {
+        record: 2,
+        day: 20088,
+    };
+    assert!(rt; are_dues(&mut conn, &[due])?);
     Ok(())
 }
 

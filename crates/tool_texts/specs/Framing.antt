@@ -1,6 +1,8 @@
 -- Where a payload's length stands in a command of a session, and where a moment.
-use Rattle.std.specs.Prelude.{ℕ, Bool, List, ◌∷◌, ◌==◌, codes}
-use Rattle.std.specs.List.{slice_split}
+use Rattle.std.specs.Prelude.{ℕ, Bool, List, [], ◌∷◌, ◌++◌, ◌==◌, codes, decimal, length, map}
+use Rattle.std.specs.List.{join_with_byte, slice_split}
+use Rattle.tool_texts.specs.declared.framing.Framed.{Framed}
+use Rattle.tool_texts.specs.declared.framing.Framed.TheVariants as framed
 use Rattle.tool_texts.specs.declared.framing.Part.{Part}
 use Rattle.tool_texts.specs.declared.framing.Part.TheVariants.{Word, Moment, File, Here}
 
@@ -17,3 +19,14 @@ word_of (Word w) = w.now
 word_of Moment = codes "@now"
 word_of (File payload path) = 64 ∷ path.now
 word_of (Here w count) = w.now
+
+-- the word in a session: for a file its number of octets
+abbrev pub spelled : Framed → List ℕ
+spelled (framed.Word w) = w.now
+spelled (framed.Moment seconds) = decimal seconds
+spelled (framed.File octets) = decimal (length octets.items)
+spelled (framed.Here w count) = w.now
+
+-- the words with one space between each two, and a line feed
+abbrev pub line_of : List Framed → List ℕ
+line_of words = join_with_byte 32 (map spelled words) ++ 10 ∷ []

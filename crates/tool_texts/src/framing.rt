@@ -1,8 +1,9 @@
 //! Commands as a person types them, with the paths of files in place of lengths.
 
-ghost use Rattle.std.specs.Prelude.{◌≡◌, map, IfOk};
-ghost use Rattle.tool_texts.specs.Framing.{word_of, words_of};
+ghost use Rattle.std.specs.Prelude.{◌≡◌, ◌++◌, map, IfOk, OnOk};
+ghost use Rattle.tool_texts.specs.Framing.{line_of, spelled, word_of, words_of};
 
+use itoa::Buffer;
 use std::alloc::{AllocError, Global};
 use std::str;
 
@@ -113,4 +114,45 @@ pub fn parts(alloc: Global, line: &[u8]) -> Result<Vec<Part<'_>>, AllocError>
         parts.push(read_word(slot, *word))?;
     }
     Ok(parts)
+}
+
+/// A word of a command as a session takes it.
+#[derive(Drop)]
+pub enum Framed<'a> {
+    /// The word as it was typed.
+    Word(&'a [u8]),
+    /// A moment, in seconds since 1970-01-01T00:00:00Z.
+    Moment(u64),
+    /// The octets of a file, whose number stands in the line and which follow it.
+    File(Vec<u8>),
+    /// A length as it was typed: so many octets follow the line where it was typed.
+    Here(&'a [u8], u32),
+}
+
+/// Puts a word at the end of a line.
+fn spell(line: &mut Vec<u8>, word: &Framed<'_>) -> Result<(), AllocError>
+    ensures { OnOk result (line.new.items ≡ line.old.items ++ spelled word.now) }
+{
+    let mut buffer = Buffer::new();
+    match word {
+        Framed::Word(word) | Framed::Here(word, _) => line.extend_from_slice(*word),
+        Framed::Moment(seconds) => line.extend_from_slice(buffer.format(*seconds).as_bytes()),
+        Framed::File(octets) => line.extend_from_slice(buffer.format(octets.len()).as_bytes()),
+    }
+}
+
+/// The line of a command as a session takes it, with its line feed: a moment and a file's number of octets are decimal, and
+/// two words that follow one another have one space between them. The only error is want of memory.
+pub fn framed_line(alloc: Global, words: &[Framed<'_>]) -> Result<Vec<u8>, AllocError>
+    ensures { IfOk result (λ v. v.items ≡ line_of words.now) }
+{
+    let mut line = Vec::new(alloc);
+    for (index, word) in words.iter().enumerate() {
+        if index > 0 {
+            line.push(b' ')?;
+        }
+        spell(&mut line, word)?;
+    }
+    line.push(b'\n')?;
+    Ok(line)
 }

@@ -4,7 +4,7 @@
 use crate::bench::inputs::repeated;
 use crate::bench::memory::peak;
 use anyhow::Result;
-use filing_desk::GREATEST_MESSAGE;
+use filing_commands::GREATEST_MESSAGE;
 use filing_gen::{Library, compile};
 use filing_machine::{WholeCase, run};
 use sieve_check::{Checked, check};

@@ -2,7 +2,7 @@
 
 use crate::bench::inputs::repeated;
 use crate::desks::desk_in_memory;
-use filing_desk::GREATEST_MESSAGE;
+use filing_commands::GREATEST_MESSAGE;
 use filing_gen::{Library, compile};
 use filing_image::decode;
 use filing_machine::{Case, WholeCase};

@@ -4,7 +4,7 @@ use crate::bench::command_memory;
 use crate::bench::filings::message;
 use crate::bench::inputs::repeated;
 use anyhow::{Context, Result};
-use filing_desk::GREATEST_MESSAGE;
+use filing_commands::GREATEST_MESSAGE;
 use filing_machine::{Case, PieceCase, WholeCase};
 use std::alloc::Global;
 use std::collections::BTreeSet;

@@ -1,4 +1,4 @@
-use Rattle.std.proofs.Common.{◌≡◌, arith, ℕ, List, map, false, true, ap, sym, ◌∙◌, refl, Vec}
+use Rattle.std.proofs.Common.{◌≡◌, arith, ℕ, List, map, false, ap, ◌∙◌, Vec}
 use Rattle.std.proofs.lemmas.Grind.{common_steps}
 use Rattle.std.specs.declared.alloc.Global.{Global}
 use Rattle.class_plan.specs.Calendar.{number_of_day}

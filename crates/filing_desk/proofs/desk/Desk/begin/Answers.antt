@@ -1,4 +1,4 @@
-use Rattle.std.proofs.Common.{◌≡◌, ◌+◌, ℕ, List, Err, ap, refl, subst, sym, ◌∙◌}
+use Rattle.std.proofs.Common.{◌≡◌, ◌+◌, ℕ, List, ap, refl, subst, sym, ◌∙◌}
 use Rattle.class_plan.specs.Plans.{Listing}
 use Rattle.filing_commands.specs.Answers.{begun}
 use Rattle.filing_commands.specs.declared.fault.DeskFault.TheVariants.{NoMemory}

@@ -1,4 +1,4 @@
-use Rattle.std.proofs.Common.{refl, rules}
+use Rattle.std.proofs.Common.{rules}
 use Rattle.sieve_syntax.specs.View.{tree_of}
 use Rattle.filing_commands.specs.Limits.{greatest_script}
 use Rattle.filing_commands.specs.Office.{file}

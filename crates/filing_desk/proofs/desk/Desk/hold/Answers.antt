@@ -1,25 +1,18 @@
-use Rattle.std.proofs.Common.{refl, ap, sym, subst, ◌∙◌, Err}
-use Rattle.record_store.specs.Archive as archives
-use Rattle.filing_commands.specs.Office.{hold}
-use Rattle.filing_desk.proofs.NumberLemmas.{no_hold}
-use Rattle.filing_desk.specs.Standing.{AreOpenPaths}
-use Rattle.filing_desk.proofs.ClassLemmas.{same_keeps, hold_stays}
-use Rattle.filing_desk.proofs.StepLemmas.{done_by_rows, done_fault, refused_by_number, refused_by_rows}
+use Rattle.std.proofs.Common.{refl}
+use Rattle.filing_desk.proofs.RecordCommands.{holds, number_refused, record_done, record_refused}
+use Rattle.filing_desk.proofs.StepLemmas.{done_fault}
 use Rattle.filing_desk.proofs.desk.Desk.hold.Goals as goal
 
 pub returns-in_err-number : goal.returns-in_err-number
 returns-in_err-number g c =
-    let none = c.in_err-number.ensures in
     let result = c.from_residual.ensures in
-    refused_by_number g.S.Store c.args.self.now (hold c.args.name.now c.args.number) (λ a. archives.hold a c.args.name.now c.args.number) c.in_err-number.field-0.0 _ (record { settles = λ s new h. h; refuses = λ s n h. h; gives_up = λ n h. h; keeps = λ a b made q. same_keeps a b q (hold_stays a b c.args.name.now c.args.number made) }) (λ x is. no_hold x c.args.name.now c.args.number is none.1 ∙ ap (λ f. Err f) (sym none.0)) (done_fault _ _ result.0 result.1)
+    number_refused g.S.Store _ _ (holds c.args.name.now) c.args.self.now c.args.number c.in_err-number.field-0.0 _ c.in_err-number.ensures (done_fault _ _ result.0 result.1)
 
 pub returns-in_err-hold : goal.returns-in_err-hold
 returns-in_err-hold g c =
-    let same = c.in_ok-number.ensures in
     let result = c.from_residual-in_err-hold.ensures in
-    rw (← same) (refused_by_rows g.S.Store c.args.self.now _ (hold c.args.name.now c.in_ok-number.number) (λ a. archives.hold a c.args.name.now c.in_ok-number.number) c.in_err-hold.field-0.0 _ (record { settles = λ s new h. h; refuses = λ s n h. h; gives_up = λ n h. h; keeps = λ a b made q. same_keeps a b q (hold_stays a b c.args.name.now c.in_ok-number.number made) }) (record { officers = refl; flights = refl; last = refl }) refl c.hold.ensures.falls c.in_err-hold.ensures.obeys (done_fault _ _ result.0 result.1))
+    record_refused g.S.Store _ _ (holds c.args.name.now) c.args.self.now _ c.in_ok-number.number c.args.number c.in_err-hold.field-0.0 _ c.in_ok-number.ensures (record { officers = refl; flights = refl; last = refl }) refl c.hold.ensures.falls c.in_err-hold.ensures.obeys (done_fault _ _ result.0 result.1)
 
 pub returns : goal.returns
 returns g c =
-    let same = c.in_ok-number.ensures in
-    rw (← same) (done_by_rows g.S.Store c.args.self.now _ (hold c.args.name.now c.in_ok-number.number) (λ a. archives.hold a c.args.name.now c.in_ok-number.number) (record { settles = λ s new h. h; refuses = λ s n h. h; gives_up = λ n h. h; keeps = λ a b made q. same_keeps a b q (hold_stays a b c.args.name.now c.in_ok-number.number made) }) (record { officers = refl; flights = refl; last = refl }) (λ a b made there. subst (λ p. AreOpenPaths c.args.self.now.open_paths p) (sym (hold_stays a b c.args.name.now c.in_ok-number.number made)) there) c.hold.ensures.falls c.in_ok-hold.ensures.obeys)
+    record_done g.S.Store _ _ (holds c.args.name.now) c.args.self.now _ c.in_ok-number.number c.args.number c.in_ok-number.ensures (record { officers = refl; flights = refl; last = refl }) refl c.hold.ensures.falls c.in_ok-hold.ensures.obeys

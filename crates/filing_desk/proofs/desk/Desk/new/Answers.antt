@@ -1,4 +1,4 @@
-use Rattle.std.proofs.Common.{ℕ, List, [], refl, subst, sym}
+use Rattle.std.proofs.Common.{List, [], refl, subst, sym}
 use Rattle.filing_flights.specs.Flights.{AreHeld}
 use Rattle.filing_flights.specs.Held.{Held}
 use Rattle.filing_desk.proofs.desk.Desk.new.Goals as goal

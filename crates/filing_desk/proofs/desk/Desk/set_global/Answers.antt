@@ -5,11 +5,10 @@ use Rattle.filing_commands.specs.Answers.{Answer}
 use Rattle.filing_commands.specs.Limits.{greatest_script}
 use Rattle.filing_commands.specs.Office.{OfficeStep, set_global}
 use Rattle.filing_commands.specs.Parts.{RefusesScript}
-use Rattle.filing_commands.specs.Pinning.{Officer}
 use Rattle.filing_commands.specs.Scripts.{meanings_of, put_script}
-use Rattle.filing_officers.specs.Register.{sharing, officer_at}
+use Rattle.filing_officers.specs.Register.{sharing}
 use Rattle.filing_desk.proofs.FaultLemmas.{refused_part}
-use Rattle.filing_desk.proofs.OfficerLemmas.{globals_are, keep_refused, kept, not_set, officer_is, set_by}
+use Rattle.filing_desk.proofs.OfficerLemmas.{globals_are, keep_refused, kept, not_set, set_by}
 use Rattle.filing_desk.proofs.StepLemmas.{done_fault}
 use Rattle.filing_desk.proofs.desk.Desk.set_global.Goals as goal
 

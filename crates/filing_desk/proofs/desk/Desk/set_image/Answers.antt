@@ -1,7 +1,6 @@
-use Rattle.std.proofs.Common.{ap, inl, refl, subst, sym}
-use Rattle.filing_commands.specs.Answers.{Answer}
+use Rattle.std.proofs.Common.{refl}
 use Rattle.filing_commands.specs.Limits.{greatest_image}
-use Rattle.filing_commands.specs.Office.{OfficeStep, set_image, setting}
+use Rattle.filing_commands.specs.Office.{set_image, setting}
 use Rattle.filing_commands.specs.Parts.{RefusesImage}
 use Rattle.filing_commands.specs.Pinning.{image}
 use Rattle.filing_desk.proofs.FaultLemmas.{lacking, refused_part}

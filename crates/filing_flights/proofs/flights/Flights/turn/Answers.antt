@@ -1,8 +1,9 @@
-use Rattle.std.proofs.Common.{◌≡◌, List, Some, None, ap, arith, set, sym, subst, ◌∙◌}
+use Rattle.std.proofs.Common.{◌≡◌, List, Ok, Some, None, ap, arith, set, sym, subst, ◌∙◌}
 use Rattle.std.specs.Prelude.{position, ◌==◌}
 use Rattle.std.proofs.lemmas.Grind.{common_steps}
 use Rattle.filing_commands.specs.Answers.{refused}
-use Rattle.filing_flights.specs.Held.{Held, IsGranted, StopsShort, told}
+use Rattle.filing_commands.specs.Told.{told_turn}
+use Rattle.filing_flights.specs.Held.{Held, IsGranted, StopsShort}
 use Rattle.filing_flights.specs.Flights.{Turns}
 use Rattle.filing_flights.proofs.FlightsLemmas.{turn_none, turn_made, turn_stopped}
 use Rattle.filing_flights.proofs.flights.Flights.turn.Goals as goal
@@ -27,7 +28,7 @@ pub returns : goal.returns
 returns c =
     let xs = c.self.inside.flights.items in
     let y = c.turn.new.self in
-    let P : List Held → Type 0 = λ ys. Turns ys c.args.ticket c.args.count (told c.turns_made.result) (set xs c.in-Some.at y) in
+    let P : List Held → Type 0 = λ ys. Turns ys c.args.ticket c.args.count (told_turn (Ok c.turns_made.result)) (set xs c.in-Some.at y) in
     let at : position (λ x. x.ticket == c.args.ticket) xs ≡ Some c.in-Some.at = ap (position (λ x. x.ticket == c.args.ticket)) (sym c.deref.ensures.value) ∙ sym c.place_of.ensures ∙ c.in-Some.is in
     let S : Held → Type 0 = λ x. IsGranted x c.args.count y in
-    subst P c.self.view_is (turn_made c.args.ticket c.args.count c.in-Some.at xs c.index_mut-flight.result.now y (told c.turns_made.result) at (subst S c.index_mut-flight.ensures.value c.in-Ok.ensures.ok) c.turns_made.ensures)
+    subst P c.self.view_is (turn_made c.args.ticket c.args.count c.in-Some.at xs c.index_mut-flight.result.now y (told_turn (Ok c.turns_made.result)) at (subst S c.index_mut-flight.ensures.value c.in-Ok.ensures.ok) c.turns_made.ensures)

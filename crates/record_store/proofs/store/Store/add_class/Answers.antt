@@ -1,24 +1,63 @@
-use Rattle.std.proofs.Common.{◌≡◌, subst, sym}
-use Rattle.std.specs.List.{All}
-use Rattle.class_plan.specs.Calendar.{due_on}
-use Rattle.record_tables.specs.Rows.{Record}
+use Rattle.std.proofs.Common.{◌≡◌, arith, refl, true, None, subst, sym, ap, ◌∙◌, true≢false, Result, Ok}
+use Rattle.sqlite.specs.State.{HasCleanDisk}
+use Rattle.sqlite.specs.Held.{state}
+use Rattle.class_plan.specs.Plans.{IsPlan}
+use Rattle.class_plan.proofs.Removed.{without-added}
+use Rattle.record_tables.specs.Changes.{Always, with_class}
 use Rattle.record_store.specs.Archive.{Archive}
-use Rattle.record_store.specs.Stores.{Becomes}
-use Rattle.record_store.proofs.ClassLemmas.{is_added, leaves_added, same_dues}
+use Rattle.record_store.specs.Revisions.{with_plan}
+use Rattle.record_store.specs.Stores.{Becomes, is_trouble}
+use Rattle.record_store.specs.declared.fault.StoreFault.{StoreFault}
+use Rattle.record_store.proofs.CommandLemmas.{is_trouble-fault_of, stands_turned, stands_refused, leaves_turned}
+use Rattle.record_store.proofs.ClassLemmas.{is_added, added_archive, keeps_added, same_dues, leaves_added}
 use Rattle.record_store.proofs.store.Store.add_class.Goals as goal
 
-pub returns-clause-obeys : goal.returns-clause-obeys
-returns-clause-obeys g c = λ (a : Archive) s.
-    let done = is_added a c.args.self.now.plan c.in_ok-plan.plan c.args.path.now s.plan c.in_ok-plan.ensures.ok in
-    (subst (Becomes g.S.Store c.place_class.new.self) (sym done) (c.in_ok-place_class.ensures.ok a s), tt)
+pub remove-requires : goal.remove-requires
+remove-requires g c =
+    let same = without-added c.args.self.now.plan c.plan_class.new.plan c.args.path.now c.in_ok-plan_class.ensures.ok in
+    subst IsPlan (sym same) c.in_ok-plan_class.ensures.plans.0
 
-pub returns-clause-dues : goal.returns-clause-dues
-returns-clause-dues g c = λ (a : Archive) s.
-    subst (λ l. All (λ (r : Record). due_on l r.path r.day ≡ due_on c.args.self.now.plan r.path r.day) a.records) (sym c.in_ok-place_class.ensures.plan)
-    (same_dues a c.args.self.now.plan c.in_ok-plan.plan c.args.path.now s.plan c.in_ok-plan.ensures.ok s.archive)
+pub returns-in-Ok-clause-obeys : goal.returns-in-Ok-clause-obeys
+returns-in-Ok-clause-obeys g c = λ (a : Archive) s.
+    let p = c.args.self.now.plan in
+    let q = c.plan_class.new.plan in
+    let path = c.args.path.now in
+    let made = c.in_ok-plan_class.ensures.ok in
+    let falls : HasCleanDisk (state g.S.Store c.put_class.new.conn) → HasCleanDisk (state g.S.Store c.args.self.now.conn) = λ clean. omega (arith, c.put_class.ensures.crash.clean, clean) in (
+      subst (Becomes g.S.Store _) (sym (is_added a p q path s.plan made))
+          (stands_turned g.S.Store c.args.self.now _ a (with_plan a q) Always (with_class path true None) s (added_archive a p q path s.plan made s.archive c.in_ok-plan_class.ensures.plans.1) c.put_class.ensures.idle refl s.next s.held s.others falls c.put_class.ensures.was_open c.in-Ok.ensures.ok
+          (keeps_added a p q path s.plan made s.archive)),
+      tt,
+    )
 
-pub returns-clause-crash : goal.returns-clause-crash
-returns-clause-crash g c = leaves_added g.S.Store c.args.self.now c.place_class.new.self c.args.path.now c.in_ok-plan.plan c.in_ok-plan.ensures.ok c.place_class.ensures.crash
+pub returns-in-Ok-clause-dues : goal.returns-in-Ok-clause-dues
+returns-in-Ok-clause-dues g c = λ (a : Archive) s. same_dues a c.args.self.now.plan c.plan_class.new.plan c.args.path.now s.plan c.in_ok-plan_class.ensures.ok s.archive
 
-pub returns-in_err-place_class-clause-crash : goal.returns-in_err-place_class-clause-crash
-returns-in_err-place_class-clause-crash g c = leaves_added g.S.Store c.args.self.now c.place_class.new.self c.args.path.now c.in_ok-plan.plan c.in_ok-plan.ensures.ok c.place_class.ensures.crash
+pub returns-in-Ok-clause-crash : goal.returns-in-Ok-clause-crash
+returns-in-Ok-clause-crash g c =
+    let p = c.args.self.now.plan in
+    let q = c.plan_class.new.plan in
+    let path = c.args.path.now in
+    let made = c.in_ok-plan_class.ensures.ok in
+    leaves_added g.S.Store c.args.self.now (record c.args.self.now { conn = c.put_class.new.conn }) path q made
+    (λ (a : Archive) s. leaves_turned g.S.Store c.args.self.now c.put_class.new.conn a (with_plan a q) (◌≡◌ {A = Result Archive StoreFault} (Ok (with_plan a q)) (Ok (with_plan a q))) Always (with_class path true None) s
+    (λ was db kept legal turns. keeps_added a p q path s.plan made s.archive was db kept turns) c.put_class.ensures.crash)
+
+pub returns-in-Err-clause-crash : goal.returns-in-Err-clause-crash
+returns-in-Err-clause-crash g c =
+    let p = c.args.self.now.plan in
+    let q = c.plan_class.new.plan in
+    let path = c.args.path.now in
+    let made = c.in_ok-plan_class.ensures.ok in
+    leaves_added g.S.Store c.args.self.now (record c.args.self.now { conn = c.put_class.new.conn }) path q made
+    (λ (a : Archive) s. leaves_turned g.S.Store c.args.self.now c.put_class.new.conn a (with_plan a q) (◌≡◌ {A = Result Archive StoreFault} (Ok (with_plan a q)) (Ok (with_plan a q))) Always (with_class path true None) s
+    (λ was db kept legal turns. keeps_added a p q path s.plan made s.archive was db kept turns) c.put_class.ensures.crash)
+
+pub returns-in-Err-clause-obeys : goal.returns-in-Err-clause-obeys
+returns-in-Err-clause-obeys g c = λ (a : Archive) s.
+    let same = without-added c.args.self.now.plan c.plan_class.new.plan c.args.path.now c.in_ok-plan_class.ensures.ok in
+    let falls : HasCleanDisk (state g.S.Store c.put_class.new.conn) → HasCleanDisk (state g.S.Store c.args.self.now.conn) = λ clean. omega (arith, c.put_class.ensures.crash.clean, clean) in (
+      stands_refused g.S.Store c.args.self.now _ a s c.put_class.ensures.idle (c.remove.ensures ∙ same) refl (λ n. refl) (λ m. refl) falls c.put_class.ensures.was_open
+          (λ clean is_open. (c.in-Err.ensures.err clean is_open).0),
+      λ quiet. absurd (true≢false (sym (is_trouble-fault_of c.in-Err.error) ∙ ap is_trouble (sym c.from.ensures) ∙ quiet)),
+    )

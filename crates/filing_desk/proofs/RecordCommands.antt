@@ -1,0 +1,66 @@
+-- Calls of a desk about one record.
+use Rattle.std.proofs.Common.{◌≡◌, ◌≤◌, ◌^◌, ℕ, List, Option, Result, Ok, Err, ap, sym, ◌∙◌, subst}
+use Rattle.sqlite.specs.Store.{Ghosts}
+use Rattle.class_plan.specs.Plans.{Listing}
+use Rattle.record_store.specs.Archive as archives
+use Rattle.record_store.specs.Archive.{Archive, IsArchive}
+use Rattle.record_store.specs.Stores as stores
+use Rattle.record_store.specs.declared.fault.StoreFault.{StoreFault}
+use Rattle.record_store.specs.declared.fault.StoreFault.TheVariants.{NoRecord}
+use Rattle.filing_commands.specs.Answers.{Answer, done}
+use Rattle.filing_commands.specs.Calls.{Calls}
+use Rattle.filing_commands.specs.Faults.{refused_by, store_fault}
+use Rattle.filing_commands.specs.Office.{PlainCommand, hold, release, destroy}
+use Rattle.filing_commands.specs.Standing.{plain}
+use Rattle.filing_desk.specs.Standing.{AreOpenPaths, IsClean, StandsFor}
+use Rattle.filing_desk.specs.declared.desk.Desk.{Desk}
+use Rattle.filing_desk.proofs.ClassLemmas.{destroy_stays, hold_stays, release_stays, same_keeps}
+use Rattle.filing_desk.proofs.NumberLemmas.{no_destruction, no_hold, no_release}
+use Rattle.filing_desk.proofs.StepLemmas.{IsCommand, KeepsRest, done_by_rows, refused_by_number, refused_by_rows}
+
+-- The commands, by the number of the record, are these of the archive: they keep the plan, and no record has a number above 32 bits.
+pub record IsOfRecord (c : ℕ → PlainCommand) (command : ℕ → Archive → Result Archive StoreFault) : Type 0 where
+  pub is : (n : ℕ) → IsCommand (c n) (command n)
+  pub stays : (n : ℕ) (a b : Archive) → command n a ≡ Ok b → b.plan ≡ a.plan
+  pub none : (n : ℕ) (a : Archive) → IsArchive a → 2 ^ 32 ≤ n → command n a ≡ Err NoRecord
+
+pub holds : (name : List ℕ) → IsOfRecord (hold name) (λ n a. archives.hold a name n)
+holds name = record {
+  is = λ n. record { settles = λ s new h. h; refuses = λ s m h. h; gives_up = λ m h. h; keeps = λ a b made q. same_keeps a b q (hold_stays a b name n made) };
+  stays = λ n a b made. hold_stays a b name n made;
+  none = λ n a is large. no_hold a name n is large;
+}
+
+pub releases : (name : List ℕ) → IsOfRecord (release name) (λ n a. archives.release a name n)
+releases name = record {
+  is = λ n. record { settles = λ s new h. h; refuses = λ s m h. h; gives_up = λ m h. h; keeps = λ a b made q. same_keeps a b q (release_stays a b name n made) };
+  stays = λ n a b made. release_stays a b name n made;
+  none = λ n a is large. no_release a name n is large;
+}
+
+pub destroys : (day : ℕ) → IsOfRecord (λ n. destroy n day) (λ n a. archives.destroy a n day)
+destroys day = record {
+  is = λ n. record { settles = λ s new h. h; refuses = λ s m h. h; gives_up = λ m h. h; keeps = λ a b made q. same_keeps a b q (destroy_stays a b n day made) };
+  stays = λ n a b made. destroy_stays a b n day made;
+  none = λ n a is large. no_destruction a n day is large;
+}
+
+module _ {S : Type 0} (g : Ghosts S) (c : ℕ → PlainCommand) (command : ℕ → Archive → Result Archive StoreFault) (of : IsOfRecord c command) where
+  -- the number has more than 32 bits
+  pub number_refused : (desk : Desk S) (n : ℕ) (f : StoreFault) (a : Answer) → (f ≡ NoRecord) × (2 ^ 32 ≤ n) → a ≡ refused_by (store_fault f) → Calls (IsClean g) (StandsFor g) desk (plain (c n)) a desk
+  number_refused desk n f a large told =
+      refused_by_number g desk (c n) (command n) f a (of.is n) (λ x is. of.none n x is large.1 ∙ ap (λ e. Err e) (sym large.0)) told
+
+  -- the archive refuses, or the world does
+  pub record_refused : (old new : Desk S) (n asked : ℕ) (f : StoreFault) (a : Answer) → n ≡ asked → KeepsRest g old new → new.open_paths ≡ old.open_paths → stores.Falls g old.store new.store → stores.ObeysRows {X = Unit {0}} g old.store new.store (Err f) (command n) stores.Quietly → a ≡ refused_by (store_fault f) → Calls (IsClean g) (StandsFor g) old (plain (c asked)) a new
+  record_refused old new n asked f a same rest paths falls obeys told =
+      let P : ℕ → Type 0 = λ m. Calls (IsClean g) (StandsFor g) old (plain (c m)) a new in
+      subst P same (refused_by_rows g old new (c n) (command n) f a (of.is n) rest paths falls obeys told)
+
+  -- it is done
+  pub record_done : (old new : Desk S) (n asked : ℕ) → n ≡ asked → KeepsRest g old new → new.open_paths ≡ old.open_paths → stores.Falls g old.store new.store → stores.ObeysRows {X = Unit {0}} g old.store new.store (Ok tt) (command n) stores.Quietly → Calls (IsClean g) (StandsFor g) old (plain (c asked)) done new
+  record_done old new n asked same rest paths falls obeys =
+      let P : ℕ → Type 0 = λ m. Calls (IsClean g) (StandsFor g) old (plain (c m)) done new in
+      subst P same
+      (done_by_rows g old new (c n) (command n) (of.is n) rest
+      (λ a b made there. let P : Listing → Type 0 = λ p. AreOpenPaths old.open_paths p in let Q : Option (List (List ℕ)) → Type 0 = λ x. AreOpenPaths x b.plan in subst Q (sym paths) (subst P (sym (of.stays n a b made)) there)) falls obeys)

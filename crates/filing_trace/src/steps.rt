@@ -1,0 +1,90 @@
+//! A run, and what is told of its steps.
+
+ghost use Rattle.std.specs.Prelude.{◌≡◌, ℕ, length, slice_get, option_copied, Some, true, is_some, IfOk, IfSome};
+ghost use Rattle.std.specs.List.{AllByRecursion};
+ghost use Rattle.filing_table.specs.Ends.{HasOutcome};
+ghost use Rattle.filing_machine.specs.Runs.{answer};
+ghost use Rattle.filing_machine.specs.Seen.{state, InCase};
+ghost use Rattle.filing_trace.specs.Told.{finds, is_found_by, IsTold};
+ghost use Rattle.filing_trace.specs.declared.steps.Step.{Step as StepOf};
+
+use filing_case::Case;
+use filing_image::{Image, Operation};
+use filing_machine::{Machine, Outcome, Top};
+use filing_verify::Verified;
+use std::alloc::{AllocError, Global};
+
+/// A step of a run.
+#[derive(Clone, Copy, Debug, PartialEq, Eq)]
+pub struct Step {
+    /// The place of its instruction in the code.
+    pub place: usize,
+    /// What stands on the top of the stack after it; none where that is empty.
+    pub top: Option<Top>,
+    /// Of a MATCH that is true the first field whose value matches the key, by its place in the header, which counts from 0;
+    /// of any other step none.
+    pub matched: Option<usize>,
+}
+
+/// A run from its beginning to its end.
+#[derive(Drop)]
+pub struct Trace {
+    pub outcome: Outcome,
+    /// The steps, the first one first.
+    pub steps: Vec<Step>,
+}
+
+/// The operation at a place of the code.
+fn operation_at(image: &Image, place: usize) -> Option<Operation>
+    ensures { result ≡ slice_get image.now.code place }
+{
+    image.code().get(place).copied()
+}
+
+/// The text at a place among the texts.
+fn text_at(image: &Image, place: usize) -> Option<&[u8]>
+    ensures { option_copied result ≡ slice_get image.now.texts place }
+{
+    if place < image.text_count() {
+        Some(image.text(place))
+    } else {
+        None
+    }
+}
+
+/// The field that decides the next instruction, where that is a MATCH that is true.
+fn matched_field<C: Case>(image: &Image, case: &C, machine: &Machine) -> Option<usize>
+    requires { AllByRecursion (InCase (C.facts case.now)) machine.now.at.stack }
+    ensures found { is_some result ≡ finds image.now (state (C.facts case.now) machine.now.at) }
+    ensures matches { IfSome result (λ f. is_found_by image.now (C.facts case.now) machine.now.at.place f ≡ true) }
+{
+    let Operation::Match(comparison, key) = operation_at(image, machine.place())? else {
+        return None;
+    };
+    let key = text_at(image, usize::from(key))?;
+    machine.first_match(case, comparison, key)
+}
+
+/// Runs a program in a case to its end, as `filing_machine::run` does and with the same outcome, and tells each step. The only
+/// error is want of memory.
+pub fn trace_run<C: Case>(alloc: Global, program: &Verified, case: &C) -> Result<Trace, AllocError>
+    ensures outcome { IfOk result (λ t. HasOutcome program.now (C.facts case.now) t.outcome.steps (answer t.outcome)) }
+    ensures whole { IfOk result (λ t. length t.steps.items ≡ t.outcome.steps) }
+    ensures told { IfOk result (λ t. (k : ℕ) (s : StepOf) → slice_get t.steps.items k ≡ Some s → IsTold program.now (C.facts case.now) k s) }
+{
+    let mut machine = Machine::start(alloc, program)?;
+    let mut steps = Vec::new(alloc);
+    while !machine.is_ended() {
+        let place = machine.place();
+        let matched = matched_field(program.image(), case, &machine);
+        machine.step(program, case)?;
+        let top = machine.top();
+        steps.push(Step {
+            place,
+            top,
+            matched,
+        })?;
+    }
+    let outcome = machine.outcome()?;
+    Ok(Trace { outcome, steps })
+}

@@ -1,0 +1,48 @@
+//! `check`: scripts judged without a session.
+
+use crate::Verdict;
+use crate::failure::Failure;
+use crate::files::{read_file, write_line};
+use crate::findings::{Finding, judge};
+use clap::ArgMatches;
+use std::alloc::{AllocError, Global};
+use tool_texts::{Payload, place_of, refusal_text};
+
+/// How much longer than a script may be a file is that is still read, and refused by its number.
+const LONGER: u64 = 64;
+
+/// The text of a number, as it stands after a file's name.
+pub fn text_of(number: u8) -> &'static str {
+    refusal_text(number).unwrap_or("refused")
+}
+
+/// The line that tells of a script at fault.
+fn line_of(alloc: Global, path: &str, text: &[u8], finding: Finding) -> Result<String, AllocError> {
+    let place = place_of(text, finding.at);
+    let (line, column, number) = (place.line, place.column, finding.number);
+    let words = text_of(number);
+    format!(in alloc; "{path}:{line}:{column}: {number}: {words}")
+}
+
+/// The text of a script's file; none where it is at fault, which is told.
+pub fn read_good_script(rt: &HostRuntime, path: &str) -> Result<Option<Vec<u8>>, Failure> {
+    let text = read_file(rt, path, Payload::Script.limit().saturating_mul(LONGER))?;
+    match judge(rt.alloc(), &text)? {
+        Some(finding) => {
+            write_line(rt, line_of(rt.alloc(), path, &text, finding)?)?;
+            Ok(None)
+        }
+        None => Ok(Some(text)),
+    }
+}
+
+/// Judges scripts, one after the other.
+pub fn check_scripts(rt: &HostRuntime, asked: &ArgMatches<'_>) -> Result<Verdict, Failure> {
+    let mut verdict = Verdict::Good;
+    for path in asked.get_strs("scripts").unwrap_or(&[]) {
+        if read_good_script(rt, *path)?.is_none() {
+            verdict = Verdict::Refused;
+        }
+    }
+    Ok(verdict)
+}

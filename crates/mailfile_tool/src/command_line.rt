@@ -1,0 +1,163 @@
+//! The command line.
+
+use crate::failure::Failure;
+use clap::{Arg, ArgAction, Command};
+use std::alloc::{AllocError, Global};
+use std::env;
+use std::io::ErrorKind;
+
+/// The words of the command line, the program's name first. A word that is not UTF-8 is told.
+pub fn words(rt: &HostRuntime) -> Result<Vec<String>, Failure> {
+    match env::args(rt) {
+        Ok(words) => Ok(words.collect(rt.alloc())?),
+        Err(error) if error.kind() == ErrorKind::OutOfMemory => Err(Failure::NoMemory),
+        Err(_) => {
+            let text = String::from_str(rt.alloc(), "a word of the command line is not UTF-8")?;
+            Err(Failure::Told(text))
+        }
+    }
+}
+
+/// `explain`.
+fn explain<'a>(alloc: Global) -> Result<Command<'a>, AllocError> {
+    let script = Arg::new(alloc, "script")
+        .long("script")
+        .value_name("FILE")
+        .action(ArgAction::Set)
+        .help("The script that was refused: shows the place of an offset in it");
+    let numbers = Arg::new(alloc, "numbers")
+        .long("numbers")
+        .action(ArgAction::SetTrue)
+        .help("Tells the texts of all numbers, and reads nothing");
+    Command::new(alloc, "explain")
+        .about("Reads replies, and writes them with a text after each number of a refusal or fault")
+        .after_help("Example: mailfile < officer.session | mailfile-tool explain")
+        .arg(script)?
+        .arg(numbers)
+}
+
+/// `check`.
+fn check<'a>(alloc: Global) -> Result<Command<'a>, AllocError> {
+    let scripts = Arg::new(alloc, "scripts")
+        .value_name("SCRIPT")
+        .required(true)
+        .action(ArgAction::Append)
+        .num_args(1..);
+    Command::new(alloc, "check")
+        .about(
+            "Judges scripts: tells nothing where they are good, else FILE:LINE:COLUMN: NUMBER: TEXT, and status 1",
+        )
+        .after_help("Example: mailfile-tool check scripts/*.sieve")
+        .arg(scripts)
+}
+
+/// The folders of scripts that can be included.
+fn with_folders<'a>(alloc: Global, command: Command<'a>) -> Result<Command<'a>, AllocError> {
+    let personal = Arg::new(alloc, "personal")
+        .long("personal")
+        .value_name("DIR")
+        .action(ArgAction::Set)
+        .help("The officer's own scripts, NAME.sieve each");
+    let global = Arg::new(alloc, "global")
+        .long("global")
+        .value_name("DIR")
+        .action(ArgAction::Set)
+        .help("The scripts that all share, NAME.sieve each");
+    command.arg(personal)?.arg(global)
+}
+
+/// `compile`.
+fn compile<'a>(alloc: Global) -> Result<Command<'a>, AllocError> {
+    let script = Arg::new(alloc, "script")
+        .value_name("SCRIPT")
+        .required(true)
+        .action(ArgAction::Set);
+    let image = Arg::new(alloc, "image")
+        .short('o')
+        .value_name("IMAGE")
+        .required(true)
+        .action(ArgAction::Set)
+        .help("The file that the image is written to");
+    let command = Command::new(alloc, "compile")
+        .about("Writes the image of a script, and tells its budget in steps")
+        .after_help("Example: mailfile-tool compile main.sieve --global shared -o main.image")
+        .arg(script)?
+        .arg(image)?;
+    with_folders(alloc, command)
+}
+
+/// `dump`.
+fn dump<'a>(alloc: Global) -> Result<Command<'a>, AllocError> {
+    let image = Arg::new(alloc, "image")
+        .value_name("IMAGE")
+        .required(true)
+        .action(ArgAction::Set);
+    Command::new(alloc, "dump")
+        .about("Shows an image as text, and whether it may run")
+        .after_help("Example: mailfile-tool dump main.image")
+        .arg(image)
+}
+
+/// `frame`.
+fn frame<'a>(alloc: Global) -> Result<Command<'a>, AllocError> {
+    let file = Arg::new(alloc, "file")
+        .value_name("FILE")
+        .action(ArgAction::Set)
+        .help("The commands; standard input where none is named");
+    Command::new(alloc, "frame")
+        .about("Reads commands with @PATH in place of lengths, and writes the octets of a session")
+        .after_help(
+            "Example: printf 'FILE @main.sieve @mail.eml\\n' | mailfile-tool frame | mailfile",
+        )
+        .arg(file)
+}
+
+/// `why`.
+fn why<'a>(alloc: Global) -> Result<Command<'a>, AllocError> {
+    let script = Arg::new(alloc, "script")
+        .value_name("SCRIPT")
+        .required(true)
+        .action(ArgAction::Set);
+    let message = Arg::new(alloc, "message")
+        .value_name("MESSAGE")
+        .required(true)
+        .action(ArgAction::Set);
+    let plan = Arg::new(alloc, "plan")
+        .long("plan")
+        .value_name("FILE")
+        .action(ArgAction::Set)
+        .help("The plan; without it unfiled is the only class");
+    let day = Arg::new(alloc, "day")
+        .long("day")
+        .value_name("YYYY-MM-DD")
+        .action(ArgAction::Set)
+        .help("The day of the capture, from which due dates count; without it today");
+    let command = Command::new(alloc, "why")
+        .about(
+            "Tells why a message is filed where it is: its fields, the run step by step, its classes",
+        )
+        .after_help(
+            "Example: mailfile-tool why main.sieve mail.eml --plan plan.toml --day 2026-11-23",
+        )
+        .arg(script)?
+        .arg(message)?
+        .arg(plan)?
+        .arg(day)?;
+    with_folders(alloc, command)
+}
+
+/// The whole command line.
+pub fn command<'a>(alloc: Global) -> Result<Command<'a>, AllocError> {
+    Command::new(alloc, "mailfile-tool")
+        .version("0.1.0")
+        .about(
+            "Tools beside mailfile: commands without counting, numbers in words, scripts judged, images as text, why a message is filed",
+        )
+        .subcommand_required(true)
+        .subcommand(frame(alloc)?)?
+        .subcommand(explain(alloc)?)?
+        .subcommand(check(alloc)?)?
+        .subcommand(compile(alloc)?)?
+        .subcommand(dump(alloc)?)?
+        .subcommand(why(alloc)?)
+}

@@ -1,0 +1,134 @@
+//! `dump`: an image as text.
+
+use crate::Verdict;
+use crate::check::text_of;
+use crate::failure::Failure;
+use crate::files::{read_file, write, write_line};
+use crate::halving::Search;
+use clap::ArgMatches;
+use filing_image::{Image, Operation, decode};
+use filing_verify::{VerifyFault, verify};
+use std::alloc::{AllocError, Global};
+use tool_texts::Payload;
+
+/// Writes a refusal with its text.
+fn refuse(rt: &HostRuntime, number: u8) -> Result<Verdict, Failure> {
+    let words = text_of(number);
+    write_line(rt, format!(in rt.alloc(); "refused {number}: {words}")?)?;
+    Ok(Verdict::Refused)
+}
+
+/// Writes the texts of an image, a line each, with their places.
+fn show_texts(rt: &HostRuntime, image: &Image) -> Result<(), Failure> {
+    for place in 0..image.text_count() {
+        let octets = image.text(place).escape_ascii();
+        write_line(rt, format!(in rt.alloc(); "text {place} \"{octets}\"")?)?;
+    }
+    Ok(())
+}
+
+/// Writes the numbers of an image, a line each, with their places.
+fn show_numbers(rt: &HostRuntime, image: &Image) -> Result<(), Failure> {
+    for (place, number) in image.numbers().iter().enumerate() {
+        write_line(rt, format!(in rt.alloc(); "number {place} {number}")?)?;
+    }
+    Ok(())
+}
+
+/// Writes the parts of an image.
+fn show(rt: &HostRuntime, image: &Image) -> Result<(), Failure> {
+    let alloc = rt.alloc();
+    let (budget, slots) = (image.budget(), image.slots());
+    let (texts, numbers) = (image.text_count(), image.numbers().len());
+    let code = image.code().len();
+    write_line(
+        rt,
+        format!(in alloc;
+            "version 1\nbudget {budget}\nslots {slots}\ntexts {texts}\nnumbers {numbers}\ninstructions {code}"
+        )?,
+    )?;
+    show_texts(rt, image)?;
+    show_numbers(rt, image)?;
+    let instructions = format!(in alloc; "{image}")?;
+    write(rt, instructions.as_bytes())
+}
+
+/// The texts of an image.
+fn texts_of(alloc: Global, image: &Image) -> Result<Vec<Vec<u8>>, AllocError> {
+    let mut texts = Vec::new(alloc);
+    for place in 0..image.text_count() {
+        texts.push(Vec::from_slice(alloc, image.text(place))?)?;
+    }
+    Ok(texts)
+}
+
+/// The image with so many of its first instructions, and STOP in place of each other one; none where that has no form.
+fn cut(alloc: Global, image: &Image, count: usize) -> Result<Option<Image>, AllocError> {
+    let mut code = Vec::new(alloc);
+    for (place, operation) in image.code().iter().enumerate() {
+        code.push(if place < count {
+            *operation
+        } else {
+            Operation::Stop
+        })?;
+    }
+    let texts = texts_of(alloc, image)?;
+    let numbers = Vec::from_slice(alloc, image.numbers())?;
+    Ok(Image::from_code(image.budget(), texts, numbers, image.slots(), code).ok())
+}
+
+/// Whether the image that is cut after so many instructions is refused by the same number.
+fn is_refused_so(
+    alloc: Global,
+    image: &Image,
+    count: usize,
+    fault: VerifyFault,
+) -> Result<bool, AllocError> {
+    let Some(image) = cut(alloc, image, count)? else {
+        return Ok(false);
+    };
+    match verify(alloc, image) {
+        Err((VerifyFault::NoMemory, _)) => Err(AllocError),
+        Err((found, _)) => Ok(found == fault),
+        Ok(_) => Ok(false),
+    }
+}
+
+/// The place of the first instruction with which an image breaks the rule by which it is refused; none where it breaks it with
+/// no instruction too.
+fn place_of_fault(
+    alloc: Global,
+    image: &Image,
+    fault: VerifyFault,
+) -> Result<Option<usize>, AllocError> {
+    let mut search = Search::below(image.code().len());
+    for _ in 0..usize::BITS {
+        let Some(count) = search.next() else {
+            break;
+        };
+        let is_refused = is_refused_so(alloc, image, count, fault)?;
+        search.told(count, is_refused);
+    }
+    Ok(search.found().checked_sub(1))
+}
+
+/// Shows an image, and whether it may run.
+pub fn dump_image(rt: &HostRuntime, asked: &ArgMatches<'_>) -> Result<Verdict, Failure> {
+    let alloc = rt.alloc();
+    let path = asked.get_str("image").unwrap_or("");
+    let octets = read_file(rt, path, Payload::Image.limit())?;
+    let image = match decode(alloc, &octets) {
+        Ok(image) => image,
+        Err(fault) => return refuse(rt, fault.number()),
+    };
+    show(rt, &image)?;
+    let Err((fault, image)) = verify(alloc, image) else {
+        write(rt, b"accepted\n")?;
+        return Ok(Verdict::Good);
+    };
+    let verdict = refuse(rt, fault.number())?;
+    if let Some(place) = place_of_fault(alloc, &image, fault)? {
+        write_line(rt, format!(in alloc; "at place {place}")?)?;
+    }
+    Ok(verdict)
+}

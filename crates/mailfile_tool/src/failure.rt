@@ -1,0 +1,54 @@
+//! Why something is not done.
+
+use std::alloc::{AllocError, AllocFailed, Global};
+use std::fmt::Display;
+use thiserror::Error;
+
+/// Why something is not done.
+#[derive(Drop)]
+pub enum Failure {
+    /// Whoever read the output went away.
+    Closed,
+    NoMemory,
+    /// Told in words.
+    Told(String),
+}
+
+/// What is told of a file.
+#[derive(Clone, Copy, Debug, Error)]
+pub enum FileFault {
+    #[error("longer than {0} octets")]
+    TooLong(u64),
+    #[error("changed while it was read")]
+    Changed,
+}
+
+impl Failure {
+    /// A failure that is told in these words.
+    pub fn told(alloc: Global, words: &str) -> Failure {
+        match String::from_str(alloc, words) {
+            Ok(text) => Failure::Told(text),
+            Err(_) => Failure::NoMemory,
+        }
+    }
+
+    /// A failure that is told of a file, or of a stream.
+    pub fn at<T: Display>(alloc: Global, path: &str, reason: &T) -> Failure {
+        match format!(in alloc; "{path}: {reason}") {
+            Ok(text) => Failure::Told(text),
+            Err(_) => Failure::NoMemory,
+        }
+    }
+}
+
+impl From<AllocError> for Failure {
+    fn from(_error: AllocError) -> Failure {
+        Failure::NoMemory
+    }
+}
+
+impl<T: Drop> From<AllocFailed<T>> for Failure {
+    fn from(_error: AllocFailed<T>) -> Failure {
+        Failure::NoMemory
+    }
+}

@@ -1,0 +1,106 @@
+//! Tools beside the session: commands with the paths of files in place of lengths, texts for numbers, scripts judged from the
+//! shell, images as text, and why a message is filed where it is.
+#![tactic(auto)]
+
+mod check;
+mod classes;
+mod command_line;
+mod compile;
+mod dump;
+mod explain;
+mod failure;
+mod files;
+mod findings;
+mod frame;
+mod halving;
+mod libraries;
+mod steps;
+mod why;
+
+use clap::{ArgMatches, Error};
+use command_line::{command, words};
+use failure::Failure;
+use std::alloc::Global;
+use std::process::ExitCode;
+
+/// The status where a script or an image is refused.
+const STATUS_REFUSED: u8 = 1;
+
+/// The status where something could not be done: a bad command line, a file that cannot be read, want of memory.
+const STATUS_FAILURE: u8 = 2;
+
+/// Whether all that was judged is good.
+#[derive(Clone, Copy)]
+pub enum Verdict {
+    Good,
+    Refused,
+}
+
+/// Does what a subcommand asks.
+fn do_subcommand(rt: &HostRuntime, matches: &ArgMatches<'_>) -> Result<Verdict, Failure> {
+    match matches.subcommand() {
+        Some(("explain", asked)) => explain::explain(rt, asked),
+        Some(("check", asked)) => check::check_scripts(rt, asked),
+        Some(("compile", asked)) => compile::compile_script(rt, asked),
+        Some(("dump", asked)) => dump::dump_image(rt, asked),
+        Some(("frame", asked)) => frame::frame(rt, asked),
+        Some(("why", asked)) => why::tell_why(rt, asked),
+        _ => Ok(Verdict::Good),
+    }
+}
+
+/// Tells what `clap` has to say, which for `--help` is no fault.
+fn tell_clap(rt: &HostRuntime, error: &Error) -> ExitCode {
+    let _ = error.print(rt);
+    if error.use_stderr() {
+        ExitCode::from(STATUS_FAILURE)
+    } else {
+        ExitCode::SUCCESS
+    }
+}
+
+/// Tells why something was not done; a reader that went away is told nothing.
+fn tell_failure(rt: &HostRuntime, failure: &Failure) -> ExitCode {
+    match failure {
+        Failure::Closed => ExitCode::SUCCESS,
+        Failure::NoMemory => {
+            let _ = eprintln!(rt; "mailfile-tool: out of memory");
+            ExitCode::from(STATUS_FAILURE)
+        }
+        Failure::Told(text) => {
+            let _ = eprintln!(rt; "mailfile-tool: {text}");
+            ExitCode::from(STATUS_FAILURE)
+        }
+    }
+}
+
+/// What the words of the command line ask.
+fn read_matches<'a>(alloc: Global, words: &'a [String]) -> Result<ArgMatches<'a>, Error> {
+    let command = command(alloc)?;
+    command.try_get_matches_from(words)
+}
+
+/// Does what the words of the command line ask.
+fn serve_words(rt: &HostRuntime, words: &[String]) -> ExitCode {
+    let matches = match read_matches(rt.alloc(), words) {
+        Ok(matches) => matches,
+        Err(error) => return tell_clap(rt, &error),
+    };
+    match do_subcommand(rt, &matches) {
+        Ok(Verdict::Good) => ExitCode::SUCCESS,
+        Ok(Verdict::Refused) => ExitCode::from(STATUS_REFUSED),
+        Err(failure) => tell_failure(rt, &failure),
+    }
+}
+
+/// Reads the command line and does what it asks.
+fn serve(rt: &HostRuntime) -> ExitCode {
+    match words(rt) {
+        Ok(words) => serve_words(rt, words.as_slice()),
+        Err(failure) => tell_failure(rt, &failure),
+    }
+}
+
+fn main(rt: HostRuntime) -> ExitCode {
+    serve(&rt)
+}

@@ -1,0 +1,15 @@
+mod Rows
+pub mod Verdicts
+pub mod OfficeOnce
+pub mod Sessions
+pub mod SerialOnce
+pub mod Pinned
+pub mod TicketLemmas
+pub mod Changes
+pub mod Refusals
+pub mod Sources
+pub mod InFlight
+pub mod RecordLemmas
+pub mod Unchanged
+pub mod KeptLines
+pub mod ImageLemmas

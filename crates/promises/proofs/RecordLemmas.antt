@@ -1,0 +1,225 @@
+-- What captures and due lists say of records.
+use Rattle.std.proofs.Common.{◌≡◌, ◌+◌, ◌<◌, ◌≤◌, [], ◌∷◌, ℕ, List, map, filter, refl, arith, ap, ◌∙◌, sym, subst, inl, inr, Bool, true, false, not, ◌&&◌, Option, Some, None, Result, Ok, Err, Ordering, is_gt}
+use Rattle.std.specs.Prelude.{if◌then◌else◌, max, nat_lt, All, Contains}
+use Rattle.std.specs.List.{AllByRecursion, AllZip}
+use Rattle.std.proofs.lemmas.Bool.Decides.{nat_tests}
+use Rattle.std.proofs.lemmas.List.{append-nil}
+use Rattle.std.proofs.lemmas.List.Elements.{All-from_recursion, recursion_from_All, All-contains_itself, Contains-push}
+use Rattle.sqlite_keyed.specs.Lists.{sort_by, insert_sorted}
+use Rattle.class_plan.specs.Plans.{is_open_in}
+use Rattle.sieve_meaning.specs.Case.{Facts}
+use Rattle.sieve_meaning.specs.Program.{Commands}
+use Rattle.sieve_meaning.specs.Paths.{Paths}
+use Rattle.sieve_meaning.specs.Meaning.{Ending, GoesOn, Returns, Stops, Faults, Library, meaning}
+use Rattle.sieve_meaning.specs.Outcome.{Outcome, outcome, outcome_at, outcome_of, greatest_weight}
+use Rattle.sieve_meaning.specs.Weight.{linked_weight}
+use Rattle.filing_case.specs.Message.{case_of}
+use Rattle.filing_image.specs.Program.{Program}
+use Rattle.filing_table.specs.Ends.{HasOutcome}
+use Rattle.record_tables.specs.Rows.{Record}
+use Rattle.record_store.specs.Archive.{Archive, Line, capture, captured, captured_lines, due_list, due_of, has_room, is_by, is_due, is_held, line_cmp, line_of, new_records, next_number, past_all, records_of}
+use Rattle.record_store.specs.declared.fault.StoreFault.{StoreFault}
+use Rattle.record_store.specs.declared.fault.StoreFault.TheVariants.{Full}
+use Rattle.filing_commands.specs.Answers.{filed, listed, refused}
+use Rattle.filing_commands.specs.Answers as answers
+use Rattle.filing_commands.specs.Office.{Office, IsFiled, IsTried, due, file, try_image}
+use Rattle.filing_commands.specs.Parts.{IsGoodImage}
+use Rattle.filing_commands.specs.Pinning.{Stood, Chosen, nothing, script, image_of, GivesOutcome, IsAlone, case_in}
+use Rattle.filing_commands.specs.Standing.{plain, finish, Flight, Standing, Step, FinishWhole, Files, flight_of}
+use Rattle.promises.specs.Records.{EndsWithinBudget, FilesAlone, IsDueBy, IsDueLine, IsFaultAlone, IsLineOf, IsMadeWhole}
+use Rattle.promises.proofs.Pinned.{budget_holds}
+use Rattle.promises.proofs.Refusals.{finish_of}
+
+-- ---- a fault in the default class alone
+
+some_fault : (n : ℕ) → ◌≡◌ {A = Option ℕ} None (Some n) → ⊥
+some_fault n e = cc
+
+fault_alone_at : (fault : Option ℕ) (filed_in : Paths) (kept cancelled : Bool) → IsFaultAlone (outcome_at fault filed_in kept cancelled)
+fault_alone_at (Some m) filed_in kept cancelled n e = refl
+fault_alone_at None filed_in kept cancelled n e = absurd (some_fault n e)
+
+fault_alone_of : (e : Ending) → IsFaultAlone (outcome_of e)
+fault_alone_of (GoesOn f) = fault_alone_at None f.filed f.kept f.cancelled
+fault_alone_of (Returns f) = fault_alone_at None f.filed f.kept f.cancelled
+fault_alone_of (Stops f) = fault_alone_at None f.filed f.kept f.cancelled
+fault_alone_of (Faults m f) = fault_alone_at (Some m) f.filed f.kept f.cancelled
+
+pub meaning_fault_alone : (facts : Facts) (lib : Library) (known_as : Option (List ℕ)) (main : Commands) → IsFaultAlone (outcome facts lib known_as main)
+unfolding outcome
+meaning_fault_alone facts lib known_as main = go (nat_lt greatest_weight (linked_weight lib known_as main))
+  where
+    go : (heavy : Bool) → IsFaultAlone (if heavy then outcome_at (Some 5) [] false false else outcome_of (meaning facts lib known_as main))
+    go true = fault_alone_at (Some 5) [] false false
+    go false = fault_alone_of (meaning facts lib known_as main)
+
+run_fault_alone : (p : Program) (c : Facts) (n : ℕ) (o : Outcome) → HasOutcome p c n o → IsFaultAlone o
+run_fault_alone p c n o (fault, s, ends, e) = subst IsFaultAlone e (fault_alone_at fault s.filed s.kept s.cancelled)
+
+chosen_fault_alone : (c : Chosen) (lib : Library) (facts : Facts) (o : Outcome) → GivesOutcome c lib facts o → IsFaultAlone o
+chosen_fault_alone nothing lib facts o h = subst IsFaultAlone (sym h) (fault_alone_at None [] false false)
+chosen_fault_alone (script name s) lib facts o h = subst IsFaultAlone (sym h) (meaning_fault_alone facts lib (Some name) s)
+chosen_fault_alone (image_of p) lib facts o h = run_fault_alone p facts h.0 o h.1
+
+alone_fault_alone : (s : Stood) (o : Outcome) → IsAlone s o → IsFaultAlone o
+alone_fault_alone s o h = chosen_fault_alone s.program s.library (case_in s) o h
+
+-- ---- dry runs
+
+pub file_says : (s : Standing) (script_text message : List ℕ) (o : Outcome) (new : Standing) → Step s (plain (file script_text message)) (answers.captured o) new → IsFiled s.office script_text message o × IsFaultAlone o × (new ≡ s)
+unfolding Step
+file_says s script_text message o new (b, inl h, e) =
+    (h.1, subst IsFaultAlone (sym h.1.outcome) (meaning_fault_alone _ _ None _), e ∙ ap (λ x. record s { office = x }) h.0)
+file_says s script_text message o new (b, inr h, e) = absurd (let other : answers.captured o ≡ refused h.0 None = h.2 in cc)
+
+tried_within : (s : Office) (octets message : List ℕ) (o : Outcome) → IsTried s octets message o → (p : Program) × IsGoodImage octets p × EndsWithinBudget p (case_of message (is_open_in s.archive.plan)) o
+tried_within s octets message o h = (h.program, h.good, budget_holds h.program (case_of message (is_open_in s.archive.plan)) h.steps o h.good.well h.outcome)
+
+pub try_says : (s : Standing) (octets message : List ℕ) (o : Outcome) (new : Standing) → Step s (plain (try_image octets message)) (answers.captured o) new → ((p : Program) × IsGoodImage octets p × EndsWithinBudget p (case_of message (is_open_in s.office.archive.plan)) o) × IsFaultAlone o × (new ≡ s)
+unfolding Step
+try_says s octets message o new (b, inl h, e) =
+    (tried_within s.office octets message o h.1, run_fault_alone h.1.program _ h.1.steps o h.1.outcome, e ∙ ap (λ x. record s { office = x }) h.0)
+try_says s octets message o new (b, inr h, e) = absurd (let other : answers.captured o ≡ refused h.0 None = h.2 in cc)
+
+-- ---- records of a capture
+
+-- the message is stored under the number that the record names
+abbrev IsStored : Archive → (message : List ℕ) → Record → Type 0
+IsStored a message r = Contains a.messages (record { number = r.message; body = message })
+
+classes_of : (n message day : ℕ) (paths : List (List ℕ)) → map (λ (r : Record). r.path) (records_of n message day paths) ≡ paths
+classes_of n message day [] = refl
+classes_of n message day (q ∷ qs) = ap (λ x. q ∷ x) (classes_of (n + 1) message day qs)
+
+-- each of the records has what each new record has
+all_new : (P : Record → Type 0) (n message day : ℕ) (paths : List (List ℕ)) → ((m : ℕ) (q : List ℕ) → P (record { number = m; message = message; path = q; day = day; destroyed = false })) → AllByRecursion P (records_of n message day paths)
+all_new P n message day [] h = tt
+all_new P n message day (q ∷ qs) h = (h n q, all_new P (n + 1) message day qs h)
+
+each_new : (P : Record → Type 0) (n message day : ℕ) (paths : List (List ℕ)) → ((m : ℕ) (q : List ℕ) → P (record { number = m; message = message; path = q; day = day; destroyed = false })) → All P (records_of n message day paths)
+each_new P n message day paths h = All-from_recursion P (records_of n message day paths) (all_new P n message day paths h)
+
+-- ---- numbers
+
+past_least : (n : ℕ) (rs : List Record) → n ≤ past_all n rs
+past_least n [] = omega arith
+past_least n (r ∷ rs) = let rest = past_least (max n (r.number + 1)) rs in omega (arith, rest)
+
+past_each : (n : ℕ) (rs : List Record) → AllByRecursion (λ (x : Record). x.number < past_all n rs) rs
+past_each n [] = tt
+past_each n (r ∷ rs) = (let rest = past_least (max n (r.number + 1)) rs in omega (arith, rest), past_each (max n (r.number + 1)) rs)
+
+-- these numbers are below that one
+abbrev AreBelow : List Record → ℕ → Type 0
+AreBelow rs n = AllByRecursion (λ (x : Record). x.number < n) rs
+
+below_more : (rs : List Record) (n : ℕ) → AreBelow rs n → AreBelow rs (n + 1)
+below_more [] n h = tt
+below_more (r ∷ rs) n h = (omega (arith, h.0), below_more rs n h.1)
+
+new_above : (old : List Record) (n message day : ℕ) (paths : List (List ℕ)) → AreBelow old n → AllByRecursion (λ (r : Record). All (λ (x : Record). x.number < r.number) old) (records_of n message day paths)
+new_above old n message day [] h = tt
+new_above old n message day (q ∷ qs) h = (All-from_recursion (λ (x : Record). x.number < n) old h, new_above old (n + 1) message day qs (below_more old n h))
+
+lines_told : (a : Archive) (rs : List Record) → AllZip (IsLineOf a.plan) rs (map (line_of a) rs)
+lines_told a [] = tt
+lines_told a (r ∷ rs) = (record { number = refl; class = refl; due = refl }, lines_told a rs)
+
+made_whole : (a : Archive) (stood : Stood) (o : Outcome) (paths : List (List ℕ)) → o.classes ≡ paths → IsMadeWhole a stood o (captured_lines a stood.day paths) (captured a stood.message stood.day paths)
+made_whole a stood o [] e = record {
+  records = [];
+  added = sym (append-nil a.records);
+  classes = sym e;
+  days = All-from_recursion _ [] tt;
+  live = All-from_recursion _ [] tt;
+  numbers = All-from_recursion _ [] tt;
+  messages = All-from_recursion _ [] tt;
+  told = tt;
+  plan = refl;
+  holds = refl;
+}
+made_whole a stood o (q ∷ qs) e =
+    let n = next_number a in
+    let stored = Contains-push a.messages (record { number = n; body = stood.message }) in
+    record {
+      records = new_records a stood.day (q ∷ qs);
+      added = refl;
+      classes = classes_of n n stood.day (q ∷ qs) ∙ sym e;
+      days = each_new (λ (r : Record). r.day ≡ stood.day) n n stood.day (q ∷ qs) (λ m p. refl);
+      live = each_new (λ (r : Record). r.destroyed ≡ false) n n stood.day (q ∷ qs) (λ m p. refl);
+      numbers = All-from_recursion (λ (r : Record). All (λ (x : Record). x.number < r.number) a.records) (new_records a stood.day (q ∷ qs)) (new_above a.records n n stood.day (q ∷ qs) (past_each 1 a.records));
+      messages = each_new (IsStored (captured a stood.message stood.day (q ∷ qs)) stood.message) n n stood.day (q ∷ qs) (λ m p. stored);
+      told = lines_told a (new_records a stood.day (q ∷ qs));
+      plan = refl;
+      holds = refl;
+    }
+
+capture_is : (a : Archive) (body : List ℕ) (day : ℕ) (paths : List (List ℕ)) (new : Archive) → capture a body day paths ≡ Ok new → captured a body day paths ≡ new
+capture_is a body day paths new e = go (has_room a paths) e
+  where
+    go : (room : Bool) → ◌≡◌ {A = Result Archive StoreFault} (if room then Ok (captured a body day paths) else Err Full) (Ok new) → captured a body day paths ≡ new
+    go true is = cc
+    go false is = absurd cc
+
+files_whole : (a : Archive) (stood : Stood) (fault : Option ℕ) (lines : List Line) (new : Archive) → Files a stood (filed fault lines) new → FilesAlone a stood fault lines new
+files_whole a stood fault lines new h =
+    let made = made_whole a stood h.0 h.0.classes refl in
+    let P : Archive → Type 0 = λ x. IsMadeWhole a stood h.0 (captured_lines a stood.day h.0.classes) x in
+    let Q : List Line → Type 0 = λ x. IsMadeWhole a stood h.0 x new in
+    record {
+      outcome = h.0;
+      alone = h.1;
+      fault_alone = alone_fault_alone stood h.0 h.1;
+      told = h.2;
+      whole = subst Q (sym h.4) (subst P (capture_is a stood.message stood.day h.0.classes new h.3) made);
+    }
+
+finish_whole : (s : Standing) (t : ℕ) (early : Bool) (stood : Stood) (fault : Option ℕ) (lines : List Line) (new : Standing) → FinishWhole s t early stood (filed fault lines) new → FilesAlone s.office.archive stood fault lines new.office.archive
+finish_whole s t true stood fault lines new h = absurd (let other : filed fault lines ≡ refused 92 None = h.0 in cc)
+finish_whole s t false stood fault lines new (inl h) =
+    let P : Archive → Type 0 = λ x. FilesAlone s.office.archive stood fault lines x in
+    subst P (ap (λ (x : Standing). x.office.archive) (sym h.2)) (files_whole s.office.archive stood fault lines h.0 h.1)
+finish_whole s t false stood fault lines new (inr h) = absurd (let other : filed fault lines ≡ refused h.0 None = h.2 in cc)
+
+pub finish_says : (s : Standing) (t : ℕ) (f : Flight) (fault : Option ℕ) (lines : List Line) (new : Standing) → Step s (finish t) (filed fault lines) new → flight_of t s.flights ≡ Some f → FilesAlone s.office.archive f.stood fault lines new.office.archive
+finish_says s t f fault lines new h e = finish_whole s t _ f.stood fault lines new (finish_of s t (filed fault lines) new f h e)
+
+-- ---- due lists
+
+all_inserted : {X : Type 0} (cmp : X → X → Ordering) (P : X → Type 0) (new : X) (xs : List X) → P new → AllByRecursion P xs → AllByRecursion P (insert_sorted cmp new xs)
+all_inserted cmp P new [] h all = (h, tt)
+all_inserted cmp P new (x ∷ xs) h all = go (is_gt (cmp new x)) (all_inserted cmp P new xs h all.1)
+  where
+    go : (b : Bool) → AllByRecursion P (insert_sorted cmp new xs) → AllByRecursion P (if b then x ∷ insert_sorted cmp new xs else new ∷ x ∷ xs)
+    go true rest = (all.0, rest)
+    go false rest = (h, all)
+
+all_sorted : {X : Type 0} (cmp : X → X → Ordering) (P : X → Type 0) (xs : List X) → AllByRecursion P xs → AllByRecursion P (sort_by cmp xs)
+all_sorted cmp P [] all = tt
+all_sorted cmp P (x ∷ xs) all = all_inserted cmp P x (sort_by cmp xs) all.0 (all_sorted cmp P xs all.1)
+
+due_by : (a : Archive) (day : ℕ) (r : Record) (ends : Option ℕ) (destroyed held : Bool) → due_of a r ≡ ends → r.destroyed ≡ destroyed → is_held a r.number ≡ held → (not destroyed && (not held && is_by day ends)) ≡ true → IsDueBy a day r
+due_by a day r (Some d) false false e f g h = record { live = f; free = g; due = d; ends = e; reached = grind (arith, nat_tests, h) }
+due_by a day r None false false e f g h = absurd cc
+due_by a day r ends false true e f g h = absurd cc
+due_by a day r ends true held e f g h = absurd cc
+
+due_lines : (a : Archive) (day : ℕ) (rs : List Record) → AllByRecursion (Contains a.records) rs → AllByRecursion (IsDueLine a day) (map (line_of a) (filter (is_due a day) rs))
+due_lines a day [] h = tt
+due_lines a day (r ∷ rs) h = go (is_due a day r) refl (due_lines a day rs h.1)
+  where
+    go : (b : Bool) → is_due a day r ≡ b → AllByRecursion (IsDueLine a day) (map (line_of a) (filter (is_due a day) rs)) → AllByRecursion (IsDueLine a day) (map (line_of a) (if b then r ∷ filter (is_due a day) rs else filter (is_due a day) rs))
+    go true e rest = ((r, h.0, due_by a day r (due_of a r) r.destroyed (is_held a r.number) refl refl refl e, record { number = refl; class = refl; due = refl }), rest)
+    go false e rest = rest
+
+due_list_lines : (a : Archive) (day : ℕ) → All (IsDueLine a day) (due_list a day)
+due_list_lines a day =
+    let inside : AllByRecursion (Contains a.records) a.records = recursion_from_All (Contains a.records) a.records (All-contains_itself a.records) in
+    All-from_recursion (IsDueLine a day) (due_list a day) (all_sorted line_cmp (IsDueLine a day) (map (line_of a) (filter (is_due a day) a.records)) (due_lines a day a.records inside))
+
+pub due_says : (s : Standing) (day : ℕ) (lines : List Line) (new : Standing) → Step s (plain (due day)) (listed lines) new → (lines ≡ due_list s.office.archive day) × All (IsDueLine s.office.archive day) lines × (new ≡ s)
+unfolding Step
+due_says s day lines new (b, inl h, e) =
+    let P : List Line → Type 0 = All (IsDueLine s.office.archive day) in
+    (h.1, subst P (sym h.1) (due_list_lines s.office.archive day), e ∙ ap (λ x. record s { office = x }) h.0)
+due_says s day lines new (b, inr h, e) = absurd (let other : listed lines ≡ refused h.0 None = h.2 in cc)

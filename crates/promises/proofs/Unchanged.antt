@@ -1,0 +1,83 @@
+-- What a refusal leaves as it was, and that a whole capture gives its ticket up.
+use Rattle.std.proofs.Common.{◌≡◌, ◌≢◌, ◌+◌, ◌∷◌, [], ℕ, List, arith, ap, ◌∙◌, sym, subst, inl, inr, Bool, true, false, Option, Some, None}
+use Rattle.std.specs.Prelude.{if◌then◌else◌, nat_le}
+use Rattle.record_store.specs.Archive.{Archive, Line}
+use Rattle.filing_commands.specs.Answers.{Answer, running, ended, filed, refused}
+use Rattle.filing_commands.specs.Office.{Office, PlainCommand, OfficeStep, with_archive}
+use Rattle.filing_commands.specs.Pinning.{Stood}
+use Rattle.filing_commands.specs.Standing.{Command, plain, begin, turn, finish, Flight, Standing, Step, TurnStep, FinishStep, FinishWhole, Files, filing, flight_of, opening, turned, without}
+use Rattle.promises.specs.Runs.{IsReached, Run}
+use Rattle.promises.specs.Serial.{forget}
+use Rattle.promises.proofs.Sessions.{step_follows}
+use Rattle.promises.proofs.Sources.{AreInOrder, step_in_order}
+use Rattle.promises.proofs.TicketLemmas.{of_without}
+
+one_number : (m n : ℕ) (at on : Option ℕ) → refused m at ≡ refused n on → m ≡ n
+one_number m n at on e = cc
+
+turned_refused : (f : Flight) (k n : ℕ) (at : Option ℕ) → refused n at ≡ turned f k → ⊥
+turned_refused f k n at e = go (nat_le f.run_length k) e
+  where
+    go : (b : Bool) → refused n at ≡ (if b then ended f.run_length else running k) → ⊥
+    go true is = cc
+    go false is = cc
+
+-- ---- refusals
+
+office_unchanged : (s : Office) (c : PlainCommand) (n : ℕ) (at : Option ℕ) (new : Office) → OfficeStep s c (refused n at) new → new ≡ s
+office_unchanged s c n at new (inl h) = h.0
+office_unchanged s c n at new (inr h) = h.3
+
+turn_unchanged : (s : Standing) (t k : ℕ) (f : Option Flight) (n : ℕ) (at : Option ℕ) (new : Standing) → n ≢ 99 → TurnStep s t k f (refused n at) new → new ≡ s
+turn_unchanged s t k None n at new other h = h.1
+turn_unchanged s t k (Some f) n at new other (inl h) = absurd (turned_refused f (f.granted + k) n at h.0)
+turn_unchanged s t k (Some f) n at new other (inr h) = absurd (other (one_number n 99 at None h.0))
+
+whole_unchanged : (s : Standing) (t : ℕ) (early : Bool) (stood : Stood) (n : ℕ) (at : Option ℕ) (new : Standing) → FinishWhole s t early stood (refused n at) new → new ≡ s
+whole_unchanged s t true stood n at new h = h.1
+whole_unchanged s t false stood n at new (inl h) = h.2 ∙ ap (λ x. record s { office = with_archive s.office x }) h.1.2
+whole_unchanged s t false stood n at new (inr h) = h.3
+
+finish_unchanged : (s : Standing) (t : ℕ) (f : Option Flight) (n : ℕ) (at : Option ℕ) (new : Standing) → FinishStep s t f (refused n at) new → new ≡ s
+finish_unchanged s t None n at new h = h.1
+finish_unchanged s t (Some f) n at new h = whole_unchanged s t _ f.stood n at new h
+
+pub refused_unchanged : (s : Standing) (c : Command) (n : ℕ) (at : Option ℕ) (new : Standing) → Step s c (refused n at) new → n ≢ 99 → new ≡ s
+unfolding Step
+refused_unchanged s (plain c) n at new h other = h.2 ∙ ap (λ x. record s { office = x }) (office_unchanged s.office c n at h.0 h.1)
+refused_unchanged s (begin officer moment message) n at new h other = h.0
+refused_unchanged s (turn t k) n at new h other = turn_unchanged s t k (flight_of t s.flights) n at new other h
+refused_unchanged s (finish t) n at new h other = finish_unchanged s t (flight_of t s.flights) n at new h
+
+-- of a TURN the turns may stay that were made
+pub turns_alone : (s : Standing) (c : Command) (at : Option ℕ) (new : Standing) → Step s c (refused 99 at) new → forget new ≡ forget s
+turns_alone s (plain c) at new h = step_follows s (plain c) (refused 99 at) new h
+turns_alone s (begin officer moment message) at new h = step_follows s (begin officer moment message) (refused 99 at) new h
+turns_alone s (turn t k) at new h = step_follows s (turn t k) (refused 99 at) new h
+turns_alone s (finish t) at new h = step_follows s (finish t) (refused 99 at) new h
+
+-- ---- tickets that are given up
+
+run_in_order : (s : Standing) (cs : List Command) (answers : List Answer) (new : Standing) → Run s cs answers new → AreInOrder s → AreInOrder new
+run_in_order s [] [] new h k = let P : Standing → Type 0 = AreInOrder in subst P (sym h) k
+run_in_order s (c ∷ cs) (a ∷ answers) new h k = run_in_order h.0 cs answers new h.2 (step_in_order s c a h.0 h.1 k).0
+run_in_order s [] (a ∷ answers) new h k = absurd h
+run_in_order s (c ∷ cs) [] new h k = absurd h
+
+whole_leaves : (s : Standing) (t : ℕ) (early : Bool) (stood : Stood) (fault : Option ℕ) (lines : List Line) (new : Standing) → FinishWhole s t early stood (filed fault lines) new → new.flights ≡ without t s.flights
+whole_leaves s t true stood fault lines new h = absurd (let other : filed fault lines ≡ refused 92 None = h.0 in cc)
+whole_leaves s t false stood fault lines new (inl h) = ap (λ (x : Standing). x.flights) h.2
+whole_leaves s t false stood fault lines new (inr h) = absurd (let other : filed fault lines ≡ refused h.0 None = h.2 in cc)
+
+finish_leaves : (s : Standing) (t : ℕ) (f : Option Flight) (fault : Option ℕ) (lines : List Line) (new : Standing) → FinishStep s t f (filed fault lines) new → new.flights ≡ without t s.flights
+finish_leaves s t None fault lines new h = absurd (let other : filed fault lines ≡ refused 91 None = h.0 in cc)
+finish_leaves s t (Some f) fault lines new h = whole_leaves s t _ f.stood fault lines new h
+
+filed_leaves : (s : Standing) (t : ℕ) (fault : Option ℕ) (lines : List Line) (new : Standing) → Step s (finish t) (filed fault lines) new → new.flights ≡ without t s.flights
+unfolding Step
+filed_leaves s t fault lines new h = finish_leaves s t (flight_of t s.flights) fault lines new h
+
+pub given_up : (s : Standing) (t : ℕ) (fault : Option ℕ) (lines : List Line) (new : Standing) → IsReached s → Step s (finish t) (filed fault lines) new → flight_of t new.flights ≡ None
+given_up s t fault lines new reached h =
+    let order = run_in_order (opening reached.archive) reached.commands reached.answers s reached.run (omega arith) in
+    ap (flight_of t) (filed_leaves s t fault lines new h) ∙ of_without 0 s.last t s.flights order

@@ -1,0 +1,14 @@
+use Rattle.promises.proofs.ImageLemmas.{ends, never_traps, one_end, one_good_image}
+use Rattle.promises.proofs.images.accepted_images_run_to_their_end.Goals as goal
+
+pub returns-clause-program : goal.returns-clause-program
+returns-clause-program c = one_good_image
+
+pub returns-clause-never_traps : goal.returns-clause-never_traps
+returns-clause-never_traps c = never_traps
+
+pub returns-clause-ends : goal.returns-clause-ends
+returns-clause-ends c = ends
+
+pub returns-clause-once : goal.returns-clause-once
+returns-clause-once c = one_end

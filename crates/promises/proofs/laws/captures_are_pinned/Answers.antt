@@ -1,0 +1,16 @@
+use Rattle.promises.proofs.InFlight.{all_pinned}
+use Rattle.promises.proofs.Pinned.{alone, within_budget}
+use Rattle.promises.proofs.Sources.{stood_at_beginning}
+use Rattle.promises.proofs.laws.captures_are_pinned.Goals as goal
+
+pub returns-clause-stood : goal.returns-clause-stood
+returns-clause-stood c = stood_at_beginning
+
+pub returns-clause-pinned : goal.returns-clause-pinned
+returns-clause-pinned c = all_pinned
+
+pub returns-clause-budget : goal.returns-clause-budget
+returns-clause-budget c = within_budget
+
+pub returns-clause-alone : goal.returns-clause-alone
+returns-clause-alone c = alone

@@ -1,0 +1,43 @@
+-- Where a capture in flight began.
+use Rattle.std.specs.Prelude.{◌≡◌, ℕ, ◌+◌, ◌≤◌, List, [], ◌∷◌, ◌++◌, length}
+use Rattle.filing_commands.specs.Answers.{Answer, done, captured, begun, running, ended, filed, listed, refused}
+use Rattle.filing_commands.specs.Limits.{greatest_message, last_moment}
+use Rattle.filing_commands.specs.Standing.{Command, begin, Flight, Standing, stood_at}
+use Rattle.promises.specs.Runs.{Run}
+
+-- Of the commands, answered so, one was a BEGIN that gave the ticket and told the budget of what is pinned; and what stood then, in
+-- the state that the commands before it left, stands for the capture still.
+pub record HasBegun (old : Standing) (commands : List Command) (answers : List Answer) (f : Flight) : Type 0 where
+  pub officer : List ℕ
+  pub moment : ℕ
+  pub message : List ℕ
+  pub earlier : List Command
+  pub earlier_answers : List Answer
+  pub later : List Command
+  pub later_answers : List Answer
+  pub begins : commands ≡ earlier ++ begin officer moment message ∷ later
+  pub told : answers ≡ earlier_answers ++ begun f.ticket f.pinned.budget ∷ later_answers
+  pub state : Standing
+  pub run : Run old earlier earlier_answers state
+  pub stood : f.stood ≡ stood_at state.office officer moment message
+
+-- a BEGIN is refused neither for its moment (94) nor for its message (95)
+abbrev pub MayBegin : (moment : ℕ) → (message : List ℕ) → Type 0
+MayBegin moment message = (moment ≤ last_moment) × (length message ≤ greatest_message)
+
+-- the tickets that were given, in order
+abbrev pub tickets_given : List Answer → List ℕ
+tickets_given [] = []
+tickets_given (begun t b ∷ answers) = t ∷ tickets_given answers
+tickets_given (done ∷ answers) = tickets_given answers
+tickets_given (captured o ∷ answers) = tickets_given answers
+tickets_given (running k ∷ answers) = tickets_given answers
+tickets_given (ended k ∷ answers) = tickets_given answers
+tickets_given (filed fault lines ∷ answers) = tickets_given answers
+tickets_given (listed lines ∷ answers) = tickets_given answers
+tickets_given (refused n at ∷ answers) = tickets_given answers
+
+-- the numbers after the first one up to the last one, each once and in order
+abbrev pub AreNumbersUpTo : (first : ℕ) → List ℕ → (last : ℕ) → Type 0
+AreNumbersUpTo first [] last = last ≡ first
+AreNumbersUpTo first (n ∷ ns) last = (n ≡ first + 1) × AreNumbersUpTo n ns last

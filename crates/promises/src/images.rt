@@ -1,0 +1,38 @@
+//! What is promised of images and of the scripts that are compiled to them, each law on a function with nothing to do.
+
+ghost use Rattle.std.specs.Prelude.{◌≡◌, ◌≢◌, ℕ, List, Some};
+ghost use Rattle.sieve_syntax.specs.Tree.{CommandTrees};
+ghost use Rattle.sieve_meaning.specs.Case.{Facts};
+ghost use Rattle.sieve_meaning.specs.Meaning.{Library};
+ghost use Rattle.sieve_meaning.specs.Outcome.{Outcome, outcome};
+ghost use Rattle.sieve_meaning.specs.Program.{Commands};
+ghost use Rattle.filing_image.specs.Program.{Program};
+ghost use Rattle.filing_table.specs.Machine.{Trap, after_steps};
+ghost use Rattle.filing_commands.specs.Parts.{IsGood, IsGoodImage, RefusesImage};
+ghost use Rattle.promises.specs.Records.{EndsWithinBudget, IsFaultAlone};
+ghost use Rattle.promises.specs.Images.{Compiles};
+
+/// Whatever octets are offered: they are the image of one program at most, and where that may run
+/// - no run of it goes wrong, whatever the message is and whichever classes are open;
+/// - each run ends after at most as many steps as the image's budget says, and with one outcome.
+pub fn accepted_images_run_to_their_end()
+    ensures program { (octets : List ℕ) (p q : Program) → IsGoodImage octets p → IsGoodImage octets q → p ≡ q }
+    ensures never_traps { (octets : List ℕ) (p : Program) (c : Facts) (n : ℕ) → IsGoodImage octets p → after_steps p c n ≢ Trap }
+    ensures ends { (octets : List ℕ) (p : Program) (c : Facts) → IsGoodImage octets p → (o : Outcome) × EndsWithinBudget p c o }
+    ensures once { (p : Program) (c : Facts) (o x : Outcome) → EndsWithinBudget p c o → EndsWithinBudget p c x → o ≡ x }
+{}
+
+/// Octets that may run are refused by no number, and others by one at most; want of memory (99) aside.
+pub fn images_are_refused_by_one_number()
+    ensures accepted { (octets : List ℕ) (p : Program) (n : ℕ) → IsGoodImage octets p → RefusesImage octets n → n ≡ 99 }
+    ensures refused { (octets : List ℕ) (m n : ℕ) → RefusesImage octets m → RefusesImage octets n → m ≢ 99 → n ≢ 99 → m ≡ n }
+{}
+
+/// What a script is compiled to ends, in every case and within its budget, with the outcome that the script means together with
+/// all that it includes. A text is one script at most, and what it means by a fault is the default class alone.
+pub fn scripts_capture_what_they_mean()
+    ensures text { (text : List ℕ) (t u : CommandTrees) → IsGood text t → IsGood text u → t ≡ u }
+    ensures runs { (lib : Library) (name : List ℕ) (script : Commands) (p : Program) (c : Facts)
+        → Compiles lib name script p → EndsWithinBudget p c (outcome c lib (Some name) script) }
+    ensures fault { (lib : Library) (name : List ℕ) (script : Commands) (c : Facts) → IsFaultAlone (outcome c lib (Some name) script) }
+{}

@@ -1,0 +1,6 @@
+require "include";
+keep;
+
+if header :contains "subject" "invoice" {
+    fileinto "finance";
+}

@@ -1,0 +1,404 @@
+# shellcheck shell=bash
+# shellcheck disable=SC2317 # count calls its checks by their names
+# How the world fails around the program. ./failing sources this file.
+
+: "${root:?}" "${work:?}"
+
+readonly CAPTURES=1000 KILLS=100
+
+# The octets of a page, of the head of a log, and of the head of a page in it (SQLite's file format, sections 1.3 and 4.1).
+readonly PAGE=4096 LOG_HEAD=32 FRAME_HEAD=24
+
+# Takes away a disk that was made, and the files.
+clear_up() {
+    umount -- "$work/disk" 2> /dev/null
+    rm -rf -- "$work"
+}
+
+# What the program of tests plays: a line for each session and each trial.
+streams() {
+    local said=$work/said
+    ensure_program rows
+    count "reads, writes and files that fail" "$(program_of rows)" failing < crates/rows/stdin > "$said"
+    cat -- "$said"
+    count "something was tried" test -s "$said"
+    group streams
+}
+
+# A session of so many captures, from a number on: a record each, which is due two days after 1970-01-01, three days and so on.
+captures() {
+    local number
+    printf 'PLAN 23\nroot = "1 days review"\n'
+    for ((number = 1; number <= $1; number++)); do
+        printf 'BEGIN ann %d 6\nhello\nTURN %d 1\nFINISH %d\n' $((86400 * number)) "$number" "$number"
+    done
+}
+
+# Serves a session over a store.
+serve() {
+    "$program" --store "$1" 2> "$work/error"
+}
+
+# The record lines of a store, as a session of its own tells them.
+records_of() {
+    echo "DUE 9999-12-31" | serve "$1" | grep '^record '
+}
+
+# The record lines that were read of some replies, without one that is cut off.
+told_records() {
+    if [[ -n $(tail -c 1 -- "$1") ]]; then
+        sed '$d' -- "$1"
+    else
+        cat -- "$1"
+    fi | grep '^record '
+}
+
+# Whether a store has each record that was told, in their order, at most so many more, and no gap in their numbers.
+keeps_what_was_told() {
+    local told kept
+    records_of "$1" > "$work/kept"
+    told_records "$2" > "$work/told"
+    told=$(wc -l < "$work/told")
+    kept=$(wc -l < "$work/kept")
+    ((told <= kept && kept <= told + $3)) && head -n "$told" -- "$work/kept" | cmp -s - "$work/told" &&
+        cut -d ' ' -f 2 -- "$work/kept" | cmp -s - <(seq 1 "$kept")
+}
+
+# Whether a store takes one more capture, under the next number.
+goes_on() {
+    local kept
+    kept=$(records_of "$1" | wc -l)
+    printf 'BEGIN ann 0 0\nTURN 1 1\nFINISH 1\n' | serve "$1" > "$work/answer" &&
+        grep -q "^record $((kept + 1)) class unfiled " "$work/answer"
+}
+
+# Kills the program so many seconds after its start in a session of captures.
+kill_after() {
+    local process store=$work/killed
+    rm -f -- "$store"*
+    "$program" --store "$store" < "$work/session" > "$work/replies" 2> "$work/error" &
+    process=$!
+    sleep "$1"
+    {
+        kill -KILL "$process"
+        wait "$process"
+    } 2> "$work/said"
+    keeps_what_was_told "$store" "$work/replies" 1 && goes_on "$store"
+}
+
+# The least of the microseconds that the session of captures takes, of five times.
+session_span() {
+    local began turn
+    for turn in {1..5}; do
+        began=$(date +%s%N)
+        serve "$work/whole$turn" < "$work/session" > "$work/replies"
+        echo $((($(date +%s%N) - began) / 1000))
+    done | sort -n | head -n 1
+}
+
+# Kills the program at moments by chance, and tells how many records there were.
+kills() {
+    local span number kept=()
+    span=$(session_span)
+    for ((number = 1; number <= KILLS; number++)); do
+        count "kill $number" kill_after "$(awk -v span="$span" -v by="$RANDOM" 'BEGIN { printf "%.6f", span * by / 32768 / 1e6 }')"
+        kept+=("$(wc -l < "$work/kept")")
+    done
+    echo "kept after a kill: $(printf '%s\n' "${kept[@]}" | sort -n | tr '\n' ' ')records"
+    group "a process that is killed"
+}
+
+# Serves the session of captures where no file can grow above so many kilobytes.
+serve_limited() (
+    trap '' XFSZ
+    ulimit -f "$1"
+    exec "$program" --store "$2" < "$work/session" 2> "$work/said"
+)
+
+# Whether all that was told is there where files could not grow, and the store goes on where they can again.
+survives_a_limit() {
+    rm -f -- "$work/limited"*
+    serve_limited "$1" "$work/limited" | cat > "$work/replies"
+    keeps_what_was_told "$work/limited" "$work/replies" 1 && goes_on "$work/limited"
+}
+
+# Whether files that can't grow above so many kilobytes are met by a session that is refused.
+meets_a_limit() {
+    survives_a_limit "$1" && grep -q -x "refused 89" "$work/replies"
+}
+
+# Whether the same holds of a disk of so many kilobytes, which is then made larger.
+survives_a_full_disk() {
+    local store=$work/disk/store
+    mount -t tmpfs -o "size=$1k" none "$work/disk" || return
+    serve "$store" < "$work/session" > "$work/replies"
+    mount -o remount,size=64m "$work/disk" && grep -q -x "refused 89" "$work/replies" &&
+        keeps_what_was_told "$store" "$work/replies" 1 && goes_on "$store"
+    local status=$?
+    umount "$work/disk"
+    return "$status"
+}
+
+# Files that can't grow, and disks that are full. In 200 kilobytes not even the tables of an empty store find room.
+full_disks() {
+    local size
+    for size in 0 4 8 16 32 64 100 150 200; do
+        count "files of $size kilobytes" survives_a_limit "$size"
+    done
+    for size in 350 400 500 700 1000 2000 4000; do
+        count "files of $size kilobytes" meets_a_limit "$size"
+    done
+    mkdir -- "$work/disk"
+    if ((EUID == 0)) && mount -t tmpfs none "$work/disk" 2> "$work/said" && umount "$work/disk"; then
+        for size in 400 700 1000 2000 4000; do
+            count "a disk of $size kilobytes" survives_a_full_disk "$size"
+        done
+    else
+        echo "no disk was filled: that takes the rights of root"
+    fi
+    group "a disk that is full"
+}
+
+# Whether there is no store in a file, and the file stays as it is.
+is_no_store() {
+    local status=0
+    cp -- "$1" "$work/before"
+    as_other "$work/program" --store "$1" < "$work/session" > "$work/answer" 2> "$work/error" || status=$?
+    [[ $status -eq 3 && ! -s $work/answer && $(< "$work/error") == "mailfile: no store" ]] && cmp -s "$1" "$work/before"
+}
+
+# Starts a program as one whom the rights of files bind.
+as_other() {
+    if ((EUID == 0)); then
+        setpriv --reuid=65534 --regid=65534 --clear-groups "$@"
+    else
+        "$@"
+    fi
+}
+
+# A store of few captures, by some name.
+small_store() {
+    captures 20 | serve "$work/$1" > "$work/answer"
+}
+
+# Whether a store of another version is refused, and one that is copied in the same way is not.
+refuses_another_version() {
+    local copy=$work/other-version
+    sqlite3 "$work/small" .dump | sqlite3 "$copy" && [[ $(records_of "$copy" | wc -l) -eq 20 ]] &&
+        sqlite3 "$copy" "PRAGMA wal_checkpoint(TRUNCATE); UPDATE meta SET value = '3' WHERE key = 'version';" > "$work/answer" &&
+        chmod 666 "$copy"* && is_no_store "$copy"
+}
+
+# Whether a store whose files can only be read is refused.
+refuses_read_only() {
+    small_store fixed && chmod 444 "$work/fixed"* && is_no_store "$work/fixed"
+}
+
+# Files that are no store of the program.
+other_files() {
+    cp -- "$program" "$work/program" && chmod 755 "$work" "$work/program"
+    small_store small
+    count "a file that can only be read" refuses_read_only
+    cp -- README.md "$work/page" && chmod 666 "$work/page"
+    count "a text" is_no_store "$work/page"
+    head -c 100000 < /dev/urandom > "$work/noise" && chmod 666 "$work/noise"
+    count "octets by chance" is_no_store "$work/noise"
+    if command -v sqlite3 > "$work/said"; then
+        count "another version" refuses_another_version
+    else
+        echo "no store of another version was tried: that takes sqlite3"
+    fi
+    group "a file that is no store"
+}
+
+# Notes what a store told, of whose log or file an end or an octet was taken.
+note_outcome() {
+    local what=$1
+    if (($2 == 3)); then
+        echo "$what was refused"
+    elif grep -q -x "refused 89" "$work/answer"; then
+        echo "$what told a refusal"
+    else
+        echo "$what told $(if cmp -s "$work/told" "$work/all"; then echo all; else echo "some of the first records, or none"; fi)"
+    fi >> "$work/outcomes"
+}
+
+# Whether a store that was damaged tells the first ones of its records and nothing else, or is refused and stays as it is.
+tells_no_other() {
+    local status=0
+    cp -- "$1" "$work/before"
+    echo "DUE 9999-12-31" | serve "$1" > "$work/answer" || status=$?
+    grep '^record ' "$work/answer" > "$work/told"
+    note_outcome "$2" "$status"
+    if ((status == 3)); then
+        [[ ! -s $work/answer ]] && cmp -s "$1" "$work/before"
+        return
+    fi
+    ((status == 0)) && head -n "$(wc -l < "$work/told")" -- "$work/all" | cmp -s - "$work/told" &&
+        ! grep -v '^record ' "$work/answer" | grep -q -v -E -x '(ok|end|refused 89)'
+}
+
+# Copies the whole store to one that is damaged then.
+copy_store() {
+    rm -f -- "$work/damaged"*
+    cp -- "$work/small" "$work/damaged" && cp -- "$work/small-wal" "$work/damaged-wal"
+}
+
+# Whether the store tells no other records where a file of it, named by its ending, is cut off at a place.
+survives_a_cut() {
+    copy_store && truncate -s "$2" -- "$work/damaged$1" && tells_no_other "$work/damaged" "$3 cut off"
+}
+
+# Whether it does where an octet of a file is another.
+survives_an_octet() {
+    copy_store && printf '\x5a' | dd of="$work/damaged$1" bs=1 seek="$2" conv=notrunc status=none && tells_no_other "$work/damaged" "$3 with another octet"
+}
+
+# Cuts a file of the store off at each page, and changes an octet of each page; its ending, its name, the octets of its head and of a page.
+damage_file() {
+    local ending=$1 name=$2 head=$3 page=$4 size place octet
+    size=$(stat -c %s -- "$work/small$ending")
+    for ((place = 0; place < size; place += place == 0 && head > 0 ? head : page)); do
+        octet=$((place + RANDOM % page))
+        count "$name cut off at $place" survives_a_cut "$ending" "$place" "$name"
+        count "$name with another octet at $octet" survives_an_octet "$ending" $((octet < size ? octet : place)) "$name"
+    done
+}
+
+# A store of few captures whose program was killed, so that they lie in the log beside the file; at an end the log is put into it.
+small_store_with_log() {
+    local to process
+    mkfifo -- "$work/captures"
+    "$program" --store "$work/$1" < "$work/captures" > "$work/replies" 2> "$work/error" &
+    process=$!
+    exec {to}> "$work/captures"
+    captures 20 >&"$to"
+    until (($(grep -c '^record ' "$work/replies") == 20)); do sleep 0.05; done
+    {
+        kill -KILL "$process"
+        wait "$process"
+    } 2> "$work/said"
+    exec {to}>&-
+}
+
+# Stores that are damaged: in the log that a killed program leaves, and in the file once the log is put into it.
+damages() {
+    rm -f -- "$work/small"*
+    small_store_with_log small
+    grep '^record ' "$work/replies" > "$work/all"
+    damage_file -wal "a log" "$LOG_HEAD" $((PAGE + FRAME_HEAD))
+    count "the log is put into the file" cmp -s "$work/all" <(records_of "$work/small")
+    : >> "$work/small-wal"
+    damage_file '' "a file" 0 "$PAGE"
+    sort -- "$work/outcomes" | uniq -c
+    group "a store that is damaged"
+}
+
+# Whether a second program on a store is refused while the first has it, and the first goes on.
+refuses_a_second() {
+    local to session status=0
+    mkfifo -- "$work/to"
+    "$program" --store "$work/shared" < "$work/to" > "$work/answer" 2> "$work/error" &
+    session=$!
+    exec {to}> "$work/to"
+    echo "CLASS finance" >&"$to"
+    until grep -q ok "$work/answer"; do sleep 0.05; done
+    "$program" --store "$work/shared" < "$work/session" > "$work/second" 2> "$work/said" || status=$?
+    echo "CLASS tax" >&"$to"
+    exec {to}>&-
+    wait "$session" && [[ $status -eq 3 && ! -s $work/second && $(< "$work/said") == "mailfile: no store" ]] &&
+        [[ $(< "$work/answer") == $'ok\nok\nend' && $(echo "CLASS tax" | serve "$work/shared") == $'refused 54\nend' ]]
+}
+
+# What the program does with the file of its store.
+files() {
+    ensure_program mailfile
+    program=$(program_of mailfile)
+    captures "$CAPTURES" > "$work/session"
+    kills
+    full_disks
+    other_files
+    damages
+    count "a second program" refuses_a_second
+    group "two programs on one store"
+}
+
+# The request of a run that is refused, of which those before the session are a part.
+readonly REFUSED=20000
+
+# For each of the sessions of the table that are also cut, in memory and in files: the first request of the session that is refused,
+# and the last one. A later session opens its store by the same requests as the first, so these are not refused again.
+readonly SWEEPS='1 memory 1 1500
+2 memory 1300 1700
+3 memory 1300 1850
+4 memory 1300 2950
+1 files 1 3950
+2 files 3800 4150
+3 files 3800 4250
+4 files 3800 5300'
+
+# Of the requests over memory one in so many is refused, and of those over files, where a run takes longer, one in ten times so many.
+step=7
+
+# The commands and answers of a session of the table that is also cut, by its number.
+session_lines() {
+    awk -v wanted="$1" '
+        /^\[sessions\]$/ { inside = 1 }
+        inside && /^case / { is_cut = 0 }
+        inside && /^cut$/ { is_cut = 1; number++ }
+        is_cut && number == wanted && /^(send|want) /
+    ' crates/rows/stdin
+}
+
+# Writes a case for each request of a sweep.
+write_cases() {
+    local session=$1 place=$2 request every=$step
+    [[ $place == memory ]] || every=$((10 * step))
+    session_lines "$session" > "$work/lines"
+    for ((request = $4; request >= $3; request -= every)); do
+        { echo "$place $((REFUSED - request))" && cat -- "$work/lines"; } > "$work/cases/$session-$place-$(printf '%05d' "$request")"
+    done
+}
+
+# A copy of the tree with the program that is swept, which the gate has no part in.
+make_growth() {
+    mkdir -p -- "$work/tree/crates/growth/src"
+    tar -c --exclude='./crates/*/out' ./crates ./crates.txt | tar -x -C "$work/tree" &&
+        cp -- scripts/growth.rt.txt "$work/tree/crates/growth/src/main.rt" &&
+        echo "growth: row_text filing_desk filing_session record_store sqlite sqlite_disk anyhow" >> "$work/tree/crates.txt"
+}
+
+# What came of the cases of a sweep: a line that counts, and those that went wrong. The last one must meet no refusal, so that none
+# is left out.
+judge_sweep() {
+    awk -v sweep="$1-$2-" '
+        /^== / { text = ""; next }
+        index($0, "case=" sweep) == 1 {
+            split(text, word, " ")
+            times = word[3]
+            if ($2 == "run=ended" && $3 == "status=0" && text ~ /^played, with [0-9]+ attempts again\n(allocations: [a-z0-9 ]*\n)?$/) { good++; again += times > 0; last = times }
+            else if ($2 == "run=ended" && $3 == "status=1") { own++; last = 0 }
+            else { bad++; print "failed: " $0; printf "%s", text }
+        }
+        { text = text $0 "\n" }
+        END {
+            printf "session %s: %d runs answered alike, %d of them tried something again; in %d a request of the tester was refused\n", sweep, good, again, own
+            exit bad > 0 || good == 0 || last > 0
+        }' "$work/said"
+}
+
+# Requests for memory of some sessions are refused.
+memory() {
+    local session place first last
+    [[ -n $(kit) ]] || give_up "there is no command rt of a Rattle kit"
+    make_growth || give_up "there is no place for a copy of the tree"
+    mkdir -- "$work/cases"
+    while read -r session place first last; do
+        write_cases "$session" "$place" "$first" "$last"
+    done <<< "$SWEEPS"
+    (cd -- "$work/tree/crates/growth" && exec rt try --steps 1000 --fail-alloc "$REFUSED" --cases "$work/cases") > "$work/said" 2>&1
+    while read -r session place first last; do
+        count "session $session over $place" judge_sweep "$session" "$place"
+    done <<< "$SWEEPS"
+    group "memory that is refused"
+}

@@ -1,0 +1,69 @@
+# shellcheck shell=bash
+# What docs/GUIDE.md shows is played: what stands there after a `$` is typed, in one shell in an empty folder, and what comes of
+# it must be what stands below. A last line `...` stands for anything more. ./test sources this file; by itself it plays the page.
+
+# Reads the page: `typed` has its commands, and `wanted` what each of them writes.
+read_page() {
+    local line end='' shown=''
+    typed=() wanted=()
+    while IFS= read -r line; do
+        if [[ -n $end ]]; then
+            typed[-1]+=$'\n'${line#    }
+            [[ ${line#    } != "$end" ]] || end=''
+        elif [[ $line == '    $ '* ]]; then
+            typed+=("${line#    \$ }") wanted+=('') shown=yes
+            [[ ! $line =~ \<\<\ *\'([A-Z]+)\' ]] || end=${BASH_REMATCH[1]}
+        elif [[ $line == '    '* && -n $shown ]]; then
+            wanted[-1]+=${line#    }$'\n'
+        elif [[ -n $line ]]; then
+            shown=''
+        fi
+    done < docs/GUIDE.md
+}
+
+# Whether the lines of a file are those that are wanted.
+is_wanted() {
+    local written
+    written=$(cat -- "$1"; echo .)
+    written=${written%.}
+    if [[ $2 == *$'...\n' ]]; then
+        [[ $written == "${2%$'...\n'}"* ]]
+    else
+        [[ $written == "$2" ]]
+    fi
+}
+
+# Types the commands, and tells of each whether it wrote what is wanted.
+play_page() {
+    local index page_path=$root:$PATH
+    mkdir -p -- "$work/guide" && cd -- "$work/guide" || return
+    PATH=$page_path
+    for index in "${!typed[@]}"; do
+        eval "${typed[index]}" > "$work/written" 2>&1 < /dev/null
+        if is_wanted "$work/written" "${wanted[index]}"; then
+            echo "ok"
+        else
+            printf 'failed: %s\nit wrote:\n' "${typed[index]}"
+            sed 's/^/| /' "$work/written"
+        fi
+    done
+}
+
+guide() {
+    read_page
+    (play_page) > "$work/played"
+    told "commands of docs/GUIDE.md" "${#typed[@]}" "$work/played" '^ok$' '^failed: '
+    grep -v '^ok$' "$work/played"
+}
+
+if [[ ${BASH_SOURCE[0]} == "$0" ]]; then
+    root=$(dirname -- "$(dirname -- "$(readlink -f -- "$0")")")
+    cd -- "$root" || exit 125
+    work=$(mktemp -d) || exit 125
+    trap 'rm -rf -- "$work"' EXIT
+    told() {
+        echo "$1: $(grep -c -E "$4" "$3") of $2 as shown"
+        ! grep -q -E "$5" "$3"
+    }
+    guide
+fi
