@@ -1,11 +1,11 @@
 # shellcheck shell=bash
-# How the scripts come by a proved program. One that sources this file sets `root`, the folder of the repository, and `self`,
-# the name under which it tells things. A status of 125 or more is the script's own, and not the program's: 125 where there is
-# no program, and 128 with the number of the signal after a signal.
+# How the scripts build and find a proved program. A script that sources this file sets `root`, the folder of the repository, and
+# `self`, the name in its messages. A status of 125 or more is the script's own, and not the program's: 125 where there is no
+# program, and 128 plus the number of the signal after a signal.
 
 : "${root:?}" "${self:?}"
 
-# The least free memory for a prover, and what each further one beside it is reckoned at, in megabytes.
+# The least free memory for a prover, and the memory counted for each further one, in megabytes.
 readonly LEAST_MEMORY=1500 MEMORY_EACH=3000
 
 give_up() {
@@ -30,13 +30,13 @@ crates_below() {
     ' "$root/crates.txt"
 }
 
-# The identity of the kit, or nothing where rt is not on the path.
+# The identity of the kit, or nothing if rt is not on the path.
 kit() {
     local rt
     rt=$(command -v rt) && rt=$(readlink -f -- "$rt") && cat -- "${rt%/*/*}/KIT-ID"
 } 2> /dev/null
 
-# A sum of the sources of a program, and below it the kit that it is built with.
+# A sum of the sources of a program, followed by the kit that it is built with.
 sources_of() {
     local parts
     parts=$(crates_below "$1" | sed 's:.*:crates/&/src crates/&/specs crates/&/proofs:')
@@ -52,7 +52,7 @@ program_of() {
     echo "$root/crates/$1/out/$1"
 }
 
-# Whether a program is there and was built from these sources. Where no kit is at hand, that of the program counts.
+# Whether a program is there and was built from these sources. Without a kit on the path, only the sources are compared.
 is_built_from() {
     local program
     program=$(program_of "$1")
@@ -66,7 +66,7 @@ note_sources() {
     echo "$2" > "$note.new" && mv -f -- "$note.new" "$note"
 }
 
-# How much memory is free, in megabytes, under the limit of the control group too.
+# The free memory in megabytes, also within the limit of the control group.
 free_memory() {
     local limit=/sys/fs/cgroup/memory.max
     {
@@ -77,7 +77,7 @@ free_memory() {
     } | sort -n | head -n 1
 }
 
-# How many provers may run side by side: one a processor, and as many as memory holds.
+# How many provers may run side by side: at most one for each processor, and as many as memory holds.
 provers() {
     local free processors
     free=$(free_memory)
@@ -89,13 +89,13 @@ provers() {
     echo $((free < processors ? free : processors))
 }
 
-# Each library is built in a lane: a folder with the sources of its crate and of those below, and with the libraries of these.
-# In the tree itself no two could be built at once, since rt keeps others out of the folders of all crates below its own.
-# `lanes` is the folder of the lanes, and `builders` has the process of each that is at work.
+# Each library is built in a lane: a folder with the sources of its crate and of those below, and with the libraries of these. In
+# the tree itself no two could be built at once, since rt locks the folders of all crates below its own. `lanes` is the folder of
+# the lanes, and `builders` has the process of each lane that is in use.
 lanes=
 declare -A builders=()
 
-# Lays out the lane of a crate; what earlier starts kept of it goes there.
+# Prepares the lane of a crate, and moves the results of earlier starts into it.
 open_lane() {
     local name lane=$lanes/$1
     mkdir -p -- "$lane" || return
@@ -114,7 +114,7 @@ open_lane() {
     fi
 }
 
-# Gives the tree what was made in the lane of a crate.
+# Moves what was made in the lane of a crate to the tree.
 close_lane() {
     local made=$lanes/$1/crates/$1/out
     if [[ -d $made ]]; then
@@ -123,7 +123,7 @@ close_lane() {
     rm -rf -- "${lanes:?}/$1"
 }
 
-# Keeps every rt out of the folders of a program's crates, as rt does for others, while their libraries are moved.
+# Locks the folders of a program's crates, as rt does, while their libraries are moved.
 lock_crates() {
     local name lock
     for name in $(crates_below "$1"); do
@@ -140,7 +140,7 @@ unlock_crates() {
     done
 }
 
-# Ends what is at work, and gives the tree what was done: where rt ends, it takes along the provers that it started.
+# Ends the builders, and moves what they made to the tree. When rt ends, it ends the provers that it started.
 end_lanes() {
     local name
     for name in "${!builders[@]}"; do
@@ -154,8 +154,8 @@ end_lanes() {
     rm -rf -- "${lanes:?}"
 }
 
-# Makes the folder of the lanes; within .git, where it lies beside the tree and git and rt pass it over, if there is one. What a
-# start that was killed has left there is taken back.
+# Makes the folder of the lanes. It is in .git if there is one, which is next to the tree and which git and rt ignore. What a start
+# that was killed has left there is moved back.
 make_lanes() {
     if [[ -d $root/.git ]]; then
         lanes=$root/.git/lanes
@@ -173,7 +173,7 @@ end_by() {
     exit "$1"
 }
 
-# Starts building a library by so many provers.
+# Starts building a library with a number of provers.
 start_builder() {
     if ! open_lane "$1"; then
         end_lanes
@@ -195,7 +195,7 @@ await_builder() {
     return "$status"
 }
 
-# The libraries below a program, those with the longest way to it first. A way is as long as the sources of the crates on it.
+# The libraries below a program, those with the longest path to it first. The length of a path is that of its crates' sources.
 longest_first() {
     local name other
     local -A way=()
@@ -209,7 +209,7 @@ longest_first() {
     done | sort -n -r | cut -d ' ' -f 2
 }
 
-# Whether all that a library stands on is built, or the library is there itself.
+# Whether all libraries below a library are built.
 is_ready() {
     local name
     for name in $(crates_below "$1"); do
@@ -217,7 +217,7 @@ is_ready() {
     done
 }
 
-# Starts building those of the libraries that are left which can be built, by as many provers as are idle.
+# Starts building the remaining libraries that can be built now, with the provers that are idle.
 start_builders() {
     local name jobs ready=()
     for name in "${left[@]}"; do
@@ -241,7 +241,7 @@ start_builders() {
     left=("${ready[@]}")
 }
 
-# Builds the libraries below a program, and tells of each that is done. Where one is not built, the rest is given up.
+# Builds the libraries below a program, and reports each one that is done. If one fails, it gives up.
 build_libraries() {
     local idle=$2 total=$3 number=0 ended='' left
     local -A share=() built=()
@@ -261,7 +261,7 @@ build_libraries() {
     end_lanes
 }
 
-# Builds a program over its libraries; rt also runs it, on its own input and with its own words if it has them.
+# Builds a program over its libraries; rt also runs it, with its own input and arguments if it has them.
 build_program() {
     local input=$root/crates/$1/stdin words=()
     [[ -f $input ]] || input=/dev/null
@@ -271,7 +271,7 @@ build_program() {
     wait "${builders[$1]}"
 }
 
-# Builds what a program stands on, and the program. Which sources it is built from is noted as they were before.
+# Builds a program and the libraries below it. The sources that are noted are those from before the build.
 build() {
     local name=$1 sources=$2 folder=$root/crates/$1 began=$SECONDS lock locks=() provers total
     [[ -n $(kit) ]] || give_up "the program is not built, and there is no command rt of a Rattle kit to build it with"
@@ -303,7 +303,7 @@ build() {
     echo "$self: built in $(((SECONDS - began) / 60)) minutes and $(((SECONDS - began) % 60)) seconds" >&2
 }
 
-# Sees to it that a program is there, and was built from the sources as they are now.
+# Makes sure that a program is there, and was built from the present sources.
 ensure_program() {
     local sources
     sources=$(sources_of "$1") || give_up "the sources of $1 cannot be read"

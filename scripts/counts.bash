@@ -1,12 +1,12 @@
 # shellcheck shell=bash
-# How checks are counted, in groups, and told of. Scripts that check things source this file.
+# Counts checks in groups, and reports them. Scripts that check things source this file.
 
 passed=0
 failed=0
 group_passed=0
 group_failed=0
 
-# Counts a check, and tells of one that failed.
+# Counts a check, and reports one that failed.
 count() {
     if "${@:2}"; then
         group_passed=$((group_passed + 1))

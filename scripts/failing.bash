@@ -1,21 +1,21 @@
 # shellcheck shell=bash
-# shellcheck disable=SC2317 # count calls its checks by their names
-# How the world fails around the program. ./failing sources this file.
+# shellcheck disable=SC2317 # count calls its checks by name
+# The failures around the program. ./failing sources this file.
 
 : "${root:?}" "${work:?}"
 
 readonly CAPTURES=1000 KILLS=100
 
-# The octets of a page, of the head of a log, and of the head of a page in it (SQLite's file format, sections 1.3 and 4.1).
+# The octets of a page, of a log's header, and of a page's header in the log (SQLite's file format, sections 1.3 and 4.1).
 readonly PAGE=4096 LOG_HEAD=32 FRAME_HEAD=24
 
-# Takes away a disk that was made, and the files.
+# Removes a disk that was made, and the files.
 clear_up() {
     umount -- "$work/disk" 2> /dev/null
     rm -rf -- "$work"
 }
 
-# What the program of tests plays: a line for each session and each trial.
+# Runs what the program of tests plays, with a line for each session and each trial.
 streams() {
     local said=$work/said
     ensure_program rows
@@ -25,7 +25,8 @@ streams() {
     group streams
 }
 
-# A session of so many captures, from a number on: a record each, which is due two days after 1970-01-01, three days and so on.
+# A session of a number of captures. Each makes one record; the first is due two days after 1970-01-01, the next three days, and so
+# on.
 captures() {
     local number
     printf 'PLAN 23\nroot = "1 days review"\n'
@@ -39,12 +40,12 @@ serve() {
     "$program" --store "$1" 2> "$work/error"
 }
 
-# The record lines of a store, as a session of its own tells them.
+# The record lines of a store, as a new session reports them.
 records_of() {
     echo "DUE 9999-12-31" | serve "$1" | grep '^record '
 }
 
-# The record lines that were read of some replies, without one that is cut off.
+# The record lines in some replies, without one that is cut off.
 told_records() {
     if [[ -n $(tail -c 1 -- "$1") ]]; then
         sed '$d' -- "$1"
@@ -53,7 +54,7 @@ told_records() {
     fi | grep '^record '
 }
 
-# Whether a store has each record that was told, in their order, at most so many more, and no gap in their numbers.
+# Whether a store has each record that was reported, in order, at most a given number more, and no gap in their numbers.
 keeps_what_was_told() {
     local told kept
     records_of "$1" > "$work/kept"
@@ -72,7 +73,7 @@ goes_on() {
         grep -q "^record $((kept + 1)) class unfiled " "$work/answer"
 }
 
-# Kills the program so many seconds after its start in a session of captures.
+# Kills the program a number of seconds after its start, in a session of captures.
 kill_after() {
     local process store=$work/killed
     rm -f -- "$store"*
@@ -86,7 +87,7 @@ kill_after() {
     keeps_what_was_told "$store" "$work/replies" 1 && goes_on "$store"
 }
 
-# The least of the microseconds that the session of captures takes, of five times.
+# The least time of five runs of the session of captures, in microseconds.
 session_span() {
     local began turn
     for turn in {1..5}; do
@@ -96,7 +97,7 @@ session_span() {
     done | sort -n | head -n 1
 }
 
-# Kills the program at moments by chance, and tells how many records there were.
+# Kills the program at random moments, and reports how many records there were.
 kills() {
     local span number kept=()
     span=$(session_span)
@@ -108,26 +109,26 @@ kills() {
     group "a process that is killed"
 }
 
-# Serves the session of captures where no file can grow above so many kilobytes.
+# Serves the session of captures where no file can grow above a number of kilobytes.
 serve_limited() (
     trap '' XFSZ
     ulimit -f "$1"
     exec "$program" --store "$2" < "$work/session" 2> "$work/said"
 )
 
-# Whether all that was told is there where files could not grow, and the store goes on where they can again.
+# Whether everything reported is in the store although files could not grow, and the store works again once they can.
 survives_a_limit() {
     rm -f -- "$work/limited"*
     serve_limited "$1" "$work/limited" | cat > "$work/replies"
     keeps_what_was_told "$work/limited" "$work/replies" 1 && goes_on "$work/limited"
 }
 
-# Whether files that can't grow above so many kilobytes are met by a session that is refused.
+# Whether the same holds, and a session met the limit: a command was refused 89.
 meets_a_limit() {
     survives_a_limit "$1" && grep -q -x "refused 89" "$work/replies"
 }
 
-# Whether the same holds of a disk of so many kilobytes, which is then made larger.
+# Whether the same holds of a disk of a number of kilobytes, which is then made larger.
 survives_a_full_disk() {
     local store=$work/disk/store
     mount -t tmpfs -o "size=$1k" none "$work/disk" || return
@@ -139,7 +140,7 @@ survives_a_full_disk() {
     return "$status"
 }
 
-# Files that can't grow, and disks that are full. In 200 kilobytes not even the tables of an empty store find room.
+# Files that can't grow, and full disks. 200 kilobytes have no room even for the tables of an empty store.
 full_disks() {
     local size
     for size in 0 4 8 16 32 64 100 150 200; do
@@ -159,7 +160,7 @@ full_disks() {
     group "a disk that is full"
 }
 
-# Whether there is no store in a file, and the file stays as it is.
+# Whether the program finds no store in a file, and the file stays as it is.
 is_no_store() {
     local status=0
     cp -- "$1" "$work/before"
@@ -167,7 +168,7 @@ is_no_store() {
     [[ $status -eq 3 && ! -s $work/answer && $(< "$work/error") == "mailfile: no store" ]] && cmp -s "$1" "$work/before"
 }
 
-# Starts a program as one whom the rights of files bind.
+# Starts a program as a user who is bound by file permissions.
 as_other() {
     if ((EUID == 0)); then
         setpriv --reuid=65534 --regid=65534 --clear-groups "$@"
@@ -176,12 +177,12 @@ as_other() {
     fi
 }
 
-# A store of few captures, by some name.
+# Makes a store of few captures under a name.
 small_store() {
     captures 20 | serve "$work/$1" > "$work/answer"
 }
 
-# Whether a store of another version is refused, and one that is copied in the same way is not.
+# Whether a store of another version is refused, while one copied in the same way is not.
 refuses_another_version() {
     local copy=$work/other-version
     sqlite3 "$work/small" .dump | sqlite3 "$copy" && [[ $(records_of "$copy" | wc -l) -eq 20 ]] &&
@@ -189,12 +190,12 @@ refuses_another_version() {
         chmod 666 "$copy"* && is_no_store "$copy"
 }
 
-# Whether a store whose files can only be read is refused.
+# Whether a store with read-only files is refused.
 refuses_read_only() {
     small_store fixed && chmod 444 "$work/fixed"* && is_no_store "$work/fixed"
 }
 
-# Files that are no store of the program.
+# Tries files that are no store of the program.
 other_files() {
     cp -- "$program" "$work/program" && chmod 755 "$work" "$work/program"
     small_store small
@@ -211,7 +212,7 @@ other_files() {
     group "a file that is no store"
 }
 
-# Notes what a store told, of whose log or file an end or an octet was taken.
+# Notes what a store reported after its log or file was damaged.
 note_outcome() {
     local what=$1
     if (($2 == 3)); then
@@ -223,7 +224,7 @@ note_outcome() {
     fi >> "$work/outcomes"
 }
 
-# Whether a store that was damaged tells the first ones of its records and nothing else, or is refused and stays as it is.
+# Whether a damaged store reports the first of its records and nothing else, or is refused and stays as it is.
 tells_no_other() {
     local status=0
     cp -- "$1" "$work/before"
@@ -238,23 +239,24 @@ tells_no_other() {
         ! grep -v '^record ' "$work/answer" | grep -q -v -E -x '(ok|end|refused 89)'
 }
 
-# Copies the whole store to one that is damaged then.
+# Copies the whole store to one that will be damaged.
 copy_store() {
     rm -f -- "$work/damaged"*
     cp -- "$work/small" "$work/damaged" && cp -- "$work/small-wal" "$work/damaged-wal"
 }
 
-# Whether the store tells no other records where a file of it, named by its ending, is cut off at a place.
+# Whether the store reports no other records when one of its files, named by its ending, is cut off at a place.
 survives_a_cut() {
     copy_store && truncate -s "$2" -- "$work/damaged$1" && tells_no_other "$work/damaged" "$3 cut off"
 }
 
-# Whether it does where an octet of a file is another.
+# Whether the same holds when an octet of a file is changed.
 survives_an_octet() {
     copy_store && printf '\x5a' | dd of="$work/damaged$1" bs=1 seek="$2" conv=notrunc status=none && tells_no_other "$work/damaged" "$3 with another octet"
 }
 
-# Cuts a file of the store off at each page, and changes an octet of each page; its ending, its name, the octets of its head and of a page.
+# Cuts a file of the store off at each page, and changes an octet of each page. The arguments are the file's ending, its name, and
+# the octets of its header and of a page.
 damage_file() {
     local ending=$1 name=$2 head=$3 page=$4 size place octet
     size=$(stat -c %s -- "$work/small$ending")
@@ -265,7 +267,8 @@ damage_file() {
     done
 }
 
-# A store of few captures whose program was killed, so that they lie in the log beside the file; at an end the log is put into it.
+# Makes a store of few captures whose program was killed, so that they are in the log next to the file. A normal end would copy the
+# log into the file.
 small_store_with_log() {
     local to process
     mkfifo -- "$work/captures"
@@ -281,7 +284,7 @@ small_store_with_log() {
     exec {to}>&-
 }
 
-# Stores that are damaged: in the log that a killed program leaves, and in the file once the log is put into it.
+# Damages stores: first the log that a killed program leaves, and then the file, once the log is copied into it.
 damages() {
     rm -f -- "$work/small"*
     small_store_with_log small
@@ -294,7 +297,7 @@ damages() {
     group "a store that is damaged"
 }
 
-# Whether a second program on a store is refused while the first has it, and the first goes on.
+# Whether a second program on a store is refused while the first has it, and the first continues.
 refuses_a_second() {
     local to session status=0
     mkfifo -- "$work/to"
@@ -310,7 +313,7 @@ refuses_a_second() {
         [[ $(< "$work/answer") == $'ok\nok\nend' && $(echo "CLASS tax" | serve "$work/shared") == $'refused 54\nend' ]]
 }
 
-# What the program does with the file of its store.
+# Tries what the program does with the file of its store.
 files() {
     ensure_program mailfile
     program=$(program_of mailfile)
@@ -323,11 +326,11 @@ files() {
     group "two programs on one store"
 }
 
-# The request of a run that is refused, of which those before the session are a part.
+# Which allocation of a run is refused, counted from the start of the program and not of the session.
 readonly REFUSED=20000
 
-# For each of the sessions of the table that are also cut, in memory and in files: the first request of the session that is refused,
-# and the last one. A later session opens its store by the same requests as the first, so these are not refused again.
+# For each session of the table that is also cut, in memory and in files: the first allocation of the session that is refused, and
+# the last one. A later session opens its store by the same allocations as the first, so these are not refused again.
 readonly SWEEPS='1 memory 1 1500
 2 memory 1300 1700
 3 memory 1300 1850
@@ -337,10 +340,10 @@ readonly SWEEPS='1 memory 1 1500
 3 files 3800 4250
 4 files 3800 5300'
 
-# Of the requests over memory one in so many is refused, and of those over files, where a run takes longer, one in ten times so many.
+# One in this many allocations is refused over memory. Over files, where a run takes longer, it is one in ten times this many.
 step=7
 
-# The commands and answers of a session of the table that is also cut, by its number.
+# The commands and answers of a session of the table that is also cut, given by its number.
 session_lines() {
     awk -v wanted="$1" '
         /^\[sessions\]$/ { inside = 1 }
@@ -350,7 +353,7 @@ session_lines() {
     ' crates/rows/stdin
 }
 
-# Writes a case for each request of a sweep.
+# Writes a case for each allocation of a sweep.
 write_cases() {
     local session=$1 place=$2 request every=$step
     [[ $place == memory ]] || every=$((10 * step))
@@ -360,7 +363,7 @@ write_cases() {
     done
 }
 
-# A copy of the tree with the program that is swept, which the gate has no part in.
+# Copies the tree and adds the program that is swept, which is not part of the gate.
 make_growth() {
     mkdir -p -- "$work/tree/crates/growth/src"
     tar -c --exclude='./crates/*/out' ./crates ./crates.txt | tar -x -C "$work/tree" &&
@@ -368,8 +371,8 @@ make_growth() {
         echo "growth: row_text filing_desk filing_session record_store sqlite sqlite_disk anyhow" >> "$work/tree/crates.txt"
 }
 
-# What came of the cases of a sweep: a line that counts, and those that went wrong. The last one must meet no refusal, so that none
-# is left out.
+# Reports the cases of a sweep: a line of counts, and those that went wrong. The last case must meet no refusal, so that none is left
+# out.
 judge_sweep() {
     awk -v sweep="$1-$2-" '
         /^== / { text = ""; next }
@@ -387,7 +390,7 @@ judge_sweep() {
         }' "$work/said"
 }
 
-# Requests for memory of some sessions are refused.
+# Refuses allocations of some sessions.
 memory() {
     local session place first last
     [[ -n $(kit) ]] || give_up "there is no command rt of a Rattle kit"

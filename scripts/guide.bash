@@ -1,8 +1,8 @@
 # shellcheck shell=bash
-# What docs/GUIDE.md shows is played: what stands there after a `$` is typed, in one shell in an empty folder, and what comes of
-# it must be what stands below. A last line `...` stands for anything more. ./test sources this file; by itself it plays the page.
+# Plays docs/GUIDE.md: types what is there after each `$`, in one shell in an empty folder. The output must be what the page shows
+# below. A last line `...` means any further output. ./test sources this file; run by itself, it plays the page.
 
-# Reads the page: `typed` has its commands, and `wanted` what each of them writes.
+# Reads the page: `typed` has its commands, and `wanted` the output of each.
 read_page() {
     local line end='' shown=''
     typed=() wanted=()
@@ -21,7 +21,7 @@ read_page() {
     done < docs/GUIDE.md
 }
 
-# Whether the lines of a file are those that are wanted.
+# Whether a file has the wanted output.
 is_wanted() {
     local written
     written=$(cat -- "$1"; echo .)
@@ -33,7 +33,7 @@ is_wanted() {
     fi
 }
 
-# Types the commands, and tells of each whether it wrote what is wanted.
+# Types the commands, and reports for each whether it wrote the wanted output.
 play_page() {
     local index page_path=$root:$PATH
     mkdir -p -- "$work/guide" && cd -- "$work/guide" || return

@@ -1,13 +1,13 @@
 # shellcheck shell=bash
-# The statements of the store's calls by the system's sqlite3, on a database that `rows store` has left. One that sources this
-# file sets `folder`, in which files are made.
+# Runs the statements of the store's calls in the system's sqlite3, on a database that `rows store` has left. A script that sources
+# this file sets `folder`, in which files are made.
 
 : "${folder:?}"
 
-# How many runs are made of a call.
+# The number of runs of a call.
 readonly SQLITE3_RUNS=10
 
-# How many calls a run makes: as many as in `rows store`.
+# The number of calls in a run, the same as in `rows store`.
 calls_of() {
     case $1 in
         due | revise | adopt) echo 1 ;;
@@ -15,7 +15,7 @@ calls_of() {
     esac
 }
 
-# The statements of a run of a call, on records from a number on.
+# The statements for a run of a call, on the records from a given number on.
 statements_of() {
     local call=$1 database=$2 first=$3 numbers
     numbers=$(seq "$first" "$((first + $(calls_of "$call") - 1))")
@@ -84,7 +84,7 @@ first_of() {
     esac
 }
 
-# Rows beside sqlite3, after rows that `rows store` has told of a database: the call, and a capture's share of sqlite3's rate.
+# Adds a row for sqlite3 to each row that `rows store` has printed for a database: the call, and a capture's share of its rate.
 sqlite3_rows() {
     local database=$1 over=$2 next title word number size spent rest call plain asked
     if command -v sqlite3 > /dev/null; then

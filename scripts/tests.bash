@@ -1,10 +1,11 @@
 # shellcheck shell=bash
 # shellcheck disable=SC2317 # count calls its checks by their names
-# What ./mailfile, ./bench, ./hostile and ./failing do beside the program, played in a small tree with a stand-in for rt. ./test sources this file.
+# Tests what ./mailfile, ./bench, ./hostile and ./failing do around the program, in a small tree with a substitute for rt. ./test
+# sources this file.
 
 : "${work:?}"
 
-# Makes the tree, and the kit with the stand-in.
+# Makes the tree, and the kit with the substitute.
 make_stage() {
     stage=$work/stage
     path=$stage/kit/bin:/usr/bin:/bin
@@ -17,7 +18,7 @@ make_stage() {
     echo 'kit 1' > "$stage/kit/KIT-ID"
     cat > "$stage/kit/bin/rt" <<'RT'
 #!/usr/bin/env bash
-# Builds libraries, and programs that tell their words and end with status 7, as the files of the stage ask.
+# Builds libraries, and programs that print their arguments and end with status 7, as the files of the stage ask.
 stage=$(dirname "$0")/../..
 name=${PWD##*/}
 echo "$* $name" >> "$stage/calls"
@@ -49,7 +50,7 @@ RT
     chmod +x "$stage/kit/bin/rt"
 }
 
-# Starts a script of the stage with words, and keeps what it says.
+# Starts a script of the stage with arguments, and keeps its output.
 start() {
     local status=0
     rm -f -- "$stage/calls"
@@ -57,19 +58,19 @@ start() {
     return "$status"
 }
 
-# Whether a start builds, and serves the program then.
+# Whether a start builds the program and then runs it.
 builds() {
     start mailfile "$@"
     [[ $? -eq 7 && -s $stage/calls && $(< "$work/answer") == "told${1+ $1}" ]] && grep -q "^mailfile: built in" "$work/error"
 }
 
-# Whether a start serves the program at once.
+# Whether a start runs the program at once.
 serves() {
     start mailfile "$@"
     [[ $? -eq 7 && ! -e $stage/calls && $(< "$work/answer") == "told${1+ $1}" && ! -s $work/error ]]
 }
 
-# Whether a start of a script ends with a status and a line on standard error, and tells nothing else.
+# Whether a start of a script ends with a status and a line on standard error, and writes nothing to standard output.
 gives_up() {
     start "${@:3}"
     [[ $? -eq $1 && ! -s $work/answer ]] && grep -q -e "$2" "$work/error"
@@ -80,7 +81,7 @@ answers_unbuilt() {
         start mailfile --help && [[ -s $work/answer && ! -e $stage/calls ]]
 }
 
-# Two libraries that don't stand on each other are built at the same time, and the one above them after them.
+# Two libraries that don't use each other are built at the same time, and the one above them after them.
 builds_side_by_side() {
     touch "$stage/meets"
     echo 'MemAvailable: 9000000 kB' > "$stage/memory"
@@ -117,7 +118,7 @@ serves_without_a_kit() {
     return "$status"
 }
 
-# A source is edited while the program is built from what stood there before: the next start sees that.
+# A source is edited while the program is built from its earlier text; the next start sees that.
 sees_an_edit_while_building() {
     echo edited >> "$stage/tree/crates/low/src/lib.rt"
     echo meanwhile > "$stage/edits"
@@ -136,7 +137,7 @@ goes_on_after_a_failure() {
         rm -- "$stage/fails" && builds
 }
 
-# What a start that was killed has left in a lane is kept.
+# A start that was killed leaves its work in a lane, and the next start keeps it.
 goes_on_after_a_kill() {
     local left=$stage/tree/.git/lanes/low/crates/low/out
     echo edited >> "$stage/tree/crates/low/src/lib.rt"
@@ -173,7 +174,7 @@ end_when() {
     wait "$script"
 }
 
-# Whether a start that is ended while rt does something takes rt along, and the next start builds.
+# Whether a start that is ended while rt works ends rt too, and the next start builds.
 ends_what_it_started() {
     local status=0
     echo edited >> "$stage/tree/crates/low/src/lib.rt"

@@ -1,8 +1,8 @@
 # shellcheck shell=bash
 # shellcheck disable=SC2317 # count calls its checks by their names
-# What ./mailfile-tool does, played from the table examples/tools/cases. ./test sources this file; by itself it plays the table.
+# Tests ./mailfile-tool by the table examples/tools/cases. ./test sources this file; run by itself, it plays the table.
 
-# Whether a case of the table is answered as it should be: its words, what is written, and the status.
+# Whether a case of the table is answered as expected. Its arguments are the command line, the output, and the status.
 tool_case() {
     local status=0
     (
@@ -34,7 +34,7 @@ tool_cases() {
     [[ -z $words ]] || count "mailfile-tool $words" tool_case "$words" "$wanted" "$status"
 }
 
-# The numbers of refusals that the page of the specification lists, one a line.
+# The refusal numbers that docs/SPECIFICATION.md lists, one on each line.
 specified_numbers() {
     awk -F '|' '
         /^## 10\./ { within = 1 }
@@ -49,13 +49,13 @@ specified_numbers() {
     ' docs/SPECIFICATION.md
 }
 
-# Whether the numbers of that page are those that have a text.
+# Whether the numbers of that page are exactly those that have a text.
 numbers_have_texts() {
     ./mailfile-tool explain --numbers | sed -n 's/^refused \([0-9]*\): ..*/\1/p' | sort > "$work/said" && [[ -s $work/said ]] &&
         diff <(specified_numbers | sort) "$work/said"
 }
 
-# Whether a reader that goes away ends it without a word.
+# Whether the tool ends without a message when its reader goes away.
 ends_with_its_reader() {
     yes 'refused 34' 2> "$work/said" | ./mailfile-tool explain 2> "$work/error" | head -n 1 > "$work/answer"
     [[ $(< "$work/answer") == 'refused 34: '* && ! -s $work/error ]]

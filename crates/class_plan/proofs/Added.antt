@@ -1,4 +1,4 @@
--- Where a class is added.
+-- Adding a class.
 use Rattle.std.proofs.Common.{◌≡◌, ℕ, ◌<◌, nat_le, Bool, true, false, List, length, None, Ok, ap, sym, subst, arith}
 use Rattle.std.proofs.lemmas.Bool.Decides.{nat_tests}
 use Rattle.std.proofs.lemmas.Bool.{not-false}
@@ -13,7 +13,7 @@ use Rattle.class_plan.proofs.Judged.{Says, first-says}
 below_full : (n : ℕ) → nat_le 4096 n ≡ false → n < 4096
 below_full n h = grind (arith, nat_tests)
 
--- nothing speaks against the path
+-- no first fault: no fault holds
 pub none-holds : (h : PlanFault → Bool) → None ≡ first_fault h → HoldsNone h
 none-holds h e = subst (Says h) (sym e) (first-says h)
 

@@ -131,7 +131,7 @@ due_by_is d n (After k u a true) (Some e) day range is h =
     let number = period_is d n k u h.date day.0 is h.period in
     ap (λ m. Some m) (here ∙ ap (λ m. number_of (last_of_year (civil m))) number)
 
--- the same of a path
+-- the same for a path
 pub due_on_is : (p : Listing) (q : List ℕ) (d : Date) (n : ℕ) (r : Option Date) → IsPlan p → IsCaptureDay d → epoch_day d ≡ pos n → IsDueOf p q d r → option_map number_of_day r ≡ due_on p q n
 due_on_is p q d n r plan day is h = go (schedule_at p q) (schedule-in_range p plan q) h
   where
@@ -139,6 +139,5 @@ due_on_is p q d n r plan day is h = go (schedule_at p q) (schedule-in_range p pl
     go None range h = ap (option_map number_of_day) h
     go (Some s) range h = due_by_is d n s r day range is h
 
--- the number of a capture day
 pub capture_number : (d : Date) → IsCaptureDay d → epoch_day d ≡ pos (number_of_day d)
 capture_number d day = number_pos (epoch_day d) (number-from_capture d day).0

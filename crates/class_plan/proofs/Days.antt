@@ -1,4 +1,4 @@
--- Day numbers of the dates at hand.
+-- Day numbers of capture days and due dates.
 use Rattle.std.proofs.Common.{◌≡◌, ℕ, ◌≤◌, ◌<◌, ℤ, pos, negsuc, ◌+ℤ◌, ◌≤ℤ◌, ◌<ℤ◌, arith, refl, ◌∙◌}
 use Rattle.jiff.specs.Words.{epoch_day, IsEpochDay}
 use Rattle.jiff_core.specs.declared.civil.date.Date.{Date}
@@ -27,15 +27,14 @@ epoch_day-zero d y m e =
     let day : d.day ≡ 1 = omega (arith, signed_arith) in
     rw (y, month, day) days_from_civil-zero
 
--- what a span of days gives, where the day is one of the library's
+-- adding a span of days, where the library has the day reached
 pub days-added : (a r : Date) (n : ℤ) (s : Span) → IsOnly Day n s → (CanAddToDate a s → epoch_day r ≡ date_add a s) → IsEpochDay (epoch_day a +ℤ n) → epoch_day r ≡ epoch_day a +ℤ n
 days-added a r n s only fits in_range = fits ((can_add-days a n s only).1 in_range) ∙ date_add-days a n s only
 
--- the day count of 2200-01-01
 pub day_count-2200 : day_count (pos 2200) 1 1 ≡ 4_455_959
 day_count-2200 = day_count-early (pos 2200) 12199 1 1 refl (omega arith) (omega arith) (omega arith)
 
--- the dates before 2200 lie well below the last
+-- a day before 2200 and up to 366,000 days more are in the library's range
 pub days-in : (d : Date) (n : ℕ) → d.year ≤ℤ pos 2199 → n ≤ 366000 → IsEpochDay (epoch_day d +ℤ pos n)
 days-in d n year count =
     let lt : d.year <ℤ pos 2200 = omega (arith, signed_arith) in

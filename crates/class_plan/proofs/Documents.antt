@@ -1,4 +1,4 @@
--- The plan of a text, by what the reader of TOML says and by the contents of the table.
+-- The plan of a text, by the answer of the TOML reader and the contents of the table.
 use Rattle.std.proofs.Common.{◌≡◌, ℕ, List, Some, None, Ok, Err, ap, sym}
 use Rattle.std.proofs.lemmas.Bool.{false_from_ne_true}
 use Rattle.std.proofs.lemmas.Str.{is_utf8-from_IsUtf8, IsUtf8-from_is_utf8}

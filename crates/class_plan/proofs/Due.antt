@@ -97,7 +97,6 @@ period_earlier d n Days e day some h = earlier-from_number d e (omega (arith, si
 period_earlier d n Months e day some h = months_earlier d n e day some h
 period_earlier d n Years e day some h = inl (omega (arith, signed_arith, h.year))
 
--- a period later comes after the capture day
 pub period-later : (d : Date) (n : ℕ) (u : TimeUnit) (e : Date) → IsCaptureDay d → 1 ≤ n → IsPeriodAfter d n u e → IsLater d e
 period-later d n u e day some h = later_of d e day (period_earlier d n u e day some h)
 
@@ -114,7 +113,6 @@ before_year_end : (d e f : Date) → IsEarlier d e → IsYearEnd e f → IsEarli
 before_year_end d e f (inl less) h = inl (omega (arith, signed_arith, h.year))
 before_year_end d e f (inr (same, less)) h = inr (same ∙ sym h.year, in_same_year d e f less h)
 
--- the due date comes after the capture day
 pub due-later : (d : Date) (s : Schedule) (e : Date) → IsCaptureDay d → IsInRange s → IsDue d s (Some e) → IsLater d e
 due-later d Permanent e day range h = absurd h
 due-later d (After n u x false) e day range h = period-later d n u e day range.0 h

@@ -62,7 +62,7 @@ free_of h n m free is g lt =
 smallest_at : (h : PlanFault → Bool) (n : ℕ) (f : PlanFault) → FreeBelow h n → number_of f ≡ 50 + n → h f ≡ true → IsSmallest h f
 smallest_at h n f free is here = record { here = here; none_below = free_of h n (number_of f) free is }
 
--- what a chain of tests says from the n-th fault on
+-- what the answer of a chain of tests says about the faults
 abbrev pub Says : (PlanFault → Bool) → Option PlanFault → Type 0
 Says h None = HoldsNone h
 Says h (Some f) = IsSmallest h f
@@ -93,7 +93,7 @@ first-says h =
     step h 6 (h TooManyClasses) _ refl refl f5 (λ f6.
     step h 7 (h PathDropped) _ refl refl f6 (λ f7. last_free h f7))))))))
 
--- an answer that is no fault is the one that was handed in, and no fault holds
+-- an answer that is no fault is the given one, and no fault holds
 made_of : {A : Type 0} (o : Option PlanFault) (a b : A) → Ok b ≡ answer o a → (b ≡ a) × (None ≡ o)
 made_of None a b e = ((cc), refl)
 made_of (Some f) a b e = absurd (cc)

@@ -1,4 +1,4 @@
--- The tests of a judgement, over what is listed, and what each of its ends answers.
+-- The tests of a judgement over listed classes, and the answer at each of its ends.
 use Rattle.std.proofs.Common.{◌≡◌, ℕ, nat_lt, Bool, true, false, not, ◌||◌, List, [], ◌∷◌, map, length, Ok, Err, refl, ap, ◌∙◌, arith, ◌<◌, ◌≤◌}
 use Rattle.std.proofs.lemmas.Bool.Decides.{nat_tests}
 use Rattle.std.specs.List.{list_any}
@@ -11,7 +11,7 @@ use Rattle.class_plan.specs.Plans.{Row, has}
 use Rattle.class_plan.specs.Entries.{Entry, shown, is_faulty, rows_from, with_unfiled, is_known, comes_again, class_count_of}
 use Rattle.class_plan.proofs.Twice.{has-listing, length-listing}
 
--- a test of what is shown
+-- a test of the entries of listed classes
 list_any-shown : (p : Entry → Bool) (xs : List Listed) → list_any (λ c. p (shown c)) xs ≡ list_any p (map shown xs)
 list_any-shown p [] = refl
 list_any-shown p (x ∷ xs) = ap (λ b. p (shown x) || b) (list_any-shown p xs)
@@ -48,7 +48,7 @@ test-many es rs twice is h = let e = ap length is ∙ length-listing es twice in
 pub test-few : (es : List Entry) (rs : List Row) → comes_again [] es ≡ false → rs ≡ with_unfiled (rows_from [] es) → length rs ≤ 4096 → nat_lt 4096 (class_count_of es) ≡ false
 test-few es rs twice is h = let e = ap length is ∙ length-listing es twice in within (class_count_of es) (omega arith)
 
--- the ends of a judgement, of which no text is in sight
+-- the ends of a judgement after the text and its shape passed
 module _ {A : Type 0} (h : PlanFault → Bool) (a : A) (toml : h NotToml ≡ false) (shape : h BadShape ≡ false) where
   pub end-path : h BadPath ≡ true → judged h a ≡ Err BadPath
   end-path p = rw (toml, shape, p)

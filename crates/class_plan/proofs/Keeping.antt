@@ -1,4 +1,4 @@
--- What each plan keeps, over its map, and where a class is added.
+-- What holds of every plan: over its map, and after a class is added.
 use Rattle.std.proofs.Common.{◌≡◌, ℕ, ◌<◌, Bool, true, false, cond, List, [], ◌∷◌, length, Vec, Global, Ordering, Less, nat_cmp, refl, ◌∙◌, arith}
 use Rattle.std.proofs.lemmas.List.Elements.{All-from_recursion, recursion_from_All, All-weaker}
 use Rattle.std.proofs.lemmas.Bool.{or_right}
@@ -19,7 +19,7 @@ less_paths : (k : Vec ℕ Global) (es : List Held) → AllByRecursion (λ y. key
 less_paths k [] h = tt
 less_paths k (e ∷ es) h = (h.0, less_paths k es h.1)
 
--- a map's order is that of the rows which it shows
+-- a map's order is that of its rows
 pub sorted-rows : (es : List Held) → IsStrictlySortedBy key_cmp (keys_of es) → IsStrictlySortedBy (slice_cmp nat_cmp) (paths_of (rows es))
 unfolding IsStrictlySortedBy
 sorted-rows [] h = tt
@@ -32,7 +32,7 @@ passes-more f g h (p ∷ ps) e = h p e
 pub has-more : (r : Row) (rs : List Row) (q : List ℕ) → has rs q ≡ true → has (put r rs) q ≡ true
 has-more r rs q h = has-put q r rs ∙ or_right (bytes_eq q r.path) (has rs q) h
 
--- a class keeps its own where another is put
+-- what holds of a class still holds after another is put
 pub class-more : (r : Row) (rs : List Row) (c : Row) → IsClass rs c → IsClass (put r rs) c
 class-more r rs c h = record { path = h.path; parent = passes-more (has rs) (has (put r rs)) (has-more r rs) (ancestors c.path) h.parent; range = h.range }
 
@@ -40,7 +40,6 @@ open_or : (b : Bool) (o : Bool) → o ≡ true → cond b true o ≡ true
 open_or true o e = refl
 open_or false o e = e
 
--- a plan with one more open class is a plan
 pub added-plan : (p : Listing) (q : List ℕ) → IsPlan p → is_path q ≡ true → has_parent_in (has p.rows) q ≡ true → length p.rows < 4096 → IsStrictlySortedBy (slice_cmp nat_cmp) (paths_of (put (open_row q) p.rows))
     → IsPlan (record { root = p.root; rows = put (open_row q) p.rows })
 added-plan p q h path parent few order =
@@ -58,7 +57,6 @@ first-class : IsClass first_plan.rows (open_row unfiled)
 unfolding is_path
 first-class = record { path = refl; parent = refl; range = tt }
 
--- `unfiled` alone is a plan
 pub first-plan : IsPlan first_plan
 unfolding IsStrictlySortedBy
 first-plan = record {

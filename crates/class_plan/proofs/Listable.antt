@@ -36,7 +36,6 @@ text_range : (p : Bool) (t a b c : List ℕ) (s : Schedule) → Some s ≡ (if p
 text_range true t a b c s h = let is : Permanent ≡ s = cc in subst IsInRange is tt
 text_range false t a b c s h = period_range (count_of a) (unit_of b) (ending_of c) a b c s refl refl refl h
 
--- the schedule of a text is in range
 pub schedule-range : (t : List ℕ) (s : Schedule) → Some s ≡ schedule_of_bytes t → IsInRange s
 unfolding schedule_of_bytes
 schedule-range t s h = text_range _ t _ _ _ s h

@@ -1,4 +1,4 @@
--- What is listed makes a plan where nothing speaks against it.
+-- Contents without a fault make a plan.
 use Rattle.std.proofs.Common.{◌≡◌, ℕ, ◌≤◌, nat_lt, Bool, true, false, not, ◌||◌, cond, List, [], ◌∷◌, Option, Some, None, unwrap_or, nat_cmp, refl, ap, sym, ◌∙◌, arith, if◌then◌else◌}
 use Rattle.std.proofs.lemmas.Bool.Decides.{nat_tests}
 use Rattle.std.proofs.lemmas.List.Elements.{All-from_recursion, recursion_from_All}
@@ -76,7 +76,6 @@ root_range (Some s) h = h
 few_of : (n : ℕ) → nat_lt 4096 n ≡ false → n ≤ 4096
 few_of n h = grind (arith, nat_tests)
 
--- what is listed makes a plan where nothing speaks against it
 pub made-plan : (f : Contents) → IsListable f → HoldsNone (contents_faults f) → IsStrictlySortedBy (slice_cmp nat_cmp) (paths_of (listing_of f).rows) → IsPlan (listing_of f)
 made-plan f listable none order =
     let es = f.entries in

@@ -1,4 +1,4 @@
--- What adding months by the library gives.
+-- Adding months with the library.
 use Rattle.std.proofs.Common.{◌≡◌, ℕ, ◌+◌, ◌*◌, ◌-◌, ◌/◌, ◌%◌, ◌≤◌, ℤ, pos, ◌+ℤ◌, ◌*ℤ◌, arith, ◌∙◌}
 use Rattle.jiff.specs.Words.{epoch_day, IsEpochDay}
 use Rattle.jiff_core.specs.declared.civil.date.Date.{Date}
@@ -19,7 +19,6 @@ use Rattle.class_plan.proofs.Days.{months-below, year_pos}
 no_clock : (s : Span) → magnitude Hour s ≡ 0 → magnitude Minute s ≡ 0 → magnitude Second s ≡ 0 → magnitude Millisecond s ≡ 0 → magnitude Microsecond s ≡ 0 → magnitude Nanosecond s ≡ 0 → clock_days s ≡ pos 0
 no_clock s a b c d e f = signed_zero s.negative _ (omega arith)
 
--- what a span of months gives
 date_add-months : (a : Date) (n : ℤ) (s : Span) → IsOnly Month n s → date_add a s ≡ add_months a n
 date_add-months a n s h =
     let m : span_months s ≡ n = omega (arith, signed_arith, h.months) in
@@ -27,7 +26,7 @@ date_add-months a n s h =
     let k : clock_days s ≡ pos 0 = no_clock s (h.others Hour (omega arith)) (h.others Minute (omega arith)) (h.others Second (omega arith)) (h.others Millisecond (omega arith)) (h.others Microsecond (omega arith)) (h.others Nanosecond (omega arith)) in
     rw (m, d, k) (omega (arith, signed_arith))
 
--- the date so many months later
+-- the date a number of months later
 shifted_date : (d : Date) (k : ℤ) → IsShiftable d k → Date
 shifted_date d k h =
     let civil = shifted_civil d k h in
@@ -36,7 +35,7 @@ shifted_date d k h =
 month_parts : (z : ℤ) (y m n : ℕ) → z ≡ pos y → (z *ℤ pos 12 +ℤ pos (m - 1)) +ℤ pos n ≡ pos ((y * 12 + (m - 1) + n) / 12) *ℤ pos 12 +ℤ pos ((y * 12 + (m - 1) + n) % 12 + 1 - 1)
 month_parts z y m n e = rw e (omega (arith, signed_arith))
 
--- year and month so many months after a capture day
+-- the year and month a number of months after a capture day
 shifted_parts : (d : Date) (n : ℕ) → IsCaptureDay d → (shifted_year d (pos n) ≡ pos (months_of d n / 12)) × (shifted_month d (pos n) ≡ months_of d n % 12 + 1)
 shifted_parts d n day =
     let parts = month_parts d.year (unsigned_abs d.year) d.month n (year_pos d.year day.0) in

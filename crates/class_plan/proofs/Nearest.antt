@@ -35,6 +35,6 @@ below p q (suc k) fits h = elim (cases_Bool (get_or q k 0 == 47)) [
 none_past : (p : Listing) (q : List ℕ) → HasNoneFrom p q (length q)
 none_past p q j low high slash = absurd (omega arith)
 
--- what a path has from above
+-- the schedule that a path inherits
 pub from-above : (p : Listing) (q : List ℕ) → IsFromAbove p q (first_own p (ancestors q))
 from-above p q = below p q (length q) (omega arith) (none_past p q)

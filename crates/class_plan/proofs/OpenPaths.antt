@@ -1,4 +1,4 @@
--- The paths that `open_paths` gives are those that the plan says are open.
+-- The paths that `open_paths` answers are those that are open in the plan.
 use Rattle.std.proofs.Common.{◌≡◌, ℕ, Bool, true, false, ◌||◌, List, [], ◌∷◌, Less, nat_cmp, is_eq, refl, ap, sym, ◌∙◌, subst}
 use Rattle.std.proofs.Math.Path.{fun_ext}
 use Rattle.std.specs.Prelude.{filter}

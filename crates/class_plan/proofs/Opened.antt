@@ -22,7 +22,7 @@ match_items Less a b c = refl
 match_items Equal a b c = refl
 match_items Greater a b c = refl
 
--- an insert into a set of keys shows as one into a set of paths
+-- an insert into a set of keys is an insert into the set of their paths
 pub items-insert : (ks : List (Vec ℕ Global)) (k : Vec ℕ Global) → items_of (insert_key key_cmp ks k) ≡ insert_key path_cmp (items_of ks) k.items
 items-insert [] k = refl
 items-insert (x ∷ xs) k = match_items (key_cmp k x) _ _ _ ∙ rw (items-insert xs k)
@@ -70,7 +70,7 @@ none_above (q ∷ qs) = (tt, none_above qs)
 pub collected-all : (rs : List Row) → IsStrictlySortedBy path_cmp (paths_of rs) → collected [] rs ≡ opened rs
 collected-all rs s = collected-from [] rs (none_above (paths_of rs)) s
 
--- an open class's path goes into the set
+-- an open class's path is inserted into the set
 pub collected-open : (ks more : List (Vec ℕ Global)) (k : Vec ℕ Global) (e : Held) (it rest : List Held) (whole : List (List ℕ)) → it ≡ e ∷ rest → e.1.is_open ≡ true → more ≡ insert_key key_cmp ks k → k.items ≡ e.0.items
     → collected (items_of ks) (rows it) ≡ whole → collected (items_of more) (rows rest) ≡ whole
 collected-open ks more k e it rest whole cut is_open grown same so =

@@ -70,7 +70,7 @@ entries_listable (p ∷ ps) h =
 pub parts-listable : (root : Schedule) (ps : List Part) → list_any is_closed_unfiled (map part_entry ps) ≡ false → IsListable (parts_contents root ps)
 parts-listable root ps h = record { root = ranged_if root (in_range root) refl; entries = All-from_recursion IsListableEntry (map part_entry ps) (entries_listable ps h) }
 
--- a fault that is not another than want of memory is that
+-- a fault that cannot differ from `NoMemory` is `NoMemory`
 pub is-memory : (f : PlanFault) → ¬ (f ≢ NoMemory) → f ≡ NoMemory
 is-memory NotToml h = absurd (h (λ e. (cc)))
 is-memory BadShape h = absurd (h (λ e. (cc)))

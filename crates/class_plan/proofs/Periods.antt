@@ -15,7 +15,6 @@ pub text-permanent : (t : List ℕ) → bytes_eq t (codes "permanent") ≡ true 
 unfolding schedule_of_bytes
 text-permanent t e = rw e
 
--- the parts of a text
 pub text-parts : (t a r b c : List ℕ) → bytes_eq t (codes "permanent") ≡ false → a ≡ before_first is_space t → r ≡ after_first is_space t → b ≡ before_first is_space r → c ≡ after_first is_space r → period_of a b c ≡ schedule_of_bytes t
 unfolding schedule_of_bytes
 text-parts t a r b c e p q x y = rw (e, p, x, y, q)

@@ -1,4 +1,4 @@
--- The text of a schedule reads back.
+-- The text of a schedule in range reads back.
 use Rattle.std.proofs.Common.{◌≡◌, ℕ, ◌+◌, ◌-◌, ◌*◌, ◌/◌, ◌%◌, ◌^◌, ◌<◌, ◌≤◌, ◌==◌, nat_le, Bool, true, false, not, ◌&&◌, List, [], ◌∷◌, ◌++◌, take, drop, length, codes, Some, None, inl, inr, refl, ap, sym, ◌∙◌, arith, append_assoc, length-append}
 use Rattle.std.proofs.lemmas.Bool.{cases_Bool}
 use Rattle.std.proofs.lemmas.Bool.Decides.{nat_tests}
@@ -141,7 +141,6 @@ greatest Days = omega arith
 greatest Months = omega arith
 greatest Years = omega arith
 
--- the text of a schedule in range reads back
 pub text-reads : (s : Schedule) → IsInRange s → schedule_of_bytes (text_of s) ≡ Some s
 text-reads Permanent h = sym (text-permanent (codes "permanent") refl)
 text-reads (After n u x y) h =

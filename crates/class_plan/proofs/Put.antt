@@ -20,7 +20,7 @@ same-path a b e =
 changed-is : (r x : Row) → Equal ≡ slice_cmp nat_cmp r.path x.path → changed r x ≡ r
 changed-is r x e = rw (same-path r.path x.path e)
 
--- what a put gives, in its three cases, where an equal path is the row's own
+-- the three cases of a put, where an equal path is the row's own
 abbrev pub placed : Ordering → Row → Row → List Row → List Row
 placed o r x xs = match_ordering o (r ∷ x ∷ xs) (r ∷ xs) (x ∷ put r xs)
 
@@ -32,7 +32,7 @@ put-placed r x xs Greater e = refl
 pub put-cons : (r x : Row) (xs : List Row) → put r (x ∷ xs) ≡ placed (slice_cmp nat_cmp r.path x.path) r x xs
 put-cons r x xs = put-placed r x xs (slice_cmp nat_cmp r.path x.path) refl
 
--- what the rows say of a path, by what a class says, and what is said of a path that is none
+-- a value for each path, by the row of its class, and another value for a path of no class
 module _ {A : Type 0} (said : Row → A) (no : A) where
   abbrev pub say : List ℕ → List Row → A
   say q rs = unwrap_or (option_map said (found q rs)) no
@@ -75,7 +75,7 @@ module _ {A : Type 0} (said : Row → A) (no : A) where
   say_placed q r x xs Greater e ih =
       say-cons q x (put r xs) ∙ ap (cond (bytes_eq q x.path) (said x)) ih ∙ cond_apart (bytes_eq q x.path) (bytes_eq q r.path) (said x) (said r) (say q xs) (not_both q r.path x.path e) ∙ ap (cond (bytes_eq q r.path) (said r)) (sym (say-cons q x xs))
 
-  -- what the rows say after a class is put
+  -- the value for a path after a class is put
   pub say-put : (q : List ℕ) (r : Row) (xs : List Row) → say q (put r xs) ≡ cond (bytes_eq q r.path) (said r) (say q xs)
   say-put q r [] = say-cons q r []
   say-put q r (x ∷ xs) = ap (say q) (put-cons r x xs) ∙ say_placed q r x xs (slice_cmp nat_cmp r.path x.path) refl (say-put q r xs)

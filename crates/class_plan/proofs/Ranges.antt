@@ -35,6 +35,5 @@ range_if : (b : Bool) (s : Schedule) → IsInRange s → IsInRangeIfAny (cond b 
 range_if true s h = h
 range_if false s h = tt
 
--- the schedule of a path is in range
 pub schedule-in_range : (p : Listing) → IsPlan p → (q : List ℕ) → IsInRangeIfAny (schedule_at p q)
 schedule-in_range p h q = range_if (has p.rows q) (first_own p (q ∷ ancestors q)) (first-range p h (q ∷ ancestors q))

@@ -1,4 +1,4 @@
--- A class that is taken out of a plan.
+-- A class that is removed from a plan.
 use Rattle.std.proofs.Common.{◌≡◌, ℕ, Bool, true, false, not, cond, List, [], ◌∷◌, filter, Ok, Some, is_some, Vec, Global, Ordering, Less, Equal, Greater, nat_cmp, is_eq, true≢false, refl, ap, sym, ◌∙◌, arith}
 use Rattle.std.proofs.lemmas.Map.Text.{is_eq-slice_cmp}
 use Rattle.std.proofs.lemmas.Slice.Eq.{bytes_eq-Decides}
@@ -34,7 +34,7 @@ tail_other q x xs e = sym (ap (λ b. is_some (cond b (Some x) (found q xs))) (he
 kept_head : (q : List ℕ) (x : Row) (xs : List Row) → bytes_eq q x.path ≡ false → filter (is_other q) (x ∷ xs) ≡ x ∷ filter (is_other q) xs
 kept_head q x xs e = ap (λ b. cond (not b) (x ∷ filter (is_other q) xs) (filter (is_other q) xs)) e
 
--- nothing goes where no class has the path
+-- nothing is removed where no class has the path
 kept_all : (q : List ℕ) (xs : List Row) → has xs q ≡ false → filter (is_other q) xs ≡ xs
 kept_all q [] e = refl
 kept_all q (x ∷ xs) e = kept_head q x xs (head_other q x xs e) ∙ ap (λ l. x ∷ l) (kept_all q xs (tail_other q x xs e))
@@ -42,7 +42,7 @@ kept_all q (x ∷ xs) e = kept_head q x xs (head_other q x xs e) ∙ ap (λ l. x
 goes_first : (q : List ℕ) (xs : List Row) → filter (is_other q) (open_row q ∷ xs) ≡ filter (is_other q) xs
 goes_first q xs = ap (λ b. cond (not b) (open_row q ∷ filter (is_other q) xs) (filter (is_other q) xs)) (same_bytes q)
 
--- a class that was put goes again
+-- removing a class that was put gives the rows from before
 put_goes : (q : List ℕ) (xs : List Row) → has xs q ≡ false → filter (is_other q) (put (open_row q) xs) ≡ xs
 put_goes q [] e = goes_first q []
 put_goes q (x ∷ xs) e = ap (filter (is_other q)) (put-cons (open_row q) x xs) ∙ go (slice_cmp nat_cmp q x.path) refl (put_goes q xs (tail_other q x xs e))
@@ -58,7 +58,7 @@ added-new p r q e =
     let made = judged-made (speaks_against p q) (with_class p q) r (sym e) in
     (made.0, made.1 PathTwice (omega arith))
 
--- the plan of before, where the class that was added is taken out
+-- removing the added class gives the plan from before
 pub without-added : (p r : Listing) (q : List ℕ) → added p q ≡ Ok r → without_class r q ≡ p
 without-added p r q e =
     let new = added-new p r q e in

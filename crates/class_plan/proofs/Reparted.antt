@@ -67,7 +67,7 @@ none_above : (qs : List (List ℕ)) → AllByRecursion (IsAbove []) qs
 none_above [] = tt
 none_above (q ∷ qs) = (tt, none_above qs)
 
--- ---- what nothing speaks against
+-- ---- contents without a fault
 
 none_any : (p : Entry → Bool) (es : List Entry) → AllByRecursion (λ e. p e ≡ false) es → list_any p es ≡ false
 none_any p [] h = refl
@@ -165,7 +165,6 @@ unfiled_there rs false e h = let k : false ≡ true = e ∙ has_open rs h in abs
 made_listing : (p : Listing) (root : Schedule) (o : Option Schedule) (rs : List Row) → o ≡ Some root → root ≡ p.root → rs ≡ p.rows → record { root = unwrap_or o Permanent; rows = rs } ≡ p
 made_listing p root o rs a b d = rw (a, b, d)
 
--- the parts of a plan give that plan
 pub parts-same : (p : Listing) (root : Schedule) (ps : List Part) → IsPlan p → root ≡ p.root → map part_row ps ≡ p.rows → plan_of_parts (parts_contents root ps) ≡ Ok p
 parts-same p root ps plan same_root shows =
     let es = map part_entry ps in

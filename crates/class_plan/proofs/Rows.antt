@@ -77,7 +77,7 @@ text_weeks : schedule_of_bytes (codes "8 weeks review") ≡ None
 unfolding schedule_of_bytes period_of
 text_weeks = refl
 
--- a plan: `a` under two years, `a/b` under nothing of its own, `a/b/c` under ten days, and `ab`
+-- a plan: `a` with two years, `a/b` without a schedule of its own, `a/b/c` with ten days, and `ab`
 worked : Listing
 worked = record {
   root = Permanent;

@@ -43,7 +43,7 @@ some_segment now (c ∷ cs) = elim (cases_Bool (c == 47)) [
   | inr other ↦ rw other (some_segment (now ++ c ∷ []) cs)
 ]
 
--- a segment that is none stays one
+-- a segment with a wrong octet stays wrong
 bad_marks : (now cs : List ℕ) → list_all is_mark now ≡ false → list_all is_segment (segments_from now cs) ≡ false
 bad_marks now [] e = rw e (grind (arith, nat_tests))
 bad_marks now (c ∷ cs) e = elim (cases_Bool (c == 47)) [

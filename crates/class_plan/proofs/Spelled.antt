@@ -43,7 +43,7 @@ count_grows n (c ∷ cs) m e = elim (cases_Bool (is_digit c)) [
   | inr other ↦ let k : None ≡ Some m = rw other at e in absurd (cc)
 ]
 
--- the digits after a number are the last of the number that they make
+-- digits that are read after a number are the last digits of the number made
 count_after : (n : ℕ) (cs : List ℕ) (m : ℕ) → 0 < n → m < 2 ^ 64 → count_from n cs ≡ Some m → decimal m ≡ decimal n ++ cs
 count_after n [] m some small e = let same : m ≡ n = cc in ap decimal same ∙ sym (append-nil (decimal n))
 count_after n (c ∷ cs) m some small e = elim (cases_Bool (is_digit c)) [
@@ -125,7 +125,7 @@ ending_is c x e = ending_if (action_of (before_first is_space c)) (year_end_of (
 space_is : (c : ℕ) → is_space c ≡ true → c ≡ 32
 space_is c e = grind (arith, nat_tests)
 
--- a text has a space, or nothing stands after the first one
+-- a text has a space, or nothing follows the first one
 space_or_none : (t : List ℕ) → (t ≡ before_first is_space t ++ 32 ∷ after_first is_space t) ⊎ ([] ≡ after_first is_space t)
 space_or_none t = elim (cases_order (position_or_len is_space t) (length t)) [
   | inl same ↦ inr (after-none t same)
@@ -177,7 +177,7 @@ text_if : (p : Bool) (t : List ℕ) (s : Schedule) → bytes_eq t (codes "perman
 text_if true t s p h = let is : Permanent ≡ s = cc in ap text_of (sym is) ∙ same_bytes t (codes "permanent") p
 text_if false t s p h = period_is (count_of (before_first is_space t)) (unit_of (before_first is_space (after_first is_space t))) (ending_of (after_first is_space (after_first is_space t))) t s refl refl refl h
 
--- the schedule that is read of a text has that text
+-- the schedule that is read from a text has that text
 pub text-read : (t : List ℕ) (s : Schedule) → schedule_of_bytes t ≡ Some s → text_of s ≡ t
 unfolding schedule_of_bytes
 text-read t s e = text_if (bytes_eq t (codes "permanent")) t s refl e

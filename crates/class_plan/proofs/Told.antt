@@ -1,4 +1,4 @@
--- The classes that a plan tells, one by one, are its rows.
+-- The classes that a plan answers, one by one, are its rows.
 use Rattle.std.proofs.Common.{◌≡◌, List, [], ◌∷◌, ◌++◌, map, ap, sym, ◌∙◌, append_assoc}
 use Rattle.std.proofs.lemmas.List.{map-append, append-nil}
 use Rattle.class_plan.specs.Plans.{Row}

@@ -1,4 +1,4 @@
--- Paths that come twice, and which paths and how many the rows of listed classes have.
+-- Paths that appear twice; and the paths of the rows of listed classes, and their number.
 use Rattle.std.proofs.Common.{◌≡◌, ℕ, suc, ◌+◌, Bool, true, false, ◌||◌, cond, List, [], ◌∷◌, length, Some, is_some, Ordering, Less, Equal, Greater, nat_cmp, is_eq, refl, ap, sym, ◌∙◌, arith, if◌then◌else◌}
 use Rattle.std.proofs.lemmas.Map.Text.{is_eq-slice_cmp}
 use Rattle.std.proofs.lemmas.Slice.Eq.{bytes_eq-Decides}
@@ -23,7 +23,7 @@ pub has-rows_from : (q : List ℕ) (rs : List Row) (es : List Entry) → has (ro
 has-rows_from q rs [] = refl
 has-rows_from q rs (e ∷ es) = has-rows_from q (put (row_of e) rs) es ∙ ap (λ b. is_listed q es || b) (has-put q (row_of e) rs) ∙ or_swap (is_listed q es) (bytes_eq q e.path) (has rs q) ∙ sym (or_assoc (bytes_eq q e.path) (is_listed q es) (has rs q))
 
--- a path comes twice, after those of the rows
+-- a path appears twice, after those of the rows
 abbrev pub again : List Row → List Entry → Bool
 again rs [] = false
 again rs (e ∷ es) = has rs e.path || again (put (row_of e) rs) es
@@ -34,7 +34,6 @@ comes_again-again seen rs (e ∷ es) same =
     ap (λ b. b || comes_again (e ∷ seen) es) (same e.path)
     ∙ ap (λ b. has rs e.path || b) (comes_again-again (e ∷ seen) (put (row_of e) rs) es (λ q. ap (λ b. bytes_eq q e.path || b) (same q) ∙ sym (has-put q (row_of e) rs)))
 
--- one more class is put
 pub rows-step : (all : List Entry) (rs more : List Row) (e : Entry) (rest xs : List Entry) → xs ≡ e ∷ rest → more ≡ put (row_of e) rs → rows_from [] all ≡ rows_from rs xs → rows_from [] all ≡ rows_from more rest
 rows-step all rs more e rest xs cut is so = so ∙ rw (cut, is)
 
@@ -49,7 +48,7 @@ again-none es = comes_again-again [] [] es (λ q. refl)
 pub again-all : (all : List Entry) (twice : Bool) (rs : List Row) (xs : List Entry) → xs ≡ [] → again [] all ≡ (twice || again rs xs) → again [] all ≡ twice
 again-all all twice rs xs none so = so ∙ rw none (or-false twice)
 
--- the rows of a new path are one more
+-- a put of a new path adds one row
 placed_new : (r x : Row) (xs : List Row) (o : Ordering) → o ≡ slice_cmp nat_cmp r.path x.path → bytes_eq r.path x.path ≡ false → length (put r xs) ≡ suc (length xs)
     → length (match_ordering o (r ∷ x ∷ xs) (record { path = x.path; is_open = r.is_open; schedule = r.schedule } ∷ xs) (x ∷ put r xs)) ≡ suc (suc (length xs))
 placed_new r x xs Less e ne ih = refl
@@ -80,7 +79,7 @@ length_unfiled : (rs : List Row) (b : Bool) → b ≡ has rs unfiled → length 
 length_unfiled rs true e = omega arith
 length_unfiled rs false e = let h = length-put-new (open_row unfiled) rs (sym e) in omega arith
 
--- how many classes there are, where no path comes twice
+-- the number of classes, where no path appears twice
 pub length-listing : (es : List Entry) → comes_again [] es ≡ false → length (with_unfiled (rows_from [] es)) ≡ class_count_of es
 length-listing es h =
     let rows = length-rows_from [] es (sym (again-none es) ∙ h) in

@@ -1,5 +1,5 @@
--- Due days by their numbers (days since 1970-01-01): how they are counted from the number of the
--- capture day, of the years 1970 to 9999.
+-- Due days as day numbers (days since 1970-01-01), counted from the number of the capture day, in
+-- the years 1970 to 9999.
 use Rattle.std.specs.Prelude.{ℕ, zero, suc, ◌+◌, ◌-◌, ◌*◌, ◌/◌, ◌%◌, min, nat_lt, Bool, true, false, if◌then◌else◌, pos, unsigned_abs, List, Option, Some, None, option_and_then}
 use Rattle.jiff.specs.Words.{days_in_month, days_in_year, epoch_day}
 use Rattle.jiff_core.specs.Calendar.{days_from_civil}
@@ -20,8 +20,8 @@ pub record Civil : Type 0 where
   pub month : ℕ
   pub day : ℕ
 
--- the date n days after the first of a month: whole months are counted off, at most as many as the
--- first argument says
+-- the date n days after the first of a month: whole months are counted off, at most the first
+-- argument of them
 abbrev pub in_year : ℕ → ℕ → ℕ → ℕ → Civil
 in_year zero y m n = record { year = y; month = m; day = n + 1 }
 in_year (suc k) y m n = if nat_lt n (days_in_month (pos y) m) then record { year = y; month = m; day = n + 1 } else in_year k y (m + 1) (n - days_in_month (pos y) m)

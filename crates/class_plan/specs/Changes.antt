@@ -7,7 +7,7 @@ use Rattle.class_plan.specs.Faults.{judged}
 use Rattle.class_plan.specs.Paths.{is_path, has_parent_in}
 use Rattle.class_plan.specs.Plans.{Listing, has, put, open_row}
 
--- what speaks against one more open class at a path
+-- the faults of adding an open class at a path
 abbrev pub speaks_against : Listing → List ℕ → PlanFault → Bool
 speaks_against p q BadPath = not (is_path q)
 speaks_against p q ParentMissing = not (has_parent_in (has p.rows) q)

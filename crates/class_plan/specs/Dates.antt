@@ -47,8 +47,8 @@ pub record IsYearEndAfter (d : Date) (n : ℕ) (u : TimeUnit) (e : Date) : Type 
   pub period : IsPeriodAfter d n u date
   pub year_end : IsYearEnd date e
 
--- the due date of a capture day: the date a period later, or 31 December of its year where the
--- schedule says so; a permanent schedule has none
+-- the due date of a capture day: the date a period later, or 31 December of that date's year where
+-- the schedule names the year's end; a permanent schedule has none
 abbrev pub IsDue : Date → Schedule → Option Date → Type 0
 IsDue d Permanent None = Unit {0}
 IsDue d Permanent (Some e) = ⊥
@@ -60,7 +60,7 @@ IsDue d (After n u a true) (Some e) = IsYearEndAfter d n u e
 abbrev pub IsEarlier : Date → Date → Type 0
 IsEarlier a b = (a.year <ℤ b.year) ⊎ ((a.year ≡ b.year) × ((a.month < b.month) ⊎ ((a.month ≡ b.month) × (a.day < b.day))))
 
--- both are no date, or the same year, month and day
+-- neither is a date, or both have the same year, month and day
 abbrev pub IsSameDay : Option Date → Option Date → Type 0
 IsSameDay None None = Unit {0}
 IsSameDay (Some a) (Some b) = (a.year ≡ b.year) × (a.month ≡ b.month) × (a.day ≡ b.day)

@@ -1,5 +1,6 @@
 -- Plan files: a TOML table with the key `root`, a schedule's text, and optionally `class`, an array
--- of tables with the key `path`, a text, and optionally `open`, a truth, and `schedule`, a text.
+-- of tables. Each of these has the key `path`, a text, and optionally `open`, a boolean, and
+-- `schedule`, a text.
 use Rattle.std.specs.Prelude.{ℕ, Bool, true, false, not, ◌&&◌, ◌||◌, if◌then◌else◌, List, [], ◌∷◌, map, codes, Option, Some, None, option_map, option_and_then, unwrap_or, Result}
 use Rattle.std.specs.Str.{bytes_eq, is_utf8}
 use Rattle.toml.specs.Data.{Data, Items, no_items, item, Members, no_members, member, get_member, as_str, as_bool, as_array, as_table}
@@ -24,7 +25,7 @@ is_file_key k = bytes_eq k (codes "root") || bytes_eq k (codes "class")
 abbrev pub is_class_key : List ℕ → Bool
 is_class_key k = bytes_eq k (codes "path") || bytes_eq k (codes "open") || bytes_eq k (codes "schedule")
 
--- the value of a key that may be missing; None is a value of another kind
+-- the value of a key that may be missing; None where the value has another kind
 abbrev pub optional : {A : Type 0} → (Data → Option A) → Option Data → Option (Option A)
 optional f None = Some None
 optional f (Some d) = option_map (λ a. Some a) (f d)
@@ -63,7 +64,7 @@ abbrev pub contents_of_parts : Bool → Option (List ℕ) → Option (List Entry
 contents_of_parts true (Some root) (Some entries) = Some (record { root = schedule_of_bytes root; entries = entries })
 contents_of_parts _ _ _ = None
 
--- the contents of a table; None is a table of another shape
+-- the contents of a table; None where the table has another shape
 unfoldable pub contents_of : Members → Option Contents
 contents_of ms = contents_of_parts (has_only is_file_key ms) (option_and_then as_str (get_member (codes "root") ms)) (listed_of (get_member (codes "class") ms))
 
@@ -71,23 +72,23 @@ contents_of ms = contents_of_parts (has_only is_file_key ms) (option_and_then as
 abbrev pub shown_lists : Lists → Contents
 shown_lists f = record { root = f.root; entries = map shown f.classes.items }
 
--- what speaks against a table, by the contents that it has
+-- the faults of a table, by its contents
 abbrev pub table_faults : Option Contents → PlanFault → Bool
 table_faults None BadShape = true
 table_faults None _ = false
 table_faults (Some f) g = contents_faults f g
 
--- what speaks against a document, by the table that it is
+-- the faults of a document, by its table
 abbrev pub document_faults : Option Members → PlanFault → Bool
 document_faults None NotToml = true
 document_faults None _ = false
 document_faults (Some ms) g = table_faults (contents_of ms) g
 
--- the table of a text, by the grammar of TOML; None is a text that is none, or not UTF-8
+-- the table of a text, by the grammar of TOML; None where the text is not TOML, or not UTF-8
 unfoldable pub document_of : List ℕ → Option Members
 document_of t = if is_utf8 t then parse_document t else None
 
--- what speaks against a text as a plan file
+-- the faults of a text as a plan file
 abbrev pub text_faults : List ℕ → PlanFault → Bool
 text_faults t g = document_faults (document_of t) g
 

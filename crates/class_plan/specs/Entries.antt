@@ -20,7 +20,7 @@ pub record Entry : Type 0 where
   pub is_open : Bool
   pub stated : Stated
 
--- what a listed class shows
+-- the entry of a listed class
 abbrev pub shown : Listed → Entry
 shown l = record { path = l.path.now; is_open = l.is_open; stated = l.stated }
 
@@ -30,7 +30,7 @@ pub record Contents : Type 0 where
   pub root : Option Schedule
   pub entries : List Entry
 
--- the contents that listed classes show
+-- the contents of a root's schedule and listed classes
 abbrev pub contents : Option Schedule → List Listed → Contents
 contents root listed = record { root = root; entries = map shown listed }
 
@@ -42,7 +42,7 @@ abbrev pub own_of : Stated → Option Schedule
 own_of (Own s) = Some s
 own_of _ = None
 
--- a schedule that may be missing, where one that is there may not be well made
+-- the statement of a schedule that may be missing, or not well made (Some None)
 abbrev pub stated_if : Option (Option Schedule) → Stated
 stated_if None = Nothing
 stated_if (Some None) = Faulty
@@ -51,7 +51,7 @@ stated_if (Some (Some s)) = Own s
 abbrev pub row_of : Entry → Row
 row_of e = record { path = e.path; is_open = e.is_open; schedule = own_of e.stated }
 
--- what a listed class keeps before it is judged: its schedule is in range, and `unfiled` is open
+-- what holds of a listed class before it is judged: its schedule is in range, and `unfiled` is open
 pub record IsListableEntry (e : Entry) : Type 0 where
   pub range : IsInRangeIfAny (own_of e.stated)
   pub unfiled_open : bytes_eq e.path unfiled ≡ true → e.is_open ≡ true
@@ -69,25 +69,24 @@ rows_from rs (e ∷ es) = rows_from (put (row_of e) rs) es
 abbrev pub is_listed : List ℕ → List Entry → Bool
 is_listed q es = list_any (λ e. bytes_eq q e.path) es
 
--- a path comes again, after those that were seen
+-- a path appears again, after those already seen
 abbrev pub comes_again : List Entry → List Entry → Bool
 comes_again seen [] = false
 comes_again seen (e ∷ es) = is_listed e.path seen || comes_again (e ∷ seen) es
 
--- the classes with `unfiled` among them, which is open and has no schedule of its own where it is
--- not listed
+-- the classes, with `unfiled` added where it is not listed, open and without a schedule of its own
 abbrev pub with_unfiled : List Row → List Row
 with_unfiled rs = if has rs unfiled then rs else put (open_row unfiled) rs
 
--- how many classes there are, `unfiled` among them
+-- the number of classes, `unfiled` among them
 abbrev pub class_count_of : List Entry → ℕ
 class_count_of es = length es + (if is_listed unfiled es then 0 else 1)
 
--- a path is a class's: it is listed, or `unfiled`
+-- a path is one of the classes': it is listed, or `unfiled`
 abbrev pub is_known : List Entry → List ℕ → Bool
 is_known es q = bytes_eq q unfiled || is_listed q es
 
--- what speaks against the contents
+-- the faults of the contents
 abbrev pub contents_faults : Contents → PlanFault → Bool
 contents_faults f BadPath = list_any (λ e. not (is_path e.path)) f.entries
 contents_faults f ParentMissing = list_any (λ e. not (has_parent_in (is_known f.entries) e.path)) f.entries
@@ -96,7 +95,7 @@ contents_faults f BadSchedule = not (is_some f.root) || list_any (λ e. is_fault
 contents_faults f TooManyClasses = nat_lt 4096 (class_count_of f.entries)
 contents_faults f _ = false
 
--- the plan that the contents make, where nothing speaks against them
+-- the plan that the contents make, where they have no fault
 abbrev pub listing_of : Contents → Listing
 listing_of f = record { root = unwrap_or f.root Permanent; rows = with_unfiled (rows_from [] f.entries) }
 

@@ -1,4 +1,5 @@
--- The numbers of faults, and which fault is answered where several hold: that with the smallest.
+-- The numbers of faults, and which fault is answered where several hold: the one with the smallest
+-- number.
 use Rattle.std.specs.Prelude.{◌≡◌, ℕ, ◌<◌, Bool, true, false, if◌then◌else◌, Option, Some, None, Result, Ok, Err}
 use Rattle.class_plan.specs.declared.faults.PlanFault.{PlanFault}
 use Rattle.class_plan.specs.declared.faults.PlanFault.TheVariants.{NotToml, BadShape, BadPath, ParentMissing, PathTwice, BadSchedule, TooManyClasses, PathDropped, NoMemory}
@@ -19,7 +20,7 @@ pub record IsSmallest (holds : PlanFault → Bool) (f : PlanFault) : Type 0 wher
   pub here : holds f ≡ true
   pub none_below : (g : PlanFault) → number_of g < number_of f → holds g ≡ false
 
--- no fault holds, want of memory aside
+-- no fault holds, no memory (99) aside
 abbrev pub HoldsNone : (PlanFault → Bool) → Type 0
 HoldsNone holds = (g : PlanFault) → number_of g < 99 → holds g ≡ false
 
@@ -36,7 +37,7 @@ first_fault holds =
     else if holds PathDropped then Some PathDropped
     else None
 
--- what is answered: a fault, or where there is none, a
+-- the answer: the fault, or a where there is none
 abbrev pub answer : {A : Type 0} → Option PlanFault → A → Result A PlanFault
 answer None a = Ok a
 answer (Some f) a = Err f

@@ -38,7 +38,7 @@ parts_contents root ps = record { root = ranged root; entries = map part_entry p
 abbrev pub is_closed_unfiled : Entry → Bool
 is_closed_unfiled e = bytes_eq e.path unfiled && not e.is_open
 
--- what speaks against parts
+-- the faults of parts
 abbrev pub parts_faults : Contents → PlanFault → Bool
 parts_faults f BadShape = list_any is_closed_unfiled f.entries
 parts_faults f g = contents_faults f g
@@ -47,7 +47,7 @@ parts_faults f g = contents_faults f g
 abbrev pub plan_of_parts : Contents → Result Listing PlanFault
 plan_of_parts f = judged (parts_faults f) (listing_of f)
 
--- a class as a plan tells it
+-- a class as `Plan::classes` answers it
 abbrev pub Told : Type 0
 Told = Bor (List ℕ) × Bool × Option Schedule
 

@@ -1,4 +1,4 @@
--- Plans of classes, what they say of a path, and what each of them keeps.
+-- Plans of classes, what they answer about a path, and what holds of every plan.
 use Rattle.std.specs.Prelude.{◌≡◌, ℕ, suc, ◌<◌, ◌≤◌, ◌⊎◌, take, slice_index, Bool, true, false, if◌then◌else◌, List, [], ◌∷◌, map, filter, length, Option, Some, None, is_some, option_map, option_and_then, unwrap_or}
 use Rattle.std.specs.Str.{bytes_eq}
 use Rattle.std.specs.List.{All, list_all, list_any}
@@ -38,7 +38,7 @@ found q (x ∷ xs) = if bytes_eq q x.path then Some x else found q xs
 abbrev pub has : List Row → List ℕ → Bool
 has rows q = is_some (found q rows)
 
--- a class put at its place in byte order, over one with that path
+-- a class put at its place in byte order, instead of one with that path
 abbrev pub put : Row → List Row → List Row
 put r [] = r ∷ []
 put r (x ∷ xs) = match_ordering (slice_cmp nat_cmp r.path x.path) (r ∷ x ∷ xs) (record { path = x.path; is_open = r.is_open; schedule = r.schedule } ∷ xs) (x ∷ put r xs)
@@ -50,27 +50,26 @@ open_at rows q = unwrap_or (option_map (λ r. r.is_open) (found q rows)) false
 abbrev pub is_open_in : Listing → List ℕ → Bool
 is_open_in p q = open_at p.rows q
 
--- the schedule of its own that the class with that path has
+-- the own schedule of the class with that path
 abbrev pub own_at : List Row → List ℕ → Option Schedule
 own_at rows q = option_and_then (λ r. r.schedule) (found q rows)
 
--- the first schedule that classes at some paths have, or else the root's
+-- the first own schedule of the classes at some paths, or else the root's
 abbrev pub first_own : Listing → List (List ℕ) → Schedule
 first_own p [] = p.root
 first_own p (q ∷ qs) = unwrap_or (own_at p.rows q) (first_own p qs)
 
 -- the schedule of a class: its own, or else that of its nearest ancestor that has one, or else the
--- root's; None of a path that is no class
+-- root's; None for a path that is no class
 abbrev pub schedule_at : Listing → List ℕ → Option Schedule
 schedule_at p q = if has p.rows q then Some (first_own p (q ∷ ancestors q)) else None
 
--- no class whose path is a prefix of k octets or more that a "/" follows in q has a schedule of its
--- own
+-- no ancestor of q has a schedule of its own, where its path has k octets or more; the path of an
+-- ancestor is a prefix of q that a "/" follows
 abbrev pub HasNoneFrom : Listing → List ℕ → ℕ → Type 0
 HasNoneFrom p q k = (j : ℕ) → k ≤ j → j < length q → slice_index q j ≡ 47 → own_at p.rows (take j q) ≡ None
 
--- s is the schedule of the nearest class that has one of those whose paths are prefixes that a "/"
--- follows in q
+-- s is the own schedule of the nearest ancestor of q that has one
 pub record IsFromAncestor (p : Listing) (q : List ℕ) (s : Schedule) : Type 0 where
   pub place : ℕ
   pub within : place < length q
@@ -101,13 +100,13 @@ is_among paths q = list_any (bytes_eq q) paths
 abbrev pub open_paths_of : Listing → List (List ℕ)
 open_paths_of p = paths_of (filter (λ r. r.is_open) p.rows)
 
--- what a plan keeps of a class that stands among these
+-- what holds of each class of a plan with these rows
 pub record IsClass (rows : List Row) (r : Row) : Type 0 where
   pub path : is_path r.path ≡ true
   pub parent : has_parent_in (has rows) r.path ≡ true
   pub range : IsInRangeIfAny r.schedule
 
--- what each plan keeps
+-- what holds of every plan
 pub record IsPlan (p : Listing) : Type 0 where
   pub root : IsInRange p.root
   pub classes : All (IsClass p.rows) p.rows

@@ -16,7 +16,7 @@ abbrev pub IsInRange : Schedule → Type 0
 IsInRange Permanent = Unit {0}
 IsInRange (After n u a y) = (1 ≤ n) × (n ≤ most u)
 
--- the same of a schedule that may be missing
+-- the same for a schedule that may be missing
 abbrev pub IsInRangeIfAny : Option Schedule → Type 0
 IsInRangeIfAny None = Unit {0}
 IsInRangeIfAny (Some s) = IsInRange s

@@ -1,5 +1,5 @@
--- Schedules as texts: `permanent`, or a count, a unit and an action with single spaces between them,
--- after which one space and `year-end` may stand.
+-- Schedules as texts: `permanent`, or a count, a unit and an action with single spaces between them.
+-- One space and `year-end` may follow.
 use Rattle.std.specs.Prelude.{ℕ, ◌+◌, ◌-◌, ◌*◌, nat_le, ◌<◌, ◌==◌, Bool, true, false, ◌&&◌, if◌then◌else◌, List, [], ◌∷◌, ◌++◌, drop, codes, Option, Some, None, option_and_then}
 use Rattle.std.specs.Str.{bytes_eq}
 use Rattle.std.specs.List.{before_first, after_first, position_or_len}
@@ -12,7 +12,7 @@ use Rattle.class_plan.specs.declared.schedules.Schedule.{Schedule}
 use Rattle.class_plan.specs.declared.schedules.Schedule.TheVariants.{Permanent, After}
 use Rattle.class_plan.specs.Schedules.{most}
 
--- a decimal number, after the digits of n
+-- a decimal number whose first digits make n
 abbrev pub count_from : ℕ → List ℕ → Option ℕ
 count_from n [] = Some n
 count_from n (c ∷ cs) = if nat_le 48 c && nat_le c 57 then count_from (n * 10 + (c - 48)) cs else None
@@ -35,15 +35,15 @@ o >>= f = option_and_then f o
 abbrev pub is_space : ℕ → Bool
 is_space c = c == 32
 
--- what stands after an action: nothing, or one space and `year-end`
+-- what follows an action: nothing, or one space and `year-end`
 abbrev pub year_end_of : List ℕ → Option Bool
 year_end_of t = if bytes_eq t [] then Some false else if bytes_eq t (codes " year-end") then Some true else None
 
--- what stands from the first space on
+-- the text from the first space on
 abbrev pub from_space : List ℕ → List ℕ
 from_space t = drop (position_or_len is_space t) t
 
--- an action, and whether `year-end` stands after it
+-- an action, and whether `year-end` follows
 abbrev pub ending_of : List ℕ → Option (Action × Bool)
 ending_of t = do
   x ← action_of (before_first is_space t)
@@ -73,7 +73,7 @@ action_word Review = codes "review"
 action_word Transfer = codes "transfer"
 action_word Destroy = codes "destroy"
 
--- what stands after the action of a schedule
+-- what follows the action in a schedule's text
 abbrev pub year_end_text : Bool → List ℕ
 year_end_text false = []
 year_end_text true = codes " year-end"

@@ -1,4 +1,4 @@
-//! A plan taken over in place of another, a copy of one, and a class that is taken out of one.
+//! Changes of a plan: a new plan in its place, a copy, and the removal of a class.
 ghost use Rattle.std.specs.Prelude.{◌≡◌, true, false, IfOk, MatchResult};
 ghost use Rattle.std.specs.List.{list_all};
 ghost use Rattle.class_plan.specs.Changes.{without_class};
@@ -9,7 +9,7 @@ use crate::plans::{Class, Plan, class_at};
 use std::alloc::AllocError;
 use std::collections::BTreeMap;
 
-/// Whether each class of the old is one of the new.
+/// Whether each path of the old map is also one of the new.
 fn keeps_classes(old: &BTreeMap<Vec<u8>, Class>, new: &BTreeMap<Vec<u8>, Class>) -> bool
     ensures { result ≡ list_all (λ r. has (rows_in new.now) r.path) (rows_in old.now) }
 {
@@ -22,10 +22,10 @@ fn keeps_classes(old: &BTreeMap<Vec<u8>, Class>, new: &BTreeMap<Vec<u8>, Class>)
 }
 
 impl Plan {
-    /// Takes over a new plan, and lets go of this one.
+    /// Replaces this plan with a new one.
     ///
-    /// Where the new plan drops a path of this one (57), this one stays as before and the new one
-    /// is handed back.
+    /// Where the new plan lacks a path of this one (57), this one stays unchanged, and the new one
+    /// is returned as the error.
     pub fn revise(&mut self, new: Plan) -> Result<(), Plan>
         ensures { MatchResult result (λ _. (keeps self.old new ≡ true) × (self.new ≡ new))
             (λ p. (keeps self.old new ≡ false) × (p ≡ new) × (self.new ≡ self.old)) }
@@ -37,9 +37,9 @@ impl Plan {
         Ok(())
     }
 
-    /// An equal plan.
+    /// A copy of the plan, equal to it.
     ///
-    /// Refuses for want of memory only.
+    /// The only refusal is no memory (99).
     pub fn copy(&self) -> Result<Plan, AllocError>
         ensures { IfOk result (λ p. p ≡ self.now) }
     {
@@ -49,9 +49,10 @@ impl Plan {
             classes: self.classes.clone()?,
         })
     }
-    /// Takes a class out of the plan.
+    /// Removes the class at a path; where the path is no class, nothing changes.
     ///
-    /// The caller sees to it that a plan is left, as it is where the class was the last one added.
+    /// The caller ensures that the rest is still a plan, as it is where that class was the last
+    /// one added.
     pub fn remove(&mut self, path: &[u8])
         requires { IsPlan (without_class self.old path.now) }
         ensures { self.new ≡ without_class self.old path.now }

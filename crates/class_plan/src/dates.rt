@@ -10,7 +10,6 @@ use crate::schedules::{Schedule, Unit};
 use jiff::ToSpan;
 use jiff::civil::{Date, date};
 
-/// The seconds of a day.
 const DAY_SECONDS: u64 = 86_400;
 
 /// The last moment of 2199, in seconds since 1970-01-01T00:00:00Z.
@@ -19,7 +18,6 @@ const LAST_MOMENT: u64 = 7_258_118_399;
 /// The day number of 9999-12-31.
 const LAST_DAY: i64 = 2_932_896;
 
-/// So many days later.
 fn days_after(day: Date, count: u32) -> Date
     requires day { IsCaptureDay day }
     requires count { count ≤ 366000 }
@@ -28,7 +26,7 @@ fn days_after(day: Date, count: u32) -> Date
     day.saturating_add((count as i64).days())
 }
 
-/// So many months later, the day cut to the month's last.
+/// The date a number of months later, with the day cut to the month's last.
 fn months_after(day: Date, count: u32) -> Date
     requires day { IsCaptureDay day }
     requires count { count ≤ 12000 }
@@ -37,7 +35,6 @@ fn months_after(day: Date, count: u32) -> Date
     day.saturating_add((count as i64).months())
 }
 
-/// The date a period later.
 fn period_after(day: Date, count: u32, unit: Unit) -> Date
     requires day { IsCaptureDay day }
     requires count { count ≤ most unit }
@@ -63,10 +60,10 @@ pub fn day_of(moment: u64) -> Option<Date>
     Some(date(1970, 1, 1).saturating_add(days.days()))
 }
 
-/// The date on which a record that was captured on a day falls due: that many days later, or that
-/// many months or years later with the day cut to the last of a shorter month; and where the
-/// schedule names the year's end, 31 December of that date's year. `None` for a permanent schedule.
-/// The due date comes after the capture day.
+/// The due date, by a schedule, of a record that was captured on a day. The schedule's days, months
+/// or years are added to that day; in a shorter month the day is cut to the month's last. Where the
+/// schedule names the year's end, the due date is 31 December of the year reached. `None` for a
+/// permanent schedule. A due date comes after the capture day.
 ///
 /// The caller gives a day of 1970 to 2199 and a count in its unit's range.
 pub fn due_date(day: Date, schedule: Schedule) -> Option<Date>
@@ -102,8 +99,8 @@ pub fn day_number(day: Date) -> i64
     date(1970, 1, 1).duration_until(day).as_hours() / 24
 }
 
-/// The date with a day number, in days since 1970-01-01, or `None` for a number outside 1970 to
-/// 9999. No other date has that number.
+/// The date with a day number, in days since 1970-01-01. `None` for a number below 0 or above
+/// 2,932,896, which is 9999-12-31. No other date has that number.
 pub fn date_of(number: i64) -> Option<Date>
     ensures capture { IfSome result (λ d. number ≤ℤ pos 84005 → IsCaptureDay d) }
     ensures date { MatchOption result (¬ (IsBetween (pos 0) (pos 2932896) number)) (λ d. IsBetween (pos 0) (pos 2932896) number × (epoch_day d ≡ number)) }

@@ -34,7 +34,7 @@ fn optional_text<'a>(table: &'a Table, key: &str) -> Option<Option<&'a str>>
     }
 }
 
-/// The truth at a key that may be missing; `None` where the key holds no truth.
+/// The boolean at a key that may be missing; `None` where the key holds no boolean.
 fn optional_truth(table: &Table, key: &str) -> Option<Option<bool>>
     ensures { result ≡ optional as_bool (get_member key.now (table_view table.now)) }
 {
@@ -61,7 +61,6 @@ fn fits_file(key: &str) -> bool
     key == "root" || key == "class"
 }
 
-/// Whether a class's table may have each of the table's keys.
 fn has_only_class_keys(table: &Table) -> bool
     ensures { result ≡ has_only is_class_key (table_view table.now) }
 {
@@ -73,7 +72,6 @@ fn has_only_class_keys(table: &Table) -> bool
     true
 }
 
-/// Whether a file's table may have each of the table's keys.
 fn has_only_file_keys(table: &Table) -> bool
     ensures { result ≡ has_only is_file_key (table_view table.now) }
 {
@@ -85,7 +83,7 @@ fn has_only_file_keys(table: &Table) -> bool
     true
 }
 
-/// What a class's schedule text, if it has one, says.
+/// What a class states of its own schedule, by the text of it, if it has one.
 fn stated_by(text: Option<&str>) -> Stated
     ensures { result ≡ stated_if (option_map schedule_of_bytes (option_copied text.entry)) }
 {
@@ -98,7 +96,7 @@ fn stated_by(text: Option<&str>) -> Stated
     }
 }
 
-/// The class that a table lists.
+/// The class of a table; `None` for a table of another shape, or one that closes `unfiled`.
 fn class_from(table: &Table) -> Option<Listed<'_>>
     ensures { option_map shown result ≡ class_of (table_view table.now) }
 {
@@ -125,7 +123,7 @@ fn class_from(table: &Table) -> Option<Listed<'_>>
     })
 }
 
-/// The class that a value lists.
+/// The class of a value, which must be a table.
 fn class_in(value: &Value) -> Option<Listed<'_>>
     ensures { option_map shown result ≡ entry_of (view value.now) }
 {
@@ -149,7 +147,7 @@ fn all_listed(alloc: Global, values: &Vec<Value>) -> Result<Option<Vec<Listed<'_
     Ok(Some(out))
 }
 
-/// The classes that the file lists, none where it has no such key.
+/// The classes that the file lists: none where it has no key `class`.
 fn classes_at<'a>(alloc: Global, table: &'a Table) -> Result<Option<Vec<Listed<'a>>>, AllocError>
     ensures { IfOk result (λ o. option_map (λ v. map shown v.items) o ≡ listed_of (get_member (codes "class") (table_view table.now))) }
 {

@@ -1,18 +1,17 @@
 //! Classes as a file or a caller lists them, before they are judged.
 use crate::schedules::Schedule;
 
-/// What a listed class says of a schedule of its own.
+/// What a listed class states of its own schedule.
 #[derive(Clone, Copy, Debug)]
 pub(crate) enum Stated {
     /// It has none.
     Nothing,
-    /// What it has is not well made, or its count is out of range.
+    /// Its schedule is not well made, or its count is out of range.
     Faulty,
     /// It has this one.
     Own(Schedule),
 }
 
-/// A class as it is listed.
 #[derive(Clone, Copy, Debug)]
 pub(crate) struct Listed<'a> {
     pub(crate) path: &'a [u8],

@@ -22,7 +22,7 @@ pub enum PlanFault {
     /// 53: a path without its last segment is no class.
     #[error("a path has no parent")]
     ParentMissing,
-    /// 54: a path is there twice.
+    /// 54: a path appears twice.
     #[error("a path is there twice")]
     PathTwice,
     /// 55: a schedule is not well made, or its count is out of range.
@@ -31,10 +31,10 @@ pub enum PlanFault {
     /// 56: there are more than 4,096 classes, `unfiled` among them.
     #[error("there are too many classes")]
     TooManyClasses,
-    /// 57: a path of the plan so far is not in the new one.
+    /// 57: a path of the present plan is missing from the new one.
     #[error("a path was dropped")]
     PathDropped,
-    /// 99: there was no memory.
+    /// 99: no memory.
     #[error("out of memory")]
     NoMemory,
 }

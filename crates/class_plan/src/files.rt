@@ -11,16 +11,25 @@ use crate::plans::Plan;
 use std::alloc::Global;
 
 impl Plan {
-    /// The plan of a plan file: a TOML table with the key `root`, the text of a schedule, and
-    /// optionally `class`, an array of tables, each with `path`, a text, and optionally `open`, a
-    /// truth that is true where it is missing, and `schedule`, the text of a schedule. `unfiled`
-    /// need not be listed and then has no schedule of its own; parents may be listed after their
-    /// children.
+    /// The plan of a plan file: a TOML table with these keys and no others.
     ///
-    /// Refused by the smallest number that holds: 50 (not UTF-8, or not TOML), 51 (another key, a
-    /// missing key or another kind of value, or `unfiled` is closed), 52 (a path is not well made),
-    /// 53 (a parent is no class), 54 (a path comes twice), 55 (a schedule is not well made), 56
-    /// (more than 4,096 classes, `unfiled` among them); or by 99.
+    /// - `root`: the text of the root's schedule.
+    /// - `class`, optional: an array of tables, one for each class. Each table has `path`, a text,
+    ///   and may have `open`, a boolean, and `schedule`, the text of a schedule. `open` is true
+    ///   where it is missing.
+    ///
+    /// `unfiled` need not be listed, and then has no schedule of its own. Parents may be listed
+    /// after their children.
+    ///
+    /// Refused with 99 (no memory), or else with the smallest number that holds:
+    ///
+    /// - 50: the text is not UTF-8, or not TOML;
+    /// - 51: a key is unknown or missing, a value has another kind, or `unfiled` is closed;
+    /// - 52: a path is not well made;
+    /// - 53: a parent is no class;
+    /// - 54: a path appears twice;
+    /// - 55: a schedule is not well made, or its count is out of range;
+    /// - 56: there are more than 4,096 classes, `unfiled` among them.
     pub fn from_toml(alloc: Global, text: &[u8]) -> Result<Plan, PlanFault>
         ensures plan { IfOk result (λ p. plan_of_text text.now ≡ Ok p) }
         ensures refused { IfErr result (λ f. f ≢ NoMemory → plan_of_text text.now ≡ Err f) }

@@ -28,7 +28,6 @@ struct Gathered {
     is_twice: bool,
 }
 
-/// The schedule of its own that a class states.
 fn own_schedule(stated: Stated) -> Option<Schedule>
     ensures { result ≡ own_of stated }
 {
@@ -38,7 +37,7 @@ fn own_schedule(stated: Stated) -> Option<Schedule>
     }
 }
 
-/// The listed classes as a map, and whether a path came twice.
+/// The listed classes as a map, and whether a path appears twice.
 fn insert_all(
     alloc: Global,
     listed: &[Listed<'_>],
@@ -60,7 +59,7 @@ fn insert_all(
     Ok((classes, is_twice))
 }
 
-/// The classes with `unfiled` among them.
+/// Adds `unfiled`, open and without a schedule of its own, where it is missing.
 fn add_unfiled(
     alloc: Global,
     mut classes: BTreeMap<Vec<u8>, Class>,
@@ -78,7 +77,6 @@ fn add_unfiled(
     Ok(classes)
 }
 
-/// The listed classes as a plan keeps them.
 fn gather(alloc: Global, listed: &[Listed<'_>]) -> Result<Gathered, AllocError>
     ensures rows { IfOk result (λ g. rows_in g.classes ≡ with_unfiled (rows_from [] (map shown listed.now))) }
     ensures twice { IfOk result (λ g. g.is_twice ≡ comes_again [] (map shown listed.now)) }
@@ -90,21 +88,19 @@ fn gather(alloc: Global, listed: &[Listed<'_>]) -> Result<Gathered, AllocError>
     })
 }
 
-/// Whether some path is not well made.
 fn has_bad_path(listed: &[Listed<'_>]) -> bool
     ensures { result ≡ list_any (λ c. not (is_path c.path.now)) listed.now }
 {
     listed.iter().any(|class| !fits_path(class.path))
 }
 
-/// Whether some path's parent is no class.
+/// Whether the parent of some path is no class.
 fn lacks_parent(classes: &BTreeMap<Vec<u8>, Class>, listed: &[Listed<'_>]) -> bool
     ensures { result ≡ list_any (λ c. not (has_parent_in (has (rows_in classes.now)) c.path.now)) listed.now }
 {
     listed.iter().any(|class| !has_parent(classes, class.path))
 }
 
-/// Whether the schedule that a class states is not well made.
 fn states_faulty(stated: Stated) -> bool
     ensures { result ≡ is_faulty stated }
 {
@@ -114,14 +110,13 @@ fn states_faulty(stated: Stated) -> bool
     }
 }
 
-/// Whether some schedule is not well made.
 fn has_bad_schedule(listed: &[Listed<'_>]) -> bool
     ensures { result ≡ list_any (λ c. is_faulty c.stated) listed.now }
 {
     listed.iter().any(|class| states_faulty(class.stated))
 }
 
-/// The root's schedule, or the fault with the smallest number that holds.
+/// The root's schedule, or the smallest of the faults 52 to 56 that holds.
 fn judge(
     root: Option<Schedule>,
     gathered: &Gathered,
@@ -153,9 +148,9 @@ fn judge(
     Ok(root)
 }
 
-/// The plan of a root's schedule, `None` where it is not well made, and listed classes.
+/// The plan of a root's schedule, which is `None` where it is not well made, and of listed classes.
 ///
-/// Refused by the smallest of 52 to 56 that holds, or by 99.
+/// Refused with the smallest of 52 to 56 that holds, or with 99 (no memory).
 pub(crate) fn plan_from(
     alloc: Global,
     root: Option<Schedule>,

@@ -25,7 +25,7 @@ fn is_in_range(schedule: Schedule) -> bool
     }
 }
 
-/// A schedule whose count is in range.
+/// The schedule, if its count is in range.
 fn in_range_only(schedule: Schedule) -> Option<Schedule>
     ensures { result ≡ ranged schedule }
 {
@@ -36,7 +36,6 @@ fn in_range_only(schedule: Schedule) -> Option<Schedule>
     }
 }
 
-/// The class that a part lists.
 fn listed_part(part: &(Vec<u8>, bool, Option<Schedule>)) -> Listed<'_>
     ensures { shown result ≡ part_entry part.now }
 {
@@ -54,7 +53,6 @@ fn listed_part(part: &(Vec<u8>, bool, Option<Schedule>)) -> Listed<'_>
     }
 }
 
-/// The classes that parts list.
 fn list_parts(
     alloc: Global,
     parts: &[(Vec<u8>, bool, Option<Schedule>)],
@@ -68,14 +66,12 @@ fn list_parts(
     Ok(listed)
 }
 
-/// Whether a listed class is `unfiled`, closed.
 fn is_unfiled_closed(class: &Listed<'_>) -> bool
     ensures { result ≡ is_closed_unfiled (shown class.now) }
 {
     class.path == UNFILED && !class.is_open
 }
 
-/// Whether `unfiled` is closed.
 fn closes_unfiled(listed: &[Listed<'_>]) -> bool
     ensures { result ≡ list_any (λ c. is_closed_unfiled (shown c)) listed.now }
 {
@@ -86,9 +82,14 @@ impl Plan {
     /// The plan of its parts: the root's schedule, and for each class its path, whether it is open,
     /// and its own schedule, if it has one. The parts of a plan give that plan.
     ///
-    /// Refused by the smallest number that holds: 51 (`unfiled` is closed), 52 (a path is not well
-    /// made), 53 (a parent is no class), 54 (a path comes twice), 55 (a count is out of range), 56
-    /// (more than 4,096 classes, `unfiled` among them); or by 99.
+    /// Refused with 99 (no memory), or else with the smallest number that holds:
+    ///
+    /// - 51: `unfiled` is closed;
+    /// - 52: a path is not well made;
+    /// - 53: a parent is no class;
+    /// - 54: a path appears twice;
+    /// - 55: a count is out of range;
+    /// - 56: there are more than 4,096 classes, `unfiled` among them.
     pub fn from_parts(
         alloc: Global,
         root: Schedule,

@@ -5,20 +5,20 @@ ghost use Rattle.class_plan.specs.Paths.{is_mark, is_path};
 /// The octet between two segments.
 pub(crate) const SLASH: u8 = b'/';
 
-/// The most `/` of a path, one fewer than its segments.
+/// The most `/` in a path, one fewer than its segments.
 const MOST_SLASHES: usize = 7;
 
-/// The most octets of a segment.
+/// The most octets in a segment.
 const MOST_OCTETS: usize = 40;
 
-/// Whether an octet may stand in a segment.
+/// Whether an octet is a small letter, a digit or `-`.
 fn fits_segment(octet: u8) -> bool
     ensures { result ≡ is_mark octet }
 {
     octet.is_ascii_lowercase() || octet.is_ascii_digit() || octet == b'-'
 }
 
-/// Whether a path is 1 to 8 segments of 1 to 40 octets that may stand in one.
+/// Whether a path is 1 to 8 segments, each of 1 to 40 small letters, digits and `-`.
 pub(crate) fn fits_path(path: &[u8]) -> bool
     ensures { result ≡ is_path path.now }
 {

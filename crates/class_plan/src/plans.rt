@@ -1,5 +1,5 @@
-//! A plan: the root's schedule and the classes, each with a path, open or closed, and with a
-//! schedule of its own or none.
+//! A plan: the root's schedule and the classes. A class has a path, is open or closed, and may
+//! have a schedule of its own.
 ghost use Rattle.std.specs.Prelude.{◌≡◌, ◌≢◌, ◌≤◌, Bool, true, false, is_some, Option, Some, None, option_map, Ok, Err, IfOk, IfErr, OnOk, OnErr, MatchResult, IfSome, map};
 ghost use Rattle.class_plan.specs.Paths.{has_parent_in};
 ghost use Rattle.class_plan.specs.Plans.{found, has, is_among, is_open_in, open_paths_of, first_plan, IsPlan};
@@ -15,21 +15,21 @@ use std::alloc::{AllocError, Global};
 use std::collections::{BTreeMap, BTreeSet};
 use std::marker::Model;
 
-/// The most classes of a plan.
+/// The most classes of a plan, `unfiled` among them.
 pub(crate) const MOST_CLASSES: usize = 4096;
 
 /// The class that is always there and open.
 pub(crate) const UNFILED: &[u8] = b"unfiled";
 
-/// What a plan keeps of a class beside its path.
+/// What a plan keeps of a class besides its path.
 #[derive(Clone, Copy, Debug)]
 pub(crate) struct Class {
     pub(crate) is_open: bool,
     pub(crate) schedule: Option<Schedule>,
 }
 
-/// A plan of classes. The class `unfiled` is always among them, and open; the parent of each is
-/// one of them; there are at most 4,096; and each count is in its unit's range.
+/// A plan of at most 4,096 classes. The class `unfiled` is always among them, and open. The parent
+/// of each class is one of them, and the count of each schedule is in its unit's range.
 #[derive(Drop)]
 pub struct Plan {
     pub(crate) alloc: Global,
@@ -48,7 +48,6 @@ impl Model for Plan {
     ghost invariant = { λ p. IsPlan (record { root = p.root; rows = rows_in p.classes }) };
 }
 
-/// The class at a path.
 pub(crate) fn class_at(classes: &BTreeMap<Vec<u8>, Class>, path: &[u8]) -> Option<Class>
     ensures open { option_map (λ c. c.is_open) result ≡ option_map (λ r. r.is_open) (found path.now (rows_in classes.now)) }
     ensures schedule { option_map (λ c. c.schedule) result ≡ option_map (λ r. r.schedule) (found path.now (rows_in classes.now)) }
@@ -57,7 +56,7 @@ pub(crate) fn class_at(classes: &BTreeMap<Vec<u8>, Class>, path: &[u8]) -> Optio
     classes.get(path).copied()
 }
 
-/// Whether the path without its last segment, if it has more than one, is a class.
+/// Whether the path's parent is a class; a path of one segment needs none.
 pub(crate) fn has_parent(classes: &BTreeMap<Vec<u8>, Class>, path: &[u8]) -> bool
     ensures { result ≡ has_parent_in (has (rows_in classes.now)) path.now }
 {
@@ -70,9 +69,10 @@ pub(crate) fn has_parent(classes: &BTreeMap<Vec<u8>, Class>, path: &[u8]) -> boo
 }
 
 impl Plan {
-    /// The plan of the open class `unfiled` alone, whose schedule is the root's, permanent.
+    /// The plan of the one class `unfiled`, open and without a schedule of its own, under a
+    /// permanent schedule of the root.
     ///
-    /// Refuses for want of memory only.
+    /// The only refusal is no memory (99).
     pub fn new(alloc: Global) -> Result<Plan, AllocError>
         ensures { IfOk result (λ p. p ≡ first_plan) }
     {
@@ -89,7 +89,7 @@ impl Plan {
         })
     }
 
-    /// What speaks against one more class at the path.
+    /// The fault with the smallest number, if any, of adding a class at the path.
     fn fault_at(&self, path: &[u8]) -> Option<PlanFault>
         ensures first { result ≡ first_fault (speaks_against self.now path.now) }
         ensures told { IfSome result (λ f. f ≢ NoMemory) }
@@ -111,9 +111,15 @@ impl Plan {
 
     /// Adds an open class without a schedule of its own.
     ///
-    /// Refused by the smallest of 52 (the path is not well made), 53 (its parent is no class), 54
-    /// (it is there) and 56 (there are 4,096 classes) that holds, or by 99 where none of these
-    /// does; the plan is then as before.
+    /// Refused with the smallest number that holds:
+    ///
+    /// - 52: the path is not well made;
+    /// - 53: its parent is no class;
+    /// - 54: the path is a class already;
+    /// - 56: there are 4,096 classes already;
+    /// - 99: no memory, where none of these holds.
+    ///
+    /// A refusal leaves the plan unchanged.
     pub fn add(&mut self, path: &[u8]) -> Result<(), PlanFault>
         ensures ok { OnOk result (added self.old path.now ≡ Ok self.new) }
         ensures refused { IfErr result (λ f. f ≢ NoMemory → added self.old path.now ≡ Err f) }
@@ -144,9 +150,9 @@ impl Plan {
         }
     }
 
-    /// The paths of the open classes: a path is among them exactly where [`Plan::is_open`] says so.
+    /// The paths of the open classes: exactly those for which [`Plan::is_open`] answers true.
     ///
-    /// Refuses for want of memory only.
+    /// The only refusal is no memory (99).
     pub fn open_paths(&self, alloc: Global) -> Result<BTreeSet<Vec<u8>>, AllocError>
         ensures paths { IfOk result (λ s. map (λ v. v.items) s.keys ≡ open_paths_of self.now) }
         ensures among { IfOk result (λ s. is_among (map (λ v. v.items) s.keys) ≡ is_open_in self.now) }

@@ -1,4 +1,4 @@
-//! What a plan says: its root's schedule, its classes, and the schedule of a path.
+//! Reads of a plan: its root's schedule, its classes, and the schedule of a path.
 ghost use Rattle.std.specs.Prelude.{◌≡◌, ◌<◌, length, map, Option, option_map, IfOk, IfSome};
 ghost use Rattle.std.specs.List.{HoldsAt};
 ghost use Rattle.class_plan.specs.Paths.{ancestors};
@@ -18,7 +18,6 @@ use jiff::civil::Date;
 use std::alloc::{AllocError, Global};
 use std::collections::BTreeMap;
 
-/// The schedule of its own that the class at a path has.
 fn own_schedule_at(classes: &BTreeMap<Vec<u8>, Class>, path: &[u8]) -> Option<Schedule>
     ensures { result ≡ own_at (rows_in classes.now) path.now }
 {
@@ -45,7 +44,7 @@ fn inherited_schedule(root: Schedule, classes: &BTreeMap<Vec<u8>, Class>, path: 
 impl Plan {
     /// The schedule of a class: its own, or else that of its nearest ancestor that has one, or else
     /// the root's. `None` where the path is no class. An ancestor of a path is a class whose path
-    /// stands before a `/` in it, so `a` is none of `ab`.
+    /// ends before a `/` of it: `a` is one of `a/b`, and not of `ab`.
     pub fn schedule_of(&self, path: &[u8]) -> Option<Schedule>
         ensures schedule { result ≡ schedule_at self.now path.now }
         ensures nearest { IfSome result (λ s. IsScheduleOf self.now path.now s) }
@@ -76,7 +75,7 @@ impl Plan {
         }
     }
 
-    /// The root's schedule, which classes have where neither they nor an ancestor has one.
+    /// The root's schedule, which a class has where neither it nor an ancestor states one.
     pub fn root(&self) -> Schedule
         ensures root { result ≡ self.now.root }
         ensures range { IsInRange result }
@@ -91,7 +90,7 @@ impl Plan {
         class_at(&self.classes, path).is_some()
     }
 
-    /// How many classes there are, `unfiled` among them: 1 to 4,096.
+    /// The number of classes, `unfiled` among them: 1 to 4,096.
     pub fn class_count(&self) -> usize
         ensures count { result ≡ length self.now.rows }
         ensures plan { IsPlan self.now }
@@ -99,10 +98,10 @@ impl Plan {
         self.classes.len()
     }
 
-    /// All classes in byte order of their paths, each as [`Plan::class`] tells it. It takes one walk
-    /// over them.
+    /// All classes in byte order of their paths, each as [`Plan::class`] answers it. The map is
+    /// walked once.
     ///
-    /// Refuses for want of memory only.
+    /// The only refusal is no memory (99).
     pub fn classes(&self, alloc: Global) -> Result<Vec<(&[u8], bool, Option<Schedule>)>, AllocError>
         ensures { IfOk result (λ v. map told_row v.items ≡ self.now.rows) }
     {
@@ -113,9 +112,11 @@ impl Plan {
         Ok(told)
     }
 
-    /// The class at a place in byte order of the paths: its path, whether it is open, and the
-    /// schedule of its own, if it has one. It walks there from the first class, so
+    /// The class at an index, from 0 on in byte order of the paths: its path, whether it is open,
+    /// and its own schedule, if it has one. Each call walks from the first class, so
     /// [`Plan::classes`] is the call that reads all.
+    ///
+    /// The caller gives an index below [`Plan::class_count`].
     pub fn class(&self, i: usize) -> (&[u8], bool, Option<Schedule>)
         requires { i < length self.now.rows }
         ensures { HoldsAt (λ r. r ≡ record { path = result.0.now; is_open = result.1; schedule = result.2 }) self.now.rows i }

@@ -1,6 +1,6 @@
 //! Disposal schedules: how long after its capture a record falls due, and what is done then.
 
-/// What a period counts.
+/// The unit of a schedule's period.
 #[derive(Clone, Copy, Debug, PartialEq, Eq)]
 pub enum Unit {
     /// Days, 1 to 366,000 of them.
@@ -14,9 +14,9 @@ pub enum Unit {
 /// What is done with a record once it is due.
 #[derive(Clone, Copy, Debug, PartialEq, Eq)]
 pub enum Action {
-    /// Somebody looks at it.
+    /// Somebody reviews it.
     Review,
-    /// It goes to another archive.
+    /// It is transferred to another archive.
     Transfer,
     /// It may be destroyed.
     Destroy,
@@ -27,15 +27,15 @@ pub enum Action {
 pub enum Schedule {
     /// The record is kept for good.
     Permanent,
-    /// The record falls due so many days, months or years after its capture.
+    /// The record falls due a number of days, months or years after its capture.
     After {
-        /// How many of the unit, in the range that the unit names.
+        /// The number of units, in the range that [`Unit`] gives.
         count: u32,
-        /// What is counted.
+        /// The unit of the count.
         unit: Unit,
-        /// What is done then.
+        /// What is done with the record then.
         action: Action,
-        /// Whether it falls due only at the end of the year in which that day lies.
+        /// Whether the record falls due only on 31 December of that day's year.
         year_end: bool,
     },
 }

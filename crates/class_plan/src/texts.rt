@@ -1,5 +1,5 @@
 //! Schedules as texts: `permanent`, or a count, a unit and an action with single spaces between
-//! them, as `7 years destroy`, after which one space and `year-end` may stand.
+//! them, as in `7 years destroy`. One space and `year-end` may follow.
 ghost use Rattle.std.specs.Prelude.{◌≡◌, Some, MatchOption, IfOk, IfSome, length};
 ghost use Rattle.std.specs.List.{position, position_or_len, before_first, after_first};
 ghost use Rattle.class_plan.specs.Schedules.{most, IsInRange};
@@ -9,13 +9,12 @@ ghost use Rattle.class_plan.specs.declared.schedules.Schedule.TheVariants.{After
 use crate::schedules::{Action, Schedule, Unit};
 use std::alloc::{AllocError, Global};
 
-/// The text of the permanent schedule.
 const PERMANENT: &[u8] = b"permanent";
 
-/// What stands after an action where the year's end is asked for.
+/// What follows the action where a schedule names the year's end.
 const YEAR_END: &[u8] = b" year-end";
 
-/// The greatest count of all units.
+/// The greatest count of any unit.
 const GREATEST_COUNT: u32 = 366_000;
 
 /// The greatest count of a unit.
@@ -29,14 +28,13 @@ pub(crate) fn limit_of(unit: Unit) -> u32
     }
 }
 
-/// The place of the first space.
 fn first_space(text: &[u8]) -> Option<usize>
     ensures { result ≡ position is_space text.now }
 {
     text.iter().position(|octet| *octet == b' ')
 }
 
-/// What stands before the first space and what stands after it.
+/// The text before the first space and the text after it; `None` without a space.
 fn split_at_space(text: &[u8]) -> Option<(&[u8], &[u8])>
     ensures { MatchOption result (position_or_len is_space text.now ≡ length text.now) (λ p. (p.0.now ≡ before_first is_space text.now) × (p.1.now ≡ after_first is_space text.now)) }
 {
@@ -46,9 +44,10 @@ fn split_at_space(text: &[u8]) -> Option<(&[u8], &[u8])>
     }
 }
 
-/// The schedule of a text: `permanent`, or a count (decimal, without leading zeros, in its unit's
-/// range), one space, `days`, `months` or `years`, one space, and `review`, `transfer` or
-/// `destroy`, with one space and `year-end` after it or not. `None` where the text is none.
+/// The schedule of a text; `None` where the text is no schedule. The text is `permanent`, or a
+/// count, a unit and an action with single spaces between them. The count is decimal, without
+/// leading zeros, and in its unit's range; the unit is `days`, `months` or `years`; the action is
+/// `review`, `transfer` or `destroy`. One space and `year-end` may follow.
 pub fn schedule_of_text(text: &[u8]) -> Option<Schedule>
     ensures schedule { result ≡ schedule_of_bytes text.now }
     ensures text { IfSome result (λ s. text_of s ≡ text.now) }
@@ -85,7 +84,7 @@ pub fn schedule_of_text(text: &[u8]) -> Option<Schedule>
 
 /// The text of a schedule, which reads back as the schedule.
 ///
-/// The caller gives a count in its unit's range. Refuses for want of memory only.
+/// The caller gives a count in its unit's range. The only refusal is no memory (99).
 pub fn schedule_text(alloc: Global, schedule: Schedule) -> Result<Vec<u8>, AllocError>
     requires { IsInRange schedule }
     ensures text { IfOk result (λ v. v.items ≡ text_of schedule) }
@@ -118,7 +117,6 @@ fn after_text(
     Ok(format!(in alloc; "{count} {unit} {action}{ending}")?.into_bytes())
 }
 
-/// The word of a unit.
 fn unit_text(unit: Unit) -> &'static str
     ensures { result.now ≡ unit_word unit }
 {
@@ -129,7 +127,6 @@ fn unit_text(unit: Unit) -> &'static str
     }
 }
 
-/// The word of an action.
 fn action_text(action: Action) -> &'static str
     ensures { result.now ≡ action_word action }
 {
@@ -140,14 +137,13 @@ fn action_text(action: Action) -> &'static str
     }
 }
 
-/// What stands after the action.
+/// What follows the action in a schedule's text.
 fn ending_text(year_end: bool) -> &'static str
     ensures { result.now ≡ year_end_text year_end }
 {
     if year_end { " year-end" } else { "" }
 }
 
-/// The unit of a word.
 fn read_unit(word: &[u8]) -> Option<Unit>
     ensures { result ≡ unit_of word.now }
 {
@@ -163,7 +159,6 @@ fn read_unit(word: &[u8]) -> Option<Unit>
     None
 }
 
-/// The action of a word.
 fn read_action(word: &[u8]) -> Option<Action>
     ensures { result ≡ action_of word.now }
 {
@@ -179,7 +174,7 @@ fn read_action(word: &[u8]) -> Option<Action>
     None
 }
 
-/// Whether the year's end is named by what stands after an action.
+/// Whether the text after an action names the year's end; `None` for any other text there.
 fn read_year_end(text: &[u8]) -> Option<bool>
     ensures { result ≡ year_end_of text.now }
 {
@@ -192,7 +187,7 @@ fn read_year_end(text: &[u8]) -> Option<bool>
     None
 }
 
-/// The action of an ending, and whether the year's end is named after it.
+/// The action of an ending, and whether the ending names the year's end.
 fn read_ending(text: &[u8]) -> Option<(Action, bool)>
     ensures { result ≡ ending_of text.now }
 {
@@ -206,8 +201,8 @@ fn read_ending(text: &[u8]) -> Option<(Action, bool)>
     Some((action, year_end))
 }
 
-/// The count of a word, decimal and without leading zeros; `None` where the word is none, or where
-/// its count is above all ranges.
+/// The count of a word, decimal and without leading zeros. `None` where the word is no such count,
+/// and where its digits before the last are above all ranges already.
 fn read_count(word: &[u8]) -> Option<u32>
     ensures { MatchOption result (IsLargeOrNone (count_of word.now)) (λ n. count_of word.now ≡ Some n) }
 {

@@ -39,7 +39,7 @@ ascend-last start (x ∷ es) last e h k m =
     let a = ascends start x es last h in
     ascend_from start x (es ++ e ∷ []) e.value a.name a.value (ascend-last x.value es last e a.more k m)
 
--- octets behind do not change what stands before
+-- octets added at the end do not change what is before them
 range-append : (xs ys : List ℕ) (a b : ℕ) → a ≤ b → b ≤ length xs → slice_range (xs ++ ys) a b ≡ slice_range xs a b
 range-append xs ys a b h k =
     let within : a ≤ length xs = omega arith in
@@ -84,7 +84,7 @@ Reading-none text octets ends e f = rw (e, f) (record { laid = refl; value = ref
 pub Reading-room : (text rest octets : List ℕ) (ends : List FieldEnds) (found : FoundField) → Reading text rest octets ends → IsFirstField rest found → (length octets + length found.field.0) + 4 * length found.field.1 ≤ 4 * length text
 Reading-room text rest octets ends found h f = omega (arith, h.short, f.between, f.from_within)
 
--- one field more
+-- one more field
 pub Reading-more : (text rest octets new after : List ℕ) (ends : List FieldEnds) (e : FieldEnds) (found : FoundField) → Reading text rest octets ends → IsFirstField rest found → after ≡ found.after.now → new ≡ octets ++ (found.field.0 ++ value_of_body found.field.1) → e.name ≡ length octets + length found.field.0 → e.value ≡ length new → length new ≤ (length octets + length found.field.0) + 4 * length found.field.1 → Reading text after new (ends ++ e ∷ [])
 Reading-more text rest octets new after ends e found h f ea en name value short =
     let all : octets ++ (found.field.0 ++ value_of_body found.field.1) ≡ new = sym en in
@@ -102,7 +102,7 @@ Reading-more text rest octets new after ends e found h f ea en name value short 
 pub Reading-done : (text rest octets : List ℕ) (ends : List FieldEnds) → Reading text rest octets ends → fields_of rest ≡ [] → fields_from octets 0 ends ≡ map field_in (fields_of text)
 Reading-done text rest octets ends h none = sym (append-nil (fields_from octets 0 ends)) ∙ ap (λ fs. fields_from octets 0 ends ++ map field_in fs) (sym none) ∙ h.value
 
--- how many fields there are
+-- the number of fields
 pub length-fields : (octets : List ℕ) (start : ℕ) (es : List FieldEnds) → length (fields_from octets start es) ≡ length es
 length-fields octets start [] = refl
 length-fields octets start (e ∷ es) = ap suc (length-fields octets e.value es)

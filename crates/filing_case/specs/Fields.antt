@@ -1,4 +1,4 @@
--- Fields with their values, by their places, and as they are kept.
+-- Fields with their values, by their places, and as `FieldValues` stores them.
 use Rattle.std.specs.Prelude.{ℕ, zero, suc, Bool, List, [], ◌∷◌, slice_index_or, slice_range, nat_le, ◌==◌, ◌&&◌}
 use Rattle.sieve_meaning.specs.Case.{Field, Facts}
 use Rattle.filing_case.specs.declared.fields.FieldEnds.{FieldEnds}
@@ -11,7 +11,7 @@ listed fields place = slice_index_or fields place (record { name = []; value = [
 abbrev pub field_at : Facts → ℕ → Field
 field_at facts place = listed facts.fields place
 
--- the fields whose names and values stand in the octets, from a start on: a name, its value, the next name, and so on
+-- the fields whose names and values are in the octets, from a start on: a name, its value, the next name, and so on
 abbrev pub fields_from : List ℕ → ℕ → List FieldEnds → List Field
 fields_from octets start [] = []
 fields_from octets start (e ∷ es) = record { name = slice_range octets start e.name; value = slice_range octets e.name e.value } ∷ fields_from octets e.value es

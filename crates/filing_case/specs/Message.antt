@@ -1,4 +1,4 @@
--- The case of a message: what a run learns of it, and of the paths that are open.
+-- The case of a message: what a run learns about it, and about the paths that are open.
 use Rattle.std.specs.Prelude.{ℕ, List, Bool, map, length}
 use Rattle.std.specs.List.{list_any}
 use Rattle.std.specs.Str.{bytes_eq}

@@ -7,6 +7,6 @@ pub record Coming : Type 0 where
   pub reader : Reader
   pub paths : List (List ℕ)
 
--- what came so far is this message
+-- this message was fed so far
 abbrev pub coming : List ℕ → List (List ℕ) → Coming
 coming message paths = record { reader = reader_of message; paths = paths }

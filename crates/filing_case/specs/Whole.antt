@@ -1,4 +1,4 @@
--- What a case stands for.
+-- The facts of a case.
 use Rattle.std.specs.Prelude.{ℕ, List, Bool, Vec}
 use Rattle.std.specs.BTreeSet.{BTreeSet}
 use Rattle.std.specs.declared.alloc.Global.{Global}
@@ -6,7 +6,7 @@ use Rattle.sieve_meaning.specs.Case.{Facts}
 use Rattle.filing_case.specs.Views.{is_in}
 use Rattle.filing_case.specs.declared.whole.WholeCase.{WholeCase}
 
--- what a run learns of a message, where a function tells which paths are open
+-- what a run learns about a message, where a function decides which paths are open
 abbrev pub facts_by : {P : Type 0} → (P → List ℕ → Bool) → WholeCase P → Facts
 facts_by opens c = record { size = c.size; fields = c.fields; is_open = opens c.paths }
 

@@ -18,8 +18,8 @@ pub struct FieldEnds {
     pub value: u32,
 }
 
-/// The fields of a header with their values, in order. Names and values stand one after another in one vector, and beside
-/// it are eight octets for each field.
+/// The fields of a header with their values, in order. Names and values lie one after another in one vector, and eight
+/// more octets are kept for each field.
 #[derive(Drop)]
 pub struct FieldValues {
     octets: Vec<u8>,
@@ -39,9 +39,9 @@ impl Model for FieldValues {
 }
 
 impl FieldValues {
-    /// The fields of the header of a text of at most 8,388,608 octets, in order, each with the value of its body; each value
-    /// is decoded once, here. Room is taken twice, for all fields and for all octets of their names and bodies, and grows
-    /// only where a value is longer than its body. The only error is want of memory.
+    /// The fields of the header of a text of at most 8,388,608 octets, in order, each with the value of its body; each
+    /// value is decoded once, here. Memory is taken twice, for all fields and for all octets of their names and bodies.
+    /// It grows only where a value is longer than its body. The only error is a refused allocation.
     pub fn read(alloc: Global, text: &[u8]) -> Result<FieldValues, AllocError>
         requires { length text.now ≤ MOST_OCTETS }
         ensures { IfOk result (λ v. v ≡ map field_in (fields_of text.now)) }
@@ -57,14 +57,14 @@ impl FieldValues {
         Ok(FieldValues { octets, ends })
     }
 
-    /// How many fields there are.
+    /// The number of fields.
     pub fn count(&self) -> usize
         ensures { result ≡ length self.now }
     {
         self.ends.len()
     }
 
-    /// The name of the field at a place, counted from 0.
+    /// The name of the field at a place, counted from 0 and below `count`.
     pub fn name(&self, place: usize) -> &[u8]
         requires { place < length self.now }
         ensures { result.now ≡ (listed self.now place).name }
@@ -73,7 +73,7 @@ impl FieldValues {
         part(self.octets.as_slice(), start, self.ends[place].name)
     }
 
-    /// The value of the field at a place, counted from 0.
+    /// The value of the field at a place, counted from 0 and below `count`.
     pub fn value(&self, place: usize) -> &[u8]
         requires { place < length self.now }
         ensures { result.now ≡ (listed self.now place).value }
@@ -83,7 +83,7 @@ impl FieldValues {
     }
 }
 
-/// Where the field at a place begins: where the one before it ends.
+/// Where the field at a place begins, which is where the one before it ends.
 fn start_of(ends: &[FieldEnds], place: usize) -> u32
     requires { place < length ends.now }
     ensures { result ≡ start_from 0 ends.now place }
@@ -103,7 +103,7 @@ fn part(octets: &[u8], from: u32, to: u32) -> &[u8]
     &octets[from as usize..to as usize]
 }
 
-/// How many fields a header has, and how many octets their names and bodies have.
+/// The number of fields of a header, and of the octets of their names and bodies.
 #[derive(Clone, Copy)]
 struct Room {
     fields: usize,

@@ -1,8 +1,8 @@
-//! What a run can learn of a message, and of the plan that it is filed by.
+//! What a run can learn about a message, and about the plan by which it is filed.
 //!
-//! `case` has the five questions that a run asks. `paths` says who tells which paths are open classes, and `fields` keeps
-//! the fields of a header with their values. Of these two `whole` makes the case of a message, and `pieces` that of a message
-//! that comes piece by piece.
+//! `case` has the five questions that a run asks. `paths` decides which paths are open classes, and `fields` keeps the
+//! fields of a header with their values. From these two, `whole` makes the case of a message, and `pieces` that of a
+//! message that comes piece by piece.
 #![tactic(auto)]
 
 mod case;

@@ -1,22 +1,21 @@
-//! Who tells which paths are open classes.
+//! Which paths are open classes.
 
 ghost use Rattle.std.specs.Prelude.{◌≡◌, ℕ, List, Bool};
 
 use sieve_meaning::Paths;
 use std::collections::BTreeSet;
 
-/// Who tells which paths are open classes. It answers by one ghost function, which does not change while it is only
-/// read.
+/// Decides which paths are open classes. It answers by one ghost function, which does not change while it is only read.
 pub trait OpenPaths {
-    /// Whether a path is open.
+    /// Whether a path is that of an open class, for contracts.
     ghost opens: { Self → List ℕ → Bool };
 
-    /// Whether a path is an open class.
+    /// Whether a path is that of an open class.
     fn is_open(&self, path: &[u8]) -> bool
         ensures { result ≡ opens self.now path.now };
 }
 
-/// A set of paths has those open that are in it.
+/// The open paths are those in the set.
 impl OpenPaths for Paths {
     ghost use Rattle.filing_case.specs.Message.{is_among};
 
@@ -27,7 +26,7 @@ impl OpenPaths for Paths {
     }
 }
 
-/// A set of paths has those open that are in it.
+/// The open paths are those in the set.
 impl OpenPaths for BTreeSet<Vec<u8>> {
     ghost use Rattle.filing_case.specs.Views.{is_in};
 

@@ -34,7 +34,7 @@ impl Model for PieceCase {
 }
 
 impl PieceCase {
-    /// A case that was fed nothing, and the paths that are open. It takes no memory yet.
+    /// A case that was fed nothing, with the paths that are open. It takes no memory yet.
     pub fn new(alloc: Global, paths: BTreeSet<Vec<u8>>) -> PieceCase
         ensures { result ≡ coming [] (paths_in paths) }
     {
@@ -45,8 +45,9 @@ impl PieceCase {
         }
     }
 
-    /// Takes the next piece of the message, which may be empty. `TooLong` (1) comes where the message so far would have
-    /// more than 8,388,608 octets, and from then on for good. After `NoMemory` (99) the case is unchanged.
+    /// Takes the next piece of the message, which may be empty. `TooLong` (1) where the message would then have more
+    /// than 8,388,608 octets, and at every call after that. `NoMemory` (99) where an allocation was refused, and the
+    /// case is then unchanged.
     pub fn feed(&mut self, piece: &[u8]) -> Result<(), HeadFault>
         ensures fed { (message : List ℕ) → self.old.reader ≡ reader_of message → OnOk result (self.new.reader ≡ reader_of (message ++ piece.now)) }
         ensures too_long { (result ≡ Err TooLong) ↔ (IsTrue self.old.reader.refuses ⊎ (MOST_OCTETS < self.old.reader.size + length piece.now)) }
@@ -58,8 +59,8 @@ impl PieceCase {
     }
 
     /// The case of the message that was fed. Its fields are those of the header (RFC 5322, section 2.2), in order, each
-    /// with the value of its body; each value is decoded once, here. `TooLong` (1) comes exactly where a `feed`
-    /// answered it, and `NoMemory` is 99; both hand the case back as it was.
+    /// with the value of its body; each value is decoded once, here. `TooLong` (1) exactly where a `feed` answered it,
+    /// and `NoMemory` (99) where an allocation was refused. Both hand the case back unchanged.
     pub fn finish(self) -> Result<WholeCase, (HeadFault, PieceCase)>
         ensures whole { (message : List ℕ) → self.reader ≡ reader_of message → IfOk result (λ c. facts_of c ≡ case_of message (is_among self.paths)) }
         ensures too_long { MatchResult result (λ _. self.reader.refuses ≡ false) (λ e. (e.0 ≡ TooLong) ↔ IsTrue self.reader.refuses) }

@@ -1,4 +1,4 @@
-//! The case of a message that is at hand.
+//! The case of a whole message.
 
 ghost use Rattle.std.specs.Prelude.{◌≡◌, ◌≢◌, ◌≤◌, ◌↔◌, ℕ, List, length, map, IsTrue, IfOk, IsErrOf};
 ghost use Rattle.mail_head.specs.Fields.{fields_of};
@@ -16,11 +16,11 @@ use sieve_meaning::is_word;
 use std::alloc::{AllocError, Global};
 use std::collections::BTreeSet;
 
-/// How many octets of a message that is at hand are fed to the reader of pieces at a time.
+/// How many octets `WholeCase::read` feeds to the header buffer at a time.
 const PIECE: usize = 4096;
 
-/// A message, and who tells which paths are open. It owns the names and the values of the header's fields, and nothing of the
-/// body.
+/// The case of a whole message, with the paths that are open. It owns the names and the values of the header's fields,
+/// and nothing of the body.
 #[derive(Drop)]
 pub struct WholeCase<P = BTreeSet<Vec<u8>>> {
     size: u64,
@@ -29,10 +29,10 @@ pub struct WholeCase<P = BTreeSet<Vec<u8>>> {
 }
 
 impl<P: OpenPaths + Drop> WholeCase<P> {
-    /// The case of a message of at most 8,388,608 octets, which the caller keeps. Its fields are those of the header
-    /// (RFC 5322, section 2.2), in order, each with the value of its body; each value is decoded once, here. The message is
-    /// read where it lies: `WholeCase::read` answers the same, and copies the header on its way. The only error is want of
-    /// memory.
+    /// The case of a message, which must have at most 8,388,608 octets. Its fields are those of the header (RFC 5322,
+    /// section 2.2), in order, each with the value of its body; each value is decoded once, here. The message is read
+    /// where it lies; `WholeCase::read` answers the same, but copies the header. The only error is a refused
+    /// allocation.
     pub fn from_message(alloc: Global, message: &[u8], paths: P) -> Result<WholeCase<P>, AllocError>
         requires { length message.now ≤ MOST_OCTETS }
         ensures { IfOk result (λ c. facts_by P.opens c ≡ case_of message.now (P.opens paths)) }
@@ -58,8 +58,8 @@ fn fed_buffer(alloc: Global, msg: &[u8]) -> Result<HeaderBuffer, HeadFault>
     Ok(buffer)
 }
 
-/// The fields of the message that a buffer was fed, with their values, in order. `TooLong` comes exactly where the buffer
-/// refuses.
+/// The fields of the message that a buffer was fed, with their values, in order. `TooLong` (1) exactly where the buffer
+/// refuses, and `NoMemory` (99) where an allocation was refused.
 pub fn fields_fed(alloc: Global, buffer: &HeaderBuffer) -> Result<FieldValues, HeadFault>
     ensures fields { (message : List ℕ) → buffer.now ≡ reader_of message → IfOk result (λ v. v ≡ map field_in (fields_of message)) }
     ensures too_long { IsErrOf result TooLong ↔ IsTrue buffer.now.refuses }
@@ -69,7 +69,7 @@ pub fn fields_fed(alloc: Global, buffer: &HeaderBuffer) -> Result<FieldValues, H
     Ok(fields)
 }
 
-/// The want of memory that a fault is which isn't of a message's length.
+/// The allocation error that a fault other than `TooLong` is.
 fn want_of_memory(fault: HeadFault) -> AllocError
     requires { fault ≢ TooLong }
 {
@@ -80,7 +80,7 @@ fn want_of_memory(fault: HeadFault) -> AllocError
 }
 
 impl WholeCase {
-    /// The case that keeps these parts.
+    /// The case of these parts.
     pub(crate) fn from_parts(size: u64, fields: FieldValues, paths: BTreeSet<Vec<u8>>) -> WholeCase
         ensures { facts_of result ≡ record { size = size; fields = fields; is_open = is_in paths } }
     {
@@ -91,10 +91,10 @@ impl WholeCase {
         }
     }
 
-    /// The case of a message of at most 8,388,608 octets, which the caller keeps, and of the paths that are open. Its
-    /// fields are those of the header (RFC 5322, section 2.2), in order, each with the value of its body; each value is
-    /// decoded once, here. The message goes through the reader of pieces, 4,096 octets at a time. The only error is want of
-    /// memory.
+    /// The case of a message, which must have at most 8,388,608 octets, and of the paths that are open. Its fields are
+    /// those of the header (RFC 5322, section 2.2), in order, each with the value of its body; each value is decoded
+    /// once, here. The message is fed to a header buffer, 4,096 octets at a time. The only error is a refused
+    /// allocation.
     pub fn read(
         alloc: Global,
         msg: &[u8],

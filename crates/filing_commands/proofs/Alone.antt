@@ -1,4 +1,4 @@
--- The run of what is pinned ends with the outcome of the capture alone.
+-- The run of what is pinned ends with the outcome of the capture.
 use Rattle.std.proofs.Common.{◌≡◌, ◌<◌, ℕ, zero, suc, List, refl, arith, ◌∙◌, sym, subst, Bool, true, false, Some, None, []}
 use Rattle.sieve_meaning.specs.Case.{Facts}
 use Rattle.sieve_meaning.specs.Program.{Commands}

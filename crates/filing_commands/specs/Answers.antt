@@ -1,21 +1,21 @@
--- What a command is answered.
+-- The answers to commands.
 use Rattle.std.specs.Prelude.{ℕ, List, Option}
 use Rattle.sieve_meaning.specs.Outcome.{Outcome}
 use Rattle.record_store.specs.Archive.{Line}
 
 pub data Answer : Type 0 where
   done : Answer
-  -- what a dry run captures
+  -- the outcome of a dry run
   captured : Outcome → Answer
-  -- a capture has begun, under this ticket and with this budget in steps
+  -- a capture has begun, with this ticket and this budget in steps
   begun : (ticket budget : ℕ) → Answer
   -- the steps of a capture so far, which have not come to its end
   running : (steps : ℕ) → Answer
   -- the steps of a capture that has come to its end
   ended : (steps : ℕ) → Answer
-  -- a capture is whole: its fault, if it ended in one, and its records
+  -- a capture is whole: the number of its fault, if it ended in one, and its records
   filed : (fault : Option ℕ) → List Line → Answer
   -- the records that are due
   listed : List Line → Answer
-  -- a number, and for some numbers an offset
+  -- the number of a refusal, and for some numbers an offset
   refused : ℕ → Option ℕ → Answer

@@ -1,5 +1,5 @@
--- Calls of a desk, and the states that it stands for before and after them. A desk is clean while the disk under it returns
--- what was written to it.
+-- Calls of a desk, and the states that the desk represents before and after them. A desk is clean while the disk under
+-- it returns what was written to it.
 use Rattle.std.specs.Prelude.{◌≡◌, ◌≤◌, ℕ, pos, List}
 use Rattle.jiff.specs.Words.{epoch_day}
 use Rattle.jiff_core.specs.declared.civil.date.Date.{Date}
@@ -9,31 +9,31 @@ use Rattle.filing_commands.specs.Payloads.{IsOf}
 use Rattle.filing_commands.specs.Standing.{Standing, Command, Step}
 use Rattle.filing_commands.specs.declared.payload.Payload.{Payload}
 
--- a state that is one of these, and for which the desk stands
+-- The desk represents one of these states.
 pub record Leads {D : Type 0} (stands : D → Standing → Type 0) (desk : D) (States : Standing → Type 0) : Type 0 where
   pub to : Standing
   pub is_one : States to
   pub there : stands desk to
 
--- A command is answered so. Where the desk is clean afterwards it was before, and from each state that it stood for the command
--- led to one that it stands for.
+-- A command has this answer. Where the desk is clean afterwards, it was clean before, and each state that it
+-- represented leads by the command to one that it represents.
 pub record Calls {D : Type 0} (clean : D → Type 0) (stands : D → Standing → Type 0) (old : D) (c : Command) (a : Answer) (new : D) : Type 0 where
   pub was_clean : clean new → clean old
   pub leads : clean new → (s : Standing) → stands old s → Leads stands new (Step s c a)
 
--- The same of a command with a payload, whatever the octets are of which this is there.
+-- The same for a command with a payload, for all octets that the payload may be of.
 abbrev pub CallsWith : {D : Type 0} (clean : D → Type 0) (stands : D → Standing → Type 0) → (old : D) → (limit : ℕ) → Payload
     → (List ℕ → Command) → Answer → (new : D) → Type 0
 CallsWith clean stands old limit payload command a new =
     (octets : List ℕ) → IsOf limit payload octets → Calls clean stands old (command octets) a new
 
--- the same of a command with two payloads
+-- The same for a command with two payloads.
 abbrev pub CallsWithTwo : {D : Type 0} (clean : D → Type 0) (stands : D → Standing → Type 0) → (old : D) → (limits : ℕ × ℕ)
     → (first second : Payload) → (List ℕ → List ℕ → Command) → Answer → (new : D) → Type 0
 CallsWithTwo clean stands old limits first second command a new =
     (x y : List ℕ) → IsOf limits.0 first x → IsOf limits.1 second y → Calls clean stands old (command x y) a new
 
--- the same of a command with a day of 1970 to 9999, which it has in days since 1970-01-01
+-- The same for a command with a day of 1970 to 9999, which the command has in days since 1970-01-01.
 abbrev pub CallsOn : {D : Type 0} (clean : D → Type 0) (stands : D → Standing → Type 0) → (old : D) → Date → (ℕ → Command) → Answer
     → (new : D) → Type 0
 CallsOn clean stands old day command a new =

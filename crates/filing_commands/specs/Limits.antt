@@ -7,18 +7,18 @@ greatest_script = 262144
 abbrev pub greatest_message : ℕ
 greatest_message = 8388608
 
--- of a plan's text
+-- the greatest length of a plan's text
 abbrev pub greatest_plan : ℕ
 greatest_plan = 1048576
 
 abbrev pub greatest_image : ℕ
 greatest_image = 16777216
 
--- how many captures are in flight at most
+-- the most captures in flight
 abbrev pub most_in_flight : ℕ
 most_in_flight = 64
 
--- the last ticket that is given
+-- the last ticket
 abbrev pub last_ticket : ℕ
 last_ticket = 4294967295
 

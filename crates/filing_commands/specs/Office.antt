@@ -1,4 +1,4 @@
--- The commands that have nothing to do with captures in flight: what each may be answered, and what it leaves.
+-- The commands that have nothing to do with captures in flight: which answers each may have, and what it changes.
 use Rattle.std.specs.Prelude.{◌≡◌, ℕ, true, false, ◌≤◌, ◌<◌, ◌⊎◌, List, [], length, if◌then◌else◌, Some, None, is_some, Result, Ok, Err}
 use Rattle.std.specs.Str.{bytes_eq}
 use Rattle.sieve_syntax.specs.Tree.{CommandTrees}
@@ -19,37 +19,37 @@ use Rattle.filing_commands.specs.Parts.{IsGood, IsGoodImage, IsKept, IsPlanOf, R
 use Rattle.filing_commands.specs.Pinning.{Active, Officer, no_program, script_named, image, new_officer}
 use Rattle.filing_commands.specs.Scripts.{script_at, library}
 
--- all that a desk stands for but its captures in flight: the archive, the global scripts, and the officers with what each has set
+-- All of a desk's state but its captures in flight: the archive, the global scripts, and what each officer has set.
 pub record Office : Type 0 where
   pub archive : Archive
   pub globals : List (List ℕ × Commands)
   pub officers : (name : List ℕ) → Officer
 
--- an archive, and nothing set
+-- An archive, with nothing set.
 abbrev pub opening_office : Archive → Office
 opening_office a = record { archive = a; globals = []; officers = λ n. new_officer }
 
 pub data PlainCommand : Type 0 where
   add_class : (path : List ℕ) → PlainCommand
-  -- takes over the plan of a text
+  -- Takes over the plan of a text.
   set_plan : (text : List ℕ) → PlainCommand
-  -- keeps a script of an officer under a name
+  -- Keeps a script of an officer under a name.
   set_script : (officer name text : List ℕ) → PlainCommand
-  -- keeps a script under a name, for scripts of all officers that include it
+  -- Keeps a script under a name, for scripts of all officers that include it.
   set_global : (name text : List ℕ) → PlainCommand
-  -- sets the script of that name as the officer's program
+  -- Sets the script of that name as the officer's program.
   activate : (officer name : List ℕ) → PlainCommand
-  -- sets no program
+  -- Sets no program.
   deactivate : (officer : List ℕ) → PlainCommand
-  -- sets an image as the officer's program
+  -- Sets an image as the officer's program.
   set_image : (officer octets : List ℕ) → PlainCommand
-  -- runs a script on a message, and stores nothing
+  -- Runs a script on a message, and stores nothing.
   file : (script message : List ℕ) → PlainCommand
-  -- runs an image on a message, and stores nothing
+  -- Runs an image on a message, and stores nothing.
   try_image : (octets message : List ℕ) → PlainCommand
   hold : (name : List ℕ) (number : ℕ) → PlainCommand
   release : (name : List ℕ) (number : ℕ) → PlainCommand
-  -- a day counts from 1970-01-01
+  -- A day is counted from 1970-01-01.
   due : (day : ℕ) → PlainCommand
   destroy : (number day : ℕ) → PlainCommand
 
@@ -68,28 +68,28 @@ with_scripts o scripts = record o { scripts = scripts }
 abbrev pub with_program : Officer → Active → Officer
 with_program o active = record o { active = active }
 
--- the office where an officer has set that
+-- The office after an officer has set this program.
 abbrev pub setting : Office → (officer : List ℕ) → Active → Office
 setting s officer active = with_officer s officer (with_program (s.officers officer) active)
 
--- the archive's command is done, and leaves that
+-- The archive's command is done, and this is the office afterwards.
 abbrev pub IsMade : Office → Result Archive StoreFault → Office → Type 0
 IsMade s (Ok a) new = new ≡ with_archive s a
 IsMade s (Err f) new = ⊥
 
--- the archive's command is refused with this number
+-- The archive's command is refused with this number.
 abbrev pub IsRefused : Result Archive StoreFault → (number : ℕ) → Type 0
 IsRefused (Ok a) n = ⊥
 IsRefused (Err f) n = n ≡ store_number f
 
--- a script captures a message so; it can include the global scripts, no personal one, and has no name
+-- A script captures a message with this outcome. It can include the global scripts, no personal one, and has no name.
 pub record IsFiled (s : Office) (script message : List ℕ) (o : meaning.Outcome) : Type 0 where
   pub tree : CommandTrees
   pub good : IsGood script tree
   pub short : length message ≤ greatest_message
   pub outcome : o ≡ meaning.outcome (case_of message (is_open_in s.archive.plan)) (library [] s.globals) None (program_of tree)
 
--- an image captures a message so: by its run in the message's case and the open classes of the plan
+-- An image captures a message with this outcome, by its run on the message and the open classes of the plan.
 pub record IsTried (s : Office) (octets message : List ℕ) (o : meaning.Outcome) : Type 0 where
   pub program : Program
   pub good : IsGoodImage octets program
@@ -97,21 +97,21 @@ pub record IsTried (s : Office) (octets message : List ℕ) (o : meaning.Outcome
   pub steps : ℕ
   pub outcome : HasOutcome program (case_of message (is_open_in s.archive.plan)) steps o
 
--- the script is good, and the message too long
+-- The script is good, and the message too long.
 pub record IsTooLong (script message : List ℕ) (number : ℕ) : Type 0 where
   pub tree : CommandTrees
   pub good : IsGood script tree
   pub long : greatest_message < length message
   pub is_number : number ≡ 95
 
--- the image may run, and the message is too long
+-- The image may run, and the message is too long.
 pub record IsTooLongToTry (octets message : List ℕ) (number : ℕ) : Type 0 where
   pub program : Program
   pub good : IsGoodImage octets program
   pub long : greatest_message < length message
   pub is_number : number ≡ 95
 
--- a command that has nothing to tell but that it was done leaves that
+-- A command that answers only that it was done changes the office to this one.
 abbrev pub Settles : Office → PlainCommand → Office → Type 0
 Settles s (add_class path) new = IsMade s (archives.add_class s.archive path) new
 Settles s (set_plan text) new = (p : Listing) × IsPlanOf text p × IsMade s (archives.revise s.archive p) new
@@ -128,18 +128,18 @@ Settles s (release name r) new = IsMade s (archives.release s.archive name r) ne
 Settles s (due day) new = ⊥
 Settles s (destroy r day) new = IsMade s (archives.destroy s.archive r day) new
 
--- a dry run captures a message so
+-- A dry run captures a message with this outcome.
 abbrev pub Captures : Office → PlainCommand → meaning.Outcome → Type 0
 Captures s (file script message) o = IsFiled s script message o
 Captures s (try_image octets message) o = IsTried s octets message o
 Captures s _ o = ⊥
 
--- these records are told
+-- The command lists these records.
 abbrev pub Lists : Office → PlainCommand → List Line → Type 0
 Lists s (due day) lines = lines ≡ archives.due_list s.archive day
 Lists s _ lines = ⊥
 
--- a command is refused with this number, by the rules of filing: the first that fails
+-- A command is refused with this number by the rules of filing: that of the first check that fails.
 abbrev pub Refuses : Office → PlainCommand → (number : ℕ) → Type 0
 Refuses s (add_class path) n = IsRefused (archives.add_class s.archive path) n
 Refuses s (set_plan text) n = RefusesPlan s.archive.plan text n
@@ -155,8 +155,8 @@ Refuses s (release name r) n = IsRefused (archives.release s.archive name r) n
 Refuses s (due day) n = ⊥
 Refuses s (destroy r day) n = IsRefused (archives.destroy s.archive r day) n
 
--- What a command is answered by the rules of filing, and leaves. Only a command that settles something changes anything, and
--- a refusal has an offset exactly where its number is shown with one.
+-- What a command answers by the rules of filing, and what it changes. Only a command that is answered by `done` changes
+-- anything, and a refusal has an offset exactly where its number is shown with one.
 abbrev pub OfficeRule : Office → PlainCommand → Answer → Office → Type 0
 OfficeRule s c done new = Settles s c new
 OfficeRule s c (captured o) new = (new ≡ s) × Captures s c o
@@ -167,15 +167,15 @@ OfficeRule s c (running k) new = ⊥
 OfficeRule s c (ended k) new = ⊥
 OfficeRule s c (filed f lines) new = ⊥
 
--- There was no memory. A payload that is over its limit is told so, and not this.
+-- There was no memory. A payload over its limit is refused for its length instead.
 abbrev pub LacksMemory : (limit : ℕ) (payload : List ℕ) (number : ℕ) → Type 0
 LacksMemory limit payload number = (number ≡ 99) × (length payload ≤ limit)
 
--- there was no memory, or the database refused
+-- There was no memory, or the database refused.
 abbrev pub IsTrouble : (number : ℕ) → Type 0
 IsTrouble number = (number ≡ 99) ⊎ (number ≡ 89)
 
--- a command is given up with this number
+-- A command is refused with this number for reasons other than the rules of filing.
 abbrev pub GivesUp : PlainCommand → (number : ℕ) → Type 0
 GivesUp (add_class path) n = IsTrouble n
 GivesUp (set_plan text) n = IsTrouble n × (length text ≤ greatest_plan)
@@ -191,6 +191,6 @@ GivesUp (release name r) n = IsTrouble n
 GivesUp (due day) n = IsTrouble n
 GivesUp (destroy r day) n = IsTrouble n
 
--- what a command may be answered, and what it leaves
+-- The answers that a command may have, and what it changes.
 abbrev pub OfficeStep : Office → PlainCommand → Answer → Office → Type 0
 OfficeStep s c a new = OfficeRule s c a new ⊎ ((n : ℕ) × GivesUp c n × (a ≡ refused n None) × (new ≡ s))

@@ -1,4 +1,4 @@
--- What scripts, images and plans of payloads are, and why they are refused.
+-- What scripts, images and plans in payloads are, and why they are refused.
 use Rattle.std.specs.Prelude.{◌≡◌, ℕ, true, false, ◌≤◌, ◌<◌, ◌⊎◌, List, length, Some, None, Ok, Err}
 use Rattle.sieve_syntax.specs.Tree.{CommandTrees}
 use Rattle.sieve_text.specs.declared.fault.TextRefusal.{TextRefusal}
@@ -19,7 +19,7 @@ use Rattle.filing_verify.specs.Well.{IsWell, Fails, verify_number}
 use Rattle.filing_commands.specs.Limits.{greatest_image, greatest_plan}
 use Rattle.filing_commands.specs.Scripts.{HasNoRoom, put_script}
 
--- the text is a script with a well made tree
+-- the text is a script whose tree is well made
 pub record IsGood (script : List ℕ) (tree : CommandTrees) : Type 0 where
   pub is_script : IsScript script tree
   pub well_made : rules.refusal_of tree ≡ None
@@ -36,29 +36,30 @@ pub record IsIllMade (script : List ℕ) (number : ℕ) : Type 0 where
   pub is_script : IsScript script tree
   pub rule : rules.refusal_of tree ≡ Some number
 
--- a script is refused with this number: the first of its text and the check that fails
+-- a script is refused with this number: by its text, or else by the check
 abbrev pub RefusesScript : (script : List ℕ) (number : ℕ) → Type 0
 RefusesScript script number = IsNoScript script number ⊎ IsIllMade script number
 
--- the text is a script, and it is kept under the name: in the place of one that has the name, or after all others
+-- the text is a script, and it is kept under the name: in the place of the one that has the name, or after all others
 pub record IsKept (old : List (List ℕ × Commands)) (name text : List ℕ) (new : List (List ℕ × Commands)) : Type 0 where
   pub tree : CommandTrees
   pub good : IsGood text tree
   pub has_room : HasNoRoom old name → ⊥
   pub put : new ≡ put_script name (program_of tree) old
 
--- the text is a script, and its name is a new one where there are thirty-two
+-- the text is a script, and its name is new in a location that has thirty-two
 pub record IsOneTooMany (old : List (List ℕ × Commands)) (name text : List ℕ) (number : ℕ) : Type 0 where
   pub tree : CommandTrees
   pub good : IsGood text tree
   pub has_no_room : HasNoRoom old name
   pub is_number : number ≡ 96
 
--- a script is not kept in a location, and refused with this number: the first of its text, the check and the room that fails
+-- a script is refused in a location with this number: by its text, or else by the check, or else because there is no
+-- room
 abbrev pub RefusesToKeep : (old : List (List ℕ × Commands)) (name text : List ℕ) (number : ℕ) → Type 0
 RefusesToKeep old name text number = RefusesScript text number ⊎ IsOneTooMany old name text number
 
--- the text is that of a plan
+-- the text is a plan
 pub record IsPlanOf (text : List ℕ) (plan : Listing) : Type 0 where
   pub short : length text ≤ greatest_plan
   pub is_plan : documents.plan_of_text text ≡ Ok plan
@@ -70,14 +71,14 @@ pub record IsNoPlan (text : List ℕ) (number : ℕ) : Type 0 where
   pub refuses : documents.plan_of_text text ≡ Err fault
   pub is_number : number ≡ plan.number_of fault
 
--- the text is that of a plan which drops a path
+-- the text is a plan that drops a path
 pub record DropsPath (old : Listing) (text : List ℕ) (number : ℕ) : Type 0 where
   pub plan : Listing
   pub is_plan : IsPlanOf text plan
   pub drops : plans.keeps old plan ≡ false
   pub is_number : number ≡ 57
 
--- a plan is refused with this number: the first of its length, its text and its paths that fails
+-- a plan is refused with this number: by its length, or else by its text, or else for a path that it drops
 abbrev pub RefusesPlan : (old : Listing) (text : List ℕ) (number : ℕ) → Type 0
 RefusesPlan old text number = ((greatest_plan < length text) × (number ≡ 58)) ⊎ (IsNoPlan text number ⊎ DropsPath old text number)
 
@@ -111,6 +112,6 @@ pub record IsUnfit (image : List ℕ) (number : ℕ) : Type 0 where
   pub fails : Fails fault program
   pub is_number : number ≡ verify_number fault
 
--- an image is refused with this number: the first of its length, its form and its fitness to run that fails
+-- an image is refused with this number: by its length, or else by its form, or else because it may not run
 abbrev pub RefusesImage : (image : List ℕ) (number : ℕ) → Type 0
 RefusesImage image number = IsLongImage image number ⊎ (IsNoImage image number ⊎ IsUnfit image number)

@@ -1,4 +1,4 @@
--- What an officer has set, what stands at the beginning of a capture, what is pinned for it, and what the capture makes of it alone.
+-- What an officer has set, the state at the beginning of a capture, what is pinned for the capture, and its outcome.
 use Rattle.std.specs.Prelude.{◌≡◌, ℕ, List, [], ◌∷◌, Bool, true, false, if◌then◌else◌, nat_lt, Option, Some, None}
 use Rattle.sieve_meaning.specs.Case.{Facts}
 use Rattle.sieve_meaning.specs.Program.{Commands}
@@ -12,23 +12,23 @@ use Rattle.filing_case.specs.Message.{case_of}
 use Rattle.filing_gen.specs.Correct.{IsCompiled}
 use Rattle.filing_commands.specs.Scripts.{script_at}
 
--- the program that an officer has set
+-- The program that an officer has set.
 pub data Active : Type 0 where
   no_program : Active
-  -- one of his scripts, by its name
+  -- One of the officer's scripts, by its name.
   script_named : (name : List ℕ) → Active
   image : Program → Active
 
 pub record Officer : Type 0 where
   pub active : Active
-  -- his scripts, with their names
+  -- The officer's scripts, with their names.
   pub scripts : List (List ℕ × Commands)
 
--- an officer of whom nothing is known
+-- An officer who has set nothing.
 abbrev pub new_officer : Officer
 new_officer = record { active = no_program; scripts = [] }
 
--- an officer's program as it stands
+-- An officer's program at a moment.
 pub data Chosen : Type 0 where
   nothing : Chosen
   script : (name : List ℕ) → Commands → Chosen
@@ -38,14 +38,14 @@ abbrev pub script_if : (name : List ℕ) → Option Commands → Chosen
 script_if name None = nothing
 script_if name (Some s) = script name s
 
--- a name stands for the script that has it now
+-- A name means the script that has it now.
 abbrev pub chosen_by : Active → List (List ℕ × Commands) → Chosen
 chosen_by no_program scripts = nothing
 chosen_by (script_named name) scripts = script_if name (script_at name scripts)
 chosen_by (image p) scripts = image_of p
 
--- What stands at the beginning of a capture: the officer's program, what an include finds, the message, the open
--- classes, and the day in days since 1970-01-01.
+-- The state at the beginning of a capture: the officer's program, what an include finds, the message, the open classes,
+-- and the day in days since 1970-01-01.
 pub record Stood : Type 0 where
   pub program : Chosen
   pub library : Library
@@ -53,25 +53,25 @@ pub record Stood : Type 0 where
   pub is_open : List ℕ → Bool
   pub day : ℕ
 
--- the case of the message and of the open classes
+-- The case of the message and of the open classes.
 abbrev pub case_in : Stood → Facts
 case_in s = case_of s.message s.is_open
 
--- nothing is filed, and the message is kept
+-- Nothing is filed, and the message is kept.
 abbrev pub kept_alone : meaning.Outcome
 kept_alone = meaning.outcome_at None [] false false
 
--- what a program captures in a case
+-- The outcome of a program in a case.
 abbrev pub GivesOutcome : Chosen → Library → Facts → meaning.Outcome → Type 0
 GivesOutcome nothing lib facts o = o ≡ kept_alone
 GivesOutcome (script name s) lib facts o = o ≡ meaning.outcome facts lib (Some name) s
 GivesOutcome (image_of p) lib facts o = (n : ℕ) × HasOutcome p facts n o
 
--- what a capture makes of what stood at its beginning
+-- The outcome of a capture by the state at its beginning alone.
 abbrev pub IsAlone : Stood → meaning.Outcome → Type 0
 IsAlone s o = GivesOutcome s.program s.library (case_in s) o
 
--- a program of one instruction
+-- A program of one instruction.
 abbrev pub one_stop : Program
 one_stop = record { budget = 1; texts = []; numbers = []; slots = 0; code = Stop ∷ [] }
 
@@ -81,7 +81,7 @@ one_fault = record { budget = 1; texts = []; numbers = []; slots = 0; code = Fau
 abbrev pub is_too_heavy : Library → (name : List ℕ) → Commands → Bool
 is_too_heavy lib name s = nat_lt meaning.greatest_weight (linked_weight lib (Some name) s)
 
--- the budget of what is pinned, in steps
+-- The budget of what is pinned, in steps.
 abbrev pub budget_by : Chosen → Library → ℕ
 budget_by nothing lib = 1
 budget_by (script name s) lib = if is_too_heavy lib name s then 1 else linked_weight lib (Some name) s
@@ -94,8 +94,8 @@ abbrev pub PinsScript : (too_heavy : Bool) → Library → (name : List ℕ) →
 PinsScript true lib name s p = p ≡ one_fault
 PinsScript false lib name s p = IsCompiled lib (Some name) s p
 
--- What is pinned: an image itself; for a script what the compiler owes, in every case and not only in this one; one
--- FAULT 5 for a script that is too heavy, and one STOP where nothing is set.
+-- What is pinned: an image as it is, one FAULT 5 for a script that is too heavy, and one STOP where nothing is set. For
+-- any other script it is a program that is compiled correctly for every case, not only for this one.
 abbrev pub PinsChosen : Chosen → Library → Program → Type 0
 PinsChosen nothing lib p = p ≡ one_stop
 PinsChosen (script name s) lib p = PinsScript (is_too_heavy lib name s) lib name s p

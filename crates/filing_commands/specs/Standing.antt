@@ -1,4 +1,4 @@
--- What a desk stands for, with the turns of each capture in flight, and what each command may be answered.
+-- The whole state of a desk, with the turns of each capture in flight, and which answers each command may have.
 use Rattle.std.specs.Prelude.{◌≡◌, ℕ, ◌+◌, ◌<◌, ◌/◌, ◌⊎◌, List, [], ◌∷◌, ◌++◌, length, Bool, true, false, ◌==◌, if◌then◌else◌, nat_lt, nat_le, Option, Some, None, Ok, Err}
 use Rattle.sieve_meaning.specs.Outcome.{Outcome}
 use Rattle.class_plan.specs.Plans.{is_open_in}
@@ -17,14 +17,14 @@ use Rattle.filing_commands.specs.Scripts.{library}
 
 pub data Command : Type 0 where
   plain : PlainCommand → Command
-  -- begins a capture of a message by an officer's program; a moment is in seconds since 1970-01-01T00:00:00Z
+  -- Begins a capture of a message by an officer's program; a moment is in seconds since 1970-01-01T00:00:00Z.
   begin : (officer : List ℕ) (moment : ℕ) (message : List ℕ) → Command
-  -- grants so many turns to a capture
+  -- Grants a number of turns to a capture.
   turn : (ticket count : ℕ) → Command
-  -- makes the records of a capture that has come to its end
+  -- Makes the records of a capture that has come to its end.
   finish : (ticket : ℕ) → Command
 
--- A capture in flight: what stood at its beginning, what is pinned and how long its run is, and the turns that it was
+-- A capture in flight: the state at its beginning, what is pinned, the length of its run, and the turns that it was
 -- granted so far.
 pub record Flight : Type 0 where
   pub ticket : ℕ
@@ -36,23 +36,23 @@ pub record Flight : Type 0 where
 pub record Standing : Type 0 where
   pub office : Office
   pub flights : List Flight
-  -- the last ticket given
+  -- The last ticket given.
   pub last : ℕ
 
 abbrev pub opening : Archive → Standing
 opening a = record { office = opening_office a; flights = []; last = 0 }
 
--- the first capture of this ticket
+-- The first capture of this ticket.
 abbrev pub flight_of : ℕ → List Flight → Option Flight
 flight_of t [] = None
 flight_of t (f ∷ fs) = if f.ticket == t then Some f else flight_of t fs
 
--- the captures after a ticket was granted turns
+-- The captures after one was granted turns.
 abbrev pub grant : ℕ → ℕ → List Flight → List Flight
 grant t k [] = []
 grant t k (f ∷ fs) = if f.ticket == t then record f { granted = f.granted + k } ∷ fs else f ∷ grant t k fs
 
--- the captures without that ticket
+-- The captures without that ticket.
 abbrev pub without : ℕ → List Flight → List Flight
 without t [] = []
 without t (f ∷ fs) = if f.ticket == t then fs else f ∷ without t fs
@@ -60,8 +60,8 @@ without t (f ∷ fs) = if f.ticket == t then fs else f ∷ without t fs
 abbrev pub granting : Standing → ℕ → ℕ → Standing
 granting s t k = record s { flights = grant t k s.flights }
 
--- The first that speaks against one more capture: 94 for the moment, 95 for the message, 90 for the captures in flight, 97 for
--- the tickets.
+-- The first reason against one more capture: 94 for the moment, 95 for the message, 90 for the captures in flight, 97
+-- for the tickets.
 abbrev pub begin_refusal : (count last moment size : ℕ) → Option ℕ
 begin_refusal count last moment size =
     if nat_lt last_moment moment then Some 94
@@ -70,7 +70,7 @@ begin_refusal count last moment size =
     else if nat_le last_ticket last then Some 97
     else None
 
--- what stands at a beginning
+-- The state at the beginning of a capture; a day has 86,400 seconds.
 abbrev pub stood_at : Office → (officer : List ℕ) → (moment : ℕ) → (message : List ℕ) → Stood
 stood_at s officer moment message = record {
   program = chosen_by (s.officers officer).active (s.officers officer).scripts;
@@ -80,17 +80,17 @@ stood_at s officer moment message = record {
   day = moment / 86400;
 }
 
--- a run's length is that of what is pinned
+-- The run of the program in the case of that state has this many steps.
 abbrev pub IsLength : Stood → Program → ℕ → Type 0
 IsLength s p n = (o : Outcome) × HasOutcome p (case_in s) n o
 
--- A capture whose image is pinned for what stood, may run, and ends with the step of that number.
+-- What is pinned for the capture fits the state at its beginning, may run, and has a run of the given length.
 pub record IsPinned (f : Flight) : Type 0 where
   pub pins : Pins f.stood f.pinned
   pub well : IsWell f.pinned
   pub length : IsLength f.stood f.pinned f.run_length
 
--- a capture begins under this ticket, and leaves this
+-- A capture begins with this ticket and budget, and this is the state afterwards.
 pub record Begins (s : Standing) (officer : List ℕ) (moment : ℕ) (message : List ℕ) (t b : ℕ) (new : Standing) : Type 0 where
   pub allowed : begin_refusal (length s.flights) s.last moment (length message) ≡ None
   pub flight : Flight
@@ -102,7 +102,7 @@ pub record Begins (s : Standing) (officer : List ℕ) (moment : ℕ) (message : 
   pub budget : b ≡ flight.pinned.budget
   pub leaves : new ≡ record { office = s.office; flights = s.flights ++ flight ∷ []; last = s.last + 1 }
 
--- A beginning is refused with this number: the first that speaks against it; or 99, and then nothing speaks against it.
+-- The refusal of a beginning: the first reason against it, or 99 where there is none.
 abbrev pub RefusesBegin : Standing → (moment size number : ℕ) → Type 0
 RefusesBegin s moment size n =
     (begin_refusal (length s.flights) s.last moment size ≡ Some n) ⊎ ((begin_refusal (length s.flights) s.last moment size ≡ None) × (n ≡ 99))
@@ -112,11 +112,11 @@ BeginStep s officer moment message (begun t b) new = Begins s officer moment mes
 BeginStep s officer moment message (refused n at) new = (new ≡ s) × (at ≡ None) × RefusesBegin s moment (length message) n
 BeginStep s officer moment message _ new = ⊥
 
--- what a capture answers after so many turns in all
+-- What a capture answers after a number of turns in all.
 abbrev pub turned : Flight → ℕ → Answer
 turned f k = if nat_le f.run_length k then ended f.run_length else running k
 
--- Want of memory comes after so many of the turns, where the machine stands before an instruction that takes memory.
+-- Memory runs out after some of the turns, where the machine is about to run an instruction that takes memory.
 pub record IsInterrupted (f : Flight) (count made : ℕ) : Type 0 where
   pub within : made < count
   pub early : f.granted + made < f.run_length
@@ -130,14 +130,14 @@ TurnStep s t k (Some f) a new =
     ((a ≡ turned f (f.granted + k)) × (new ≡ granting s t k))
     ⊎ ((a ≡ refused 99 None) × ((j : ℕ) × IsInterrupted f k j × (new ≡ granting s t j)))
 
--- A whole capture is answered so, and leaves that archive: its outcome's fault and the lines of its records, or 87.
+-- What a whole capture answers, and the archive afterwards: its outcome's fault and the lines of its records, or 87.
 abbrev pub Files : Archive → Stood → Answer → Archive → Type 0
 Files a stood (filed fault lines) new =
     (o : Outcome) × IsAlone stood o × (fault ≡ o.fault) × (capture a stood.message stood.day o.classes ≡ Ok new) × (lines ≡ captured_lines a stood.day o.classes)
 Files a stood (refused n at) new = (n ≡ 87) × (at ≡ None) × (new ≡ a) × ((o : Outcome) × IsAlone stood o × (capture a stood.message stood.day o.classes ≡ Err Full))
 Files a stood _ new = ⊥
 
--- a ticket is given up by an answer that is no refusal
+-- A ticket is given up by an answer that is no refusal.
 abbrev pub is_refusal : Answer → Bool
 is_refusal (refused n at) = true
 is_refusal _ = false
@@ -155,7 +155,7 @@ abbrev pub FinishStep : Standing → (t : ℕ) → Option Flight → Answer → 
 FinishStep s t None a new = (a ≡ refused 91 None) × (new ≡ s)
 FinishStep s t (Some f) a new = FinishWhole s t (nat_lt f.granted f.run_length) f.stood a new
 
--- a command may be answered so, and leaves that
+-- The answers that a command may have, and the state afterwards.
 unfoldable pub Step : Standing → Command → Answer → Standing → Type 0
 Step s (plain c) a new = (b : Office) × OfficeStep s.office c a b × (new ≡ record s { office = b })
 Step s (begin officer moment message) a new = BeginStep s officer moment message a new

@@ -1,4 +1,4 @@
--- What the calls of a desk tell, as answers.
+-- The results of a desk's calls, as answers.
 use Rattle.std.specs.Prelude.{ℕ, map, if◌then◌else◌, Result, Ok, Err, Vec}
 use Rattle.std.specs.declared.alloc.Global.{Global}
 use Rattle.record_store.specs.Stores.{line_view}
@@ -14,7 +14,7 @@ use Rattle.filing_commands.specs.declared.told.Capture.{Capture}
 abbrev pub outcome_view : Outcome → meaning.Outcome
 outcome_view o = record { classes = o.classes; fault = o.fault }
 
--- nothing is told but that it was done
+-- a call without a result answers that it was done
 abbrev pub told_done : Result (Unit {0}) DeskFault → Answer
 told_done (Ok u) = done
 told_done (Err f) = refused_by f

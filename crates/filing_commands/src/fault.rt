@@ -1,4 +1,4 @@
-//! Why the desk refuses.
+//! Why the desk refuses a call.
 
 ghost use Rattle.std.specs.Prelude.{◌≡◌};
 ghost use Rattle.filing_commands.specs.Faults.{refusal_of, has_place as has_place_of, store_number as store_number_of};
@@ -12,7 +12,7 @@ use sieve_check::CheckFault;
 use sieve_text::{TextFault, TextRefusal};
 use std::alloc::{AllocError, AllocFailed};
 
-/// A refusal as a session shows it: its number, and where it has one the offset in octets of a script.
+/// A refusal as a session shows it: its number, and for some numbers the offset in octets in a script.
 #[derive(Clone, Copy, Debug, PartialEq, Eq)]
 pub struct Refusal {
     pub number: u8,
@@ -22,13 +22,13 @@ pub struct Refusal {
 /// Why a call is refused.
 #[derive(Clone, Copy, Debug, PartialEq, Eq)]
 pub enum DeskFault {
-    /// 99: an allocation was refused.
+    /// 99: out of memory.
     NoMemory,
     /// 10 to 16, 20, 21: the text is no script, and the offset in octets at which that shows.
     Text(TextRefusal, usize),
     /// 30 to 41: the script is not well made.
     Check(CheckFault),
-    /// 50 to 57: the plan refuses.
+    /// 50 to 57: the plan is refused.
     Plan(PlanFault),
     /// 58: the text of a plan has more than 1,048,576 octets.
     PlanTooLong,
@@ -42,7 +42,7 @@ pub enum DeskFault {
     MessageTooLong,
     /// 96: thirty-two scripts of the location have other names.
     LibraryFull,
-    /// 80 to 88: the archive refuses; 89: its database does.
+    /// 80 to 88: the archive refuses the command; 89: its database does.
     Store(StoreFault),
     /// 90: sixty-four captures are in flight.
     TooManyInFlight,
@@ -54,7 +54,7 @@ pub enum DeskFault {
     NoScript,
     /// 94: the moment is after 2199.
     BadMoment,
-    /// 97: ticket 4,294,967,295 was given.
+    /// 97: the last ticket, 4,294,967,295, was given.
     TicketsUsedUp,
 }
 
@@ -204,7 +204,7 @@ fn has_place(number: u8) -> bool
 }
 
 impl DeskFault {
-    /// The number of the refusal, and its offset where it has one.
+    /// The number of the refusal, and the offset in octets where it is shown with one: 11 to 14, 16, 20 and 21.
     pub fn refusal(&self) -> Refusal
         ensures { result ≡ refusal_of self.now }
     {
@@ -214,7 +214,6 @@ impl DeskFault {
         }
     }
 
-    /// The number of the refusal.
     fn number(&self) -> u8
         ensures { result ≡ (refusal_of self.now).number }
     {

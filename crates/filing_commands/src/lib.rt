@@ -1,8 +1,8 @@
-//! The commands of an office that captures messages as records: what each may be answered, and what it leaves.
+//! The commands of an office that captures messages as records: which answers each may have, and what it changes.
 //!
-//! In `specs/`, `Office` says it of the commands that have nothing to do with captures in flight, `Standing` of all, and
-//! `Pinning` what a capture makes of what stood at its beginning. A session talks to a `Registry`, each call of which is one of
-//! these commands.
+//! In `specs/`, `Office` defines the commands that have nothing to do with captures in flight, `Standing` all commands,
+//! and `Pinning` what a capture makes of the state at its beginning. A session talks to a `Registry`, each call of
+//! which is one of these commands.
 #![tactic(auto)]
 
 mod fault;

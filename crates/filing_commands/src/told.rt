@@ -1,9 +1,10 @@
-//! What the calls of a desk tell.
+//! What the calls of a desk answer.
 
 use record_store::Line;
 use sieve_meaning::Paths;
 
-/// What a run captures: the classes in byte order, each once, and the number of its fault, if it ended in one.
+/// What a run captures a message in: the classes in byte order, each once, and the number of the fault, if the run
+/// ended in one.
 #[derive(Drop)]
 pub struct Outcome {
     pub classes: Paths,
@@ -17,8 +18,8 @@ pub struct Turn {
     pub ended: bool,
 }
 
-/// A whole capture: the number of its fault, if its run ended in one, and a line for each of its records, in the order of their
-/// numbers.
+/// A whole capture: the number of the fault, if its run ended in one, and a line for each of its records, in the order
+/// of their numbers.
 #[derive(Drop)]
 pub struct Capture {
     pub fault: Option<u8>,

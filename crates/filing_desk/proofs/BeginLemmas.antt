@@ -34,12 +34,12 @@ use Rattle.filing_desk.specs.Standing.{AreOpenPaths, HasPathsOf, IsClean, Stands
 use Rattle.filing_desk.specs.declared.desk.Desk.{Desk}
 use Rattle.filing_desk.proofs.FlightLemmas.{cleans, reflies}
 
--- what is told of a fault
+-- the answer to a fault
 pub ticket_fault : (result : Result (ℕ × ℕ) DeskFault) (fault : DeskFault) → IsErr result → IsErrAnd result (λ f. f ≡ fault) → told_ticket result ≡ refused_by fault
 ticket_fault (Err f) fault is same = ap refused_by same
 ticket_fault (Ok t) fault is same = absurd (false≢true is)
 
--- a numbered fault, as it is told
+-- a numbered fault, as it is answered
 numbered : (f : DeskFault) (n : Option ℕ) → IsNumbered f n → refused_by f ≡ refused (refusal_of f).number None
 numbered f n h = ap (refused (refusal_of f).number) h.1
 
@@ -70,11 +70,11 @@ more_classes p [] f all here = (here, tt)
 more_classes p (x ∷ fs) f all here = (all.0, more_classes p fs f all.1 here)
 
 module _ {S : Type 0} (g : Ghosts S) where
-  -- what speaks against a beginning at the desk speaks against one in the state
+  -- what refuses a beginning at the desk refuses one in the state
   against : (desk : Desk S) (s : Standing) (moment size : ℕ) → StandsFor g desk s → against_begin desk moment size ≡ begin_refusal (length s.flights) s.last moment size
   against desk s moment size stands = ap (λ n. begin_refusal n desk.last moment size) (as_many desk.flights s.flights stands.flights) ∙ ap (λ n. begin_refusal (length s.flights) n moment size) stands.last
 
-  -- it is refused, by what speaks against it
+  -- it is refused with that number
   pub begin_refused : (desk : Desk S) (officer : List ℕ) (moment : ℕ) (message : List ℕ) (f : DeskFault) (a : Answer) → IsNumbered f (against_begin desk moment (length message)) → a ≡ refused_by f → Calls (IsClean g) (StandsFor g) desk (begin officer moment message) a desk
   unfolding Step
   begin_refused desk officer moment message f a h is_told = record {
@@ -107,7 +107,6 @@ module _ {S : Type 0} (g : Ghosts S) where
       let P : Office → Type 0 = λ o. PinsChosen (chosen_by (o.officers officer).active (o.officers officer).scripts) (library (o.officers officer).scripts o.globals) p in
       subst P stands.officers pins
 
-  -- it has begun
   pub begin_done : (old mid new : Desk S) (officer : List ℕ) (moment : ℕ) (message : List ℕ) (day : Date) (x : Held) (a : Answer) → against_begin old moment (length message) ≡ None → epoch_day day ≡ pos (moment / 86400) → KeepsAll old mid → (AreOpenPaths old.open_paths old.store.plan → AreOpenPaths mid.open_paths old.store.plan) → (AreOpenPaths old.open_paths old.store.plan → IsEntered old officer (old.last + 1) message day x) → new.store ≡ mid.store → new.officers ≡ mid.officers → Adds mid.flights x new.flights → new.last ≡ old.last + 1 → new.open_paths ≡ mid.open_paths → a ≡ begun (old.last + 1) x.program.budget → Calls (IsClean g) (StandsFor g) old (begin officer moment message) a new
   unfolding Step
   begin_done old mid new officer moment message day x a permitted on keeps paths entered es eo adds el ep told = record {

@@ -32,7 +32,7 @@ use Rattle.filing_desk.specs.declared.desk.Desk.{Desk}
 use Rattle.filing_desk.proofs.ScriptLemmas.{library_meant}
 use Rattle.filing_desk.proofs.StepLemmas.{plain_calls}
 
--- what is told of a fault
+-- the answer to a fault
 pub outcome_fault : (result : Result Outcome DeskFault) (fault : DeskFault) → IsErr result → IsErrAnd result (λ f. f ≡ fault) → told_outcome result ≡ refused_by fault
 outcome_fault (Err f) fault is same = ap refused_by same
 outcome_fault (Ok o) fault is same = absurd (false≢true is)
@@ -100,12 +100,11 @@ module _ {S : Type 0} (g : Ghosts S) where
       let P : Answer → Type 0 = λ x. OfficeStep s.office (try_image image message) x s.office in
       subst P (sym told) (fault_step s.office (try_image image message) (IsTooLong message) greatest_message message f (λ n long. inr (record { program = program; good = good; long = long.0; is_number = long.1 })) (λ n l. (l.0, short)) h))
 
-  -- a part is refused
   pub refused_part : (desk : Desk S) (c : PlainCommand) (Rule : ℕ → Type 0) (limit : ℕ) (payload : List ℕ) (f : DeskFault) (a : Answer) → ((s : Office) (n : ℕ) → Rule n → Refuses s c n) → ((n : ℕ) → LacksMemory limit payload n → GivesUp c n) → a ≡ refused_by f → IsFaultOf Rule limit payload f → Calls (IsClean g) (StandsFor g) desk (plain c) a desk
   refused_part desk c Rule limit payload f a refuses lacks told h = unchanged desk c a (λ s stands.
       let P : Answer → Type 0 = λ x. OfficeStep s.office c x s.office in
       subst P (sym told) (fault_step s.office c Rule limit payload f (refuses s.office) lacks h))
 
-  -- want of memory in a run
+  -- no memory in a run
   pub gave_up : (desk : Desk S) (c : PlainCommand) (limit : ℕ) (payload : List ℕ) (f : DeskFault) (a : Answer) → a ≡ refused_by f → f ≡ NoMemory → length payload ≤ limit → ((n : ℕ) → LacksMemory limit payload n → GivesUp c n) → Calls (IsClean g) (StandsFor g) desk (plain c) a desk
   gave_up desk c limit payload f a told is short lacks = unchanged desk c a (λ s stands. lacking s.office c limit payload f a told is short lacks)

@@ -27,7 +27,7 @@ use Rattle.filing_desk.specs.Standing.{IsShownBy}
 use Rattle.filing_desk.proofs.FlightLemmas.{none_found}
 use Rattle.filing_desk.proofs.StoreLemmas.{told, trouble_number}
 
--- what is told of a fault
+-- the answer to a fault
 pub capture_fault : (result : Result Capture DeskFault) (fault : DeskFault) → IsErr result → IsErrAnd result (λ f. f ≡ fault) → told_capture result ≡ refused_by fault
 capture_fault (Err f) fault is same = ap refused_by same
 capture_fault (Ok c) fault is same = absurd (false≢true is)

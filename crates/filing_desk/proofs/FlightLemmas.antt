@@ -89,7 +89,7 @@ early_flag x f b tells holds e = go (nat_lt f.granted f.run_length) (sym (tells 
     go false h = absurd cc
 
 module _ {S : Type 0} (g : Ghosts S) where
-  -- the desk stands for the state with other flights
+  -- the desk represents the state with other flights
   pub reflies : (old new : Desk S) (s : Standing) (fs : List Flight) (n : ℕ) → new.store ≡ old.store → new.officers ≡ old.officers → new.last ≡ n → AreOpenPaths new.open_paths s.office.archive.plan → StandsFor g old s → AreHeld new.flights fs → AllByRecursion (HasPathsOf s.office.archive.plan) fs → StandsFor g new (record { office = s.office; flights = fs; last = n })
   reflies old new s fs n es eo el paths stands held classes =
       let P : Store S → Type 0 = λ x. stores.StandsFor g x s.office.archive in

@@ -57,14 +57,14 @@ activate_refused s officer name o f same (inr poor) none =
     subst Q (sym poor) (inr (99, refl, refl, refl))
 
 module _ {S : Type 0} (g : Ghosts S) where
-  -- the desk is as it was, its officers aside
+  -- the desk is as it was, except for its officers
   pub record KeepsOthers (old new : Desk S) : Type 0 where
     pub store : new.store ≡ old.store
     pub flights : new.flights ≡ old.flights
     pub last : new.last ≡ old.last
     pub open_paths : new.open_paths ≡ old.open_paths
 
-  -- the desk stands for the state with the office that its officers have now
+  -- the desk represents the state with the office that its officers have now
   resets : (old new : Desk S) (s : Standing) (b : Office) → KeepsOthers old new → StandsFor g old s → b.archive ≡ s.office.archive → office_of s.office.archive new.officers ≡ b → StandsFor g new (record s { office = b })
   resets old new s b rest stands same is =
       let P : Store S → Type 0 = λ x. stores.StandsFor g x b.archive in

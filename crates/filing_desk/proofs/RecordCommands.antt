@@ -18,7 +18,8 @@ use Rattle.filing_desk.proofs.ClassLemmas.{destroy_stays, hold_stays, release_st
 use Rattle.filing_desk.proofs.NumberLemmas.{no_destruction, no_hold, no_release}
 use Rattle.filing_desk.proofs.StepLemmas.{IsCommand, KeepsRest, done_by_rows, refused_by_number, refused_by_rows}
 
--- The commands, by the number of the record, are these of the archive: they keep the plan, and no record has a number above 32 bits.
+-- The commands, by the number of the record, are these of the archive. They keep the plan, and no record has a number
+-- above 32 bits.
 pub record IsOfRecord (c : ℕ → PlainCommand) (command : ℕ → Archive → Result Archive StoreFault) : Type 0 where
   pub is : (n : ℕ) → IsCommand (c n) (command n)
   pub stays : (n : ℕ) (a b : Archive) → command n a ≡ Ok b → b.plan ≡ a.plan
@@ -51,13 +52,12 @@ module _ {S : Type 0} (g : Ghosts S) (c : ℕ → PlainCommand) (command : ℕ �
   number_refused desk n f a large told =
       refused_by_number g desk (c n) (command n) f a (of.is n) (λ x is. of.none n x is large.1 ∙ ap (λ e. Err e) (sym large.0)) told
 
-  -- the archive refuses, or the world does
+  -- the archive refuses, or the database or the memory does
   pub record_refused : (old new : Desk S) (n asked : ℕ) (f : StoreFault) (a : Answer) → n ≡ asked → KeepsRest g old new → new.open_paths ≡ old.open_paths → stores.Falls g old.store new.store → stores.ObeysRows {X = Unit {0}} g old.store new.store (Err f) (command n) stores.Quietly → a ≡ refused_by (store_fault f) → Calls (IsClean g) (StandsFor g) old (plain (c asked)) a new
   record_refused old new n asked f a same rest paths falls obeys told =
       let P : ℕ → Type 0 = λ m. Calls (IsClean g) (StandsFor g) old (plain (c m)) a new in
       subst P same (refused_by_rows g old new (c n) (command n) f a (of.is n) rest paths falls obeys told)
 
-  -- it is done
   pub record_done : (old new : Desk S) (n asked : ℕ) → n ≡ asked → KeepsRest g old new → new.open_paths ≡ old.open_paths → stores.Falls g old.store new.store → stores.ObeysRows {X = Unit {0}} g old.store new.store (Ok tt) (command n) stores.Quietly → Calls (IsClean g) (StandsFor g) old (plain (c asked)) done new
   record_done old new n asked same rest paths falls obeys =
       let P : ℕ → Type 0 = λ m. Calls (IsClean g) (StandsFor g) old (plain (c m)) done new in

@@ -39,12 +39,12 @@ made s a r e = let P : Result Archive StoreFault → Type 0 = λ x. IsMade s x (
 refusal : (f : StoreFault) (r : Result Archive StoreFault) → r ≡ Err f → IsRefused r (store_number f)
 refusal f r e = let P : Result Archive StoreFault → Type 0 = λ x. IsRefused x (store_number f) in subst P (sym e) refl
 
--- what is told of a fault
+-- the answer to a fault
 pub done_fault : (result : Result (Unit {0}) DeskFault) (fault : DeskFault) → IsErr result → IsErrAnd result (λ f. f ≡ fault) → told_done result ≡ refused_by fault
 done_fault (Err f) fault is same = ap refused_by same
 done_fault (Ok u) fault is same = absurd (false≢true is)
 
--- the archive refuses, or the world does
+-- the archive refuses, or the database or the memory does
 pub refused_step : (s : Office) (c : PlainCommand) (command : Archive → Result Archive StoreFault) (f : StoreFault) → IsCommand c command → (stores.is_trouble f ≡ false → command s.archive ≡ Err f) → OfficeStep s c (refused_by (store_fault f)) s
 refused_step s c command f is refuses =
     let P : Answer → Type 0 = λ a. OfficeStep s c a s in
@@ -60,7 +60,7 @@ still_classes p q [] keeps all = tt
 still_classes p q (f ∷ fs) keeps all = ((λ x there. keeps x (all.0 x there)), still_classes p q fs keeps all.1)
 
 module _ {S : Type 0} (g : Ghosts S) where
-  -- the desk is as it was, its store and the paths that it keeps aside
+  -- the desk is as it was, except for its store and the paths that it keeps
   pub record KeepsRest (old new : Desk S) : Type 0 where
     pub officers : new.officers ≡ old.officers
     pub flights : new.flights ≡ old.flights
@@ -75,7 +75,7 @@ module _ {S : Type 0} (g : Ghosts S) where
         record { to = record s { office = l.0 }; is_one = (l.0, l.1, refl); there = l.2 };
   }
 
-  -- the desk stands for the state with the archive for which its store stands now
+  -- the desk represents the state with the archive that its store represents now
   pub restands : (old new : Desk S) (s : Standing) (b : Archive) → KeepsRest old new → StandsFor g old s → stores.StandsFor g new.store b → AreOpenPaths new.open_paths b.plan → ((q : List ℕ) → has s.office.archive.plan.rows q ≡ true → has b.plan.rows q ≡ true) → StandsFor g new (record s { office = with_archive s.office b })
   restands old new s b rest stands store paths keeps =
       let P : List Held → Type 0 = λ xs. AreHeld xs s.flights in
@@ -88,7 +88,7 @@ module _ {S : Type 0} (g : Ghosts S) where
         classes = still_classes s.office.archive.plan b.plan s.flights keeps stands.classes;
       }
 
-  -- the same of the archive that it was
+  -- the same with the archive as it was
   pub still_stands : (old new : Desk S) (s : Standing) → KeepsRest old new → new.open_paths ≡ old.open_paths → StandsFor g old s → stores.StandsFor g new.store s.office.archive → StandsFor g new s
   still_stands old new s rest same stands store =
       let P : Option (List (List ℕ)) → Type 0 = λ x. AreOpenPaths x s.office.archive.plan in
@@ -105,7 +105,7 @@ module _ {S : Type 0} (g : Ghosts S) where
       let step : Settles s.office c (with_archive s.office b.0) = is.settles s.office (with_archive s.office b.0) (made s.office b.0 (command s.office.archive) b.1) in
       (with_archive s.office b.0, inl step, restands old new s b.0 rest stands b.2 (paths s.office.archive b.0 b.1 stands.open_paths) (is.keeps s.office.archive b.0 b.1)))
 
-  -- the same of a call that looks at the rows first
+  -- the same for a call that looks at the rows first
   pub done_by_rows : (old new : Desk S) (c : PlainCommand) (command : Archive → Result Archive StoreFault) → IsCommand c command → KeepsRest old new → ((a b : Archive) → command a ≡ Ok b → AreOpenPaths old.open_paths a.plan → AreOpenPaths new.open_paths b.plan) → stores.Falls g old.store new.store → stores.ObeysRows {X = Unit {0}} g old.store new.store (Ok tt) command stores.Quietly → Calls (IsClean g) (StandsFor g) old (plain c) done new
   done_by_rows old new c command is rest paths falls does = done_by old new c command is rest paths falls (λ clean a stands. (does clean a stands).0)
 

@@ -14,7 +14,7 @@ plan_told : (f : PlanFault) → refused_by (plan_fault f) ≡ refused (number_of
 plan_told plans.NoMemory = refl
 plan_told f = refl
 
--- a refusal of the store is told by its number alone
+-- a refusal of the store is answered by its number alone
 pub told : (f : StoreFault) → refused_by (store_fault f) ≡ refused (store_number f) None
 told (faults.Plan f) = plan_told f
 told f = refl

@@ -1,4 +1,4 @@
--- What speaks against one more capture of a desk, and how one begins.
+-- Why one more capture of a desk is refused, and how one begins.
 use Rattle.std.specs.Prelude.{◌≡◌, ℕ, ◌≤◌, List, length, flat_map, Option, Some, None}
 use denote.Ref.{Bor}
 use Rattle.jiff_core.specs.declared.civil.date.Date.{Date}
@@ -17,7 +17,7 @@ use Rattle.filing_flights.specs.Held.{Held}
 use Rattle.filing_officers.specs.Register.{PinsFor, officer_at}
 use Rattle.filing_desk.specs.declared.desk.Desk.{Desk}
 
--- the first that speaks against a beginning at a moment, of a message of so many octets
+-- the number that refuses a beginning at a moment, of a message of this size in octets; none where it is allowed
 abbrev pub against_begin : {S : Type 0} → Desk S → (moment size : ℕ) → Option ℕ
 against_begin desk moment size = begin_refusal (length desk.flights) desk.last moment size
 
@@ -35,14 +35,14 @@ IsShort limit payload.NoMemory = Unit {0}
 abbrev pub joined : (pieces : List (Bor (List ℕ))) → List ℕ
 joined pieces = flat_map (λ p. p.now) pieces
 
--- all of a desk is as it was, but that open paths may be kept
+-- all of a desk is as it was, except that open paths may be kept
 pub record KeepsAll {S : Type 0} (old new : Desk S) : Type 0 where
   pub store : new.store ≡ old.store
   pub officers : new.officers ≡ old.officers
   pub flights : new.flights ≡ old.flights
   pub last : new.last ≡ old.last
 
--- a capture of what stands at a desk, with nothing done
+-- a new capture of what stands at a desk, with no step made
 pub record IsEntered {S : Type 0} (desk : Desk S) (officer : List ℕ) (ticket : ℕ) (message : List ℕ) (day : Date) (x : Held) : Type 0 where
   pub program : Program
   pub paths : List (List ℕ)

@@ -12,7 +12,7 @@ use Rattle.filing_commands.specs.Faults.{refused_by}
 use Rattle.filing_commands.specs.Office.{IsTrouble}
 use Rattle.filing_commands.specs.declared.fault.DeskFault.{DeskFault}
 
--- nothing is filed: for want of memory or by the database, or because the numbers of records are used up
+-- nothing is filed: there is no memory (99), the database refuses (89), or the numbers of records are used up (87)
 pub record IsNotFiled (a : Archive) (body : List ℕ) (on : ℕ) (classes : List (List ℕ)) (f : DeskFault) : Type 0 where
   pub number : ℕ
   pub told : refused_by f ≡ refused number None

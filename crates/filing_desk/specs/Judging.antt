@@ -9,7 +9,8 @@ use Rattle.filing_commands.specs.declared.fault.DeskFault.TheVariants.{NoMemory}
 abbrev pub IsTooLong : (message : List ℕ) (number : ℕ) → Type 0
 IsTooLong message number = (greatest_message < length message) × (number ≡ 95)
 
--- a fault by the rules, with an offset exactly where its number is shown with one; or want of memory, for a payload within its limit
+-- a fault by the rules, with an offset exactly where its number is shown with one; or no memory (99), for a payload
+-- within its limit
 abbrev pub IsFaultOf : (Refuses : ℕ → Type 0) (limit : ℕ) (payload : List ℕ) → DeskFault → Type 0
 IsFaultOf Refuses limit payload f =
     ((is_some (refusal_of f).offset ≡ has_place (refusal_of f).number) × Refuses (refusal_of f).number) ⊎ ((f ≡ NoMemory) × (length payload ≤ limit))

@@ -1,4 +1,4 @@
--- The states that a desk stands for.
+-- The states that a desk represents.
 use Rattle.std.specs.Prelude.{◌≡◌, ℕ, List, true, Option, Some, None, min}
 use Rattle.std.specs.List.{AllByRecursion}
 use Rattle.sqlite.specs.Store.{Ghosts}
@@ -28,7 +28,7 @@ AreOpenPaths (Some paths) p = is_among paths ≡ is_open_in p
 abbrev pub HasPathsOf : Listing → Flight → Type 0
 HasPathsOf p f = (q : List ℕ) → f.stood.is_open q ≡ true → has p.rows q ≡ true
 
--- Its store stands for the archive of the state, its officers for the office, and its captures hold the flights.
+-- Its store represents the archive of the state, its officers represent the office, and its captures hold the flights.
 pub record StandsFor {S : Type 0} (g : Ghosts S) (desk : Desk S) (s : Standing) : Type 0 where
   pub store : stores.StandsFor g desk.store s.office.archive
   pub officers : office_of s.office.archive desk.officers ≡ s.office
@@ -37,8 +37,8 @@ pub record StandsFor {S : Type 0} (g : Ghosts S) (desk : Desk S) (s : Standing) 
   pub open_paths : AreOpenPaths desk.open_paths s.office.archive.plan
   pub classes : AllByRecursion (HasPathsOf s.office.archive.plan) s.flights
 
--- a capture in flight is shown by its program, and by a machine that stands on its run after the lesser of its turns and its
--- run's length
+-- a capture in flight is shown by its program, and by a machine that stands on its run after the lesser of its turns
+-- and its run's length
 abbrev pub IsShownBy : Option Flight → Program → Stored → Type 0
 IsShownBy None program machine = ⊥
 IsShownBy (Some f) program machine = (program ≡ f.pinned) × Stands program (case_in f.stood) machine × (machine.steps ≡ min f.granted f.run_length)

@@ -1,4 +1,4 @@
-//! The calls of the store.
+//! The calls that reach the store: classes, plans, holds, due lists and destruction.
 
 ghost use Rattle.std.specs.Prelude.{◌≡◌, ℕ, ◌≤◌, ◌^◌, pos, MatchResult};
 ghost use Rattle.jiff.specs.Words.{epoch_day, IsBetween};
@@ -19,7 +19,7 @@ use sqlite::Alter;
 /// The day number of 9999-12-31.
 const LAST_DAY: i64 = 2_932_896;
 
-/// A record's number, which has 32 bits (80).
+/// A record's number in 32 bits; no record has a greater one (80).
 fn record_number(number: u64) -> Result<u32, StoreFault>
     ensures { MatchResult result (λ n. n ≡ number) (λ f. (f ≡ NoRecord) × (2 ^ 32 ≤ number)) }
 {
@@ -46,7 +46,8 @@ impl<S: Alter> Desk<S> {
     ghost use Rattle.filing_commands.specs.Calls.{Calls, CallsOn, CallsWith};
     ghost use Rattle.filing_desk.specs.Standing.{IsClean, StandsFor};
 
-    /// Adds a class, as `Registry` says.
+    /// Adds an open class without a schedule of its own, as `Registry` says. Refused with the smallest of 52 (no path),
+    /// 53 (no parent), 54 (there already) and 56 (4,096 classes).
     pub fn add_class(&mut self, path: &[u8]) -> Result<(), DeskFault>
         ensures { Calls (IsClean S.Store) (StandsFor S.Store) self.old (commands.plain (office.add_class path.now)) (told_done result) self.new }
     {
@@ -55,7 +56,8 @@ impl<S: Alter> Desk<S> {
         Ok(())
     }
 
-    /// Takes over a plan, as `Registry` says.
+    /// Takes over a plan, a TOML document, as `Registry` says. Refused with 58 (more than 1,048,576 octets), then the
+    /// smallest of 50 to 56 that holds of its text, then 57 (it drops a path).
     pub fn set_plan(&mut self, text: &Payload) -> Result<(), DeskFault>
         ensures { CallsWith (IsClean S.Store) (StandsFor S.Store) self.old greatest_plan text.now (λ t. commands.plain (office.set_plan t))
             (told_done result) self.new }
@@ -67,7 +69,8 @@ impl<S: Alter> Desk<S> {
         Ok(())
     }
 
-    /// Places a hold, as `Registry` says.
+    /// Places a hold of a name on a record, as `Registry` says. Refused with 80 (no such record), 84 (destroyed) or 86
+    /// (that hold is there).
     pub fn hold(&mut self, name: &[u8], number: u64) -> Result<(), DeskFault>
         ensures { Calls (IsClean S.Store) (StandsFor S.Store) self.old (commands.plain (office.hold name.now number)) (told_done result) self.new }
     {
@@ -76,7 +79,7 @@ impl<S: Alter> Desk<S> {
         Ok(())
     }
 
-    /// Ends a hold, as `Registry` says.
+    /// Ends a hold of a name on a record, as `Registry` says. Refused with 80 (no such record) or 85 (no such hold).
     pub fn release(&mut self, name: &[u8], number: u64) -> Result<(), DeskFault>
         ensures { Calls (IsClean S.Store) (StandsFor S.Store) self.old (commands.plain (office.release name.now number)) (told_done result) self.new }
     {
@@ -85,7 +88,8 @@ impl<S: Alter> Desk<S> {
         Ok(())
     }
 
-    /// The due list of a day, as `Registry` says.
+    /// The due list of a day of the years 1970 to 9999, as `Registry` says: the live records without a hold that are
+    /// due by then, by due day and then by number.
     pub fn due(&mut self, day: Date) -> Result<Vec<Line>, DeskFault>
         ensures { CallsOn (IsClean S.Store) (StandsFor S.Store) self.old day (λ n. commands.plain (office.due n)) (told_lines result) self.new }
     {
@@ -93,7 +97,8 @@ impl<S: Alter> Desk<S> {
         Ok(lines)
     }
 
-    /// Destroys a record, as `Registry` says.
+    /// Destroys a record that is due by a day of the years 1970 to 9999, as `Registry` says. Refused with 80 (no such
+    /// record), 84 (destroyed), 81 (held), 83 (its schedule does not destroy) or 82 (due later), in this order.
     pub fn destroy(&mut self, number: u64, day: Date) -> Result<(), DeskFault>
         ensures { CallsOn (IsClean S.Store) (StandsFor S.Store) self.old day (λ n. commands.plain (office.destroy number n))
             (told_done result) self.new }

@@ -53,8 +53,8 @@ fn octets_of(message: Payload) -> Result<Vec<u8>, DeskFault>
     }
 }
 
-/// Makes the records of a capture in a store, whole or not at all. 87 where the numbers are used up, 89 and 99; a path that is no class
-/// of the plan, which no capture of a desk that stands for a state files into, is 88.
+/// Makes the records of a capture in a store, all or none. Refused with 87 (numbers used up), 89 or 99. A path that is
+/// no class of the plan gives 88; no capture of a desk that represents a state files into such a path.
 fn file_outcome<S: Alter>(
     alloc: Global,
     store: &mut Store<S>,
@@ -76,7 +76,7 @@ impl<S: Alter> Desk<S> {
     ghost use Rattle.filing_commands.specs.Calls.{Calls, CallsWith};
     ghost use Rattle.filing_desk.specs.Standing.{IsClean, StandsFor};
 
-    /// The day of a moment, where nothing speaks against one more capture: 94, 95, 90 and 97 in this order.
+    /// The day of a moment, where one more capture may begin. Else 94, 95, 90 or 97, judged in this order.
     fn judge_begin(&self, moment: u64, message: &Payload) -> Result<Date, DeskFault>
         ensures day { IfOk result (λ d. IsCaptureDay d × (epoch_day d ≡ pos (moment / 86400))) }
         ensures short { OnOk result (IsShort greatest_message message.now) }
@@ -115,7 +115,7 @@ impl<S: Alter> Desk<S> {
         Ok(paths)
     }
 
-    /// A capture of a message by an officer's program, with nothing done.
+    /// A new capture of a message by an officer's program, with no step made.
     fn enter(
         &mut self,
         ticket: u32,
@@ -135,7 +135,9 @@ impl<S: Alter> Desk<S> {
         Ok(flight)
     }
 
-    /// Begins a capture, as `Registry` says.
+    /// Begins a capture of a message by an officer's program at a moment in seconds since 1970-01-01T00:00:00Z, as
+    /// `Registry` says. It answers the ticket and the budget in steps. Refused with 94 (after 2199), 95 (more than
+    /// 8,388,608 octets), 90 (sixty-four captures in flight) or 97 (tickets used up), in this order.
     pub fn begin(
         &mut self,
         officer: &[u8],
@@ -155,14 +157,16 @@ impl<S: Alter> Desk<S> {
         Ok((ticket, budget))
     }
 
-    /// Grants turns to a capture, as `Registry` says.
+    /// Grants `count` turns to the capture of a ticket, as `Registry` says. Refused with 91 (no such ticket). Where
+    /// there is no memory (99), the steps that were made before are kept.
     pub fn turn(&mut self, ticket: u64, count: u32) -> Result<Turn, DeskFault>
         ensures { Calls (IsClean S.Store) (StandsFor S.Store) self.old (commands.turn ticket count) (told_turn result) self.new }
     {
         self.flights.turn(ticket, count)
     }
 
-    /// Makes the records of a capture, as `Registry` says.
+    /// Makes the records of a capture that has come to its end, and gives its ticket up, as `Registry` says. Refused
+    /// with 91 (no such ticket), 92 (not ended) or 87 (numbers of records used up); the ticket is then kept.
     pub fn finish(&mut self, ticket: u64) -> Result<Capture, DeskFault>
         ensures { Calls (IsClean S.Store) (StandsFor S.Store) self.old (commands.finish ticket) (told_capture result) self.new }
     {
@@ -181,7 +185,7 @@ impl<S: Alter> Desk<S> {
         })
     }
 
-    /// What is pinned for a capture in flight, and its machine; none where no capture in flight has the ticket.
+    /// The pinned program of a capture in flight, and its machine; none where no capture in flight has the ticket.
     pub fn in_flight(&self, ticket: u64) -> Option<(&Verified, &Machine)>
         ensures { (s : Standing) → StandsFor S.Store self.now s → MatchOption result (flight_of ticket s.flights ≡ None)
             (λ p. IsShownBy (flight_of ticket s.flights) p.0.now p.1.now) }

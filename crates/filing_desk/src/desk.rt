@@ -1,4 +1,4 @@
-//! The desk.
+//! The desk: what it keeps, and how it is made and taken apart.
 
 ghost use Rattle.std.specs.Prelude.{◌≡◌, IfOk, IfErr};
 ghost use Rattle.record_store.specs.Archive.{Archive};
@@ -10,8 +10,9 @@ use record_store::Store;
 use sqlite::Alter;
 use std::alloc::Global;
 
-/// What a session talks to: it keeps records in a store, the scripts and programs of officers, and captures in flight. Contracts say
-/// for which states it stands.
+/// The office that a session talks to. It keeps records in a store, the scripts and programs of officers, and captures
+/// in flight. Contracts say which states it represents. Besides its own refusals, a call may be refused with 89 where
+/// the database refuses, and with 99 where there is no memory.
 #[derive(Drop)]
 pub struct Desk<S: Alter> {
     pub(crate) alloc: Global,
@@ -28,8 +29,8 @@ impl<S: Alter> Desk<S> {
     ghost use Rattle.filing_commands.specs.Standing.{Standing, opening};
     ghost use Rattle.filing_desk.specs.Standing.{StandsFor};
 
-    /// A desk over a store, with no script, no program of an officer and no capture in flight. Want of memory (99), the only error,
-    /// hands the store back.
+    /// A desk over a store, with no script, no program of an officer and no capture in flight. The only error is no
+    /// memory (99), and it hands the store back.
     pub fn new(alloc: Global, store: Store<S>) -> Result<Desk<S>, Store<S>>
         ensures opens { IfOk result (λ d. (a : Archive) → stores.StandsFor S.Store store a → StandsFor S.Store d (opening a)) }
         ensures over { IfOk result (λ d. d.store ≡ store) }
@@ -45,7 +46,7 @@ impl<S: Alter> Desk<S> {
         })
     }
 
-    /// The store, given back. Scripts, programs and captures in flight are dropped.
+    /// Gives the store back. Scripts, programs and captures in flight are dropped.
     pub fn into_store(self) -> Store<S>
         ensures store { result ≡ self.store }
         ensures stands { (s : Standing) → StandsFor S.Store self s → stores.StandsFor S.Store result s.office.archive }

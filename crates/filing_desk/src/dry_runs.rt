@@ -1,4 +1,4 @@
-//! Dry runs: what a script or an image captures a message in, with nothing stored.
+//! Dry runs: the outcome of a script or an image for a message, with nothing stored.
 
 ghost use Rattle.std.specs.Prelude.{◌≡◌, ℕ, [], false, Some, None, IfOk, IfErr};
 ghost use Rattle.sieve_syntax.specs.View.{tree_of};
@@ -74,7 +74,9 @@ impl<S: Alter> Desk<S> {
     ghost use Rattle.filing_commands.specs.Calls.{CallsWithTwo};
     ghost use Rattle.filing_desk.specs.Standing.{IsClean, StandsFor};
 
-    /// What an image captures a message in, as `Registry` says.
+    /// The outcome of an image's run on a message, as `Registry` says; nothing is stored. Refused with 61 (more than
+    /// 16,777,216 octets), 60 (form) or 62 to 66 (code) for the image, then 95 for a message of more than 8,388,608
+    /// octets.
     pub fn try_image(&self, image: &Payload, message: &Payload) -> Result<Outcome, DeskFault>
         ensures { CallsWithTwo (IsClean S.Store) (StandsFor S.Store) self.now (greatest_image, greatest_message) image.now message.now
             (λ i m. commands.plain (office.try_image i m)) (told_outcome result) self.now }
@@ -85,7 +87,9 @@ impl<S: Alter> Desk<S> {
         Ok(outcome)
     }
 
-    /// What a script captures a message in, as `Registry` says.
+    /// The outcome of a script for a message, as `Registry` says; nothing is stored. The script can include the global
+    /// scripts alone. Refused with 10 to 16, 20 and 21 (text) or 30 to 41 (check) for the script, then 95 for a message
+    /// of more than 8,388,608 octets. A script of weight above 60,000 has the outcome fault 5.
     pub fn file(&self, script: &Payload, message: &Payload) -> Result<Outcome, DeskFault>
         ensures { CallsWithTwo (IsClean S.Store) (StandsFor S.Store) self.now (greatest_script, greatest_message) script.now message.now
             (λ s m. commands.plain (office.file s m)) (told_outcome result) self.now }

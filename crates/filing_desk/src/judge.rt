@@ -31,7 +31,7 @@ fn judge_text(alloc: Global, text: &[u8]) -> Result<Checked, DeskFault>
     Ok(checked)
 }
 
-/// The checked script of a payload.
+/// The checked script of a payload. Refused with 10 to 16, 20 and 21 as a text, and with 30 to 41 by the check.
 pub fn judge_script(alloc: Global, script: &Payload) -> Result<Checked, DeskFault>
     ensures short { (s : List ℕ) → IsOf greatest_script script.now s → OnOk result (length s ≤ greatest_script) }
     ensures good { (s : List ℕ) → IsOf greatest_script script.now s → IfOk result (λ c. IsGood s (tree_of c.script)) }
@@ -57,7 +57,7 @@ fn judge_octets(alloc: Global, image: &[u8]) -> Result<Verified, DeskFault>
     }
 }
 
-/// The program of an image that may run.
+/// The program of an image that may run. Refused with 61 (length), 60 (form) or 62 to 66 (code).
 pub fn judge_image(alloc: Global, image: &Payload) -> Result<Verified, DeskFault>
     ensures short { (i : List ℕ) → IsOf greatest_image image.now i → OnOk result (length i ≤ greatest_image) }
     ensures good { (i : List ℕ) → IsOf greatest_image image.now i → IfOk result (λ v. IsGoodImage i v) }
@@ -69,7 +69,8 @@ pub fn judge_image(alloc: Global, image: &Payload) -> Result<Verified, DeskFault
     }
 }
 
-/// The case of a message and of the open classes of a plan.
+/// The case of a message and of the open classes of a plan. Refused with 95 where the message has more than 8,388,608
+/// octets.
 pub fn judge_message<'a>(
     alloc: Global,
     plan: &'a Plan,

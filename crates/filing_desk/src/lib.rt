@@ -1,16 +1,16 @@
-//! The desk: what a session talks to. It files messages by scripts, and keeps records in a store.
+//! The desk: the office that a session talks to. It files messages by scripts, and keeps records in a store.
 //!
-//! - `desk`: what a desk keeps, and how it comes and goes;
-//! - `archive`: the calls of its store;
+//! - `desk`: what a desk keeps, and how it is made and taken apart;
+//! - `archive`: the calls that reach its store;
 //! - `officers`: the scripts that are kept, and what officers set;
 //! - `captures`: captures in flight;
 //! - `pieces`: messages that come in pieces;
 //! - `dry_runs`: runs that store nothing;
 //! - `judge`: payloads as scripts, images and cases of messages;
-//! - `registry`: the desk as what a session talks to.
+//! - `registry`: the desk as a `Registry`.
 //!
-//! What each command may be answered, and what it leaves, stands in the crate `filing_commands`. In `specs/`, `Standing` says for
-//! which states of it a desk stands.
+//! The crate `filing_commands` defines what each command may be answered and what it leaves. `Standing` in `specs/`
+//! says which of its states a desk represents.
 #![tactic(auto)]
 
 mod archive;

@@ -15,7 +15,8 @@ impl<S: Alter> Desk<S> {
     ghost use Rattle.filing_commands.specs.Calls.{Calls, CallsWith};
     ghost use Rattle.filing_desk.specs.Standing.{IsClean, StandsFor};
 
-    /// Keeps a script of an officer, as `Registry` says.
+    /// Keeps a script of an officer under a name, as `Registry` says. Refused with 10 to 16, 20 and 21 (text), 30 to 41
+    /// (check), or 96 (thirty-two scripts of the officer have other names).
     pub fn set_script(
         &mut self,
         officer: &[u8],
@@ -30,7 +31,8 @@ impl<S: Alter> Desk<S> {
         Ok(())
     }
 
-    /// Keeps a global script, as `Registry` says.
+    /// Keeps a global script under a name, as `Registry` says. Refused with 10 to 16, 20 and 21 (text), 30 to 41
+    /// (check), or 96 (thirty-two global scripts have other names).
     pub fn set_global(&mut self, name: &[u8], text: &Payload) -> Result<(), DeskFault>
         ensures { CallsWith (IsClean S.Store) (StandsFor S.Store) self.old greatest_script text.now
             (λ t. commands.plain (office.set_global name.now t)) (told_done result) self.new }
@@ -40,7 +42,8 @@ impl<S: Alter> Desk<S> {
         Ok(())
     }
 
-    /// Sets a script as an officer's program, as `Registry` says.
+    /// Sets the script of a name as an officer's program, as `Registry` says. Refused with 93 where the officer has
+    /// none of that name.
     pub fn activate(&mut self, officer: &[u8], name: &[u8]) -> Result<(), DeskFault>
         ensures { Calls (IsClean S.Store) (StandsFor S.Store) self.old (commands.plain (office.activate officer.now name.now)) (told_done result) self.new }
     {
@@ -48,14 +51,15 @@ impl<S: Alter> Desk<S> {
         Ok(())
     }
 
-    /// Sets no program for an officer, as `Registry` says.
+    /// Sets no program for an officer, as `Registry` says. It is never refused.
     pub fn deactivate(&mut self, officer: &[u8])
         ensures { Calls (IsClean S.Store) (StandsFor S.Store) self.old (commands.plain (office.deactivate officer.now)) (told_done (Ok tt)) self.new }
     {
         self.officers.deactivate(officer);
     }
 
-    /// Sets an image as an officer's program, as `Registry` says.
+    /// Sets an image as an officer's program, as `Registry` says. Refused with 61 (length), 60 (form) or 62 to 66
+    /// (code).
     pub fn set_image(&mut self, officer: &[u8], image: &Payload) -> Result<(), DeskFault>
         ensures { CallsWith (IsClean S.Store) (StandsFor S.Store) self.old greatest_image image.now
             (λ i. commands.plain (office.set_image officer.now i)) (told_done result) self.new }

@@ -27,7 +27,7 @@ fn length_of(pieces: &[&[u8]]) -> Option<usize>
     Some(octets)
 }
 
-/// The octets of all pieces, for which room is taken once.
+/// The octets of all pieces, for which memory is allocated once.
 fn join(alloc: Global, length: usize, pieces: &[&[u8]]) -> Result<Vec<u8>, AllocError>
     ensures { IfOk result (λ v. v.items ≡ joined pieces.now) }
 {
@@ -38,7 +38,7 @@ fn join(alloc: Global, length: usize, pieces: &[&[u8]]) -> Result<Vec<u8>, Alloc
     Ok(message)
 }
 
-/// The message that comes in pieces, as a payload. No memory is taken where it is too long.
+/// The message that comes in pieces, as a payload. No memory is allocated where it is too long.
 fn payload_of(alloc: Global, pieces: &[&[u8]]) -> Payload
     ensures { IsOf greatest_message result (joined pieces.now) }
 {
@@ -55,8 +55,8 @@ impl<S: Alter> Desk<S> {
     ghost use Rattle.filing_commands.specs.Calls.{Calls};
     ghost use Rattle.filing_desk.specs.Standing.{IsClean, StandsFor};
 
-    /// Begins a capture of a message that comes in pieces, of which each may be empty: it is answered as `begin` is for the pieces
-    /// one after the other. The capture keeps the octets once, and none of the pieces.
+    /// Begins a capture of a message that comes in pieces, of which each may be empty. It is answered as `begin` is for
+    /// the pieces one after the other. The capture keeps the octets once, and none of the pieces.
     pub fn begin_pieces(
         &mut self,
         officer: &[u8],

@@ -1,4 +1,4 @@
-//! The desk as what a session talks to.
+//! The desk as the `Registry` that a session talks to.
 
 use crate::desk::Desk;
 use class_plan::Date;

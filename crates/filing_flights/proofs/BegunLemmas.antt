@@ -14,7 +14,7 @@ use Rattle.filing_commands.specs.Standing.{Begins, Flight, IsPinned, Standing, b
 use Rattle.filing_flights.specs.Held.{Held, facts_in}
 use Rattle.filing_flights.specs.Begun.{HoldsBegun, IsBegun}
 
--- a capture with the case of its message and paths, that has made no step, holds each flight that begins so
+-- a capture with the case of its message and paths, and with no step made, holds each flight that begins with these
 pub holds_begun : (x : Held) (paths : List (List ℕ)) → facts_in x.case ≡ case_of x.message (is_among paths) → x.machine.steps ≡ 0 → HoldsBegun x.ticket x.program x.message paths x.day x
 holds_begun x paths case none = λ f b.
     let granted = b.fresh in
@@ -28,18 +28,18 @@ holds_begun x paths case none = λ f b.
       steps = omega (arith, none, granted);
     }
 
--- the flight that begins under a ticket: its run is as long as the run of a program that may run is
+-- the flight that begins with a ticket; its run is as long as that of a program that may run
 abbrev pub first_flight : (ticket : ℕ) → (s : Stood) → (p : Program) → IsWell p → Flight
 first_flight ticket s p well = record { ticket = ticket; stood = s; pinned = p; run_length = (ends_within p (case_in s) well).0; granted = 0 }
 
 pub first_pinned : (t : ℕ) (s : Stood) (p : Program) (well : IsWell p) → Pins s p → IsPinned (first_flight t s p well)
 first_pinned t s p well pins = let run = ends_within p (case_in s) well in record { pins = pins; well = well; length = (run.1, run.3) }
 
--- it begins with the program, the message, the open paths and the day of what stood
+-- it begins with the program, the message, the open paths and the day of the state at its beginning
 pub first_begun : (t : ℕ) (s : Stood) (p : Program) (well : IsWell p) (paths : List (List ℕ)) (day : Date) → Pins s p → s.is_open ≡ is_among paths → epoch_day day ≡ pos s.day → IsBegun t p s.message paths day (first_flight t s p well)
 first_begun t s p well paths day pins opens on = record { ticket = refl; program = refl; pinned = first_pinned t s p well pins; message = refl; paths = opens; day = on; fresh = refl }
 
--- the standing after a capture has begun
+-- the state of the desk after a capture has begun
 abbrev pub after_begin : (s : Standing) → Flight → Standing
 after_begin s f = record { office = s.office; flights = s.flights ++ f ∷ []; last = s.last + 1 }
 
@@ -58,7 +58,7 @@ begins s officer moment message p well allowed pins =
       leaves = refl;
     }
 
--- what speaks against one more, from the first
+-- the reasons against one more capture, from the first
 pub refused_moment : (count last moment size : ℕ) → last_moment < moment → begin_refusal count last moment size ≡ Some 94
 refused_moment count last moment size h = let e : nat_lt last_moment moment ≡ true = grind (arith, nat_tests, h) in rw e refl
 

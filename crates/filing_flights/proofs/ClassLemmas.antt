@@ -18,7 +18,7 @@ record IsFiled (c : Facts) (filed : Paths) : Type 0 where
   open_paths : AllByRecursion (λ q. c.is_open q ≡ true) filed
   in_order : IsIncreasing filed
 
--- the paths that a run has filed into are such
+-- the paths that a run has filed are such
 abbrev HasFiled : Facts → Run → Type 0
 HasFiled c (At s) = IsFiled c s.filed
 HasFiled c (Over f s) = IsFiled c s.filed

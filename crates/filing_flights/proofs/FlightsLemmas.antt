@@ -1,4 +1,4 @@
--- The captures in flight beside the flights that they hold.
+-- The captures in flight and the flights that they hold.
 use Rattle.std.proofs.Common.{◌≡◌, ◌<◌, ◌+◌, ◌++◌, ◌∷◌, [], ℕ, zero, suc, List, length, refl, arith, ap, ◌∙◌, sym, inl, inr, Bool, true, false, Some, None, get_or, set, eqb, subst}
 use Rattle.std.specs.Prelude.{◌==◌, nat_le, position, remove}
 use Rattle.std.specs.List.{position_from}
@@ -11,7 +11,7 @@ use Rattle.filing_commands.specs.Standing.{Flight, flight_of, grant, turned, wit
 use Rattle.filing_flights.specs.Held.{Held, Holds, IsGranted, StopsShort, granting_more}
 use Rattle.filing_flights.specs.Flights.{Adds, AreHeld, Finds, Removes, TellsFull, Turns}
 
--- as many are in flight
+-- there are as many captures as flights
 pub as_many : (xs : List Held) (fs : List Flight) → AreHeld xs fs → length xs ≡ length fs
 as_many [] [] a = refl
 as_many (x ∷ xs) (f ∷ fs) a = ap suc (as_many xs fs a.1)
@@ -30,13 +30,13 @@ adds xs x = λ fs f a h. more xs fs f a h
     more [] (g ∷ fs) f a h = absurd a
     more (y ∷ ys) [] f a h = absurd a
 
--- the capture of a ticket stands at this place of the list
+-- the first capture with the ticket is at this place of the list
 record IsAt (t : ℕ) (xs : List Held) (i : ℕ) (d : Held) : Type 0 where
   within : i < length xs
   here : eqb (get_or xs i d).ticket t ≡ true
   first : (k : ℕ) → k < i → eqb (get_or xs k d).ticket t ≡ false
 
--- what the flight of that ticket is, and what a change and a removal lead to
+-- the flight of that ticket, and the effects of a change and a removal
 record HasFlight (t : ℕ) (xs : List Held) (fs : List Flight) (i : ℕ) (d : Held) : Type 0 where
   flight : Flight
   is : flight_of t fs ≡ Some flight
@@ -86,7 +86,7 @@ some t xs fs i d a e =
     let h = position-Some (λ x. x.ticket == t) xs i d e in
     has_flight t xs fs i d a (record { within = h.0; here = h.1; first = h.2 })
 
--- without a flight of the ticket nothing is granted and none is removed
+-- without a flight of the ticket nothing is granted and no flight is removed
 grant-none : (t k : ℕ) (fs : List Flight) → flight_of t fs ≡ None → grant t k fs ≡ fs
 grant-none t k [] e = refl
 grant-none t k (f ∷ fs) e = go (eqb f.ticket t) refl (grant-none t k fs)

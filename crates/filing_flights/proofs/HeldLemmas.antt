@@ -1,4 +1,4 @@
--- What holds of a flight that is held, as its machine makes steps.
+-- A flight that is held, as its machine makes steps.
 use Rattle.std.proofs.Common.{◌≡◌, ◌+◌, ℕ, min, refl, arith, subst, Option, Some, None}
 use Rattle.std.specs.Prelude.{is_some, nat_lt, not, if◌then◌else◌}
 use Rattle.std.proofs.lemmas.Bool.Decides.{nat_tests}
@@ -20,14 +20,14 @@ use Rattle.filing_commands.proofs.Alone.{pinned_alone}
 abbrev pub with_machine : Held → Stored → Held
 with_machine x m = record x { machine = m }
 
--- a machine stands on the run of what is pinned, in the case of what stood
+-- the machine is on the run of what is pinned, in the case of the state at the beginning
 pub on_run : (x : Held) (f : Flight) (m : Stored) → Holds x f → Stands x.program (facts_in x.case) m → Stands f.pinned (case_in f.stood) m
 on_run x f m h k =
     let P : Program → Type 0 = λ p. Stands p (facts_in x.case) m in
     let Q : Facts → Type 0 = λ c. Stands f.pinned c m in
     subst Q h.facts (subst P h.program k)
 
--- the flight is held after more turns, where the machine has made as many steps as they say
+-- the flight is held after more turns, where the machine has made that many steps
 moved : (x : Held) (m : Stored) (f : Flight) (k : ℕ) → Holds x f → m.steps ≡ min (f.granted + k) f.run_length → Holds (with_machine x m) (granting_more f k)
 moved x m f k h n = record {
   ticket = h.ticket;
@@ -64,7 +64,7 @@ stopped_short x m k on stop = λ f h.
     } in
     (j, interrupted, moved x m f j h least)
 
--- an end is told exactly where the turns are as many as the run has steps
+-- an end is answered exactly where the turns are at least as many as the steps of the run
 ends_told : (x : Held) (f : Flight) (end : Option (Option ℕ)) → x.machine.end ≡ end → Stands x.program (facts_in x.case) x.machine → Holds x f → is_some end ≡ not (nat_lt f.granted f.run_length)
 ends_told x f None e on h =
     let length = h.pinned.length in

@@ -1,4 +1,4 @@
--- Where a machine stands beside the end of its run.
+-- The steps of a machine and the length of its run.
 use Rattle.std.proofs.Common.{◌≡◌, ◌<◌, ◌+◌, ℕ, min, refl, arith, ap, ◌∙◌, sym, inl, inr, Option, Some, None}
 use Rattle.std.proofs.lemmas.Bool.{cases_order}
 use Rattle.filing_image.specs.Program.{Program}

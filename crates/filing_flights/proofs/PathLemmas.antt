@@ -13,7 +13,7 @@ use Rattle.sieve_meaning.specs.Paths.{Paths, insert_path, IsIncreasing}
 abbrev order : List ℕ → List ℕ → Ordering
 order = slice_cmp nat_cmp
 
--- a comparison from the other side
+-- a comparison the other way round
 turned : (p q : List ℕ) (o : Ordering) → order q p ≡ o → order p q ≡ ordering_reverse o
 turned p q o e = nat_list_cmp_total.antisymm p q ∙ ap ordering_reverse e
 
@@ -22,7 +22,7 @@ pub none_increasing : IsIncreasing []
 unfolding IsStrictlySortedBy
 none_increasing = tt
 
--- what holds of each path of a set and of one more holds in the set with that one
+-- what holds of each path of a set and of one more path holds of the set with that path
 pub all_in_insert_path : (P : List ℕ → Type 0) (xs : Paths) (p : List ℕ) → P p → AllByRecursion P xs → AllByRecursion P (insert_path p xs)
 all_in_insert_path P [] p one all = (one, tt)
 all_in_insert_path P (q ∷ qs) p one all = elim (order p q) as (λ o. AllByRecursion P (match_ordering o (p ∷ q ∷ qs) (q ∷ qs) (q ∷ insert_path p qs))) [
@@ -31,7 +31,7 @@ all_in_insert_path P (q ∷ qs) p one all = elim (order p q) as (λ o. AllByRecu
   | Greater ↦ (all.0, all_in_insert_path P qs p one all.1)
 ]
 
--- a lesser path is below all that a path is below
+-- a path below another is below all paths that the other is below
 below_all : (p q : List ℕ) (xs : Paths) → order p q ≡ Less → AllByRecursion (λ y. order q y ≡ Less) xs → AllByRecursion (λ y. order p y ≡ Less) xs
 below_all p q [] less all = tt
 below_all p q (x ∷ xs) less all = (nat_list_cmp_total.trans p q x less all.0, below_all p q xs less all.1)

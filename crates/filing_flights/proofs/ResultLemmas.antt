@@ -1,4 +1,4 @@
--- What follows from what holds of a result.
+-- Consequences of what holds of a result.
 use Rattle.std.specs.Prelude.{Result, Ok, Err, IfOk, OnOk, OnErr}
 
 module _ {A E : Type 0} where

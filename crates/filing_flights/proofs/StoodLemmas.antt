@@ -1,4 +1,4 @@
--- What holds of all that stood at the beginnings of flights, as flights are added, granted turns, found and removed.
+-- What holds of the states at the beginnings of flights, as flights are added, granted turns, found and removed.
 use Rattle.std.proofs.Common.{◌≡◌, ℕ, List, [], ◌∷◌, ◌++◌, subst, eqb, true, false, Some}
 use Rattle.std.specs.Prelude.{◌+◌, if◌then◌else◌}
 use Rattle.std.specs.List.{AllByRecursion}

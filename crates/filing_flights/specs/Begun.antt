@@ -7,7 +7,7 @@ use Rattle.filing_case.specs.Message.{is_among}
 use Rattle.filing_commands.specs.Standing.{Flight, IsPinned}
 use Rattle.filing_flights.specs.Held.{Held, Holds}
 
--- A flight of a ticket, a program, a message, open paths and a day, that was granted no turns.
+-- a flight of a ticket, a program, a message, open paths and a day, which was granted no turns
 pub record IsBegun (number : ℕ) (p : Program) (octets : List ℕ) (opened : List (List ℕ)) (on : Date) (f : Flight) : Type 0 where
   pub ticket : f.ticket ≡ number
   pub program : f.pinned ≡ p

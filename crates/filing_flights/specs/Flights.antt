@@ -12,7 +12,7 @@ AreHeld (x ∷ xs) (f ∷ fs) = Holds x f × AreHeld xs fs
 AreHeld [] (f ∷ fs) = ⊥
 AreHeld (x ∷ xs) [] = ⊥
 
--- the answer is whether as many are in flight as can be
+-- the answer is whether the most captures are in flight
 abbrev pub TellsFull : List Held → Bool → Type 0
 TellsFull xs b = (fs : List Flight) → AreHeld xs fs → b ≡ nat_le most_in_flight (length fs)
 
@@ -22,11 +22,11 @@ IsFound (Some f) (Some x) = Holds x f
 IsFound None (Some x) = ⊥
 IsFound (Some f) None = ⊥
 
--- what is found holds the flight of the ticket
+-- the capture that is found holds the flight of the ticket
 abbrev pub Finds : List Held → (ticket : ℕ) → Option Held → Type 0
 Finds xs t x = (fs : List Flight) → AreHeld xs fs → IsFound (flight_of t fs) x
 
--- Turns of a ticket are answered so and leave these, which hold the flights after some of the turns.
+-- turns of a ticket have this answer, and leave captures that hold the flights after some of the turns
 pub record IsTurned (s : Standing) (t count : ℕ) (a : Answer) (new : List Held) : Type 0 where
   pub made : ℕ
   pub step : TurnStep s t count (flight_of t s.flights) a (granting s t made)
@@ -35,7 +35,7 @@ pub record IsTurned (s : Standing) (t count : ℕ) (a : Answer) (new : List Held
 abbrev pub Turns : (old : List Held) → (ticket count : ℕ) → Answer → (new : List Held) → Type 0
 Turns old t count a new = (s : Standing) → AreHeld old s.flights → IsTurned s t count a new
 
--- one more is in flight, after the others
+-- one more capture is in flight, after the others
 abbrev pub Adds : (old : List Held) → Held → (new : List Held) → Type 0
 Adds old x new = (fs : List Flight) (f : Flight) → AreHeld old fs → Holds x f → AreHeld new (fs ++ f ∷ [])
 

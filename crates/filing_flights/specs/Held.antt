@@ -1,4 +1,4 @@
--- What is kept of a capture in flight, and what its calls say of the flight that it holds.
+-- What is kept of a capture in flight, and what its calls answer about the flight that it holds.
 use Rattle.std.specs.Prelude.{◌≡◌, ℕ, pos, ◌+◌, ◌⊎◌, min, List, Bool, true, not, nat_lt, is_some, Ok}
 use Rattle.jiff.specs.Words.{epoch_day}
 use Rattle.jiff_core.specs.declared.civil.date.Date.{Date}
@@ -14,7 +14,7 @@ use Rattle.filing_commands.specs.Standing.{Flight, IsInterrupted, IsPinned, turn
 use Rattle.filing_commands.specs.Told.{told_turn}
 use Rattle.filing_commands.specs.declared.told.Turn.{Turn}
 
--- what is kept of a capture in flight; of its case, the paths that were open at its beginning
+-- what is kept of a capture in flight; its case has the paths that were open at its beginning
 pub record Held : Type 0 where
   pub ticket : ℕ
   pub program : Program
@@ -23,11 +23,11 @@ pub record Held : Type 0 where
   pub day : Date
   pub machine : Stored
 
--- what a run learns of a message and of a list of open paths
+-- what a run can learn of a message and a list of open paths
 abbrev pub facts_in : WholeCase (List (List ℕ)) → Facts
 facts_in c = facts_by is_among c
 
--- A capture holds what its flight says, and its machine has made the lesser of its turns and its run's length.
+-- a capture holds a flight: they agree, and the machine has made as many steps as turns, but no more than the run has
 pub record Holds (x : Held) (f : Flight) : Type 0 where
   pub ticket : x.ticket ≡ f.ticket
   pub program : x.program ≡ f.pinned
@@ -37,7 +37,7 @@ pub record Holds (x : Held) (f : Flight) : Type 0 where
   pub day : epoch_day x.day ≡ pos f.stood.day
   pub steps : x.machine.steps ≡ min f.granted f.run_length
 
--- the flight with so many turns more
+-- the flight after a number of further turns
 abbrev pub granting_more : Flight → ℕ → Flight
 granting_more f count = record f { granted = f.granted + count }
 
@@ -45,23 +45,23 @@ granting_more f count = record f { granted = f.granted + count }
 abbrev pub has_ended : Held → Bool
 has_ended x = is_some x.machine.end
 
--- the flight was granted so many turns
+-- the flight was granted the turns
 abbrev pub IsGranted : (old : Held) → (count : ℕ) → (new : Held) → Type 0
 IsGranted old count new = (f : Flight) → Holds old f → Holds new (granting_more f count)
 
--- Memory was wanting after some of so many turns, and the flight was granted those.
+-- memory ran out after some of the turns, and the flight was granted those
 abbrev pub StopsShort : (old : Held) → (count : ℕ) → (new : Held) → Type 0
 StopsShort old count new = (f : Flight) → Holds old f → (made : ℕ) × IsInterrupted f count made × Holds new (granting_more f made)
 
--- the answer is whether the flight was granted as many turns as its run has steps
+-- the answer is whether the flight was granted at least as many turns as its run has steps
 abbrev pub TellsEnd : Held → Bool → Type 0
 TellsEnd x b = (f : Flight) → Holds x f → b ≡ not (nat_lt f.granted f.run_length)
 
--- what is answered to the turns of the flight so far
+-- the answer to the turns of the flight so far
 abbrev pub TellsTurns : Held → Turn → Type 0
 TellsTurns x t = (f : Flight) → Holds x f → told_turn (Ok t) ≡ turned f f.granted
 
--- the outcome is what the capture makes alone of what stood at the flight's beginning
+-- the outcome depends only on the state at the flight's beginning
 abbrev pub IsOutcome : Held → Outcome → Type 0
 IsOutcome x o = (f : Flight) → Holds x f → IsAlone f.stood o
 

@@ -1,14 +1,14 @@
--- Steps of a machine, so many at a time.
+-- A number of steps of a machine.
 use Rattle.std.specs.Prelude.{◌≡◌, ℕ, ◌+◌, ◌<◌, ◌≤◌, None}
 use Rattle.filing_image.specs.Program.{Program}
 use Rattle.filing_machine.specs.Runs.{Stored, IsModestAt}
 
--- so many steps were made, or fewer where the run has ended
+-- that many steps were made, or fewer where the run has ended
 pub record HasMade (old : Stored) (count : ℕ) (new : Stored) : Type 0 where
   pub most : new.steps ≤ old.steps + count
   pub all : new.end ≡ None → new.steps ≡ old.steps + count
 
--- some of so many steps were made, and the run stands before an instruction that takes memory
+-- fewer steps were made, and the machine is about to run an instruction that takes memory
 pub record IsStopped (p : Program) (old : Stored) (count : ℕ) (new : Stored) : Type 0 where
   pub made : ℕ
   pub within : made < count

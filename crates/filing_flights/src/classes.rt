@@ -5,7 +5,7 @@ ghost use Rattle.std.specs.Prelude.{◌≡◌, map, IfOk};
 use sieve_meaning::Paths;
 use std::alloc::{AllocError, Global};
 
-/// The paths of a set, each as a vector, in their order. The only error is want of memory (99).
+/// The paths of a set, each as a vector, in the order of the set. The only error is out of memory (99).
 pub fn class_paths(alloc: Global, classes: &Paths) -> Result<Vec<Vec<u8>>, AllocError>
     ensures { IfOk result (λ v. map (λ p. p.items) v.items ≡ classes.now) }
 {

@@ -21,8 +21,7 @@ use std::alloc::{AllocError, Global};
 use std::marker::Model;
 use std::rc::Rc;
 
-/// A capture in flight: what is pinned for it, and its machine, which stands on the run of the pinned program in the pinned
-/// case.
+/// A capture in flight: what is pinned for it, and a machine that runs the pinned program on the pinned case.
 #[derive(Drop)]
 pub struct Flight {
     ticket: u32,
@@ -46,8 +45,8 @@ impl Model for Flight {
 }
 
 impl Flight {
-    /// A capture that begins under a ticket, of a message of at most 8,388,608 octets, on a day of 1970 to 2199. It has made no
-    /// step. The only error is want of memory (99).
+    /// A capture that begins with a ticket, for a message of at most 8,388,608 octets, on a day of 1970 to 2199. It has
+    /// made no step. The only error is out of memory (99).
     pub fn begin(
         alloc: Global,
         ticket: u32,
@@ -72,14 +71,14 @@ impl Flight {
         })
     }
 
-    /// The ticket under which the capture began.
+    /// The ticket of the capture.
     pub fn ticket(&self) -> u32
         ensures { result ≡ self.now.ticket }
     {
         self.ticket
     }
 
-    /// The program that is pinned.
+    /// The pinned program.
     pub fn program(&self) -> &Verified
         ensures { result.now ≡ self.now.program }
     {
@@ -93,7 +92,7 @@ impl Flight {
         self.message.as_slice()
     }
 
-    /// The day of the beginning.
+    /// The day on which the capture began.
     pub fn day(&self) -> Date
         ensures value { result ≡ self.now.day }
         ensures capture { IsCaptureDay result }
@@ -101,7 +100,7 @@ impl Flight {
         self.day
     }
 
-    /// The machine on the run of the program.
+    /// The machine that runs the program.
     pub fn machine(&self) -> &Machine
         ensures value { result.now ≡ self.now.machine }
         ensures stands { Stands self.now.program (facts_in self.now.case) self.now.machine }
@@ -117,7 +116,7 @@ impl Flight {
         self.machine.is_ended()
     }
 
-    /// The steps of the run so far, and whether it has come to its end.
+    /// How many steps the run has made so far, and whether it has come to its end.
     pub fn turns_made(&self) -> Turn
         ensures { TellsTurns self.now result }
     {
@@ -127,8 +126,8 @@ impl Flight {
         }
     }
 
-    /// Grants turns: the run makes so many steps, or fewer where it comes to its end. The only error is want of memory (99), which
-    /// keeps the steps that were made before it.
+    /// Grants turns: the run makes `count` steps, or fewer where it comes to its end. The only error is out of memory
+    /// (99), which keeps the steps that were made before.
     pub fn turn(&mut self, count: u32) -> Result<(), AllocError>
         ensures ok { OnOk result (IsGranted self.old count self.new) }
         ensures err { OnErr result (StopsShort self.old count self.new) }
@@ -136,8 +135,8 @@ impl Flight {
         make_steps(&mut self.machine, &*self.program, &self.case, count)
     }
 
-    /// What the capture makes alone of what stood at its beginning: the classes in byte order, each once, and the fault. The
-    /// caller sees to it that the run has come to its end. The only error is want of memory (99).
+    /// The outcome of the capture, which depends only on the state at its beginning: the classes in byte order, each
+    /// once, and the fault. The caller ensures that the run has come to its end. The only error is out of memory (99).
     pub fn outcome(&self) -> Result<Outcome, AllocError>
         requires { has_ended self.now ≡ true }
         ensures alone { IfOk result (λ o. IsOutcome self.now (answer o)) }
@@ -148,7 +147,7 @@ impl Flight {
     }
 }
 
-/// Makes so many steps of a run, or fewer where it ends.
+/// Makes `count` steps of a run, or fewer where it ends.
 fn make_steps<C: Case>(
     machine: &mut Machine,
     program: &Verified,

@@ -10,10 +10,9 @@ use filing_commands::{DeskFault, Turn};
 use std::alloc::{AllocError, Global};
 use std::marker::Model;
 
-/// How many captures are in flight at most.
+/// The most captures in flight.
 const MOST: usize = 64;
 
-/// The place of the capture with a ticket.
 fn place_of(flights: &[Flight], ticket: u64) -> Option<usize>
     ensures { result ≡ position (λ f. f.ticket == ticket) flights.now }
 {
@@ -40,7 +39,7 @@ impl Model for Flights {
 }
 
 impl Flights {
-    /// No capture; takes no memory.
+    /// No capture. It allocates nothing.
     pub fn new(alloc: Global) -> Flights
         ensures { result ≡ [] }
     {
@@ -57,7 +56,7 @@ impl Flights {
         self.flights.len() >= MOST
     }
 
-    /// The capture with a ticket.
+    /// The first capture with that ticket, if there is one.
     pub fn get(&self, ticket: u64) -> Option<&Flight>
         ensures { Finds self.now ticket (option_map (λ f. f.now) result) }
     {
@@ -67,8 +66,8 @@ impl Flights {
         Some(&self.flights[at])
     }
 
-    /// Grants turns to the capture with a ticket. 91 where there is none; 99 for want of memory, and the capture then keeps the
-    /// steps that were made before. No other capture is changed.
+    /// Grants turns to the capture with that ticket. Refused where there is none (91), and where there is no memory
+    /// (99); the capture then keeps the steps that were made before. No other capture is changed.
     pub fn turn(&mut self, ticket: u64, count: u32) -> Result<Turn, DeskFault>
         ensures { Turns self.old ticket count (told_turn result) self.new }
     {
@@ -82,8 +81,8 @@ impl Flights {
         Ok(flight.turns_made())
     }
 
-    /// Adds a capture, after the others. The caller sees to it that fewer than sixty-four are in flight. The only error is want
-    /// of memory (99), and they are then as before.
+    /// Adds a capture after the others. The caller ensures that fewer than sixty-four are in flight. The only error is
+    /// out of memory (99), and the captures are then unchanged.
     pub fn push(&mut self, flight: Flight) -> Result<(), AllocError>
         requires { length self.old < 64 }
         ensures ok { OnOk result (Adds self.old flight self.new) }
@@ -93,7 +92,7 @@ impl Flights {
         Ok(())
     }
 
-    /// Removes the capture with a ticket, if there is one.
+    /// Removes the first capture with that ticket, if there is one.
     pub fn remove(&mut self, ticket: u64)
         ensures { Removes self.old ticket self.new }
     {

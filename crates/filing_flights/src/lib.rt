@@ -1,8 +1,9 @@
 //! Captures in flight.
 //!
-//! A `Flight` is a capture in flight: what is pinned at its beginning, and a machine on the run of the pinned program. `Flights`
-//! are those of a desk, found by their tickets. In `specs/`, `Holds` ties a capture to a flight of the definitions, and `AreHeld`
-//! all of them to the flights of a standing: the calls say what they do to any flights that are held.
+//! A `Flight` is a capture in flight: what is pinned at its beginning, and a machine that runs the pinned program.
+//! `Flights` are those of a desk, found by their tickets. In `specs/`, `Holds` ties a capture to a flight of the
+//! definitions, and `AreHeld` all captures to the flights of a desk's state. The contracts of the calls hold for any
+//! flights that are tied so.
 #![tactic(auto)]
 
 mod classes;

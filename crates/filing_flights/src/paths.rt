@@ -25,7 +25,7 @@ impl Model for PinnedPaths {
 }
 
 impl PinnedPaths {
-    /// The paths of a set. The only error is want of memory (99).
+    /// The paths of a set, to be shared. The only error is out of memory (99).
     pub fn new(alloc: Global, paths: BTreeSet<Vec<u8>>) -> Result<PinnedPaths, AllocError>
         ensures { IfOk result (λ p. p ≡ paths_in paths) }
     {
@@ -35,7 +35,7 @@ impl PinnedPaths {
     }
 }
 
-/// The same paths, shared. It takes no memory; the only error is that they are shared more often than can be counted.
+/// The same paths, shared. It allocates nothing; the only error is that they are shared more often than can be counted.
 impl Clone for PinnedPaths {
     ghost use Rattle.std.specs.Prelude.{◌≡◌};
 
@@ -48,7 +48,7 @@ impl Clone for PinnedPaths {
     }
 }
 
-/// Those paths are open.
+/// The open paths are those of the list.
 impl OpenPaths for PinnedPaths {
     ghost use Rattle.filing_case.specs.Message.{is_among};
 

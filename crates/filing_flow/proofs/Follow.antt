@@ -77,7 +77,7 @@ module _ (p : Program) (c : Facts) where
   stepped : (f : Filing) (pc : ℕ) (es : List Entry) (o : Operation) → slice_get p.code pc ≡ Some o → step p c (At (on f pc es)) ≡ on_stack p c o (on f pc es) es
   stepped f pc es o h = ap (λ (x : Option Operation). at_place p c x (on f pc es)) h
 
-  -- what the machine gives is what the operation does
+  -- what the machine does is what the operation does
   abbrev Gives : Exit → ℕ → Run → Type 0
   Gives (FallsThrough f es) next x = x ≡ At (on f next es)
   Gives (Leaves n f es) next x = ⊥

@@ -1,4 +1,4 @@
--- Small code in blocks, whose operations and whose doings are known: each line computes.
+-- Small code in blocks, whose operations and effects are known: each line computes.
 use Rattle.std.proofs.Common.{◌≡◌, ℕ, ◌≤◌, List, [], ◌∷◌, true, false, Some, None, codes, refl, subst, arith}
 use Rattle.std.specs.Prelude.{slice_get}
 use Rattle.std.specs.Str.{bytes_eq}
@@ -16,7 +16,7 @@ use Rattle.filing_flow.specs.Effect.{FallsThrough, Leaves, EndsRun, Stuck, effec
 use Rattle.filing_flow.specs.Types.{HasType}
 use Rattle.filing_flow.specs.Whole.{whole, nothing_done}
 
--- `exists` of two names: out to the false one where a field is missing
+-- `exists` of two names: a jump to where false is pushed, if a field is missing
 abbrev both_there : Flow
 both_there =
     block (sequence
@@ -56,7 +56,7 @@ shared = ((Exists 0, refl, (0, refl, refl)), (Exists 0, refl, (0, refl, refl)))
 numbered : Stands (places_in [] (9 ∷ 7 ∷ [])) (Number 1 ∷ Number 0 ∷ Number 1 ∷ []) (sequence (action (PushNumber 7)) (sequence (action (PushNumber 9)) (action (PushNumber 7)))) [] 0
 numbered = ((Number 1, refl, (1, refl, refl)), ((Number 0, refl, (0, refl, refl)), (Number 1, refl, (1, refl, refl))))
 
--- the innermost block stands first
+-- the innermost block comes first
 ends_around : Stands (places_in [] []) (Jump 5 ∷ JumpIf 6 ∷ JumpUnless 7 ∷ []) (sequence (leave 0) (sequence (leave_if true 1) (leave_if false 2))) (5 ∷ 6 ∷ 7 ∷ []) 0
 ends_around = (refl, (refl, refl))
 
@@ -82,14 +82,14 @@ both_there_true = refl
 both_there_false : effect without_cc both_there nothing_done [] ≡ FallsThrough nothing_done (T false ∷ [])
 both_there_false = refl
 
--- the truth is popped whether the jump is taken or not
+-- the truth value is popped whether the jump is taken or not
 popped : effect facts (sequence (action (Push true)) (leave_if true 3)) nothing_done (T false ∷ []) ≡ Leaves 3 nothing_done (T false ∷ [])
 popped = refl
 
 popped_on : effect facts (sequence (action (Push true)) (leave_if false 3)) nothing_done (T false ∷ []) ≡ FallsThrough nothing_done (T false ∷ [])
 popped_on = refl
 
--- two blocks are left, and what stands behind the inner one is passed over
+-- two blocks are left, and what follows the inner one is skipped
 left_two : effect facts (sequence (block (sequence (block (leave 1)) (action SetCancelled))) (action SetKept)) nothing_done [] ≡ FallsThrough (record nothing_done { kept = true }) []
 left_two = refl
 
@@ -115,7 +115,7 @@ both_there_typed =
     let less : 0 ≤ 31 = omega arith in
     ([], (Truth ∷ [], (refl, none, one), ([], (refl, less, refl), (Truth ∷ [], (refl, none, one), ([], (refl, less, refl), (Truth ∷ [], (refl, none, one), (one, refl)))))), (refl, none, one))
 
--- a truth that is popped is not there for the next jump
+-- a truth value that is popped is not there for the next jump
 not_twice : HasType (sequence (leave_if true 0) (leave_if true 0)) ([] ∷ []) (Truth ∷ []) [] → ⊥
 not_twice h = let (m, (first_is, d, e), (second_is, g, k)) = h in absurd (cc (first_is, second_is))
 

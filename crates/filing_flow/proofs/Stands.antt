@@ -1,4 +1,4 @@
--- Code that stands among operations stands among others that have the same there.
+-- Code among operations is also among others that are the same there.
 use Rattle.std.proofs.Common.{◌≡◌, ℕ, ◌+◌, ◌≤◌, List, ◌∷◌, true, false, Some, arith}
 use Rattle.std.specs.Prelude.{slice_get}
 use Rattle.filing_image.specs.declared.instruction.Operation.{Operation}

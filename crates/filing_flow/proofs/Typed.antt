@@ -34,7 +34,7 @@ abbrev pub ShapedAt : (ℕ → Shape) → ℕ → List Shape → Type 0
 ShapedAt σ pc [] = Unit {0}
 ShapedAt σ pc (k ∷ ks) = (σ pc ≡ k) × ShapedAt σ (pc + 1) ks
 
--- what the operation leads to in this program has the shape that it leaves, and a greater place
+-- each successor in this program has the shape that the operation leaves, and a greater place
 pub record FineAt (p : Program) (σ : ℕ → Shape) (pc : ℕ) (o : Operation) : Type 0 where
   pub result : Shape
   pub finds : shapes.after o (σ pc) ≡ Some result
@@ -51,7 +51,7 @@ shaped_back σ pc [] b h = let e : pc ≡ pc + 0 = omega arith in subst (λ n. S
 shaped_back σ pc (k ∷ a) b h = let e : pc + 1 + length a ≡ pc + length (k ∷ a) = omega arith in subst (λ n. ShapedAt σ n b) e (shaped_back σ (pc + 1) a b h.1)
 
 module _ (p : Program) (σ : ℕ → Shape) where
-  -- an operation that goes on only
+  -- an operation that only goes on
   steady : (pc : ℕ) (o : Operation) (k r : Shape) → σ pc ≡ k → σ (pc + 1) ≡ r → target o ≡ None → shapes.after o k ≡ Some r → length k ≤ 32 → length r ≤ 32 → FineAt p σ pc o
   steady pc o k r here next none e dk dr = record {
     result = r;
@@ -113,7 +113,7 @@ module _ (p : Program) (σ : ℕ → Shape) where
     goes = λ q f. elim f [ inl (g, at) ↦ absurd (cc g) | inr to ↦ let e : b ≡ q = cc in (omega arith, rw (← e) there) ];
   }
 
-  -- the ends of the blocks around have their shapes, and lie from here on
+  -- the ends of the blocks around have their shapes, and come from here on
   pub record EndAt (limit b : ℕ) (k : Shape) : Type 0 where
     pub shaped : σ b ≡ k
     pub later : limit ≤ b

@@ -1,5 +1,5 @@
--- The operations that code in blocks is written as, in a program, from a place on. An operation names a text and a number
--- by a place in the lists of the program.
+-- The operations that encode code in blocks, in a program, from a place on. An operation names a text or a number by
+-- its place in the lists of the program.
 use Rattle.std.specs.Prelude.{◌≡◌, ℕ, zero, suc, ◌+◌, List, [], ◌∷◌, Bool, true, false, Some, slice_get}
 use Rattle.filing_image.specs.declared.instruction.Operation.{Operation}
 use Rattle.filing_image.specs.declared.instruction.Operation.TheVariants.{PushTrue, PushFalse, Not, Values, Join, Match, Pop, Exists, Size, Number, Less, Jump, JumpIf, JumpUnless, Marked, Mark, File, Keep, Discard, Stop, Fault}
@@ -14,7 +14,7 @@ pub record Operands : Type 1 where
 abbrev pub places_in : (texts : List (List ℕ)) → (numbers : List ℕ) → Operands
 places_in texts numbers = record { text = λ b t. slice_get texts b ≡ Some t; number = λ b n. slice_get numbers b ≡ Some n }
 
--- The operation is what the action is written as. Which of equal texts it names is left open.
+-- The operation encodes the action. Which of equal texts it names is left open.
 abbrev pub IsWritten : Operands → Action → Operation → Type 0
 IsWritten n (Push true) o = o ≡ PushTrue
 IsWritten n (Push false) o = o ≡ PushFalse
@@ -35,18 +35,18 @@ IsWritten n SetCancelled o = o ≡ Discard
 IsWritten n End o = o ≡ Stop
 IsWritten n (Fail k) o = o ≡ Fault k
 
--- the end of the block with this number around, of the ends from the innermost block on
+-- the end of the block around that has this number, where the ends are listed from the innermost block on
 abbrev pub end_at : List ℕ → ℕ → ℕ
 end_at [] n = 0
 end_at (e ∷ es) zero = e
 end_at (e ∷ es) (suc n) = end_at es n
 
--- a jump where the truth on the top is this one
+-- a jump where the truth value on the top is this one
 abbrev pub jump_when : Bool → ℕ → Operation
 jump_when true b = JumpIf b
 jump_when false b = JumpUnless b
 
--- Among these operations the code stands from a place on, with these ends of the blocks around it.
+-- These operations encode the code from a place on, where the blocks around it have these ends.
 abbrev pub Stands : Operands → List Operation → Flow → (ends : List ℕ) → (place : ℕ) → Type 0
 Stands n os nothing ends place = Unit {0}
 Stands n os (action x) ends place = (o : Operation) × (slice_get os place ≡ Some o) × IsWritten n x o

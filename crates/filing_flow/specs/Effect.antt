@@ -1,4 +1,4 @@
--- What code in blocks does, by the state and the stack that it finds, with no places.
+-- What code in blocks does to the state and the stack that it finds, without places.
 use Rattle.std.specs.Prelude.{ℕ, zero, suc, List, ◌∷◌, ◌++◌, length, Bool, true, false, not, ◌||◌, nat_lt, nat_eq, if◌then◌else◌, Option, Some, None, slice_set, slice_index_or}
 use Rattle.std.specs.List.{list_any}
 use Rattle.sieve_meaning.specs.Case.{Facts}
@@ -7,7 +7,7 @@ use Rattle.sieve_meaning.specs.Paths.{Paths, insert_path}
 use Rattle.filing_table.specs.Machine.{Entry, T, L, N, compared, values_of}
 use Rattle.filing_flow.specs.Structure.{Action, Push, Negate, ValuesOf, JoinTwo, MatchKey, Drop, HasField, PushSize, PushNumber, IsLess, IsMarked, SetMark, FileInto, SetKept, SetCancelled, End, Fail, Flow, nothing, action, sequence, block, leave, leave_if}
 
--- what a run has done so far: the state of the table machine but for its place and its stack
+-- the state of a run: that of the table machine without its place and its stack
 pub record Filing : Type 0 where
   -- the set of the paths that were filed
   pub filed : Paths
@@ -20,7 +20,7 @@ pub record Filing : Type 0 where
 pub data Exit : Type 0 where
   -- it comes to its end, with this stack
   FallsThrough : Filing → List Entry → Exit
-  -- it jumps to the end of the block with this number around
+  -- it jumps to the end of the block around that has this number
   Leaves : ℕ → Filing → List Entry → Exit
   -- the run ends, with or without a fault
   EndsRun : Option ℕ → Filing → Exit
@@ -30,7 +30,8 @@ pub data Exit : Type 0 where
 abbrev pub with_stack : Filing → List Entry → Exit
 with_stack f es = if nat_lt 32 (length es) then Stuck else FallsThrough f es
 
--- files under a path, where it is open, and is fault 1 where not; 0 cancels the implicit keep, and 1 is a copy
+-- files under a path where it is open, and ends with fault 1 where it is not; 0 cancels the implicit keep, and 1 is a
+-- copy (RFC 3894, section 3)
 abbrev pub filing : Facts → Filing → List Entry → ℕ → List ℕ → Exit
 filing c f es a path = if c.is_open path then FallsThrough (record f { filed = insert_path path f.filed; cancelled = f.cancelled || nat_eq a 0 }) es else EndsRun (Some 1) f
 
@@ -64,7 +65,7 @@ and_then (Leaves n f es) go = Leaves n f es
 and_then (EndsRun e f) go = EndsRun e f
 and_then Stuck go = Stuck
 
--- how a block is left: a jump to its end comes to its end
+-- how a block is left: a jump to its end reaches its end
 abbrev pub caught : Exit → Exit
 caught (Leaves zero f es) = FallsThrough f es
 caught (Leaves (suc n) f es) = Leaves n f es
@@ -72,7 +73,7 @@ caught (FallsThrough f es) = FallsThrough f es
 caught (EndsRun e f) = EndsRun e f
 caught Stuck = Stuck
 
--- a jump where the truth on the top, which it pops, is this one
+-- pops the truth value on the top, and jumps where it is this one
 abbrev pub leaving : Bool → ℕ → Filing → List Entry → Exit
 leaving true n f (T true ∷ es) = Leaves n f es
 leaving true n f (T false ∷ es) = FallsThrough f es

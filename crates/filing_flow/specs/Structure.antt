@@ -2,15 +2,15 @@
 -- of the last of them, so that it goes forward.
 use Rattle.std.specs.Prelude.{ℕ, ◌+◌, ◌<◌, ◌≤◌, List, Bool}
 
--- one operation that is no jump, with the text or the number that it names and not the place of it
+-- one operation other than a jump, with the text or number that it names in place of an operand
 pub data Action : Type 0 where
-  -- pushes a truth
+  -- pushes a truth value
   Push : Bool → Action
-  -- the truth on the top becomes its opposite
+  -- negates the truth value on the top
   Negate : Action
   -- pushes the values of the fields of a name
   ValuesOf : List ℕ → Action
-  -- the two lists on the top become one
+  -- replaces the two lists on the top by one
   JoinTwo : Action
   -- pushes whether a value of the list on the top matches a key, by the number of the comparison
   MatchKey : ℕ → List ℕ → Action
@@ -18,10 +18,10 @@ pub data Action : Type 0 where
   Drop : Action
   -- pushes whether a field of a name is there
   HasField : List ℕ → Action
-  -- pushes the message's octets
+  -- pushes the size of the message in octets
   PushSize : Action
   PushNumber : ℕ → Action
-  -- the two numbers on the top become whether the first pushed is less
+  -- replaces the two numbers on the top by whether the one pushed first is less
   IsLess : Action
   -- pushes whether a slot is set
   IsMarked : ℕ → Action
@@ -38,16 +38,16 @@ pub data Action : Type 0 where
 pub data Flow : Type 0 where
   nothing : Flow
   action : Action → Flow
-  -- the one, and then the other
+  -- the first part, and then the second
   sequence : Flow → Flow → Flow
   -- a jump out of it goes to its end
   block : Flow → Flow
-  -- to the end of the block with this number around; the innermost has 0
+  -- jumps to the end of the block around that has this number; the innermost has 0
   leave : ℕ → Flow
-  -- the same where the truth on the top, which it pops, is this one, and else on
+  -- pops the truth value on the top, and jumps likewise where it is this one
   leave_if : Bool → ℕ → Flow
 
--- how many operations
+-- the number of operations
 abbrev pub size : Flow → ℕ
 size nothing = 0
 size (action o) = 1
@@ -56,7 +56,7 @@ size (block a) = size a
 size (leave n) = 1
 size (leave_if t n) = 1
 
--- operands that the operation takes, in a program of so many slots
+-- the operands are in range, in a program with this number of slots
 abbrev pub IsSoundAction : ℕ → Action → Type 0
 IsSoundAction slots (MatchKey a key) = a ≤ 5
 IsSoundAction slots (IsMarked b) = b < slots

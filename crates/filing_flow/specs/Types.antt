@@ -33,14 +33,14 @@ action_after SetCancelled ks = Some ks
 action_after End ks = Some ks
 action_after (Fail n) ks = Some ks
 
--- the shape at the end of the block with this number around
+-- the shape at the end of the block around that has this number
 abbrev pub shape_at : List Shape → ℕ → Option Shape
 shape_at [] n = None
 shape_at (k ∷ ks) zero = Some k
 shape_at (k ∷ ks) (suc n) = shape_at ks n
 
--- From shape i the code comes to its end with shape o, and to the ends of the blocks around it with theirs, the
--- innermost block's first.
+-- From shape i the code reaches its end with shape o, and the ends of the blocks around it with their shapes, the
+-- innermost first.
 abbrev pub HasType : Flow → List Shape → (i o : Shape) → Type 0
 HasType nothing es i o = i ≡ o
 HasType (action x) es i o = (action_after x i ≡ Some o) × (length i ≤ 32) × (length o ≤ 32)

@@ -10,11 +10,11 @@ use Rattle.filing_flow.specs.Code.{places_in, Stands}
 use Rattle.filing_flow.specs.Effect.{Filing, EndsRun, effect}
 use Rattle.filing_flow.specs.Types.{HasType}
 
--- the code in a block of its own, and the end behind it, to which a jump out of the code goes
+-- the code in one block, and after it the end of the run, to which a jump out of the code goes
 abbrev pub whole : Flow → Flow
 whole a = sequence (block a) (action End)
 
--- The program is this code and the end.
+-- The code of the program is this code and the end of the run.
 pub record IsCodeOf (p : Program) (a : Flow) : Type 0 where
   pub stands : Stands (places_in p.texts p.numbers) p.code (whole a) [] 0
   pub long : length p.code ≡ size (whole a)
@@ -23,7 +23,7 @@ pub record IsCodeOf (p : Program) (a : Flow) : Type 0 where
 abbrev pub nothing_done : Filing
 nothing_done = record { filed = []; kept = false; cancelled = false; marks = replicate 64 false }
 
--- how a run captures that ends so
+-- the outcome of a run that ends in this state, with this fault or with none
 abbrev pub outcome_from : Option ℕ → Filing → Outcome
 outcome_from fault f = outcome_at fault f.filed f.kept f.cancelled
 

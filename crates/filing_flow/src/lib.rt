@@ -1,11 +1,13 @@
-//! Code in blocks: what stands between a script and the places of an image.
+//! Code in blocks: the form between a script and the places of an image.
 //!
-//! There is no code here. `specs/Structure` says what code in blocks is: a jump leaves so many of the blocks around it,
-//! so that it has no place and goes forward. `specs/Code` says which operations it is written as, `specs/Effect` what
-//! it does, and `specs/Types` what it finds and leaves on the stack. `specs/Whole` says what a program of it is.
-//! `laws` has what is proved of all such code at once: the program runs on the table machine as the code runs in
-//! blocks, and the verifier finds nothing to refuse. So of a compiler that writes such code only the effect and the
-//! type are left to be proved.
+//! This crate has no code. `specs/Structure` defines code in blocks: a jump names a block around it by its number and
+//! goes to the end of that block, so that it needs no place and goes forward. `specs/Code` defines the operations that
+//! encode the code, `specs/Effect` what it does, and `specs/Types` what it finds and leaves on the stack. `specs/Whole`
+//! defines the programs of such code.
+//!
+//! `laws` states what is proved of all such code at once. The program runs on the table machine as the code runs in
+//! blocks, and the verifier finds nothing to refuse in a program of sound and typed code. So for a compiler that writes
+//! such code only the effect and the type are left to be proved.
 #![tactic(auto)]
 
 mod laws;

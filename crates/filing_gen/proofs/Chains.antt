@@ -88,7 +88,7 @@ pub record Stands (g : Include → Flow) (back : ℕ) (old now : Output) (jumps 
   pub remains : Remains g back old (with_jumps (chain_end g now is_open rest) jumps now) is_open rest whole
   pub places : All (λ p. p < length now.code.items) jumps
 
--- how much room there is for the rest
+-- the room for the rest
 pub stands_room : (g : Include → Flow) (back : ℕ) (old now : Output) (jumps : List ℕ) (is_open : Bool) (rest : CommandTrees) (whole : Commands) → Stands g back old now jumps is_open rest whole
     → HasRoom old (commands_long (λ i. size (g i)) whole) → HasRoom now (long_from (λ i. size (g i)) is_open rest)
 stands_room g back old now jumps is_open rest whole h room =
@@ -103,7 +103,7 @@ module _ (g : Include → Flow) (back : ℕ) (old : Output) (whole : Commands) (
   abbrev rest : CommandTrees
   rest = trees.command_then (command_of x) more
 
-  -- how long the branches are that are open before the command
+  -- the length of the branches that are open before the command
   open_before : (b : Bool) → is_apart word (part_of word is_open) ≡ b
       → open_long (λ i. size (g i)) is_open rest ≡ (if b then 0 else part_long (λ i. size (g i)) (part_of word is_open) (command_of x) + open_long (λ i. size (g i)) (is_branch (part_of word is_open)) more)
   open_before b apart =
@@ -134,7 +134,7 @@ module _ (g : Include → Flow) (back : ℕ) (old : Output) (whole : Commands) (
       → Stands g back old new kept is_open rest whole × (is_apart word (part_of word is_open) ≡ true → kept ≡ [])
   stands_apart now jumps h new kept is are = ended_before (is_apart word (part_of word is_open)) refl now jumps h new kept is are
 
-  -- the end of branches before the command and behind it
+  -- the end of branches before the command and after it
   same_end : (b : Bool) → is_apart word (part_of word is_open) ≡ b → (now new : Output) (jumps : List ℕ) → (b ≡ true → jumps ≡ [])
       → length new.code.items ≡ length now.code.items + part_long (λ i. size (g i)) (part_of word is_open) (command_of x)
       → with_jumps (chain_end g now is_open rest) jumps now ≡ with_jumps (chain_end g new (is_branch (part_of word is_open)) more) jumps now

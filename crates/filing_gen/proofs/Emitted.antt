@@ -80,7 +80,7 @@ jump_true_emitted x y b is h ends there = subst (λ (t : Bool). Emits x y (leave
 pub jump_false_emitted : (x y : Output) (b : Bool) → b ≡ false → Puts x y (JumpUnless no_place) → (ends : List ℕ) → end_at ends 0 ≡ no_place → Emits x y (leave_if b 0) ends
 jump_false_emitted x y b is h ends there = subst (λ (t : Bool). Emits x y (leave_if t 0) ends) (sym is) (leave_if_emitted x y false no_place 0 ends h there)
 
--- an operation that names a text or a number, which came in before it
+-- an operation that names a text or a number, which was added before it
 named_emitted : (x m y : Output) (o : Operation) (k : Action) → Brings x m → Puts m y o → IsWritten (operands_of y) k o → (ends : List ℕ) → Emits x y (action k) ends
 named_emitted x m y o k b h w ends =
     let code : m.code.items ≡ x.code.items = ap (λ c. c.items) b.code in
@@ -107,7 +107,7 @@ number_emitted x m y o k b n brings h there written ends = named_emitted x m y o
 
 -- PIECES
 
--- how much was added
+-- n operations were added, and at most n texts and n numbers
 pub record Grows (old new : Output) (n : ℕ) : Type 0 where
   pub code : length new.code.items ≡ length old.code.items + n
   pub texts : length new.texts ≤ length old.texts + n
@@ -119,7 +119,7 @@ grows x y a ends h = record { code = ap length h.code ∙ length-append x.code.i
 pub put_grows : (x y : Output) (o : Operation) → Puts x y o → Grows x y 1
 put_grows x y o h = record { code = ap length h.code ∙ length-append x.code.items (o ∷ []); texts = rw h.texts (omega arith); numbers = rw h.numbers (omega arith) }
 
--- what was emitted stands there still after more was added
+-- what was emitted is still there after more was added
 still_stands : (x y z : Output) (n : ℕ) (more : List Operation) (a : Flow) (ends : List ℕ) (place : ℕ) → Keeps y z n → z.code.items ≡ y.code.items ++ more → Stands (operands_of y) y.code.items a ends place → Stands (operands_of z) z.code.items a ends place
 still_stands x y z n more a ends place k is h = stands_there (operands_of y) (operands_of z) (named_by y z n k) y.code.items z.code.items 0 (same_front y.code.items more z.code.items is) a ends place (omega arith) h
 
@@ -135,7 +135,7 @@ emits_sequence x y z a b ends e f = record {
   );
 }
 
--- the order in which sequences stand in brackets makes no difference
+-- the bracketing of sequences makes no difference
 pub emits_assoc : (x y : Output) (a b c : Flow) (ends : List ℕ) → Emits x y (sequence (sequence a b) c) ends → Emits x y (sequence a (sequence b c)) ends
 emits_assoc x y a b c ends e =
     let place : length x.code.items + (size a + size b) ≡ length x.code.items + size a + size b = omega arith in
@@ -162,7 +162,7 @@ after_nothing x y z a ends e f =
     let here : length x.code.items + 0 ≡ length x.code.items = omega arith in
     record { keeps = subst (λ (n : ℕ). Keeps x z n) none g.keeps; added = g.added; code = g.code; long = g.long ∙ none; stands = subst (λ (n : ℕ). Stands (operands_of z) z.code.items a ends n) here g.stands.1 }
 
--- the first part of a block was written, and the rest stands in a block of its own that ends at the same place
+-- the first part of a block was written, and the rest is in a block inside it that ends at the same place
 pub first_of_block : (x y z : Output) (a r f : Flow) (e : ℕ) (ends : List ℕ) → e ≡ length x.code.items + (size a + size r) → Emits x y a (e ∷ ends) → Emits y z (sequence (block r) f) ends → Emits x z (sequence (block (sequence a r)) f) ends
 first_of_block x y z a r f e ends is h k =
     let grown = (grows x y a (e ∷ ends) h).code in
@@ -183,7 +183,7 @@ first_of_block x y z a r f e ends is h k =
       );
     }
 
--- Once the rest is added the whole is, where the blocks around end as they should.
+-- Once the rest is added, so is the whole, where the blocks around end as they should.
 pub record Leads (old now : Output) (rest whole : Flow) (Ends : List ℕ → Type 0) : Type 0 where
   pub emits : (x : Output) (ends : List ℕ) → Ends ends → Emits now x rest ends → Emits old x whole ends
   pub code : length now.code.items + size rest ≡ length old.code.items + size whole

@@ -57,17 +57,17 @@ flow-one b stop = rw (inner_of-One b) refl
 
 -- TURNS OF LOOPS
 
--- the blocks around end there, wherever that is
+-- the end of the innermost block around is not known
 abbrev pub Unknown : List ℕ → Type 0
 Unknown = To no_place
 
--- What was asked for, and what is left to be written.
+-- The names so far, and what is left to be written.
 pub record Asked (old now : Output) (lowercase : List (Vec ℕ Global)) (rest : List (List ℕ)) (flow_of : List (List ℕ) → Flow) (whole : Flow) (Ends : List ℕ → Type 0) : Type 0 where
   pub seen : List (List ℕ)
   pub asked : AreAsked lowercase seen
   pub leads : Leads old now (flow_of (apart_from seen (each_once rest))) whole Ends
 
--- the first name was asked for
+-- after the first name
 pub asked_first : (o : Output) (one : List (Vec ℕ Global)) (n : List ℕ) (ns : List (List ℕ)) (flow_of : List (List ℕ) → Flow) (Ends : List ℕ → Type 0)
     → ((m : List ℕ) → has_name one m ≡ same_word n m) → Asked o o one ns flow_of (flow_of (others_once n ns)) Ends
 asked_first o one n ns flow_of Ends names = record {
@@ -86,7 +86,7 @@ module _ (old now : Output) (before after : List (Vec ℕ Global)) (xs : List (L
       let there : list_any (λ k. same_word k x) h.seen ≡ b = sym (h.asked x) ∙ ap (has_name before) (sym named) ∙ e in
       ap (λ l. apart_from h.seen (each_once l)) (turn xs i x is lt) ∙ once_turn h.seen x (drop (i + 1) xs) b there
 
-  -- a name that was asked for before
+  -- a name that is among those before
   pub asked_before : has_name before name ≡ true → Asked old now after (drop (i + 1) xs) flow_of whole Ends
   asked_before e = record { seen = x ∷ h.seen; asked = asked_more; leads = subst (λ (l : List (List ℕ)). Leads old now (flow_of l) whole Ends) (rest_is true e) h.leads }
 
@@ -100,7 +100,7 @@ module _ (old now : Output) (before after : List (Vec ℕ Global)) (xs : List (L
     leads = go (subst (λ (l : List (List ℕ)). Leads old now (flow_of l) whole Ends) (rest_is false e ∙ ap (λ n. n ∷ apart_from (x ∷ h.seen) (each_once (drop (i + 1) xs))) (sym named)) h.leads);
   }
 
-  -- how much room there is for a new name and the others
+  -- the room for a new name and the others
   pub asked_room : has_name before name ≡ false → HasRoom old (size whole) → HasRoom now (size (flow_of (name ∷ apart_from (x ∷ h.seen) (each_once (drop (i + 1) xs)))))
   asked_room e room =
       let same : size (flow_of (apart_from h.seen (each_once (drop i xs)))) ≡ size (flow_of (name ∷ apart_from (x ∷ h.seen) (each_once (drop (i + 1) xs)))) =

@@ -34,7 +34,7 @@ one_more f xs ys i v d is lt at =
 
 -- ENDS
 
--- what an action is written as is no jump
+-- the operation of an action is no jump
 written_known : (n : Operands) (e : ℕ) (x : Action) (o : Operation) → IsWritten n x o → with_end e o ≡ o
 written_known n e (Push true) o w = rw w refl
 written_known n e (Push false) o w = rw w refl
@@ -55,7 +55,7 @@ written_known n e SetCancelled o w = rw w refl
 written_known n e End o w = rw w refl
 written_known n e (Fail k) o w = rw w refl
 
--- a place that is known, since it is not behind the end
+-- a place that is known, since it is not after the end
 place_known : (e b : ℕ) → b ≤ e → e ≤ no_place → place_or e b ≡ b
 place_known e b le most = known (nat_eq b no_place) refl where
   known : (t : Bool) → nat_eq b no_place ≡ t → cond t e b ≡ b
@@ -86,7 +86,7 @@ ended_stands n e most os ps low is (block a) ends place from le h =
 ended_stands n e most os ps low is (leave k) ends place from le at = is place _ from at ∙ ap (λ b. Some (Jump b)) (sym (end_at_known e ends k))
 ended_stands n e most os ps low is (leave_if t k) ends place from le at = is place _ from at ∙ ap (λ o. Some o) (jump_known e t (end_at ends k)) ∙ ap (λ b. Some (jump_when t b)) (sym (end_at_known e ends k))
 
--- Code with a type goes to the ends of the blocks that its type speaks of alone.
+-- Code with a type jumps only to the ends of blocks that its type has.
 
 inner_end : (es : List Shape) (inner : List ℕ) (n : ℕ) (k : Shape) → shape_at es n ≡ Some k → (x y : List ℕ) → length inner ≡ length es → end_at (inner ++ x) n ≡ end_at (inner ++ y) n
 inner_end [] inner n k at x y same = cc

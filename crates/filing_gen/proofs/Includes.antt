@@ -42,7 +42,7 @@ or_replaced : (a b d : Bool) → (a || b) ≡ true → (b ≡ true → d ≡ tru
 or_replaced true b d e h = refl
 or_replaced false b d e h = h e
 
--- an include does not leave a block around it
+-- an include does not jump out of a block around it
 caught_any : (marking : Marking) (n : ℕ) (e : Ending) (x : Exit) → Alike marking 0 e x → Alike marking 1 e x → Alike marking n e (caught x)
 caught_any marking n (GoesOn f) x a b = record { filing = a.filing; related = a.related; exit = ap caught a.exit }
 caught_any marking n (Returns f) x a b = absurd (cc (a.exit, b.exit))

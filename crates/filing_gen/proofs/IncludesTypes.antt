@@ -1,4 +1,4 @@
--- The code of includes has a type, sound operands, and at most weight many operations.
+-- The code of includes has a type and sound operands, and no more operations than its weight.
 use Rattle.std.proofs.Common.{◌≡◌, ℕ, zero, suc, ◌+◌, ◌≤◌, ◌<◌, List, [], ◌∷◌, Bool, true, false, Option, Some, None, refl, arith}
 use Rattle.filing_verify.specs.declared.kind.Kind.TheVariants.{Truth}
 use Rattle.filing_flow.specs.Structure.{SetMark, Fail, Flow, action, sequence, block, size, IsSound}

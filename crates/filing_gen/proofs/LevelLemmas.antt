@@ -93,7 +93,7 @@ module _ (lib : Library) (slots : Slots) (main : List ScriptName) (left : ℕ) (
 
 -- EMISSION
 
--- the entry of a script under `:once`, behind a jump past it where it is marked
+-- the entry of a script under `:once`, after a jump past it where it is marked
 pub once_emitted : (x y z w u : Output) (slot : ℕ) (a : Flow) → ((es : List Shape) → HasType a es [] []) → Puts x y (Marked slot) → Puts y z (JumpIf no_place) → Emits z w a (no_place ∷ []) → length w.code.items < 2 ^ 16 → IsEnded (length x.code.items) (length w.code.items) w u
     → (ends : List ℕ) → Emits x u (once_flow true slot a) ends
 once_emitted x y z w u slot a typed test jump h few is ends =

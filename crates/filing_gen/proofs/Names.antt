@@ -1,4 +1,4 @@
--- Names of fields that are asked for once.
+-- Names of header fields that a test names once.
 use Rattle.std.proofs.Common.{◌≡◌, ℕ, suc, ◌+◌, ◌≤◌, List, [], ◌∷◌, length, Bool, true, false, not, ◌&&◌, ◌||◌, cond, Ordering, Less, Equal, Greater, nat_cmp, refl, sym, ap, ◌∙◌, arith}
 use Rattle.std.specs.List.{list_any, list_all, filter}
 use Rattle.std.specs.Str.{bytes_eq, str_to_ascii_lowercase}
@@ -24,7 +24,7 @@ same_lowercase a b same = (bytes_eq-Decides (str_to_ascii_lowercase a) (str_to_a
 pub same_named : (f : Field) (a b : List ℕ) → same_word a b ≡ true → is_named a f ≡ is_named b f
 same_named f a b same = ap (λ l. bytes_eq (str_to_ascii_lowercase f.name) l) (same_lowercase a b same)
 
--- THE NAMES THAT WERE ASKED FOR
+-- THE NAMES SO FAR
 
 pub or_nothing : (b : Bool) → (b || false) ≡ b
 or_nothing true = refl
@@ -146,7 +146,7 @@ others_fewer n ns = omega (arith, fewer (λ m. not (same_word n m)) (each_once n
 
 -- TURNS OF A LOOP OVER NAMES
 
--- which names were asked for
+-- the names so far, as a set in lower case and as a list
 abbrev pub AreAsked : List (Vec ℕ Global) → List (List ℕ) → Type 0
 AreAsked lowercase seen = (m : List ℕ) → has_name lowercase m ≡ list_any (λ n. same_word n m) seen
 
@@ -163,12 +163,12 @@ filter_twice seen n (m ∷ ms) = by (same_word n m) (list_any (λ k. same_word k
   by false true e f h = rw (e, f) h
   by false false e f h = rw (e, f) (ap (λ l. m ∷ l) h)
 
--- a name before others, which is passed over where one of these is equal to it
+-- a name before others, which is left out where one of these is equal to it
 pub once_turn : (seen : List (List ℕ)) (n : List ℕ) (ns : List (List ℕ)) (b : Bool) → list_any (λ k. same_word k n) seen ≡ b → apart_from seen (each_once (n ∷ ns)) ≡ cond b (apart_from (n ∷ seen) (each_once ns)) (n ∷ apart_from (n ∷ seen) (each_once ns))
 once_turn seen n ns true e = rw e (filter_twice seen n (each_once ns))
 once_turn seen n ns false e = rw e (ap (λ l. n ∷ l) (filter_twice seen n (each_once ns)))
 
--- the others behind a first name
+-- the others after a first name
 only_first : (n : List ℕ) (ms : List (List ℕ)) → apart_from (n ∷ []) ms ≡ filter (λ m. not (same_word n m)) ms
 only_first n [] = refl
 only_first n (m ∷ ms) =

@@ -1,4 +1,4 @@
--- Things that come in at the next place.
+-- Things that are added at the next place.
 use Rattle.std.proofs.Common.{◌≡◌, ◌⊎◌, ℕ, zero, suc, ◌+◌, ◌<◌, ◌≤◌, List, [], ◌∷◌, ◌++◌, length, map, Bool, true, false, cond, Option, Some, None, set, Vec, Ordering, Less, Equal, Greater, nat_cmp, inl, inr, refl, sym, ap, ◌∙◌, subst, arith}
 use Rattle.std.specs.Prelude.{slice_get}
 use Rattle.std.specs.declared.alloc.Global.{Global}
@@ -117,7 +117,7 @@ numbered_more {A} old new x h none long here kept only = record {
 -- A NEW KEY
 
 module _ {K A : Type 0} (view : K → A) (cmp : K → K → Ordering) (k : K) (equal : (j : K) → view j ≡ view k → cmp k j ≡ Equal) where
-  -- the key came in at the next place
+  -- the key was added at the next place
   pub record CameIn (es new : List (K × ℕ)) : Type 0 where
     pub numbered : IsNumbered (seen view new)
     pub here : IsAmong (view k, length es) (seen view new)
@@ -161,7 +161,7 @@ numbers_are (e ∷ es) = ap (λ l. e ∷ l) (numbers_are es)
 pub number_found : (n : ℕ) (es : List (ℕ × ℕ)) (b : ℕ) → lookup (is_at (nat_cmp n)) es ≡ Some b → IsAmong (n, b) es
 number_found n es b h = subst (λ (l : List (ℕ × ℕ)). IsAmong (n, b) l) (numbers_are es) (found_there (λ (k : ℕ). k) (nat_cmp n) n (λ k e. sym (exact_unsigned n k e)) es b h)
 
--- a number came in at the next place
+-- a number was added at the next place
 pub record NumberCameIn (n : ℕ) (es new : List (ℕ × ℕ)) : Type 0 where
   pub numbered : IsNumbered new
   pub here : IsAmong (n, length es) new
@@ -190,7 +190,7 @@ get_set_other (y ∷ xs) zero (suc j) x apart = refl
 get_set_other (y ∷ xs) (suc i) zero x apart = refl
 get_set_other (y ∷ xs) (suc i) (suc j) x apart = get_set_other xs i j x (λ e. apart (ap suc e))
 
--- What is no more among the rest stands at its place.
+-- What is no longer in the rest is at its place.
 pub record IsPlaced {A : Type 0} (es rest : List (A × ℕ)) (xs : List A) : Type 0 where
   pub long : length xs ≡ length es
   pub among : (x : A) (b : ℕ) → IsAmong (x, b) rest → IsAmong (x, b) es

@@ -24,7 +24,7 @@ slot_personal a b c = refl
 slot_global : (a b c : Script) → slots_of (three a b c) (record { global = true; name = lists }) ≡ 32
 slot_global a b c = refl
 
--- a name that is equal without case is asked for once
+-- a name that is equal without case is named once
 once_without_case : each_once (codes "To" ∷ codes "cc" ∷ codes "TO" ∷ codes "to" ∷ []) ≡ codes "To" ∷ codes "cc" ∷ []
 once_without_case = refl
 

@@ -1,4 +1,4 @@
--- The code of a test pushes the test's truth.
+-- The code of a test pushes the test's truth value.
 use Rattle.std.proofs.Common.{◌≡◌, ℕ, List, [], ◌∷◌, ◌++◌, map, Bool, true, false, not, ◌&&◌, ◌||◌, cond, refl, sym, ap, ◌∙◌, append_assoc, append-nil}
 use Rattle.std.specs.List.{list_any, list_all, flat_map, filter}
 use Rattle.std.proofs.lemmas.List.Folds.{list_any-append}
@@ -137,7 +137,7 @@ module _ (c : Facts) where
       let keys : effect c (keys_flow a (k ∷ ks)) f (L xs ∷ []) ≡ exit_if found f (L xs ∷ []) = keys_means a (k ∷ ks) f xs in
       rw (names, keys) (header_ends f xs found) ∙ ap (λ (b : Bool). FallsThrough f (T b ∷ [])) (header_is m o (n ∷ ns) (k ∷ ks))
 
-  -- names that were asked for before make no difference
+  -- names that were given before make no difference
   header_means : (m : MatchType) (o : Comparator) (n : List ℕ) (ns : List (List ℕ)) (k : List ℕ) (ks : List (List ℕ)) (f : Filing)
       → effect c (header_flow (comparison m o) n (others_once n ns) k ks) f [] ≡ FallsThrough f (T (header_truth c m o (n ∷ ns) (k ∷ ks)) ∷ [])
   header_means m o n ns k ks f =

@@ -132,7 +132,7 @@ pub part_grows : (g : Include → Flow) (back : ℕ) (part : Part) (end : ℕ) (
 part_grows g back part end c x y e = subst (λ (n : ℕ). Grows x y n) (part_is_long g 0 part c) (grows x y (part_flow g 0 part c) (part_ends part end (back ∷ [])) (e 0 (back ∷ []) refl))
 
 module _ (g : Include → Flow) (back : ℕ) (x y : Output) where
-  -- once what is behind a command is written, the whole is
+  -- once what follows a command is written, so is the whole
   part_emits : (word : CommandWord) (is_open : Bool) (name : List ℕ) (args : List Argument) (inner : InnerTests) (finish : EndingTree) (more : CommandTrees) → command_word name ≡ word
       → length y.code.items ≡ length x.code.items + part_long (λ i. size (g i)) (part_of word is_open) (command name args inner finish)
       → EmitsPart g back (part_of word is_open) (length y.code.items + open_long (λ i. size (g i)) (is_branch (part_of word is_open)) more) (command name args inner finish) x y
@@ -167,7 +167,7 @@ pub record Remains (g : Include → Flow) (back : ℕ) (old now : Output) (is_op
   pub texts : length now.texts + long_from (λ i. size (g i)) is_open rest ≤ length old.texts + commands_long (λ i. size (g i)) whole
   pub numbers : length now.numbers + long_from (λ i. size (g i)) is_open rest ≤ length old.numbers + commands_long (λ i. size (g i)) whole
 
--- one more command; branches end behind those that are still open
+-- one more command; branches end after those that are still open
 pub remains_turn : (g : Include → Flow) (back : ℕ) (old now new : Output) (word : CommandWord) (is_open : Bool) (name : List ℕ) (args : List Argument) (inner : InnerTests) (finish : EndingTree) (more : CommandTrees) (whole : Commands)
     → Remains g back old now is_open (trees.command_then (command name args inner finish) more) whole → command_word name ≡ word
     → EmitsPart g back (part_of word is_open) (length new.code.items + open_long (λ i. size (g i)) (is_branch (part_of word is_open)) more) (command name args inner finish) now new
@@ -198,7 +198,7 @@ branch_emitted g o0 o1 o2 o3 o4 t xs next end back is e1 e2 e3 e4 n ends eq =
     let tail = emits_sequence o1 o2 o4 (leave_if false 0) (sequence body (leave 1)) es (leave_if_emitted o1 o2 false next 0 es e2 refl) (emits_sequence o2 o3 o4 body (leave 1) es (e3 (suc (suc n)) es eq) (leave_emitted o3 o4 end 1 es e4 refl)) in
     emits_block o0 o4 (sequence (test_flow t) (sequence (leave_if false 0) (sequence body (leave 1)))) (end ∷ ends) next (omega (arith, is, flow_long g (suc (suc n)) xs)) (emits_sequence o0 o1 o4 (test_flow t) (sequence (leave_if false 0) (sequence body (leave 1))) es (e1 es) tail)
 
--- the command at a place, before those behind it
+-- the command at a place, before those that follow it
 pub turn_long : (w : Include → ℕ) (word : CommandWord) (is_open : Bool) (xs : List TreeCommand) (i : ℕ) (x : TreeCommand) → x ≡ get_or xs i x → i < length xs → command_word (out-Command x).name ≡ word
     → long_from w is_open (commands_of (map command_of (drop i xs))) ≡ part_long w (part_of word is_open) (command_of x) + long_from w (is_branch (part_of word is_open)) (commands_of (map command_of (drop (i + 1) xs)))
 turn_long w word is_open xs i x is lt named =

@@ -1,4 +1,4 @@
--- The code of a script has a type, sound operands, and at most weight many operations.
+-- The code of a script has a type and sound operands, and no more operations than its weight.
 use Rattle.std.proofs.Common.{◌≡◌, ℕ, suc, ◌+◌, ◌*◌, ◌≤◌, List, [], ◌∷◌, length, Bool, true, false, Some, refl, arith}
 use Rattle.filing_verify.specs.declared.kind.Kind.TheVariants.{Truth, Texts, Count}
 use Rattle.filing_flow.specs.Structure.{Push, ValuesOf, Drop, Flow, action, sequence, block, leave, size, IsSound}

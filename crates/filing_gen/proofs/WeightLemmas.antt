@@ -5,7 +5,6 @@ use Rattle.sieve_syntax.specs.View.{row_of}
 use Rattle.sieve_meaning.specs.Reading.{test_in, tests_in, row_in}
 use Rattle.sieve_meaning.specs.Weight.{test_weight, tests_weight}
 
--- the weights of the tests of a list
 abbrev pub sum_of : List TestTree → ℕ
 sum_of [] = 0
 sum_of (t ∷ ts) = test_weight (test_in t) + sum_of ts

@@ -1,4 +1,4 @@
--- Runs of a script and of its code, side by side. What the marks of the code say of the scripts that were entered is
+-- Runs of a script and of its code, side by side. How the marks of the code relate to the scripts that were entered is
 -- left open.
 use Rattle.std.specs.Prelude.{◌≡◌, ℕ, List, [], Bool, Some, None}
 use Rattle.sieve_meaning.specs.Case.{Facts}
@@ -8,7 +8,7 @@ use Rattle.filing_flow.specs.Structure.{Flow}
 use Rattle.filing_flow.specs.Effect.{Exit, FallsThrough, Leaves, EndsRun, effect}
 use Rattle.filing_flow.specs.Effect as code
 
--- what marks say of the scripts that were entered
+-- how marks relate to the scripts that were entered
 abbrev pub Marking : Type 1
 Marking = List ScriptName → List Bool → Type 0
 
@@ -19,14 +19,14 @@ pub record Related (marking : Marking) (f : Filing) (g : code.Filing) : Type 0 w
   pub cancelled : g.cancelled ≡ f.cancelled
   pub marks : marking f.entered g.marks
 
--- what was done at an ending
+-- the state of the run at an ending
 abbrev pub filing_at : Ending → Filing
 filing_at (GoesOn f) = f
 filing_at (Returns f) = f
 filing_at (Stops f) = f
 filing_at (Faults n f) = f
 
--- how code ends like this, where `return` leaves the block with this number
+-- how code ends, by the ending of its script, where `return` leaves the block with this number
 abbrev pub exit_of : ℕ → Ending → code.Filing → Exit
 exit_of n (GoesOn f) g = FallsThrough g []
 exit_of n (Returns f) g = Leaves n g []

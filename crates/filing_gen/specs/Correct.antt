@@ -1,4 +1,4 @@
--- What a compiler owes.
+-- What the image of a script must satisfy.
 use Rattle.std.specs.Prelude.{◌≡◌, ℕ, List, Option}
 use Rattle.filing_image.specs.Program.{Program}
 use Rattle.filing_verify.specs.Well.{IsWell}
@@ -12,19 +12,19 @@ use Rattle.sieve_meaning.specs.Weight.{linked_weight}
 use Rattle.filing_gen.specs.declared.fault.GenFault.{GenFault}
 use Rattle.filing_gen.specs.declared.fault.GenFault.TheVariants.{TooLarge, NoMemory}
 
--- The image of a main script, which may have a name: it declares the script's weight as its budget, it may run, and in
--- every case it ends with the outcome of what the script means.
+-- The image of a main script, which may have a name: it declares the script's weight as its budget, and it may run. In
+-- every case its run ends with the outcome of what the script means.
 pub record IsCompiled (lib : Library) (known_as : Option (List ℕ)) (main : Commands) (p : Program) : Type 0 where
   pub budget : p.budget ≡ linked_weight lib known_as main
   pub well : IsWell p
   pub outcomes : (facts : Facts) → (n : ℕ) × HasOutcome p facts n (outcome_of (meaning facts lib known_as main))
 
--- A program that names each text and each number by one place.
+-- No text and no number stands in the program twice.
 pub record NamesOnce (p : Program) : Type 0 where
   pub texts : IsOnce p.texts
   pub numbers : IsOnce p.numbers
 
--- the numbers by which faults are told
+-- the numbers by which faults are reported
 abbrev pub gen_number : GenFault → ℕ
 gen_number TooLarge = 5
 gen_number NoMemory = 99

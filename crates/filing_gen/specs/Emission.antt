@@ -16,7 +16,7 @@ use Rattle.filing_gen.specs.declared.output.Output.{Output}
 use Rattle.sieve_meaning.specs.declared.branches.Part.{Part}
 use Rattle.sieve_meaning.specs.declared.branches.Part.TheVariants.{Branch, Otherwise, Plain}
 
--- SIZES: how many operations commands take, where includes take so many
+-- SIZES: the number of operations of commands, where w gives that of each include
 
 abbrev mutual
   pub commands_long : (Include → ℕ) → Commands → ℕ
@@ -48,20 +48,20 @@ plain_long w words.FileInto args = 1
 plain_long w words.Include args = w (include_of args)
 plain_long w word args = 0
 
--- of a command as a part
+-- of a command by its part
 abbrev pub part_long : (Include → ℕ) → Part → CommandTree → ℕ
 part_long w Branch (command name args inner finish) = size (test_flow (only_in inner)) + commands_long w (block_in finish) + 2
 part_long w Otherwise (command name args inner finish) = commands_long w (block_in finish)
 part_long w Plain (command name args inner finish) = plain_long w (command_word name) args
 
--- of commands, and of the branches that they begin with, where these belong to commands before them
+-- of commands; where branches are open, also of the branches at their beginning that continue them
 abbrev pub long_from : (Include → ℕ) → (is_open : Bool) → CommandTrees → ℕ
 long_from w true cs = branches_long w (branches_of cs) + commands_long w (program_of cs)
 long_from w false cs = commands_long w (program_of cs)
 
 -- CODE
 
--- of a command that has no block; `elsif` and `else` that are not open are passed over
+-- of a command that has no block; an `elsif` or `else` without open branches has no code
 abbrev pub plain_flow : (Include → Flow) → ℕ → CommandWord → List Argument → Flow
 plain_flow g n words.Keep args = action SetKept
 plain_flow g n words.Discard args = action SetCancelled
@@ -71,13 +71,13 @@ plain_flow g n words.FileInto args = action (FileInto (copy_number (has_tag (cod
 plain_flow g n words.Include args = g (include_of args)
 plain_flow g n word args = nothing
 
--- of a command as a part; a branch stands in the block of all branches
+-- of a command by its part; a branch is in the block of all branches
 abbrev pub part_flow : (Include → Flow) → ℕ → Part → CommandTree → Flow
 part_flow g n Branch (command name args inner finish) = branch_flow g (suc n) (only_in inner) (block_in finish)
 part_flow g n Otherwise (command name args inner finish) = flow g (suc n) (block_in finish)
 part_flow g n Plain (command name args inner finish) = plain_flow g n (command_word name) args
 
--- whether a command is none of the branches before it: it begins others, or is no part of branches
+-- whether a command is none of the open branches before it: it begins others, or is no part of branches
 abbrev pub is_apart : CommandWord → Part → Bool
 is_apart words.If part = true
 is_apart word Plain = true
@@ -89,16 +89,16 @@ part_ends Branch end ends = end ∷ ends
 part_ends Otherwise end ends = end ∷ ends
 part_ends Plain end ends = ends
 
--- of commands, and of the branches that they begin with
+-- of commands; where branches are open, also of the branches at their beginning that continue them
 abbrev pub rest_flow : (Include → Flow) → ℕ → (is_open : Bool) → CommandTrees → Flow
 rest_flow g n true cs = sequence (block (branches_flow g (suc n) (branches_of cs))) (flow g n (program_of cs))
 rest_flow g n false cs = flow g n (program_of cs)
 
--- the command as a part was written, where `return` goes to a place
+-- The command was written by its part, where `return` goes to the place back.
 abbrev pub EmitsPart : (Include → Flow) → (back : ℕ) → Part → (end : ℕ) → CommandTree → Output → Output → Type 0
 EmitsPart g back part end c x y = (n : ℕ) (ends : List ℕ) → end_at ends n ≡ back → Emits x y (part_flow g n part c) (part_ends part end ends)
 
--- The command as a part was written, and the place of its jump to the end of all branches was put to those of the branches
--- before it: it was written right wherever these jumps go.
+-- The command was written by its part, and the place of its jump to the end of all branches was added to those of the
+-- branches before it. The code is right wherever these jumps go.
 abbrev pub EmitsOpen : (Include → Flow) → (back : ℕ) → Part → CommandTree → Output → (before : List ℕ) → Output → (jumps : List ℕ) → Type 0
 EmitsOpen g back part c x before y jumps = (end : ℕ) → EmitsPart g back part end c (with_jumps end before x) (with_jumps end jumps y)

@@ -1,11 +1,11 @@
--- Jumps to the end of a block, as long as it is not known.
+-- Jumps to the end of a block, as long as that end is not known.
 use Rattle.std.specs.Prelude.{◌≡◌, ℕ, List, [], ◌∷◌, ◌++◌, map, take, drop, nat_eq, if◌then◌else◌}
 use Rattle.std.specs.Vec.{with_item}
 use Rattle.filing_image.specs.declared.instruction.Operation.{Operation}
 use Rattle.filing_image.specs.declared.instruction.Operation.TheVariants.{Jump, JumpIf, JumpUnless}
 use Rattle.filing_gen.specs.declared.output.Output.{Output}
 
--- where such a jump goes until then
+-- the place of such a jump as long as the end is not known
 abbrev pub no_place : ℕ
 no_place = 65535
 
@@ -13,7 +13,7 @@ no_place = 65535
 abbrev pub place_or : (end place : ℕ) → ℕ
 place_or end place = if nat_eq place no_place then end else place
 
--- an operation; a jump to a place that is not known goes to the end
+-- an operation, where a jump to a place that is not known goes to the end
 abbrev pub with_end : (end : ℕ) → Operation → Operation
 with_end end (Jump place) = Jump (place_or end place)
 with_end end (JumpIf place) = JumpIf (place_or end place)

@@ -13,7 +13,7 @@ pub record IsNumbered {A : Type 0} (es : List (A × ℕ)) : Type 0 where
   pub one_thing : (x y : A) (b : ℕ) → IsAmong (x, b) es → IsAmong (y, b) es → x ≡ y
   pub one_place : (x : A) (b c : ℕ) → IsAmong (x, b) es → IsAmong (x, c) es → b ≡ c
 
--- Each has its place still, and at most one came in.
+-- Each thing keeps its place, and at most one was added.
 pub record Admits {A : Type 0} (old new : List (A × ℕ)) : Type 0 where
   pub kept : (x : A) (b : ℕ) → IsAmong (x, b) old → IsAmong (x, b) new
   pub few : length new ≤ length old + 1
@@ -22,7 +22,7 @@ pub record Admits {A : Type 0} (old new : List (A × ℕ)) : Type 0 where
 abbrev pub IsOnce : {A : Type 0} → List A → Type 0
 IsOnce {A} xs = (i j : ℕ) (x : A) → slice_get xs i ≡ Some x → slice_get xs j ≡ Some x → i ≡ j
 
--- the octets of texts as they lie in memory
+-- the octets of texts that are in vectors
 abbrev pub octets_of : List (Vec ℕ Global) → List (List ℕ)
 octets_of texts = map (λ t. t.items) texts
 

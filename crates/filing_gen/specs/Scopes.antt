@@ -1,4 +1,4 @@
--- What the code knows of an include.
+-- The main script and the findings of the code, in terms of the definitions.
 use Rattle.std.specs.Prelude.{◌≡◌, ℕ, ◌<◌, List, option_map}
 use Rattle.sieve_syntax.specs.View.{tree_of}
 use Rattle.sieve_meaning.specs.Reading.{program_of}
@@ -17,7 +17,7 @@ told Pass = Passes
 told (Fault n) = Fails n
 told (Entry slot script) = Enters (program_of (tree_of script.now))
 
--- a script that is entered has this slot, of sixty-four
+-- a script that is entered has this slot, which is below 64
 abbrev pub EntersAt : Finding → ℕ → Type 0
 EntersAt Pass n = Unit {0}
 EntersAt (Fault k) n = Unit {0}

@@ -1,5 +1,5 @@
--- Scripts as structured code: blocks, in which each jump goes to the end of a block around it. The names of fields
--- and keys, paths and numbers stand in the code as they are in the script.
+-- Scripts as code in blocks: each jump goes to the end of a block around it. Field names, keys, paths and numbers are
+-- in the code as they are in the script.
 use Rattle.std.specs.Prelude.{ℕ, suc, List, [], ◌∷◌, Bool, true, false}
 use Rattle.sieve_meaning.specs.declared.matching.Comparator.{Comparator}
 use Rattle.sieve_meaning.specs.declared.matching.Comparator.TheVariants as comparators
@@ -9,7 +9,7 @@ use Rattle.sieve_meaning.specs.Program.{Test, always, negated, all_of, any_of, h
 use Rattle.filing_gen.specs.Names.{each_once, others_once}
 use Rattle.filing_flow.specs.Structure.{Push, Negate, ValuesOf, JoinTwo, MatchKey, Drop, HasField, PushSize, PushNumber, IsLess, FileInto, SetKept, SetCancelled, End, Flow, nothing, action, sequence, block, leave, leave_if}
 
--- the number of a comparison
+-- the number of a comparison (RFC 5228, sections 2.7.1 and 2.7.3)
 abbrev pub comparison : MatchType → Comparator → ℕ
 comparison match_types.Is comparators.Octet = 0
 comparison match_types.Is comparators.Casemap = 1
@@ -18,9 +18,9 @@ comparison match_types.Contains comparators.Casemap = 3
 comparison match_types.Matches comparators.Octet = 4
 comparison match_types.Matches comparators.Casemap = 5
 
--- TESTS: each pushes its truth
+-- TESTS (RFC 5228, section 5): each pushes its truth value
 
--- tests that jump out, and else this truth; the other truth where one jumped
+-- tests that may jump out: where none does, this truth value is pushed, and where one does, the other
 abbrev pub either : Bool → Bool → Flow → Flow
 either past out a = block (sequence (block (sequence a (sequence (action (Push past)) (leave 1)))) (action (Push out)))
 
@@ -29,12 +29,12 @@ abbrev pub values_flow : List (List ℕ) → Flow
 values_flow [] = nothing
 values_flow (n ∷ ns) = sequence (action (ValuesOf n)) (sequence (action JoinTwo) (values_flow ns))
 
--- out where one of these keys matches
+-- jumps out where one of these keys matches
 abbrev pub keys_flow : ℕ → List (List ℕ) → Flow
 keys_flow a [] = nothing
 keys_flow a (k ∷ ks) = sequence (action (MatchKey a k)) (sequence (leave_if true 0) (keys_flow a ks))
 
--- out where a field with one of these names is missing
+-- jumps out where a field with one of these names is missing
 abbrev pub names_flow : List (List ℕ) → Flow
 names_flow [] = nothing
 names_flow (n ∷ ns) = sequence (action (HasField n)) (sequence (leave_if false 0) (names_flow ns))
@@ -57,14 +57,15 @@ abbrev mutual
   test_flow (under n) = sequence (action PushSize) (sequence (action (PushNumber n)) (action IsLess))
   test_flow (header m c n ns k ks) = header_flow (comparison m c) n (others_once n ns) k ks
 
-  -- each test, and out where one has this truth
+  -- each test, and a jump out where it has this truth value
   pub tests_flow : Bool → Tests → Flow
   tests_flow b no_test = nothing
   tests_flow b (test_then t ts) = sequence (test_flow t) (sequence (leave_if b 0) (tests_flow b ts))
 
--- COMMANDS: an include stands for what it is given, and `return` leaves the block with this number
+-- COMMANDS (RFC 5228, sections 3 and 4): inc gives the code of an include, and `return` leaves the block with this
+-- number
 
--- 1 for a copy
+-- 1 for a copy (RFC 3894, section 3)
 abbrev pub copy_number : Bool → ℕ
 copy_number true = 1
 copy_number false = 0
@@ -94,6 +95,6 @@ abbrev mutual
 abbrev pub branch_flow : (Include → Flow) → ℕ → Test → Commands → Flow
 branch_flow inc n t xs = block (sequence (test_flow t) (sequence (leave_if false 0) (sequence (flow inc (suc n) xs) (leave 1))))
 
--- the script, whose `return` goes to the end of the block that it stands in
+-- the script, whose `return` jumps to the end of the block that it is in
 abbrev pub script_flow : (Include → Flow) → Commands → Flow
 script_flow inc main = flow inc 0 main

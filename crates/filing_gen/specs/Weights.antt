@@ -1,4 +1,4 @@
--- The weight of commands of the tree, as it is taken from left to right.
+-- The weight of commands of the tree, as it is added up from left to right.
 use Rattle.std.specs.Prelude.{◌≡◌, ℕ, ◌+◌, ◌<◌, List, Bool, true, false, Option, MatchOption}
 use Rattle.sieve_syntax.specs.Tree.{CommandTree, command, CommandTrees}
 use Rattle.sieve_syntax.specs.declared.tree.Argument.{Argument}
@@ -11,11 +11,12 @@ use Rattle.sieve_meaning.specs.Weight.{test_weight, weight, branches_weight}
 use Rattle.sieve_meaning.specs.declared.branches.Part.{Part}
 use Rattle.sieve_meaning.specs.declared.branches.Part.TheVariants.{Branch, Otherwise, Plain}
 
--- what is left once something is taken, and nothing where less was left
+-- what is left once the amount taken is subtracted, or None where less was left
 abbrev pub IsLeft : (left taken : ℕ) → Option ℕ → Type 0
 IsLeft left taken o = MatchOption o (left < taken) (λ rest. rest + taken ≡ left)
 
--- of a command that has no block; what begins no branch and ends none weighs nothing
+-- of a command that has no block; an `elsif` or `else` without open branches weighs nothing, nor does a command of
+-- another name
 abbrev pub plain_weight : (Include → ℕ) → CommandWord → List Argument → ℕ
 plain_weight w words.If args = 0
 plain_weight w words.ElsIf args = 0
@@ -24,13 +25,13 @@ plain_weight w words.Other args = 0
 plain_weight w words.Include args = 4 + w (include_of args)
 plain_weight w word args = 4
 
--- of a command as a part
+-- of a command by its part
 abbrev pub part_weight : (Include → ℕ) → Part → CommandTree → ℕ
 part_weight w Branch (command name args inner finish) = 4 + test_weight (only_in inner) + weight w (block_in finish)
 part_weight w Otherwise (command name args inner finish) = 4 + weight w (block_in finish)
 part_weight w Plain (command name args inner finish) = plain_weight w (command_word name) args
 
--- of commands, and of the branches that they begin with, where these belong to commands before them
+-- of commands; where branches are open, also of the branches at their beginning that continue them
 abbrev pub weight_from : (Include → ℕ) → (is_open : Bool) → CommandTrees → ℕ
 weight_from w true cs = branches_weight w (branches_of cs) + weight w (program_of cs)
 weight_from w false cs = weight w (program_of cs)

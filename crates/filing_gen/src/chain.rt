@@ -1,4 +1,4 @@
-//! The scripts that are active where an include stands (RFC 6609, section 3.2).
+//! The scripts that are active at an include (RFC 6609, section 3.2).
 
 ghost use Rattle.std.specs.Prelude.{◌≡◌, List, ◌∷◌};
 ghost use Rattle.sieve_meaning.specs.Meaning as meaning;
@@ -17,7 +17,7 @@ pub trait Chain {
         ensures { result ≡ is_among (names self.now) (script_of script.now) };
 }
 
-/// The main script, which may be known by a personal name, and no other.
+/// The chain of the main script alone, which may be known by a personal name.
 #[derive(Clone, Copy, Drop)]
 pub struct MainScript<'a> {
     pub known_as: Option<&'a [u8]>,
@@ -39,7 +39,7 @@ impl Chain for MainScript<'_> {
     }
 }
 
-/// A script that was entered, behind those that were active before.
+/// The chain `before` with one more script, the one that was entered last.
 #[derive(Drop)]
 pub struct Link<'a, C> {
     pub script: ScriptName<'a>,

@@ -1,4 +1,4 @@
-//! The code of commands, one after the other.
+//! Writes the code of commands, one after the other.
 
 ghost use Rattle.std.specs.Prelude.{◌≡◌, ◌<◌, ◌^◌, ℕ, List, [], length, map, codes, OnOk, false, if◌then◌else◌};
 ghost use Rattle.std.specs.List.{All};
@@ -23,14 +23,14 @@ use sieve_meaning::{CommandWord, command_word};
 use sieve_syntax::{Argument, Command, Ending};
 use std::alloc::{AllocError, Global};
 
-/// 1 for a copy, and 0 for what cancels the implicit keep.
+/// The first operand of FILE: 1 for a copy, and 0 to cancel the implicit keep (RFC 3894, section 3).
 fn copy_code(is_copy: bool) -> u8
     ensures { result ≡ copy_number is_copy }
 {
     if is_copy { 1 } else { 0 }
 }
 
-/// `fileinto`: one operation, which names the path.
+/// Writes `fileinto`: one operation, which names the path.
 fn emit_file(out: &mut Output, arguments: &[Argument]) -> Result<(), AllocError>
     requires { HasRoom out.old 1 }
     ensures adds { OnOk result ((ends : List ℕ) → Emits out.old out.new (action (FileInto (copy_number (has_tag_of (codes "copy") arguments.now)) (first_string_of (string_lists false arguments.now)))) ends) }
@@ -40,8 +40,9 @@ fn emit_file(out: &mut Output, arguments: &[Argument]) -> Result<(), AllocError>
     put(out, Operation::File(how, place))
 }
 
-/// A command that has no block. `keep`, `discard` and `stop` are one operation each, and `return` jumps to a place
-/// behind the script; `require` is none, nor is an `elsif` or `else` that is not open.
+/// Writes a command that has no block. `keep`, `discard`, `stop` and `fileinto` are one operation each, `return` is a
+/// jump to the place `back`, and an `include` has the code of the linker. `require` has no code, nor has an `elsif` or
+/// `else` without open branches.
 fn emit_plain<L: Linker>(
     alloc: Global,
     linker: &L,
@@ -68,7 +69,7 @@ fn emit_plain<L: Linker>(
     }
 }
 
-/// The commands of a block.
+/// Writes the commands of a block.
 #[cycle(emission)]
 fn emit_block<L: Linker>(
     alloc: Global,
@@ -86,8 +87,8 @@ fn emit_block<L: Linker>(
     }
 }
 
-/// A branch: its test, a jump past it where the test is false, its block, and a jump to the end of all branches, whose
-/// place is put to the jumps of the branches before it.
+/// Writes a branch: its test, a jump past it where the test is false, its block, and a jump to the end of all branches.
+/// The place of this last jump is added to `jumps`, which has those of the branches before it.
 #[cycle(emission)]
 fn emit_branch<L: Linker>(
     alloc: Global,
@@ -112,7 +113,7 @@ fn emit_branch<L: Linker>(
     put(out, Operation::Jump(NO_PLACE))
 }
 
-/// A command as a part: a branch, the block of an `else`, or a command that has no block.
+/// Writes a command by its part: a branch, the block of an `else`, or a command that has no block.
 #[cycle(emission)]
 fn emit_part<L: Linker>(
     alloc: Global,
@@ -138,7 +139,7 @@ fn emit_part<L: Linker>(
     }
 }
 
-/// Ends the branches before a command that is none of them: it begins others, or is no part of branches.
+/// Ends the open branches before a command that is none of them: it begins others, or is no part of branches.
 fn end_before(out: &mut Output, jumps: &mut Vec<usize>, word: CommandWord, part: Part)
     requires room { length out.old.code.items < 2 ^ 16 }
     requires places { All (λ p. p < length out.old.code.items) jumps.old.items }
@@ -151,8 +152,8 @@ fn end_before(out: &mut Output, jumps: &mut Vec<usize>, word: CommandWord, part:
     }
 }
 
-/// Commands, one after the other; `return` jumps to the place `back`. The jumps of branches get their place where the
-/// branches end.
+/// Writes commands, one after the other; `return` jumps to the place `back`. The jumps at the ends of branches get
+/// their place where all branches end. The only error is a refused allocation.
 #[cycle(emission)]
 pub fn emit_commands<L: Linker>(
     alloc: Global,

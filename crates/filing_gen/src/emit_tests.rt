@@ -1,5 +1,5 @@
-//! Writes the code of tests. The code of each test pushes its truth. A jump within the code of a test is written without
-//! its place, which is put in once what it goes past is written.
+//! Writes the code of tests (RFC 5228, section 5), which pushes the test's truth value. A jump within the code of a
+//! test gets its place once the code that it skips is written.
 
 ghost use Rattle.std.specs.Prelude.{◌≡◌, ◌≤◌, ◌+◌, ◌<◌, ◌^◌, ℕ, List, [], ◌∷◌, length, OnOk, true, false, not, codes};
 ghost use Rattle.sieve_syntax.specs.Arguments.{strings_of, first_of, others_of};
@@ -23,7 +23,7 @@ use sieve_meaning::{Comparator, MatchType, TestWord, test_word};
 use sieve_syntax::{Argument, StringList, Test, Tests, Text};
 use std::alloc::{AllocError, Global};
 
-/// The number by which `Match` knows a comparison.
+/// The number of a comparison, as MATCH has it.
 fn comparison_number(how: MatchType, comparator: Comparator) -> u8
     ensures { result ≡ comparison how comparator }
 {
@@ -37,7 +37,7 @@ fn comparison_number(how: MatchType, comparator: Comparator) -> u8
     }
 }
 
-/// `JumpIf` or `JumpUnless`, to the end of the block around.
+/// Writes `JumpIf` or `JumpUnless`, to the end of the block around.
 fn put_jump(out: &mut Output, truth: bool) -> Result<(), AllocError>
     ensures { OnOk result ((ends : List ℕ) → end_at ends 0 ≡ no_place → Emits out.old out.new (leave_if truth 0) ends) }
 {
@@ -47,8 +47,9 @@ fn put_jump(out: &mut Output, truth: bool) -> Result<(), AllocError>
     put(out, Operation::JumpUnless(NO_PLACE))
 }
 
-/// The truth where no test that was written from a place on jumped out, a jump past the end, and there the other truth:
-/// `PushTrue` or `PushFalse`, `Jump end`; jumped: `PushFalse` or `PushTrue`; end.
+/// Ends a row of tests whose code begins at `start`. Where none of them jumped, this pushes the opposite of `stop` and
+/// jumps to the end; where one jumped, it pushes `stop`. The code: `PushTrue` or `PushFalse`, `Jump end`; jumped:
+/// `PushFalse` or `PushTrue`; end.
 fn put_either(out: &mut Output, start: usize, stop: bool) -> Result<(), AllocError>
     requires start { start ≤ length out.old.code.items }
     requires room { HasRoom out.old 3 }
@@ -61,7 +62,7 @@ fn put_either(out: &mut Output, start: usize, stop: bool) -> Result<(), AllocErr
     put_truth(out, stop)
 }
 
-/// `Exists name` and `JumpUnless missing`.
+/// Writes `Exists name` and `JumpUnless missing`.
 fn emit_name(out: &mut Output, name: &[u8]) -> Result<(), AllocError>
     requires { HasRoom out.old 2 }
     ensures { OnOk result ((ends : List ℕ) → end_at ends 0 ≡ no_place → Emits out.old out.new (sequence (action (HasField name.now)) (leave_if false 0)) ends) }
@@ -71,7 +72,7 @@ fn emit_name(out: &mut Output, name: &[u8]) -> Result<(), AllocError>
     put_jump(out, false)
 }
 
-/// For each name that was not asked for before `Exists name` and `JumpUnless missing`.
+/// Writes `Exists name` and `JumpUnless missing` for each name that is new, ignoring ASCII case.
 fn emit_other_names(
     alloc: Global,
     out: &mut Output,
@@ -96,7 +97,7 @@ fn emit_other_names(
     Ok(())
 }
 
-/// For each name, once, `Exists name` and `JumpUnless missing`.
+/// Writes `Exists name` and `JumpUnless missing` for each name, once.
 fn emit_names(alloc: Global, out: &mut Output, names: &StringList) -> Result<(), AllocError>
     requires { HasRoom out.old (size (names_flow (each_once (strings_of names.now)))) }
     ensures { OnOk result ((ends : List ℕ) → end_at ends 0 ≡ no_place → Emits out.old out.new (names_flow (each_once (strings_of names.now))) ends) }
@@ -106,7 +107,7 @@ fn emit_names(alloc: Global, out: &mut Output, names: &StringList) -> Result<(),
     emit_other_names(alloc, out, first, names.others())
 }
 
-/// `exists`: whether a field is there for each name.
+/// Writes `exists` (RFC 5228, section 5.5): whether the header has a field of each name.
 fn emit_exists(alloc: Global, out: &mut Output, arguments: &[Argument]) -> Result<(), AllocError>
     requires { HasRoom out.old (size (test_flow (exists_of (string_lists false arguments.now)))) }
     ensures adds { OnOk result ((ends : List ℕ) → Emits out.old out.new (test_flow (exists_of (string_lists false arguments.now))) ends) }
@@ -121,7 +122,7 @@ fn emit_exists(alloc: Global, out: &mut Output, arguments: &[Argument]) -> Resul
     }
 }
 
-/// `Number n`, `Size`, `Less`: whether the message is longer.
+/// Writes `Number n`, `Size`, `Less`: whether the message has more octets than the number.
 fn emit_over(out: &mut Output, number: u64) -> Result<(), AllocError>
     requires { HasRoom out.old 3 }
     ensures { OnOk result ((ends : List ℕ) → Emits out.old out.new (sequence (action (PushNumber number)) (sequence (action PushSize) (action IsLess))) ends) }
@@ -132,7 +133,7 @@ fn emit_over(out: &mut Output, number: u64) -> Result<(), AllocError>
     put(out, Operation::Less)
 }
 
-/// `Size`, `Number n`, `Less`: whether the message is shorter.
+/// Writes `Size`, `Number n`, `Less`: whether the message has fewer octets than the number.
 fn emit_under(out: &mut Output, number: u64) -> Result<(), AllocError>
     requires { HasRoom out.old 3 }
     ensures { OnOk result ((ends : List ℕ) → Emits out.old out.new (sequence (action PushSize) (sequence (action (PushNumber number)) (action IsLess))) ends) }
@@ -143,7 +144,7 @@ fn emit_under(out: &mut Output, number: u64) -> Result<(), AllocError>
     put(out, Operation::Less)
 }
 
-/// `size`: whether the message is longer, or shorter, than the number.
+/// Writes `size` (RFC 5228, section 5.9): whether the message has more octets than the number, or fewer.
 fn emit_size(out: &mut Output, arguments: &[Argument]) -> Result<(), AllocError>
     requires { HasRoom out.old 3 }
     ensures adds { OnOk result ((ends : List ℕ) → Emits out.old out.new (test_flow (size_of (has_tag_of (codes "over") arguments.now) (number_in arguments.now))) ends) }
@@ -155,7 +156,7 @@ fn emit_size(out: &mut Output, arguments: &[Argument]) -> Result<(), AllocError>
     emit_under(out, number)
 }
 
-/// `Values name`.
+/// Writes `Values name`.
 fn emit_value(out: &mut Output, name: &[u8]) -> Result<(), AllocError>
     requires { HasRoom out.old 1 }
     ensures { OnOk result ((ends : List ℕ) → Emits out.old out.new (action (ValuesOf name.now)) ends) }
@@ -164,7 +165,7 @@ fn emit_value(out: &mut Output, name: &[u8]) -> Result<(), AllocError>
     put(out, Operation::Values(place))
 }
 
-/// For each name that was not asked for before `Values name` and `Join`.
+/// Writes `Values name` and `Join` for each name that is new, ignoring ASCII case.
 fn emit_other_values(
     alloc: Global,
     out: &mut Output,
@@ -190,8 +191,8 @@ fn emit_other_values(
     Ok(())
 }
 
-/// The values of all fields that have the names, as one list: for the first name `Values name`, for each other, once,
-/// `Values name` and `Join`.
+/// Writes the list of the values of all fields that have the names: `Values name` for the first name, and `Values name`
+/// and `Join` for each other name, once.
 fn emit_values(alloc: Global, out: &mut Output, names: &StringList) -> Result<(), AllocError>
     requires { HasRoom out.old (size (values_flow (others_once (first_of names.now) (others_of names.now))) + 1) }
     ensures { OnOk result ((ends : List ℕ) → Emits out.old out.new (sequence (action (ValuesOf (first_of names.now))) (values_flow (others_once (first_of names.now) (others_of names.now)))) ends) }
@@ -201,7 +202,7 @@ fn emit_values(alloc: Global, out: &mut Output, names: &StringList) -> Result<()
     emit_other_values(alloc, out, first, names.others())
 }
 
-/// `Match how key` and `JumpIf found`.
+/// Writes `Match how key` and `JumpIf found`.
 fn emit_key(out: &mut Output, how: u8, key: &[u8]) -> Result<(), AllocError>
     requires { HasRoom out.old 2 }
     ensures { OnOk result ((ends : List ℕ) → end_at ends 0 ≡ no_place → Emits out.old out.new (sequence (action (MatchKey how key.now)) (leave_if true 0)) ends) }
@@ -211,7 +212,7 @@ fn emit_key(out: &mut Output, how: u8, key: &[u8]) -> Result<(), AllocError>
     put_jump(out, true)
 }
 
-/// For each key but the first `Match how key` and `JumpIf found`.
+/// Writes `Match how key` and `JumpIf found` for each key but the first.
 fn emit_other_keys(out: &mut Output, how: u8, keys: &[Text]) -> Result<(), AllocError>
     requires { HasRoom out.old (size (keys_flow how keys.now)) }
     ensures { OnOk result ((ends : List ℕ) → end_at ends 0 ≡ no_place → Emits out.old out.new (keys_flow how keys.now) ends) }
@@ -222,7 +223,7 @@ fn emit_other_keys(out: &mut Output, how: u8, keys: &[Text]) -> Result<(), Alloc
     Ok(())
 }
 
-/// For each key `Match how key` and `JumpIf found`.
+/// Writes `Match how key` and `JumpIf found` for each key.
 fn emit_keys(out: &mut Output, how: u8, keys: &StringList) -> Result<(), AllocError>
     requires { HasRoom out.old (size (keys_flow how (first_of keys.now ∷ others_of keys.now))) }
     ensures { OnOk result ((ends : List ℕ) → end_at ends 0 ≡ no_place → Emits out.old out.new (keys_flow how (first_of keys.now ∷ others_of keys.now)) ends) }
@@ -231,7 +232,7 @@ fn emit_keys(out: &mut Output, how: u8, keys: &StringList) -> Result<(), AllocEr
     emit_other_keys(out, how, keys.others())
 }
 
-/// Where no key matched: `Pop`, `PushFalse`, `Jump end`.
+/// Writes what follows where no key matched: `Pop`, `PushFalse`, `Jump end`.
 fn put_missed(out: &mut Output, end: u16) -> Result<(), AllocError>
     ensures { OnOk result ((ends : List ℕ) → end_at ends 1 ≡ end → Emits out.old out.new (sequence (action Drop) (sequence (action (Push false)) (leave 1))) ends) }
 {
@@ -240,7 +241,7 @@ fn put_missed(out: &mut Output, end: u16) -> Result<(), AllocError>
     put(out, Operation::Jump(end))
 }
 
-/// Where a key matched: `Pop`, `PushTrue`.
+/// Writes what follows where a key matched: `Pop`, `PushTrue`.
 fn put_found(out: &mut Output) -> Result<(), AllocError>
     ensures { OnOk result ((ends : List ℕ) → Emits out.old out.new (sequence (action Drop) (action (Push true))) ends) }
 {
@@ -248,9 +249,8 @@ fn put_found(out: &mut Output) -> Result<(), AllocError>
     put(out, Operation::PushTrue)
 }
 
-/// The values of all fields that have the names, and each key, with a jump to where one matches:
-/// the list; for each key `Match how key` and `JumpIf found`; `Pop`, `PushFalse`, `Jump end`; found: `Pop`, `PushTrue`;
-/// end.
+/// Writes a test of the values of all fields that have the names, with a jump where a key matches. The code: the list;
+/// `Match how key` and `JumpIf found` for each key; `Pop`, `PushFalse`, `Jump end`; found: `Pop`, `PushTrue`; end.
 fn emit_some_match(
     alloc: Global,
     out: &mut Output,
@@ -270,7 +270,8 @@ fn emit_some_match(
     put_found(out)
 }
 
-/// `header`: whether some field has one of the names, and its value matches one of the keys.
+/// Writes `header` (RFC 5228, section 5.7): whether a field with one of the names has a value that matches one of the
+/// keys.
 fn emit_header(alloc: Global, out: &mut Output, arguments: &[Argument]) -> Result<(), AllocError>
     requires { HasRoom out.old (size (test_flow (header_of (match_type_of arguments.now) (comparator_from false arguments.now) (string_lists false arguments.now)))) }
     ensures adds { OnOk result ((ends : List ℕ) → Emits out.old out.new (test_flow (header_of (match_type_of arguments.now) (comparator_from false arguments.now) (string_lists false arguments.now))) ends) }
@@ -285,7 +286,7 @@ fn emit_header(alloc: Global, out: &mut Output, arguments: &[Argument]) -> Resul
     emit_some_match(alloc, out, how, names, keys)
 }
 
-/// The code of a test.
+/// Writes the code of a test; a test of an unknown name pushes false. The only error is a refused allocation.
 #[cycle(emission)]
 pub fn emit_test(alloc: Global, out: &mut Output, test: &Test) -> Result<(), AllocError>
     requires { HasRoom out.old (size (test_flow (test_in (test_of test.now)))) }
@@ -304,7 +305,7 @@ pub fn emit_test(alloc: Global, out: &mut Output, test: &Test) -> Result<(), All
     }
 }
 
-/// `not`: the only test, and `Not`.
+/// Writes `not` (RFC 5228, section 5.8): the only test, and `Not`.
 #[cycle(emission)]
 fn emit_not(alloc: Global, out: &mut Output, tests: &Tests) -> Result<(), AllocError>
     requires { HasRoom out.old (size (test_flow (only_in (inner_of tests.now))) + 1) }
@@ -314,7 +315,7 @@ fn emit_not(alloc: Global, out: &mut Output, tests: &Tests) -> Result<(), AllocE
     put(out, Operation::Not)
 }
 
-/// The only test; `PushFalse` where there is none, which no checked script has.
+/// Writes the only test, or the first of a list; `PushFalse` where there is none, which no checked script has.
 #[cycle(emission)]
 pub fn emit_only(alloc: Global, out: &mut Output, tests: &Tests) -> Result<(), AllocError>
     requires { HasRoom out.old (size (test_flow (only_in (inner_of tests.now)))) }
@@ -327,8 +328,9 @@ pub fn emit_only(alloc: Global, out: &mut Output, tests: &Tests) -> Result<(), A
     }
 }
 
-/// `allof`, which stops at a false test, and `anyof`, which stops at a true one:
-/// for each test its code and a jump to stopped; the other truth, `Jump end`; stopped: the truth that stops; end.
+/// Writes `allof`, which stops at a false test, or `anyof`, which stops at a true one (RFC 5228, sections 5.2 and 5.3).
+/// The code: each test and a jump to stopped; the other truth value, `Jump end`; stopped: the truth value that stops;
+/// end.
 #[cycle(emission)]
 fn emit_row(alloc: Global, out: &mut Output, tests: &Tests, stop: bool) -> Result<(), AllocError>
     requires { HasRoom out.old (size (either (not stop) stop (tests_flow stop (tests_in (inner_of tests.now))))) }
@@ -339,7 +341,7 @@ fn emit_row(alloc: Global, out: &mut Output, tests: &Tests, stop: bool) -> Resul
     put_either(out, start, stop)
 }
 
-/// For each test its code, and a jump out where it has the truth that stops.
+/// Writes each test, and a jump out where it has the truth value that stops.
 #[cycle(emission)]
 fn emit_tests(alloc: Global, out: &mut Output, tests: &Tests, stop: bool) -> Result<(), AllocError>
     requires { HasRoom out.old (size (tests_flow stop (tests_in (inner_of tests.now)))) }

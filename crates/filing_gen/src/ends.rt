@@ -1,4 +1,4 @@
-//! The ends of blocks and branches, which are known only when all that stands in them is written.
+//! The ends of blocks and branches, which are known only once their contents are written.
 
 ghost use Rattle.std.specs.Prelude.{◌≡◌, ◌≤◌, ◌<◌, ◌^◌, [], length, map};
 ghost use Rattle.std.specs.List.{All};
@@ -7,17 +7,17 @@ ghost use Rattle.filing_gen.specs.Ends.{place_or as place_or_of, with_end as wit
 use crate::output::{Output, put_at};
 use filing_image::Operation;
 
-/// The place that a jump goes to until the end of its block is known.
+/// The place of a jump as long as the end of its block is not known.
 pub const NO_PLACE: u16 = u16::MAX;
 
-/// A place, or the end where it is not known.
+/// The place, or the end where the place is `NO_PLACE`.
 fn place_or(place: u16, end: u16) -> u16
     ensures { result ≡ place_or_of end place }
 {
     if place == NO_PLACE { end } else { place }
 }
 
-/// An operation; a jump to a place that is not known goes to the end.
+/// The operation; a jump to `NO_PLACE` goes to the end instead.
 fn with_end(operation: Operation, end: u16) -> Operation
     ensures { result ≡ with_end_of end operation }
 {
@@ -29,7 +29,7 @@ fn with_end(operation: Operation, end: u16) -> Operation
     }
 }
 
-/// Has the jumps to places that are not known go to the end.
+/// Makes each jump to `NO_PLACE` go to the end.
 fn end_jumps(code: &mut [Operation], end: u16)
     ensures { code.new ≡ map (with_end_of end) code.old }
 {
@@ -38,7 +38,7 @@ fn end_jumps(code: &mut [Operation], end: u16)
     }
 }
 
-/// Has the jumps to places that are not known, of the code that begins at a place, go to this end.
+/// Makes each jump to `NO_PLACE`, in the code from the place `start` on, go to this end.
 pub fn end_block_at(out: &mut Output, start: usize, end: u16)
     requires { start ≤ length out.old.code.items }
     ensures { IsEnded start end out.old out.new }
@@ -47,7 +47,7 @@ pub fn end_block_at(out: &mut Output, start: usize, end: u16)
     end_jumps(block, end);
 }
 
-/// Ends the block whose code begins at a place: its jumps to places that are not known go past all that is written.
+/// Ends the block whose code begins at `start`: its jumps to `NO_PLACE` go to the place after all that is written.
 pub fn end_block(out: &mut Output, start: usize)
     requires start { start ≤ length out.old.code.items }
     requires room { length out.old.code.items < 2 ^ 16 }
@@ -57,7 +57,7 @@ pub fn end_block(out: &mut Output, start: usize)
     end_block_at(out, start, end);
 }
 
-/// Ends branches: their jumps, of which the places are given and then forgotten, go behind all that is written.
+/// Ends branches: the jumps at the places `jumps` go to the place after all that is written, and `jumps` is emptied.
 pub fn end_branches(out: &mut Output, jumps: &mut Vec<usize>)
     requires room { length out.old.code.items < 2 ^ 16 }
     requires places { All (λ p. p < length out.old.code.items) jumps.old.items }

@@ -20,7 +20,7 @@ pub enum GenFault {
 }
 
 impl GenFault {
-    /// The number by which the fault is told: 5 or 99.
+    /// The number by which the fault is reported: 5 or 99.
     pub fn number(self) -> u8
         ensures { result ≡ gen_number self }
     {

@@ -1,4 +1,4 @@
-//! The names of fields that a test has asked for.
+//! The field names that a test has named so far.
 
 ghost use Rattle.std.specs.Prelude.{◌≡◌, ℕ, List, [], not, ◌||◌, IfOk, OnOk};
 ghost use Rattle.sieve_meaning.specs.Words.{same_word};
@@ -7,7 +7,7 @@ ghost use Rattle.filing_gen.specs.Names.{has_name};
 use std::alloc::{AllocError, Global};
 use std::collections::BTreeSet;
 
-/// Names of fields, without ASCII case (RFC 5228, section 2.4.2.2).
+/// A set of header field names, which ignore ASCII case (RFC 5228, section 2.4.2.2).
 #[derive(Drop)]
 pub struct FieldNames {
     alloc: Global,
@@ -15,7 +15,7 @@ pub struct FieldNames {
 }
 
 impl FieldNames {
-    /// One name.
+    /// The set of one name. The only error is a refused allocation.
     pub fn of(alloc: Global, name: &[u8]) -> Result<FieldNames, AllocError>
         ensures { IfOk result (λ names. (m : List ℕ) → has_name names.lowercase.keys m ≡ same_word name.now m) }
     {
@@ -27,7 +27,7 @@ impl FieldNames {
         Ok(names)
     }
 
-    /// Puts a name in, and says whether it is new.
+    /// Adds a name, and answers whether it is new. The only error is a refused allocation.
     pub fn insert(&mut self, name: &[u8]) -> Result<bool, AllocError>
         ensures added { IfOk result (λ added. added ≡ not (has_name self.old.lowercase.keys name.now)) }
         ensures names { OnOk result ((m : List ℕ) → has_name self.new.lowercase.keys m ≡ (same_word name.now m || has_name self.old.lowercase.keys m)) }

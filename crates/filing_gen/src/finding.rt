@@ -1,4 +1,4 @@
-//! What an include comes to, as far as it is known before the run (RFC 6609, section 3.2).
+//! What an include comes to, as far as it is known when it is compiled (RFC 6609, section 3.2).
 
 ghost use Rattle.std.specs.Prelude.{◌≡◌, ◌<◌, ℕ, option_map, IfSome};
 ghost use Rattle.sieve_syntax.specs.View.{tree_of};
@@ -30,13 +30,13 @@ pub struct Scope<'a> {
 pub enum Finding<'a> {
     /// It does nothing.
     Pass,
-    /// It ends the run with the fault of this number.
+    /// It ends the run with the fault of this number: 2 or 3.
     Fault(u8),
     /// It enters the script, which has this slot; under `:once` it does so only where the slot is not set.
     Entry(usize, &'a Script),
 }
 
-/// Whether an include whose script is missing does nothing: it is optional, or it asks for once and names the main
+/// Whether an include whose script is missing does nothing: it is `:optional`, or it is `:once` and names the main
 /// script, which was entered.
 fn is_passed(main: &MainScript<'_>, include: &Include<'_>) -> bool
     ensures { result ≡ is_passed_of (names_of main.now) (asked include.now) }
@@ -44,8 +44,8 @@ fn is_passed(main: &MainScript<'_>, include: &Include<'_>) -> bool
     (include.is_once && main.contains(&include.script)) || include.is_optional
 }
 
-/// What an include comes to by the script that it finds, whether it is passed where there is none, whether the script
-/// is active, and whether the include asks for once.
+/// What an include comes to, by the script that it finds. Where there is none, the include does nothing if `is_passed`,
+/// and else is fault 2. Where the script is active, it does nothing under `:once`, and else is fault 3.
 fn judge<'a>(
     found: Option<(usize, &'a Checked)>,
     is_passed: bool,
@@ -75,7 +75,7 @@ fn judge<'a>(
     }
 }
 
-/// What an include comes to behind the scripts that are active.
+/// What an include comes to, where the scripts of this chain are active.
 pub fn find<'a, C: Chain>(scope: &Scope<'a>, chain: &C, include: &Include<'_>) -> Finding<'a>
     ensures told { told result ≡ judgement (library_of (scripts_of scope.now.shelves)) (names_of scope.now.main) (C.names chain.now) (asked include.now) }
     ensures slot { EntersAt result (slots_of (scripts_of scope.now.shelves) (script_of include.now.script)) }

@@ -1,5 +1,5 @@
-//! The code of includes, level by level (RFC 6609, section 3.2): the code of the included script stands in the place of
-//! the include. A level is how many further scripts may be active, so that the code ends however the includes lead on.
+//! The code of includes, level by level (RFC 6609, section 3.2): the code of the included script replaces the include.
+//! A level is the number of further scripts that may be active, so that the code is finite whatever the includes are.
 
 ghost use Rattle.std.specs.Prelude.{◌<◌, ℕ, zero, suc, List, OnOk};
 ghost use Rattle.sieve_syntax.specs.View.{tree_of};
@@ -28,16 +28,17 @@ use sieve_syntax::Script;
 use std::alloc::{AllocError, Global};
 use std::marker::PhantomData;
 
-/// How scripts are entered where so many further ones may be active. The chain ends with the script that is entered.
+/// How scripts are entered, by the number of further scripts that may be active. The script that is entered is already
+/// in the chain, as the innermost one.
 pub trait Level {
-    /// How many.
+    /// The number of further scripts that may be active.
     ghost depth: { ℕ };
 
-    /// Takes what the script adds to the weight from what is left; none where it is more.
+    /// Subtracts what the script adds to the weight from `left`; none where it is more.
     fn weigh<C: Chain>(scope: &Scope<'_>, chain: &C, script: &Script, left: u32) -> Option<u32>
         ensures { IsLeft left (entered_weight (library_of (scripts_of scope.now.shelves)) depth (C.names chain.now) (program_of (tree_of script.now))) result };
 
-    /// Writes the entry of the script.
+    /// Writes the code that enters the script, whose slot must be below 64. The only error is a refused allocation.
     fn emit<C: Chain>(
         alloc: Global,
         scope: &Scope<'_>,
@@ -73,7 +74,7 @@ impl Level for Deepest {
     }
 }
 
-/// One more script may be active than below: the entry marks the script and runs it.
+/// One more script may be active than at the level `L`: the entry marks the script in its slot and runs it.
 pub struct Above<L> {
     below: PhantomData<L>,
 }
@@ -111,7 +112,7 @@ impl<L: Level> Level for Above<L> {
     }
 }
 
-/// The includes behind the scripts that are active, where so many further ones may be.
+/// The includes of the innermost script of a chain, which enter scripts at the level `L`.
 #[derive(Drop)]
 pub struct Includes<'a, C, L> {
     pub scope: Scope<'a>,
@@ -137,7 +138,8 @@ impl<C: Chain, L: Level> Linker for Includes<'_, C, L> {
         }
     }
 
-    /// Nothing, a fault, or the entry of a script; under `:once` behind a jump past it where the script is marked.
+    /// Writes nothing, a fault, or the entry of a script; under `:once` a jump before the entry skips it where the
+    /// script is marked.
     fn emit(
         &self,
         alloc: Global,

@@ -1,16 +1,19 @@
 //! The compiler: from checked scripts, and a library of scripts that they include, to images that may run.
 //!
-//! In `specs/`, `Structured` says which code in blocks (`filing_flow`) stands for a script, `Linked` which stands for an
-//! include, and `Correct` what an image owes its script. `Alike` says how a script and its code run side by side;
-//! `Emission`, `Adds`, `Ends`, `Weights`, `Levels` and `Scopes` what the passes over the tree keep. A script is weighed (`weight`),
-//! and left alone as soon as it is too heavy; then its code is written once, from left to right, by `emit_tests` and
-//! `emit_commands`. A text or number that is named again has the place that it got first (`text_pool`, `number_pool`), and
-//! a test asks for each field once (`Names`: `field_names`). Jumps are written without their place: it is put in where the
-//! test, the branch, all branches, or, for `return`, the script ends (`ends`). What a command is to the branches before
-//! it, and what an include asks for, the passes learn from `sieve_meaning`. What stands for an include is a `linker`'s affair, and the
-//! passes know no more of it. The one of `levels` looks the script up in the library (`script_library`), with its slot (`slots`), judges
-//! the include by the `chain` of active scripts (`finding`), and puts the script's own code in its place, one level further down; the deepest level has
-//! none. `program` makes the image and has it verified.
+//! In `specs/`, `Structured` defines the code in blocks (`filing_flow`) of a script, `Linked` that of an include, and
+//! `Correct` what the image of a script must satisfy. `Alike` says how a script and its code run side by side.
+//! `Emission`, `Adds`, `Ends`, `Weights`, `Levels` and `Scopes` have the invariants of the passes over the tree.
+//!
+//! A script is weighed first (`weight`), and not compiled where it is too heavy. Then its code is written once, from
+//! left to right, by `emit_tests` and `emit_commands`. A text or number that is named again keeps the place that it got
+//! first (`text_pool`, `number_pool`), and a test names each field once (`Names`, `field_names`). Jumps are written
+//! without their place, which is filled in where the test, the branch, all branches or, for `return`, the script ends
+//! (`ends`). What a command is to the branches before it, and what an include asks for, is computed by `sieve_meaning`.
+//!
+//! The code of an include is left to a `linker`. That of `levels` looks the script up in the library
+//! (`script_library`), with its slot (`slots`), and judges the include by the `chain` of active scripts (`finding`). It
+//! puts the script's own code in the place of the include, one level further down; the deepest level has fault 4
+//! instead. `program` makes the image, which is proved to be one that may run.
 #![tactic(auto)]
 
 mod chain;

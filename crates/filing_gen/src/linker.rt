@@ -1,4 +1,4 @@
-//! What stands for an include.
+//! The code and the weight of includes.
 
 ghost use Rattle.std.specs.Prelude.{ℕ, List, OnOk};
 ghost use Rattle.filing_flow.specs.Structure.{Flow, size};
@@ -11,7 +11,7 @@ use crate::output::Output;
 use sieve_meaning::Include;
 use std::alloc::{AllocError, Global};
 
-/// What stands for the includes of a script, by what they ask for.
+/// The code and the weight of each include of a script, by what it asks for.
 pub trait Linker {
     /// The code of each include.
     ghost flow_of: { Self → program.Include → Flow };
@@ -19,11 +19,11 @@ pub trait Linker {
     /// What each include adds to the weight.
     ghost weight_of: { Self → program.Include → ℕ };
 
-    /// Takes what an include adds to the weight from what is left; none where it is more.
+    /// Subtracts what an include adds to the weight from `left`; none where it is more.
     fn weigh(&self, include: &Include<'_>, left: u32) -> Option<u32>
         ensures { IsLeft left (weight_of self.now (asked include.now)) result };
 
-    /// Writes the code of an include.
+    /// Writes the code of an include. The only error is a refused allocation.
     fn emit(&self, alloc: Global, out: &mut Output, include: &Include<'_>) -> Result<(), AllocError>
         requires { HasRoom out.old (size (flow_of self.now (asked include.now))) }
         ensures adds { OnOk result ((ends : List ℕ) → Emits out.old out.new (flow_of self.now (asked include.now)) ends) };

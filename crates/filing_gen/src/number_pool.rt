@@ -7,8 +7,8 @@ use std::alloc::{AllocError, Global};
 use std::collections::BTreeMap;
 use std::marker::Model;
 
-/// Numbers, each once, at the place where it came in. Contracts see the numbers, each with its place. A look-up takes
-/// time logarithmic in how many there are.
+/// Numbers, each once, with places in the order in which they were added. Contracts see the numbers, each with its
+/// place. A look-up takes time logarithmic in the number of numbers.
 #[derive(Drop)]
 pub struct NumberPool {
     alloc: Global,
@@ -28,7 +28,7 @@ impl Model for NumberPool {
 }
 
 impl NumberPool {
-    /// No number; takes no memory.
+    /// The empty pool; it takes no memory.
     pub fn new(alloc: Global) -> NumberPool
         ensures { result ≡ [] }
     {
@@ -38,7 +38,7 @@ impl NumberPool {
         }
     }
 
-    /// The place of a number, which comes in where it is new.
+    /// The place of a number, which is added where it is new. The only error is a refused allocation.
     pub fn place(&mut self, number: u64) -> Result<u16, AllocError>
         requires { length self.old < 2 ^ 16 }
         ensures there { IfOk result (λ b. IsAmong (number, b) self.new) }
@@ -52,7 +52,7 @@ impl NumberPool {
         Ok(place)
     }
 
-    /// The numbers in the order of their places.
+    /// The numbers in the order of their places. The only error is a refused allocation.
     pub fn into_numbers(self) -> Result<Vec<u64>, AllocError>
         ensures places { IfOk result (λ v. (n b : ℕ) → IsAmong (n, b) self → slice_get v.items b ≡ Some n) }
         ensures once { IfOk result (λ v. IsOnce v.items) }

@@ -1,4 +1,4 @@
-//! What was written so far.
+//! The output of the compiler.
 
 ghost use Rattle.std.specs.Prelude.{◌≡◌, ◌<◌, ◌^◌, ℕ, List, [], length, IfOk, OnOk};
 ghost use Rattle.filing_flow.specs.Structure.{Push, action};
@@ -11,7 +11,7 @@ use crate::text_pool::TextPool;
 use filing_image::Operation;
 use std::alloc::{AllocError, Global};
 
-/// The operations of a program, as far as it is written, and the texts and the numbers that they name.
+/// The operations written so far, and the texts and numbers that they name.
 #[derive(Drop)]
 pub struct Output {
     pub texts: TextPool,
@@ -20,7 +20,7 @@ pub struct Output {
 }
 
 impl Output {
-    /// Nothing, with room for so many operations.
+    /// The empty output, with room for this number of operations. The only error is a refused allocation.
     pub fn with_room(alloc: Global, operations: u32) -> Result<Output, AllocError>
         ensures texts { IfOk result (λ o. o.texts ≡ []) }
         ensures numbers { IfOk result (λ o. o.numbers ≡ []) }
@@ -34,7 +34,7 @@ impl Output {
     }
 }
 
-/// The operand that names a text.
+/// The operand that names a text, which is added where it is new. The only error is a refused allocation.
 pub fn text_operand(out: &mut Output, text: &[u8]) -> Result<u16, AllocError>
     requires { length out.old.texts < 2 ^ 16 }
     ensures there { IfOk result (λ b. IsAmong (text.now, b) out.new.texts) }
@@ -43,7 +43,7 @@ pub fn text_operand(out: &mut Output, text: &[u8]) -> Result<u16, AllocError>
     out.texts.place(text)
 }
 
-/// The operand that names a number.
+/// The operand that names a number, which is added where it is new. The only error is a refused allocation.
 pub fn number_operand(out: &mut Output, number: u64) -> Result<u16, AllocError>
     requires { length out.old.numbers < 2 ^ 16 }
     ensures there { IfOk result (λ b. IsAmong (number, b) out.new.numbers) }
@@ -52,7 +52,7 @@ pub fn number_operand(out: &mut Output, number: u64) -> Result<u16, AllocError>
     out.numbers.place(number)
 }
 
-/// Writes an operation.
+/// Appends an operation. The only error is a refused allocation.
 pub fn put(out: &mut Output, operation: Operation) -> Result<(), AllocError>
     ensures { OnOk result (Puts out.old out.new operation) }
 {
@@ -60,7 +60,7 @@ pub fn put(out: &mut Output, operation: Operation) -> Result<(), AllocError>
     Ok(())
 }
 
-/// Writes an operation in the place of another.
+/// Replaces the operation at a place.
 pub fn put_at(out: &mut Output, place: usize, operation: Operation)
     requires { place < length out.old.code.items }
     ensures { out.new ≡ with_operation out.old place operation }
@@ -68,7 +68,7 @@ pub fn put_at(out: &mut Output, place: usize, operation: Operation)
     out.code[place] = operation;
 }
 
-/// Writes the operation that pushes a truth.
+/// Appends the operation that pushes a truth value. The only error is a refused allocation.
 pub fn put_truth(out: &mut Output, truth: bool) -> Result<(), AllocError>
     ensures adds { OnOk result ((ends : List ℕ) → Emits out.old out.new (action (Push truth)) ends) }
 {

@@ -37,8 +37,8 @@ use std::marker::PhantomData;
 /// The greatest weight of a script that is run.
 const GREATEST_WEIGHT: u32 = 60_000;
 
-/// A script, and the end of the run behind it, to which a `return` of the script goes. Room is taken at once for so many
-/// operations.
+/// Writes a script, and after it the end of the run, to which a `return` of the script jumps. Room for `operations`
+/// operations is taken at once.
 fn emit_program<L: Linker>(
     alloc: Global,
     linker: &L,
@@ -56,7 +56,8 @@ fn emit_program<L: Linker>(
     Ok(out)
 }
 
-/// The image of what was written, with so many slots. It has a form unless a string is too long for it.
+/// The image of what was written, with this budget and number of slots. `NoMemory` also where a string has more than
+/// 65,535 octets.
 fn image_of(budget: u32, slots: u16, mut out: Output) -> Result<Image, GenFault>
     ensures made { IfOk result (λ i. IsImageOf budget slots out i) }
     ensures once { IfOk result (λ i. NamesOnce i) }
@@ -110,15 +111,15 @@ fn weigh(script: &Script, scope: Scope<'_>) -> Option<u32>
     script_weight(&includes, script, GREATEST_WEIGHT)
 }
 
-/// The image of a checked script, which may be known by a personal name, and of the scripts that it includes. It
-/// declares the script's weight as its budget in steps, it is one that may run, and in every case its run ends with
-/// the outcome of what the script means. It has no text and no number twice. `TooLarge`, 5, exactly where the weight is
-/// above 60,000; `NoMemory`, 99, where an allocation was refused, or a string is too long for an image.
+/// Compiles a checked script, which may be known by a personal name, and the scripts that it includes, to an image that
+/// may run. The image's budget in steps is the script's weight, and in every case its run ends with the outcome of what
+/// the script means. No text and no number stands in it twice. `TooLarge` (5) exactly where the weight is above 60,000.
+/// `NoMemory` (99) where an allocation was refused, or a string has more than 65,535 octets.
 ///
-/// However often a script is included, its strings are stored once: memory is linear in the octets of the strings of the
-/// scripts, and in the weight, of which the image takes 4 octets an instruction. Time is that of a look-up of each string
-/// for each time that its script is included, and linear in the weight times how deep tests stand inside one another. A
-/// script that is too heavy takes time linear in 60,000.
+/// However often a script is included, its strings are stored once. Memory is linear in the octets of the strings of
+/// the scripts, and in the weight; the image takes 4 octets for each instruction. Time is that of one look-up of each
+/// string each time that its script is included, and linear in the weight times the depth of nested tests. A script
+/// that is too heavy takes time linear in 60,000.
 pub fn compile(
     alloc: Global,
     main: &Checked,
@@ -132,8 +133,8 @@ pub fn compile(
     compile_with(alloc, main, known_as, library.shelves())
 }
 
-/// The image of a checked script, as `compile` gives it, where the scripts that can be included stand on two shelves that
-/// are borrowed: so many users, each with a shelf of his own, can share the other, and none is copied.
+/// Compiles as `compile` does, and with the same refusals, where the scripts that can be included are on two borrowed
+/// shelves. Users who each have a personal shelf can thus share the global one, and no script is copied.
 pub fn compile_with(
     alloc: Global,
     main: &Checked,

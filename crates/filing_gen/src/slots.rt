@@ -11,7 +11,8 @@ use script_library::{MAX_SCRIPTS, Shelves};
 use sieve_check::Checked;
 use sieve_meaning::{Location, ScriptName};
 
-/// The script of a name, with its slot, of sixty-four: no two scripts have the same.
+/// The script of a name, with its slot, which is below 64; no two scripts have the same slot. None where there is no
+/// such script.
 pub fn find_script<'a>(
     shelves: Shelves<'a>,
     script: &ScriptName<'_>,
@@ -29,8 +30,7 @@ pub fn find_script<'a>(
     }
 }
 
-/// How many slots are enough for the scripts, and no more than that: none where there is no script, and sixty-four at
-/// most.
+/// The smallest number of slots that is enough for the scripts: 0 where there is no script, and at most 64.
 pub fn slot_count(shelves: Shelves<'_>) -> u16
     ensures enough { HasSlots (library_of (scripts_of shelves.entry)) (slots_of (scripts_of shelves.entry)) result }
     ensures fewest { (n : ℕ) → HasSlots (library_of (scripts_of shelves.entry)) (slots_of (scripts_of shelves.entry)) n → result ≤ n }

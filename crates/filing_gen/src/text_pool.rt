@@ -7,8 +7,8 @@ use std::alloc::{AllocError, Global};
 use std::collections::BTreeMap;
 use std::marker::Model;
 
-/// Texts, each once, at the place where it came in. Contracts see the texts, each with its place. A look-up takes time
-/// logarithmic in the number of texts, and the octets of each text are stored once.
+/// Texts, each once, with places in the order in which they were added. Contracts see the texts, each with its place. A
+/// look-up takes time logarithmic in the number of texts, and the octets of each text are stored once.
 #[derive(Drop)]
 pub struct TextPool {
     alloc: Global,
@@ -28,7 +28,7 @@ impl Model for TextPool {
 }
 
 impl TextPool {
-    /// No text; takes no memory.
+    /// The empty pool; it takes no memory.
     pub fn new(alloc: Global) -> TextPool
         ensures { result ≡ [] }
     {
@@ -38,7 +38,7 @@ impl TextPool {
         }
     }
 
-    /// The place of a text, which comes in where it is new.
+    /// The place of a text, which is added where it is new. The only error is a refused allocation.
     pub fn place(&mut self, text: &[u8]) -> Result<u16, AllocError>
         requires { length self.old < 2 ^ 16 }
         ensures there { IfOk result (λ b. IsAmong (text.now, b) self.new) }
@@ -53,7 +53,7 @@ impl TextPool {
         Ok(place)
     }
 
-    /// The texts in the order of their places. No octet is copied.
+    /// The texts in the order of their places. No octet is copied. The only error is a refused allocation.
     pub fn into_texts(self) -> Result<Vec<Vec<u8>>, AllocError>
         ensures places { IfOk result (λ v. (t : List ℕ) (b : ℕ) → IsAmong (t, b) self → slice_get (octets_of v.items) b ≡ Some t) }
         ensures once { IfOk result (λ v. IsOnce (octets_of v.items)) }
@@ -75,7 +75,7 @@ fn by_place(alloc: Global, places: BTreeMap<Vec<u8>, u16>) -> Result<Vec<Vec<u8>
     Ok(texts)
 }
 
-/// So many texts of no octets.
+/// This number of empty texts.
 fn no_texts(alloc: Global, count: usize) -> Result<Vec<Vec<u8>>, AllocError>
     ensures { IfOk result (λ v. length v.items ≡ count) }
 {

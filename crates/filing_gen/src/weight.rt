@@ -1,5 +1,5 @@
-//! How heavy a script is: a bound on the code that it needs. What may be weighed is handed through as what is left, and
-//! the weighing stops as soon as a part is heavier than that, however many more there are.
+//! The weight of a script: a bound on the size of its code. What may still be weighed is passed along as `left`, and
+//! weighing stops as soon as a part is heavier than that, whatever follows.
 
 ghost use Rattle.std.specs.Prelude.{◌≡◌, ◌+◌, ◌*◌, ◌<◌, ◌≤◌, length, map, false, MatchOption};
 ghost use Rattle.sieve_syntax.specs.Arguments.{others_of};
@@ -14,7 +14,7 @@ use sieve_meaning::reading::{include, next_string_list};
 use sieve_meaning::{CommandWord, TestWord, command_word, test_word};
 use sieve_syntax::{Argument, Command, Ending, Script, StringList, Test, Tests};
 
-/// Takes so much for each string of a list.
+/// Subtracts `each` for each string of a list.
 fn weigh_strings(list: &StringList, each: u32, left: u32) -> Option<u32>
     ensures { IsLeft left ((length (others_of list.now) + 1) * each) result }
 {
@@ -27,7 +27,7 @@ fn weigh_strings(list: &StringList, each: u32, left: u32) -> Option<u32>
     Some(left - weight as u32)
 }
 
-/// Takes 4, and 2 for each name of an `exists`.
+/// Subtracts 4, and 2 for each name of an `exists`.
 fn weigh_exists(arguments: &[Argument], left: u32) -> Option<u32>
     ensures { IsLeft left (test_weight (exists_of (string_lists false arguments.now))) result }
 {
@@ -38,7 +38,7 @@ fn weigh_exists(arguments: &[Argument], left: u32) -> Option<u32>
     }
 }
 
-/// Takes 4, 2 for each name of a `header`, and 3 for each of its keys.
+/// Subtracts 4, 2 for each name of a `header`, and 3 for each of its keys.
 fn weigh_header(arguments: &[Argument], left: u32) -> Option<u32>
     ensures { IsLeft left (test_weight (header_of (match_type_of arguments.now) (comparator_from false arguments.now) (string_lists false arguments.now))) result }
 {
@@ -53,7 +53,7 @@ fn weigh_header(arguments: &[Argument], left: u32) -> Option<u32>
     weigh_strings(keys, 3, left)
 }
 
-/// Takes the weight of a test.
+/// Subtracts the weight of a test.
 #[cycle(test_weights)]
 fn weigh_test(test: &Test, left: u32) -> Option<u32>
     ensures { IsLeft left (test_weight (test_in (test_of test.now))) result }
@@ -68,7 +68,7 @@ fn weigh_test(test: &Test, left: u32) -> Option<u32>
     }
 }
 
-/// Takes the weight of the only test.
+/// Subtracts the weight of the only test, or of the first of a list.
 #[cycle(test_weights)]
 fn weigh_only(tests: &Tests, left: u32) -> Option<u32>
     ensures { IsLeft left (test_weight (only_in (inner_of tests.now))) result }
@@ -80,7 +80,7 @@ fn weigh_only(tests: &Tests, left: u32) -> Option<u32>
     }
 }
 
-/// Takes the weight of all tests.
+/// Subtracts the weight of all tests.
 #[cycle(test_weights)]
 fn weigh_tests(tests: &Tests, left: u32) -> Option<u32>
     ensures { IsLeft left (tests_weight (tests_in (inner_of tests.now))) result }
@@ -98,7 +98,7 @@ fn weigh_tests(tests: &Tests, left: u32) -> Option<u32>
     }
 }
 
-/// Takes the weight of a command that has no block: 4, and of an `include` also what it includes.
+/// Subtracts the weight of a command that has no block: 4, and for an `include` also what it includes.
 fn weigh_plain<L: Linker>(
     linker: &L,
     word: CommandWord,
@@ -119,7 +119,7 @@ fn weigh_plain<L: Linker>(
     }
 }
 
-/// Takes the weight of a block.
+/// Subtracts the weight of a block.
 #[cycle(weights)]
 fn weigh_block<L: Linker>(linker: &L, ending: &Ending, left: u32) -> Option<u32>
     ensures { IsLeft left (weight (L.weight_of linker.now) (block_in (ending_of ending.now))) result }
@@ -130,7 +130,7 @@ fn weigh_block<L: Linker>(linker: &L, ending: &Ending, left: u32) -> Option<u32>
     }
 }
 
-/// Takes the weight of a command as a part: 4, and of a branch also its test and its block.
+/// Subtracts the weight of a command by its part: 4, and for a branch also its test and its block.
 #[cycle(weights)]
 fn weigh_part<L: Linker>(linker: &L, command: &Command, part: Part, left: u32) -> Option<u32>
     ensures { IsLeft left (part_weight (L.weight_of linker.now) part (command_of command.now)) result }
@@ -150,7 +150,7 @@ fn weigh_part<L: Linker>(linker: &L, command: &Command, part: Part, left: u32) -
     }
 }
 
-/// Takes the weight of commands.
+/// Subtracts the weight of commands; none where it is more than `left`.
 #[cycle(weights)]
 pub fn weigh_commands<L: Linker>(linker: &L, commands: &Vec<Command>, left: u32) -> Option<u32>
     ensures { IsLeft left (weight (L.weight_of linker.now) (program_of (commands_of (map command_of commands.now.items)))) result }
@@ -165,8 +165,8 @@ pub fn weigh_commands<L: Linker>(linker: &L, commands: &Vec<Command>, left: u32)
     Some(rest)
 }
 
-/// The weight of a script and all that it includes, and 1; none where it is above the greatest. It takes time linear in
-/// the smaller of both.
+/// The weight of a script and all that it includes, and 1; none where that is above `greatest`. Time is linear in the
+/// smaller of the two.
 pub fn script_weight<L: Linker>(linker: &L, script: &Script, greatest: u32) -> Option<u32>
     ensures { MatchOption result (greatest < weight (L.weight_of linker.now) (program_of (tree_of script.now)) + 1) (λ w. (w ≡ weight (L.weight_of linker.now) (program_of (tree_of script.now)) + 1) × (w ≤ greatest)) }
 {

@@ -9,7 +9,7 @@ use Rattle.filing_image.specs.Reading.{◌>>=◌, many_at}
 abbrev pub with_front : {A : Type 0} → List A → Option (List A × List ℕ) → Option (List A × List ℕ)
 with_front front read = read >>= λ x. Some (front ++ x.0, x.1)
 
--- an error of a reader stays where it is passed on
+-- an error of a reader is passed on unchanged
 abbrev pub Fails : {Y : Type 0} → FormFault → Option Y → Type 0
 Fails NoMemory read = Unit {0}
 Fails BadForm read = read ≡ None

@@ -9,7 +9,7 @@ use Rattle.filing_image.specs.Reading.{parts_at, all_of}
 use Rattle.filing_image.proofs.Fields.{IsBytes, some_is}
 use Rattle.filing_image.proofs.Whole.{parts_again, all_takes, all_again}
 
--- the operation that an instruction writes, if it writes one
+-- the operation that an instruction encodes, if there is one
 operation : Instruction → Operation
 operation i =
     cond (eqb i.op 1) PushTrue (cond (eqb i.op 2) PushFalse (cond (eqb i.op 3) Not (cond (eqb i.op 4) (Values i.b)
@@ -58,7 +58,7 @@ program_is p = ap (λ (code : List Operation). record { budget = p.budget; texts
 pub one_program : (p q : Program) → parts p ≡ parts q → p ≡ q
 one_program p q e = sym (program_is p) ∙ ap program e ∙ program_is q
 
--- one after the other, two spellings and what follows them are the same
+-- where two spellings and what follows them are the same octets, the programs are the same, and so is what follows
 pub one_start : (p q : Program) (x y : List ℕ) → Fits (parts p) → Fits (parts q) → spelling (parts p) ++ x ≡ spelling (parts q) ++ y → (p ≡ q) × (x ≡ y)
 one_start p q x y fits_p fits_q e =
     let read : Some (parts p, x) ≡ Some (parts q, y) = sym (parts_again (parts p) x fits_p) ∙ ap parts_at e ∙ parts_again (parts q) y fits_q in

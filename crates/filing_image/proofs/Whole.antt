@@ -110,7 +110,7 @@ after_mark rest = number_at w32 rest >>= after_budget
 abbrev body : List (List ℕ) → List ℕ → List Instruction → List ℕ
 body texts numbers instructions = flat_map text texts ++ (flat_map (to_be_bytes w64) numbers ++ flat_map instruction instructions)
 
--- a spelling with counts of its own
+-- a spelling with given counts
 abbrev spelled : ℕ → Counts → List (List ℕ) → List ℕ → List Instruction → List ℕ
 spelled budget c texts numbers instructions = mark ++ (to_be_bytes w32 budget ++ (counts c ++ body texts numbers instructions))
 

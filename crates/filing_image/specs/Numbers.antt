@@ -1,4 +1,4 @@
--- The numbers by which faults are told.
+-- The numbers by which faults are reported.
 use Rattle.std.specs.Prelude.{ℕ}
 use Rattle.filing_image.specs.declared.fault.FormFault.{FormFault}
 use Rattle.filing_image.specs.declared.fault.FormFault.TheVariants.{NoMemory, BadForm}

@@ -1,15 +1,15 @@
--- What an image says: a filing program, and the same as it is written.
+-- Filing programs, and their parts as an image encodes them.
 use Rattle.std.specs.Prelude.{ℕ, List, map, Vec}
 use Rattle.std.specs.declared.alloc.Global.{Global}
 use Rattle.filing_image.specs.declared.instruction.Instruction.{Instruction}
 use Rattle.filing_image.specs.declared.instruction.Operation.{Operation}
 use Rattle.filing_image.specs.declared.instruction.Operation.TheVariants.{PushTrue, PushFalse, Not, Values, Join, Match, Pop, Exists, Size, Number, Less, Jump, JumpIf, JumpUnless, Marked, Mark, File, Keep, Discard, Stop, Fault}
 
--- the number of an operation and its operands, 0 where it has none
+-- an instruction: the number of its operation, and the operands, 0 where the operation has none
 abbrev pub written : ℕ → ℕ → ℕ → Instruction
 written op a b = record { op = op; a = a; b = b }
 
--- how each operation is written
+-- the instruction that encodes each operation
 abbrev pub instruction_of : Operation → Instruction
 instruction_of PushTrue = written 1 0 0
 instruction_of PushFalse = written 2 0 0
@@ -33,8 +33,8 @@ instruction_of Discard = written 19 0 0
 instruction_of Stop = written 20 0 0
 instruction_of (Fault a) = written 21 a 0
 
--- a filing program: its budget of steps, the texts and numbers that its operations name, how many slots it
--- has for marks, and its code
+-- a filing program: its budget in steps, the texts and numbers that its operations name, the number of its slots, and
+-- its code
 pub record Program : Type 0 where
   pub budget : ℕ
   pub texts : List (List ℕ)
@@ -42,7 +42,7 @@ pub record Program : Type 0 where
   pub slots : ℕ
   pub code : List Operation
 
--- the same with its code as it is written
+-- a program with its code as instructions
 pub record Parts : Type 0 where
   pub budget : ℕ
   pub texts : List (List ℕ)
@@ -53,10 +53,10 @@ pub record Parts : Type 0 where
 abbrev pub parts : Program → Parts
 parts p = record { budget = p.budget; texts = p.texts; numbers = p.numbers; slots = p.slots; instructions = map instruction_of p.code }
 
--- the same from what holds each
+-- the parts of a program from the vectors that hold them
 abbrev pub parts_from : (budget : ℕ) (texts : List (Vec ℕ Global)) (numbers : List ℕ) (slots : ℕ) (instructions : List Instruction) → Parts
 parts_from budget texts numbers slots instructions = record { budget = budget; texts = map (λ t. t.items) texts; numbers = numbers; slots = slots; instructions = instructions }
 
--- a program from what holds each of its parts
+-- a program from the vectors that hold its parts
 abbrev pub program_from : (budget : ℕ) (texts : List (Vec ℕ Global)) (numbers : List ℕ) (slots : ℕ) (code : List Operation) → Program
 program_from budget texts numbers slots code = record { budget = budget; texts = map (λ t. t.items) texts; numbers = numbers; slots = slots; code = code }

@@ -1,5 +1,5 @@
--- Reading from left to right: each reader answers a value and the octets after it, or None. It is what the readers of
--- the code are told by; that it is the inverse of the spelling is proved of it.
+-- Reading from left to right: each reader answers a value and the octets after it, or None. The contracts in
+-- src/reading.rt use these definitions; proofs/Whole.antt proves that they invert the spelling.
 use Rattle.std.specs.Prelude.{◌≡◌, ℕ, zero, suc, List, [], ◌∷◌, length, take, drop, Option, Some, None, Result, Ok, Err, nat_lt, ◌==◌, ◌&&◌, if◌then◌else◌}
 use Rattle.std.specs.Int.{Width, w8, w16, w32, w64, byte_len, from_be_bytes}
 use Rattle.filing_image.specs.declared.fault.FormFault.{FormFault}
@@ -12,7 +12,7 @@ abbrev pub ◌>>=◌ : {A B : Type 0} → Option A → (A → Option B) → Opti
 (Some x) >>= f = f x
 None >>= f = None
 
--- What a function returned, seen by view, is what reading gives, unless memory ran out.
+-- What a function returned, mapped by view, is what the reader gives, unless an allocation was refused.
 abbrev pub Gives : {X Y : Type 0} → (X → Y) → Result X FormFault → Option Y → Type 0
 Gives view (Ok x) read = read ≡ Some (view x)
 Gives view (Err BadForm) read = read ≡ None
@@ -33,7 +33,7 @@ instruction_at octets = do
   b ← number_at w16 a.1
   Some (record { op = op.0; a = a.0; b = b.0 }, b.1)
 
--- so many of a kind
+-- n values in a row, each read by the same reader
 unfoldable pub many_at : {A : Type 0} → (List ℕ → Option (A × List ℕ)) → ℕ → List ℕ → Option (List A × List ℕ)
 many_at read zero octets = Some ([], octets)
 many_at read (suc n) octets = do
@@ -41,12 +41,12 @@ many_at read (suc n) octets = do
   others ← many_at read n first.1
   Some (first.0 ∷ others.0, others.1)
 
--- what follows the mark
+-- the octets after the mark
 unfoldable pub marked : List ℕ → Option (List ℕ)
 marked (b0 ∷ b1 ∷ b2 ∷ b3 ∷ rest) = if (b0 == 0x53) && ((b1 == 0x46) && ((b2 == 0x49) && (b3 == 0x31))) then Some rest else None
 marked _ = None
 
--- how many there are of each
+-- the four counts of an image
 pub record Counts : Type 0 where
   pub texts : ℕ
   pub numbers : ℕ
@@ -71,7 +71,7 @@ parts_at octets = do
   instructions ← many_at instruction_at counts.0.instructions numbers.1
   Some (record { budget = budget.0; texts = texts.0; numbers = numbers.0; slots = counts.0.slots; instructions = instructions.0 }, instructions.1)
 
--- all of the octets
+-- the parts that all of the octets spell, or None where octets are left over
 unfoldable pub all_of : List ℕ → Option Parts
 all_of octets = do
   parts ← parts_at octets

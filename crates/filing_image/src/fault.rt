@@ -7,10 +7,10 @@ ghost use Rattle.filing_image.specs.declared.fault.FormFault.TheVariants.{NoMemo
 use std::alloc::{AllocError, AllocFailed};
 use thiserror::Error;
 
-/// Why some octets, or some parts, make no image.
+/// Why octets or parts make no image.
 #[derive(Clone, Copy, Debug, PartialEq, Eq, Error)]
 pub enum FormFault {
-    /// 60: the octets are no image's spelling, or the format has no spelling of the parts.
+    /// 60: the octets spell no image, or the format has no spelling of the parts.
     #[error("this is not the form of an image")]
     BadForm,
     /// 99: an allocation was refused.
@@ -19,7 +19,7 @@ pub enum FormFault {
 }
 
 impl FormFault {
-    /// The number by which the fault is told: 60 or 99.
+    /// The number by which the fault is reported: 60 or 99.
     pub fn number(self) -> u8
         ensures { result ≡ form_number self }
     {

@@ -1,4 +1,4 @@
-//! An image: the parts of a filing program, of which the format has a spelling.
+//! An image: the parts of a filing program that the image format can encode.
 
 ghost use Rattle.std.specs.Prelude.{◌≡◌, ◌<◌, ◌^◌, length, map, All, slice_get, IfOk, IfErr, Err, true, false, Some, IsTrue, ◌↔◌};
 ghost use Rattle.filing_image.specs.Program.{Program, parts, parts_from, program_from, instruction_of};
@@ -9,7 +9,8 @@ use crate::instruction::{Instruction, Operation};
 use std::alloc::Global;
 use std::marker::Model;
 
-/// A filing program, as contracts see it: its budget in steps, its texts, numbers and slots, and its code.
+/// The image of a filing program. Contracts see the program: its budget in steps, its texts, numbers and slots, and its
+/// code.
 #[derive(Debug, Drop)]
 pub struct Image {
     budget: u32,
@@ -28,10 +29,11 @@ impl Model for Image {
 }
 
 impl Image {
-    /// The image of these parts. `BadForm`, 60, exactly where the format has no spelling of them: more than 65,535
-    /// texts, numbers or instructions, a text of more than 65,535 octets, an instruction whose number is none of 1
-    /// to 21, or a non-zero operand that its operation does not have. `NoMemory`, 99, where an allocation was refused:
-    /// counts and lengths that are too great are told as 60 all the same, since they are judged before memory is taken.
+    /// The image of these parts; `budget` is in steps. `BadForm` (60) only where the format has no spelling of them. It
+    /// has none for more than 65,535 texts, numbers or instructions, a text of more than 65,535 octets, an instruction
+    /// number outside 1 to 21, or a non-zero operand that the operation does not have. `NoMemory` (99) where an
+    /// allocation was refused before such a fault was found. Counts and lengths that are too great are always 60, since
+    /// they are checked before memory is taken.
     pub fn new(
         alloc: Global,
         budget: u32,
@@ -64,9 +66,9 @@ impl Image {
         Ok(image)
     }
 
-    /// The image of these parts, whose code is at hand as operations; it takes no memory. `BadForm`, 60, exactly where the
-    /// format has no spelling of them: more than 65,535 texts, numbers or operations, or a text of more than 65,535
-    /// octets. It answers nothing else.
+    /// The image of these parts, with the code given as operations; `budget` is in steps. It takes no memory. `BadForm`
+    /// (60) exactly where the format has no spelling of the parts: more than 65,535 texts, numbers or operations, or a
+    /// text of more than 65,535 octets. There is no other refusal.
     pub fn from_code(
         budget: u32,
         texts: Vec<Vec<u8>>,
@@ -100,7 +102,7 @@ impl Image {
         self.budget
     }
 
-    /// The code: place 0 first.
+    /// The operations of the code, from place 0 on; at most 65,535.
     pub fn code(&self) -> &[Operation]
         ensures value { result.now ≡ self.now.code }
         ensures short { length result.now < 2 ^ 16 }
@@ -108,7 +110,7 @@ impl Image {
         &self.code
     }
 
-    /// The numbers that operations name by their places.
+    /// The numbers that operations name by their places, which count from 0; at most 65,535.
     pub fn numbers(&self) -> &[u64]
         ensures value { result.now ≡ self.now.numbers }
         ensures short { length result.now < 2 ^ 16 }
@@ -116,14 +118,14 @@ impl Image {
         &self.numbers
     }
 
-    /// How many slots there are for marks.
+    /// The number of slots. MARK sets a slot, and MARKED reads it.
     pub fn slots(&self) -> u16
         ensures { result ≡ self.now.slots }
     {
         self.slots
     }
 
-    /// How many texts there are.
+    /// The number of texts, at most 65,535.
     pub fn text_count(&self) -> usize
         ensures value { result ≡ length self.now.texts }
         ensures short { result < 2 ^ 16 }
@@ -131,7 +133,7 @@ impl Image {
         self.texts.len()
     }
 
-    /// The octets of the text at a place among the texts.
+    /// The text at a place, which counts from 0 and must be below `text_count`; at most 65,535 octets.
     pub fn text(&self, place: usize) -> &[u8]
         requires { place < length self.now.texts }
         ensures value { slice_get self.now.texts place ≡ Some result.now }
@@ -148,7 +150,7 @@ impl Image {
         &self.texts
     }
 
-    /// Nothing happens: each part of an image fits its octets.
+    /// Proves that each part of an image fits its octets; it has no effect.
     pub(crate) fn fits(&self)
         ensures { Fits (parts self.now) }
     {
@@ -171,7 +173,7 @@ fn has_long(texts: &[Vec<u8>]) -> bool
     !are_short(texts)
 }
 
-/// Nothing happens: each operation fits its octets.
+/// Proves that each operation fits its octets; it has no effect.
 fn all_fit(code: &[Operation])
     ensures { All (λ o. FitsInstruction (instruction_of o)) code.now }
 {
@@ -180,7 +182,7 @@ fn all_fit(code: &[Operation])
     }
 }
 
-/// The operations that the instructions write, where each writes one.
+/// The operations that the instructions encode; `BadForm` where one encodes none.
 fn operations(alloc: Global, instructions: &[Instruction]) -> Result<Vec<Operation>, FormFault>
     ensures made { IfOk result (λ v. map instruction_of v.items ≡ instructions.now) }
     ensures fits { IfOk result (λ v. All FitsInstruction (map instruction_of v.items)) }

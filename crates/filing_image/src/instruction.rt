@@ -1,11 +1,11 @@
-//! Instructions as they are written, and the operations that they write.
+//! Instructions, and the operations that they encode.
 
 ghost use Rattle.std.specs.Prelude.{◌≡◌, ◌≢◌, IfSome, IfNone};
 ghost use Rattle.filing_image.specs.Program.{instruction_of};
 ghost use Rattle.filing_image.specs.Spelling.{FitsInstruction};
 
-/// An instruction as it is written in four octets: the operation's number, 1 to 21, and two operands, each 0 where the
-/// operation has none.
+/// An instruction, which takes four octets: the operation's number `op`, 1 to 21, in one octet, the operand `a` in one,
+/// and the operand `b` in two. An operand that the operation does not have is 0.
 #[derive(Clone, Copy, Debug, PartialEq, Eq)]
 pub struct Instruction {
     pub op: u8,
@@ -13,45 +13,46 @@ pub struct Instruction {
     pub b: u16,
 }
 
-/// What an instruction does, with the operands that it has. T stands for a truth on the stack, L for a list of texts,
-/// N for a number; the topmost entry stands last. Each executed operation is one step.
+/// What an instruction does, with its operands. On the stack, T is a truth value, L a list of texts and N a number; the
+/// topmost entry comes last. Each executed operation is one step.
 #[derive(Clone, Copy, Debug, PartialEq, Eq)]
 pub enum Operation {
     /// 1: pushes T, true.
     PushTrue,
     /// 2: pushes T, false.
     PushFalse,
-    /// 3: T becomes its opposite.
+    /// 3: replaces T by its negation.
     Not,
-    /// 4: pushes L, the values of the fields that the text names, in order.
+    /// 4: pushes L: the values of the header fields that the text names, in order.
     Values(u16),
-    /// 5: L L become one L, the first pushed first.
+    /// 5: replaces L L by one L, in which the list pushed first comes first.
     Join,
-    /// 6: L stays, and T is pushed: whether some value of L matches the text as key. The first operand is 0 for `:is`,
-    /// 2 for `:contains`, 4 for `:matches` under `i;octet`, and one more for the same under `i;ascii-casemap`.
+    /// 6: keeps L and pushes T: whether some value of L matches the text as key. Under `i;octet` the first operand is 0
+    /// for `:is`, 2 for `:contains` and 4 for `:matches`; under `i;ascii-casemap` it is one more (RFC 5228, sections
+    /// 2.7.1 and 2.7.3).
     Match(u8, u16),
     /// 7: pops one entry of any kind.
     Pop,
-    /// 8: pushes T: whether a field that the text names is there.
+    /// 8: pushes T: whether the header has a field that the text names.
     Exists(u16),
-    /// 9: pushes N, the message's octets.
+    /// 9: pushes N: the size of the message in octets.
     Size,
-    /// 10: pushes N, a number of the program.
+    /// 10: pushes N: a number of the program.
     Number(u16),
-    /// 11: N N become T: whether the first pushed is less.
+    /// 11: replaces N N by T: whether the number pushed first is less.
     Less,
-    /// 12: goes to a place.
+    /// 12: jumps to a place.
     Jump(u16),
-    /// 13: pops T and goes to a place if it is true.
+    /// 13: pops T and jumps to a place if it is true.
     JumpIf(u16),
-    /// 14: pops T and goes to a place if it is false.
+    /// 14: pops T and jumps to a place if it is false.
     JumpUnless(u16),
     /// 15: pushes T: whether a slot is set.
     Marked(u16),
     /// 16: sets a slot.
     Mark(u16),
-    /// 17: files into the class whose path is the text, where that is open, and ends with fault 1 where it is not. The
-    /// first operand is 0, and the implicit keep is cancelled, or 1 for a copy.
+    /// 17: files into the class whose path is the text, where that class is open; otherwise ends the run with fault 1.
+    /// The first operand is 0 to cancel the implicit keep, or 1 for a copy, which leaves it as it is.
     File(u8, u16),
     /// 18: keeps the message.
     Keep,
@@ -64,7 +65,7 @@ pub enum Operation {
 }
 
 impl Operation {
-    /// The operation that an instruction writes, or none where its number is none of 1 to 21, or an operand that the
+    /// The operation that an instruction encodes; none where its number is not 1 to 21, or an operand that the
     /// operation does not have is not 0.
     pub fn of(instruction: Instruction) -> Option<Operation>
         ensures found { IfSome result (λ o. instruction_of o ≡ instruction) }
@@ -99,7 +100,7 @@ impl Operation {
         Some(found)
     }
 
-    /// The one way to write an operation.
+    /// The one instruction that encodes the operation.
     pub fn instruction(self) -> Instruction
         ensures { result ≡ instruction_of self }
     {
@@ -129,7 +130,7 @@ impl Operation {
         Instruction { op, a, b }
     }
 
-    /// Nothing happens: an operation fits its octets.
+    /// Proves that an operation fits its octets; it has no effect.
     pub(crate) fn fits(self)
         ensures { FitsInstruction (instruction_of self) }
     {

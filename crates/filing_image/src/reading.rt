@@ -1,4 +1,4 @@
-//! Images from octets.
+//! Decodes images from octets.
 
 ghost use Rattle.std.specs.Prelude.{◌≡◌, List, map, IfOk, Err};
 ghost use Rattle.std.specs.Int.{w8, w16, w32, w64};
@@ -11,16 +11,16 @@ use crate::image::Image;
 use crate::instruction::Instruction;
 use std::alloc::Global;
 
-/// The image whose spelling the octets are, all of them. `BadForm`, 60, exactly where they are no image's spelling:
-/// another mark, fewer octets than the counts and lengths say, more of them, an instruction whose number is none of 1
-/// to 21, or a non-zero operand that its operation does not have. `NoMemory`, 99, where an allocation was refused.
-/// Time and memory are linear in the length.
+/// Decodes the image that the octets spell, all of them. `BadForm` (60) only where they spell no image. That is another
+/// mark, fewer or more octets than the counts and lengths say, an instruction number outside 1 to 21, or a non-zero
+/// operand that the operation does not have. `NoMemory` (99) where an allocation was refused before such a fault was
+/// found. Time and memory are linear in the number of octets.
 pub fn decode(alloc: Global, octets: &[u8]) -> Result<Image, FormFault>
     // The octets are the image's spelling.
     ensures found { IfOk result (λ i. octets.now ≡ spelling (parts i)) }
     // Each part fits its octets.
     ensures fits { IfOk result (λ i. Fits (parts i)) }
-    // They are no other program's.
+    // They are the spelling of no other program.
     ensures only { IfOk result (λ i. (p : Program) → Fits (parts p) → octets.now ≡ spelling (parts p) → i ≡ p) }
     // No program's spelling is refused for its form.
     ensures refused { result ≡ Err FormFault.BadForm → (p : Program) → Fits (parts p) → octets.now ≡ spelling (parts p) → ⊥ }
@@ -36,7 +36,7 @@ pub fn decode(alloc: Global, octets: &[u8]) -> Result<Image, FormFault>
     )
 }
 
-/// The parts as they were written.
+/// The parts of an image, with the code as instructions.
 #[derive(Drop)]
 struct Written {
     budget: u32,
@@ -46,7 +46,7 @@ struct Written {
     instructions: Vec<Instruction>,
 }
 
-/// The parts of octets that are an image and nothing behind it.
+/// The parts that the octets spell, with no octet left over.
 #[tactic(auto, unfolding(crate::specs::Reading::all_of))]
 fn all(alloc: Global, octets: &[u8]) -> Result<Written, FormFault>
     ensures { Gives (λ w. record { budget = w.budget; texts = map (λ t. t.items) w.texts.items; numbers = w.numbers.items; slots = w.slots; instructions = w.instructions.items }) result (all_of octets.now) }
@@ -58,7 +58,7 @@ fn all(alloc: Global, octets: &[u8]) -> Result<Written, FormFault>
     Ok(written)
 }
 
-/// The parts that octets begin with, and the octets behind them.
+/// Reads the parts of an image from the front; answers them and the rest.
 #[tactic(auto, unfolding(crate::specs::Reading::parts_at))]
 fn written_at(alloc: Global, octets: &[u8]) -> Result<(Written, &[u8]), FormFault>
     ensures { Gives (λ x. (record { budget = x.0.budget; texts = map (λ t. t.items) x.0.texts.items; numbers = x.0.numbers.items; slots = x.0.slots; instructions = x.0.instructions.items }, x.1.now)) result (parts_at octets.now) }
@@ -79,7 +79,7 @@ fn written_at(alloc: Global, octets: &[u8]) -> Result<(Written, &[u8]), FormFaul
     Ok((written, rest))
 }
 
-/// The octets behind the mark `SFI1`.
+/// The octets after the mark `SFI1`.
 #[tactic(auto, unfolding(crate::specs::Reading::marked))]
 fn after_mark(octets: &[u8]) -> Result<&[u8], FormFault>
     ensures { Gives (λ x. x.now) result (marked octets.now) }
@@ -90,7 +90,7 @@ fn after_mark(octets: &[u8]) -> Result<&[u8], FormFault>
     }
 }
 
-/// How many there are of each.
+/// The counts of texts, numbers, slots and instructions.
 #[derive(Clone, Copy)]
 struct Heading {
     texts: u16,
@@ -99,7 +99,7 @@ struct Heading {
     instructions: u16,
 }
 
-/// The counts of texts, numbers, slots and instructions, and the octets behind them.
+/// Reads the four counts; answers them and the rest.
 #[tactic(auto, unfolding(crate::specs::Reading::counts_at))]
 fn heading_of(octets: &[u8]) -> Result<(Heading, &[u8]), FormFault>
     ensures { Gives (λ x. (record { texts = x.0.texts; numbers = x.0.numbers; slots = x.0.slots; instructions = x.0.instructions }, x.1.now)) result (counts_at octets.now) }
@@ -117,7 +117,7 @@ fn heading_of(octets: &[u8]) -> Result<(Heading, &[u8]), FormFault>
     Ok((heading, rest))
 }
 
-/// So many texts, and the octets behind them.
+/// Reads `count` texts; answers them and the rest.
 fn texts_of(alloc: Global, count: u16, octets: &[u8]) -> Result<(Vec<Vec<u8>>, &[u8]), FormFault>
     ensures { Gives (λ x. (map (λ t. t.items) x.0.items, x.1.now)) result (many_at text_at count octets.now) }
 {
@@ -131,7 +131,7 @@ fn texts_of(alloc: Global, count: u16, octets: &[u8]) -> Result<(Vec<Vec<u8>>, &
     Ok((texts, rest))
 }
 
-/// So many numbers, and the octets behind them.
+/// Reads `count` numbers; answers them and the rest.
 fn numbers_of(alloc: Global, count: u16, octets: &[u8]) -> Result<(Vec<u64>, &[u8]), FormFault>
     ensures { Gives (λ x. (x.0.items, x.1.now)) result (many_at (number_at w64) count octets.now) }
 {
@@ -145,7 +145,7 @@ fn numbers_of(alloc: Global, count: u16, octets: &[u8]) -> Result<(Vec<u64>, &[u
     Ok((numbers, rest))
 }
 
-/// So many instructions, and the octets behind them.
+/// Reads `count` instructions; answers them and the rest.
 fn instructions_of(
     alloc: Global,
     count: u16,
@@ -163,7 +163,7 @@ fn instructions_of(
     Ok((instructions, rest))
 }
 
-/// A text behind its length, and the octets behind it.
+/// Reads a text with its length before it; answers the text and the rest.
 #[tactic(auto, unfolding(crate::specs::Reading::text_at))]
 fn text_of(alloc: Global, octets: &[u8]) -> Result<(Vec<u8>, &[u8]), FormFault>
     ensures { Gives (λ x. (x.0.items, x.1.now)) result (text_at octets.now) }
@@ -177,7 +177,7 @@ fn text_of(alloc: Global, octets: &[u8]) -> Result<(Vec<u8>, &[u8]), FormFault>
     Ok((Vec::from_slice(alloc, text)?, rest))
 }
 
-/// An instruction, and the octets behind it.
+/// Reads an instruction; answers it and the rest.
 #[tactic(auto, unfolding(crate::specs::Reading::instruction_at))]
 fn instruction_of(octets: &[u8]) -> Result<(Instruction, &[u8]), FormFault>
     ensures { Gives (λ x. (x.0, x.1.now)) result (instruction_at octets.now) }
@@ -188,7 +188,7 @@ fn instruction_of(octets: &[u8]) -> Result<(Instruction, &[u8]), FormFault>
     Ok((Instruction { op, a, b }, rest))
 }
 
-/// A number of one octet, and the octets behind it.
+/// Reads a number of one octet; answers it and the rest.
 fn u8_at(octets: &[u8]) -> Result<(u8, &[u8]), FormFault>
     ensures { Gives (λ x. (x.0, x.1.now)) result (number_at w8 octets.now) }
 {
@@ -199,7 +199,7 @@ fn u8_at(octets: &[u8]) -> Result<(u8, &[u8]), FormFault>
     Ok((u8::from_be_bytes([front[0]]), rest))
 }
 
-/// A big-endian number of two octets, and the octets behind it.
+/// Reads a big-endian number of two octets; answers it and the rest.
 fn u16_at(octets: &[u8]) -> Result<(u16, &[u8]), FormFault>
     ensures { Gives (λ x. (x.0, x.1.now)) result (number_at w16 octets.now) }
 {
@@ -210,7 +210,7 @@ fn u16_at(octets: &[u8]) -> Result<(u16, &[u8]), FormFault>
     Ok((u16::from_be_bytes([front[0], front[1]]), rest))
 }
 
-/// A big-endian number of four octets, and the octets behind it.
+/// Reads a big-endian number of four octets; answers it and the rest.
 fn u32_at(octets: &[u8]) -> Result<(u32, &[u8]), FormFault>
     ensures { Gives (λ x. (x.0, x.1.now)) result (number_at w32 octets.now) }
 {
@@ -222,7 +222,7 @@ fn u32_at(octets: &[u8]) -> Result<(u32, &[u8]), FormFault>
     Ok((number, rest))
 }
 
-/// A big-endian number of eight octets, and the octets behind it.
+/// Reads a big-endian number of eight octets; answers it and the rest.
 fn u64_at(octets: &[u8]) -> Result<(u64, &[u8]), FormFault>
     ensures { Gives (λ x. (x.0, x.1.now)) result (number_at w64 octets.now) }
 {

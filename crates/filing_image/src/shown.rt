@@ -5,8 +5,9 @@ use crate::instruction::Operation;
 use std::fmt;
 
 impl fmt::Display for Image {
-    /// A line for each instruction: its place, its name and its operands, with the text in quotes or the number in
-    /// place of the operand that names it, as `0 VALUES "subject"`.
+    /// One line for each instruction: its place, its name and its operands, as in `0 VALUES "subject"`. An operand that
+    /// names a text or a number is shown as the text, in quotes and with ASCII escapes, or as the number. Where the
+    /// image has none there, the operand is shown after `text` or `number`.
     fn fmt<W: fmt::Write>(&self, f: &mut fmt::Formatter<W>) -> fmt::Result {
         for (place, operation) in self.code().iter().enumerate() {
             write!(f, "{place} ")?;
@@ -18,7 +19,6 @@ impl fmt::Display for Image {
     }
 }
 
-/// The name of an operation.
 fn name(operation: Operation) -> &'static str {
     match operation {
         Operation::PushTrue => "TRUE",
@@ -45,7 +45,7 @@ fn name(operation: Operation) -> &'static str {
     }
 }
 
-/// Shows what an operation names: its text or number, or a place.
+/// Shows the operands: the text or the number that one names, else the operand itself.
 fn show_operands<W: fmt::Write>(
     image: &Image,
     operation: Operation,
@@ -68,7 +68,7 @@ fn show_operands<W: fmt::Write>(
     }
 }
 
-/// The text at a place, or the place where no text is there.
+/// Shows the text at a place, or the place where there is no text.
 fn show_text<W: fmt::Write>(image: &Image, place: u16, f: &mut fmt::Formatter<W>) -> fmt::Result {
     if place as usize >= image.text_count() {
         return write!(f, " text {place}");
@@ -77,7 +77,7 @@ fn show_text<W: fmt::Write>(image: &Image, place: u16, f: &mut fmt::Formatter<W>
     write!(f, " \"{octets}\"")
 }
 
-/// The number at a place, or the place where no number is there.
+/// Shows the number at a place, or the place where there is no number.
 fn show_number<W: fmt::Write>(image: &Image, place: u16, f: &mut fmt::Formatter<W>) -> fmt::Result {
     match image.numbers().get(place as usize) {
         Some(number) => write!(f, " {number}"),

@@ -1,4 +1,4 @@
-//! Images as octets.
+//! Encodes images as octets.
 
 ghost use Rattle.std.specs.Prelude.{◌≡◌, ◌<◌, ◌^◌, ◌++◌, length, map, All, OnOk, IfOk};
 ghost use Rattle.std.specs.List.{flat_map};
@@ -10,10 +10,11 @@ use crate::image::Image;
 use crate::instruction::{Instruction, Operation};
 use std::alloc::{AllocError, Global};
 
-/// The octets that begin each image.
+/// The mark `SFI1`, with which each image begins.
 const MARK: [u8; 4] = [0x53, 0x46, 0x49, 0x31];
 
-/// The one spelling of an image: `decode` of it answers this image. Time and memory are linear in its length.
+/// The octets that spell an image. Each image has one spelling, and `decode` of it answers the same image. The only
+/// error is a refused allocation. Time and memory are linear in the number of octets.
 pub fn encode(alloc: Global, image: &Image) -> Result<Vec<u8>, AllocError>
     ensures spelled { IfOk result (λ v. v.items ≡ spelling (parts image.now)) }
     // Each part fits its octets.
@@ -30,7 +31,7 @@ pub fn encode(alloc: Global, image: &Image) -> Result<Vec<u8>, AllocError>
     Ok(out)
 }
 
-/// How many texts, numbers, slots and instructions there are.
+/// Writes the counts of texts, numbers, slots and instructions, in two octets each.
 fn put_counts(out: &mut Vec<u8>, image: &Image) -> Result<(), AllocError>
     ensures { OnOk result (out.new.items ≡ out.old.items ++ (to_be_bytes w16 (length image.now.texts) ++ (to_be_bytes w16 (length image.now.numbers) ++ (to_be_bytes w16 image.now.slots ++ to_be_bytes w16 (length image.now.code))))) }
 {
@@ -49,7 +50,7 @@ fn put_u16(out: &mut Vec<u8>, number: u16) -> Result<(), AllocError>
     Ok(())
 }
 
-/// Writes texts, each behind its length.
+/// Writes texts, each after its length.
 fn put_texts(out: &mut Vec<u8>, texts: &[Vec<u8>]) -> Result<(), AllocError>
     requires { All (λ t. length t.items < 2 ^ 16) texts.now }
     ensures { OnOk result (out.new.items ≡ out.old.items ++ flat_map text (map (λ t. t.items) texts.now)) }
@@ -60,7 +61,7 @@ fn put_texts(out: &mut Vec<u8>, texts: &[Vec<u8>]) -> Result<(), AllocError>
     Ok(())
 }
 
-/// Writes a text behind its length.
+/// Writes a text after its length.
 fn put_text(out: &mut Vec<u8>, octets: &[u8]) -> Result<(), AllocError>
     requires { length octets.now < 2 ^ 16 }
     ensures { OnOk result (out.new.items ≡ out.old.items ++ text octets.now) }

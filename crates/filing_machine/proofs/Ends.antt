@@ -13,7 +13,7 @@ use Rattle.filing_machine.specs.Seen.{state, run_at}
 use Rattle.filing_machine.specs.Runs.{Stored, Stands}
 use Rattle.filing_machine.proofs.Sound.{keeps, in_budget, never_traps}
 
--- an end with at most as many steps as the budget says
+-- an end within the budget
 abbrev EndsWithin : Program → Facts → Type 0
 EndsWithin p c = (n : ℕ) × (o : Outcome) × (n ≤ p.budget) × HasOutcome p c n o
 
@@ -38,7 +38,7 @@ module _ (p : Program) (c : Facts) (well : IsWell p) where
   pub ends_within : EndsWithin p c
   ends_within = by_run (after_steps p c p.budget) refl
 
--- a machine that has ended stands at the end of its run
+-- a machine that has ended is at the end of its run
 pub ends_here : (p : Program) (c : Facts) (m : Stored) (fault : Option ℕ) → m.end ≡ Some fault → Stands p c m → Ends p c m.steps fault (state c m.at)
 ends_here p c m fault ended stands = record {
   over = sym stands.on_run ∙ ap (λ (end : Option (Option ℕ)). run_at end (state c m.at)) ended;

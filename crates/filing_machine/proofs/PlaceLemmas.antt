@@ -1,4 +1,4 @@
--- Lists of places, in two parts, and the fields that they are of.
+-- Lists of places, in two parts, and their fields.
 use Rattle.std.proofs.Common.{◌≡◌, ℕ, ◌+◌, ◌-◌, ◌<◌, ◌≤◌, true, false, cond, List, [], ◌∷◌, ◌++◌, length, get_or, take, map, refl, sym, ap, subst, ◌∙◌, arith, append_assoc}
 use Rattle.std.proofs.lemmas.List.Elements.{All-push, All-append, filter_more}
 use Rattle.std.specs.List.{All, AllByRecursion, filter}
@@ -13,7 +13,7 @@ nil_of : (ys : List ℕ) → length ys ≡ 0 → ys ≡ []
 nil_of [] h = refl
 nil_of (y ∷ ys) h = absurd (omega arith)
 
--- one place more, in either part
+-- a place added to either part
 pub pushed_narrow : (old xs ys new : List ℕ) (p : ℕ) → xs ++ ys ≡ old → length ys ≡ 0 → new ≡ xs ++ p ∷ [] → new ++ ys ≡ old ++ p ∷ []
 pushed_narrow old xs ys new p view none e =
     let nil : ys ≡ [] = nil_of ys none in
@@ -22,7 +22,7 @@ pushed_narrow old xs ys new p view none e =
 pub pushed_wide : (old xs ys new : List ℕ) (p : ℕ) → xs ++ ys ≡ old → new ≡ ys ++ p ∷ [] → xs ++ new ≡ old ++ p ∷ []
 pushed_wide old xs ys new p view e = ap (λ zs. xs ++ zs) e ∙ sym (append_assoc xs ys (p ∷ [])) ∙ ap (λ zs. zs ++ p ∷ []) view
 
--- another list more, in both parts or in the second alone
+-- another list added, in both parts or in the second alone
 pub joined_narrow : (old xs ys more us vs xs' ys' : List ℕ) → xs ++ ys ≡ old → length ys ≡ 0 → us ++ vs ≡ more → xs' ≡ xs ++ us → ys' ≡ ys ++ vs → xs' ++ ys' ≡ old ++ more
 joined_narrow old xs ys more us vs xs' ys' view none other ex ey =
     let nil : ys ≡ [] = nil_of ys none in
@@ -57,7 +57,7 @@ AreNamed-same c name places i h lt other =
     let kept : filter (is_named name) (take (i + 1) c.fields) ≡ filter (is_named name) (take i c.fields) = filter_more (is_named name) c.fields i (record { name = []; value = [] }) lt ∙ ap (λ t. filter (is_named name) (take i c.fields) ++ cond t (field_at c i ∷ []) []) other ∙ append-nil (filter (is_named name) (take i c.fields)) in
     record { values = h.values ∙ ap (map (λ f. f.value)) (sym kept); in_case = h.in_case }
 
--- two lists on the top of a stack, and one in their place
+-- two lists on the top of a stack, replaced by one
 pub in_case-joined : (c : Facts) (stack behind rest new : List Item) (first second both : List ℕ) → stack ≡ Fields second ∷ behind → behind ≡ Fields first ∷ rest → AllByRecursion (InCase c) stack → both ≡ first ++ second → new ≡ Fields both ∷ rest → AllByRecursion (InCase c) new
 in_case-joined c stack behind rest new first second both es eb h e en =
     let all : AllByRecursion (InCase c) (Fields second ∷ Fields first ∷ rest) = subst (λ (xs : List Item). AllByRecursion (InCase c) xs) (es ∙ ap (λ xs. Fields second ∷ xs) eb) h in

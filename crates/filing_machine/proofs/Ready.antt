@@ -1,4 +1,4 @@
--- A machine that stands in its run may make a step.
+-- A machine in its run may make a step.
 use Rattle.std.proofs.Common.{◌≡◌, ◌≢◌, ℕ, ◌+◌, ◌<◌, ◌≤◌, length, Option, None, sym, ap, ◌∙◌, arith, get_or, inl, inr}
 use Rattle.std.proofs.lemmas.Bool.{cases_lt}
 use Rattle.std.proofs.lemmas.List.{length-map}
@@ -12,7 +12,7 @@ use Rattle.filing_machine.specs.Seen.{state, entry, run_at, IsModest}
 use Rattle.filing_machine.specs.Runs.{Stored, seen, Stands, IsModestAt}
 use Rattle.filing_machine.proofs.Sound.{keeps, sound, ranges, depth, in_budget, steps_to}
 
--- what a step may rest on
+-- what a step relies on
 pub record Ready (p : Program) (c : Facts) (m : Stored) : Type 0 where
   pub within : m.at.place < length p.code
   pub sound : act p c (get_or p.code m.at.place PushTrue) (state c m.at) ≢ Trap

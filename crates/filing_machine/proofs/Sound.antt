@@ -129,7 +129,7 @@ module _ (p : Program) (c : Facts) (well : IsWell p) where
   unfolding shape
   good = well.shaped.1
 
-  -- a run that goes on stands at a place that is reached, with the shape of that place
+  -- a run that has not ended is at a reached place, and its stack has the shape of that place
   pub record Keeps (n : ℕ) (s : State) : Type 0 where
     pub path : Path p n s.place
     pub within : s.place < length p.code

@@ -1,4 +1,4 @@
--- What stands on the top of a stack.
+-- The topmost entry of a stack.
 use Rattle.std.proofs.Common.{◌≡◌, ℕ, false, List, [], ◌∷◌, Some, map, slice_get, refl, sym, ap}
 use Rattle.std.specs.List.{list_any}
 use Rattle.std.specs.Option.{unwrap_or}

@@ -1,9 +1,9 @@
--- What stands on the top of a machine's stack.
+-- The topmost items of a machine's stack.
 use Rattle.std.specs.Prelude.{List, ◌∷◌}
 use Rattle.filing_machine.specs.declared.state.Item.{Item}
 use Rattle.filing_machine.specs.declared.state.Item.TheVariants.{Truth, Fields, Count}
 
--- a truth on the top
+-- a truth value on the top
 abbrev pub HasTruth : List Item → Type 0
 HasTruth (Truth b ∷ items) = Unit {0}
 HasTruth _ = ⊥

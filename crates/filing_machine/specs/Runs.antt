@@ -11,17 +11,18 @@ use Rattle.filing_machine.specs.declared.state.Standing.{Standing}
 use Rattle.filing_machine.specs.declared.outcome.Outcome.{Outcome}
 use Rattle.filing_machine.specs.Seen.{state, run_at, InCase, IsModest}
 
--- what a machine keeps: its state, the end of the run where it has ended, and its steps so far
+-- what a machine keeps: its state, its end once it has ended, and the number of its steps so far
 pub record Stored : Type 0 where
   pub at : Standing
   pub end : Option (Option ℕ)
   pub steps : ℕ
 
--- where the run of a machine stands
+-- where the run of a machine is
 abbrev pub seen : Facts → Stored → Run
 seen c m = run_at m.end (state c m.at)
 
--- The machine stands in the run of this program in this case, after its steps, and the run went on before each.
+-- The machine is where the run of this program in this case is after the machine's steps. Before each of them the run
+-- had not ended.
 pub record Stands (p : Program) (c : Facts) (m : Stored) : Type 0 where
   pub on_run : seen c m ≡ after_steps p c m.steps
   pub going : (k : ℕ) → k < m.steps → (t : State) × (after_steps p c k ≡ At t)

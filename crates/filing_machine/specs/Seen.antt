@@ -1,4 +1,4 @@
--- A machine's state as the table machine has it.
+-- A machine's state as a state of the table machine.
 use Rattle.std.specs.Prelude.{ℕ, ◌<◌, ◌+◌, List, ◌∷◌, ◌++◌, map, All, Option, Some, None, length}
 use Rattle.filing_image.specs.declared.instruction.Operation.{Operation}
 use Rattle.filing_image.specs.declared.instruction.Operation.TheVariants.{Values, Join, File}
@@ -9,7 +9,7 @@ use Rattle.filing_machine.specs.declared.state.Item.TheVariants.{Truth, Fields, 
 use Rattle.filing_machine.specs.declared.state.Standing.{Standing}
 use Rattle.filing_case.specs.Fields.{field_at}
 
--- an item of the stack: a list of fields stands for the list of their values
+-- an item of the stack as an entry: a list of fields becomes the list of their values
 abbrev pub entry : Facts → Item → Entry
 entry c (Truth b) = T b
 entry c (Fields places) = L (map (λ place. (field_at c place).value) places)
@@ -30,20 +30,20 @@ abbrev pub run_at : Option (Option ℕ) → State → Run
 run_at None s = At s
 run_at (Some fault) s = Over fault s
 
--- places of fields that the case has
+-- a list names only fields that the case has
 abbrev pub InCase : Facts → Item → Type 0
 InCase c (Truth b) = Unit {0}
 InCase c (Fields places) = All (λ place. place < length c.fields) places
 InCase c (Count n) = Unit {0}
 
--- operations that take no memory
+-- The operation takes no memory.
 abbrev pub IsModest : Operation → Type 0
 IsModest (Values b) = ⊥
 IsModest Join = ⊥
 IsModest (File a b) = ⊥
 IsModest _ = Unit {0}
 
--- the state with one list in their place
+-- the state after JOIN: one list in place of the two on the top
 abbrev pub joined : State → List Entry → State
 joined s (L ys ∷ L xs ∷ es) = record s { place = s.place + 1; stack = L (xs ++ ys) ∷ es }
 joined s _ = s

@@ -1,4 +1,4 @@
--- What is told of the top of a stack, and of its list's fields.
+-- What a machine answers about the top of its stack, and about the fields of a list there.
 use Rattle.std.specs.Prelude.{ℕ, Bool, false, List, ◌∷◌, length, Option, option_map, slice_get}
 use Rattle.std.specs.List.{list_any}
 use Rattle.sieve_meaning.specs.Case.{Facts}
@@ -7,7 +7,7 @@ use Rattle.filing_case.specs.Fields.{field_at}
 use Rattle.filing_machine.specs.declared.top.Top.{Top}
 use Rattle.filing_machine.specs.declared.top.Top.TheVariants.{Truth, Values, Number}
 
--- an entry, of a list the number of its values
+-- an entry as it is answered: a list by the number of its values
 abbrev pub top_of : Entry → Top
 top_of (T b) = Truth b
 top_of (L xs) = Values (length xs)
@@ -16,7 +16,7 @@ top_of (N n) = Number n
 abbrev pub top_of_stack : List Entry → Option Top
 top_of_stack es = option_map top_of (slice_get es 0)
 
--- whether a list stands on the top of which a value matches a key
+-- whether a list is on the top, and one of its values matches a key
 abbrev pub any_on_top : ℕ → List ℕ → List Entry → Bool
 any_on_top comparison key (L xs ∷ es) = list_any (compared comparison key) xs
 any_on_top comparison key _ = false

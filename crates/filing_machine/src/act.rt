@@ -13,10 +13,11 @@ use filing_case::Case;
 use filing_image::{Image, Operation};
 use std::alloc::{AllocError, Global};
 
-/// How a run ends: with a fault, 2 to 5 or 1 for a closed class, or with none.
+/// How a run ends: with a fault, 1 for a closed class or 2 to 5, or with none.
 type End = Option<u8>;
 
-/// Does one instruction. It answers the end of the run, where that is one, with its fault.
+/// Executes one instruction. Answers how the run ends, where the instruction ends it. The only error is a refused
+/// allocation, and the state is then unchanged.
 pub fn act<C: Case>(
     alloc: Global,
     operation: Operation,
@@ -76,7 +77,7 @@ pub fn act<C: Case>(
     }
 }
 
-/// On to the next place.
+/// Goes on to the next place.
 fn go_on(at: &mut Standing) -> Result<Option<End>, AllocError>
     requires { at.old.place < 2 ^ 62 }
     ensures to { result ≡ Ok None }
@@ -86,7 +87,7 @@ fn go_on(at: &mut Standing) -> Result<Option<End>, AllocError>
     Ok(None)
 }
 
-/// On to a place where this holds, else to the next one.
+/// Jumps to a place where this holds, and else goes on to the next one.
 fn jump_if(holds: bool, place: u16, at: &mut Standing) -> Result<Option<End>, AllocError>
     requires { at.old.place < 2 ^ 62 }
     ensures to { result ≡ Ok None }
@@ -99,7 +100,7 @@ fn jump_if(holds: bool, place: u16, at: &mut Standing) -> Result<Option<End>, Al
     Ok(None)
 }
 
-/// On to the next place with one more item on the top.
+/// Pushes an item and goes on to the next place.
 fn push_on(item: Item, at: &mut Standing) -> Result<Option<End>, AllocError>
     requires place { at.old.place < 2 ^ 62 }
     requires room { length at.old.stack < 32 }
@@ -110,7 +111,6 @@ fn push_on(item: Item, at: &mut Standing) -> Result<Option<End>, AllocError>
     go_on(at)
 }
 
-/// Sets a slot.
 fn mark(slot: u16, at: &mut Standing) -> Result<Option<End>, AllocError>
     requires place { at.old.place < 2 ^ 62 }
     requires slot { slot < 64 }
@@ -121,7 +121,7 @@ fn mark(slot: u16, at: &mut Standing) -> Result<Option<End>, AllocError>
     go_on(at)
 }
 
-/// Keeps the message.
+/// Sets the kept flag.
 fn keep(at: &mut Standing) -> Result<Option<End>, AllocError>
     requires { at.old.place < 2 ^ 62 }
     ensures to { result ≡ Ok None }
@@ -141,7 +141,8 @@ fn discard(at: &mut Standing) -> Result<Option<End>, AllocError>
     go_on(at)
 }
 
-/// Files the message under a path, where that is open.
+/// Files the message under a path where it is open, and else ends the run with fault 1. `how` is 0 to cancel the
+/// implicit keep.
 fn file<C: Case>(
     alloc: Global,
     case: &C,
@@ -164,7 +165,7 @@ fn file<C: Case>(
     go_on(at)
 }
 
-/// Makes one list of the two on the top.
+/// Replaces the two lists on the top by one, in which the list pushed first comes first.
 fn join<C: Case>(case: &C, at: &mut Standing) -> Result<Option<End>, AllocError>
     requires place { at.old.place < 2 ^ 62 }
     requires two { HasTwo at.old.stack }

@@ -13,7 +13,7 @@ use filing_case::Case;
 use sieve_match::{Comparator, MatchType, key_matches};
 use std::alloc::{AllocError, Global};
 
-/// Whether a field of this name is there.
+/// Whether the header has a field of this name.
 pub fn has_field<C: Case>(case: &C, name: &[u8]) -> bool
     ensures { result ≡ has_field_of (C.facts case.now) name.now }
 {
@@ -43,8 +43,8 @@ pub fn fields_named<C: Case>(
     Ok(fields)
 }
 
-/// Whether the value of one of the fields matches a key, by the number of the comparison: 0 `:is`, 2 `:contains`, 4
-/// `:matches` under `i;octet`, and one more for the same under `i;ascii-casemap`.
+/// Whether the value of one of the fields matches a key, by the number of the comparison. Under `i;octet` it is 0 for
+/// `:is`, 2 for `:contains` and 4 for `:matches`; under `i;ascii-casemap` it is one more.
 #[tactic(auto, using(crate::proofs::FindLemmas::is_some_find, crate::proofs::FindLemmas::any_of_map))]
 pub fn any_matches<C: Case>(case: &C, fields: &FieldPlaces, comparison: u8, key: &[u8]) -> bool
     requires { All (λ place. place < length (C.facts case.now).fields) fields.now }
@@ -87,7 +87,7 @@ fn first_value_match<C: Case>(
     None
 }
 
-/// The comparison of a number, the same for each number from 5 on.
+/// The match type and comparator of a comparison's number; each number from 5 on has the same.
 fn comparison_of(comparison: u8) -> (MatchType, Comparator)
     ensures { compared comparison ≡ key_matches_by result.0 result.1 }
 {

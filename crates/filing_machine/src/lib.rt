@@ -1,8 +1,8 @@
 //! Runs verified filing programs on messages.
 //!
-//! A `Case`, of the crate `filing_case`, is what a run can learn of a message. A `Machine` makes one step of a run at a time,
-//! and `run` makes them all; both do what the table machine of `filing_table` does, instruction by instruction. No run of a
-//! verified program goes wrong, and each ends within its budget: `laws` has that of the table machine itself.
+//! A `Case`, of the crate `filing_case`, is what a run can learn of a message. A `Machine` makes one step of a run at a
+//! time, and `run` makes them all. Both do what the table machine of `filing_table` does, instruction by instruction.
+//! No run of a verified program traps, and each ends within its budget; `laws` states this of the table machine itself.
 #![tactic(auto)]
 
 mod act;

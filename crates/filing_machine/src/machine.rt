@@ -1,4 +1,4 @@
-//! The machine.
+//! The machine that runs verified programs.
 
 ghost use Rattle.std.specs.Prelude.{◌≡◌, ◌≤◌, ◌+◌, IfOk, IsOk, IfSome, OnErr, OnOk, None, is_some, true};
 ghost use Rattle.std.specs.List.{AllByRecursion};
@@ -22,7 +22,7 @@ use sieve_meaning::{Paths, captured_classes};
 use std::alloc::{AllocError, Global};
 use std::marker::Model;
 
-/// A run of a verified program. Contracts see its state, the end of the run where it has ended, and its steps so far.
+/// A run of a verified program. Contracts see its state, its end once it has ended, and the number of its steps so far.
 #[derive(Drop)]
 pub struct Machine {
     alloc: Global,
@@ -40,8 +40,8 @@ impl Model for Machine {
 }
 
 impl Machine {
-    /// A machine before the first instruction of a program, with nothing done. It reserves the whole stack; the only
-    /// error is want of memory.
+    /// A machine before the first instruction of a program, with nothing done. It reserves the whole stack. The only
+    /// error is a refused allocation.
     pub fn start(alloc: Global, _program: &Verified) -> Result<Machine, AllocError>
         ensures start { IfOk result (λ m. (c : Facts) → seen c m ≡ At start) }
         ensures fresh { IfOk result (λ m. m.steps ≡ 0) }
@@ -65,9 +65,9 @@ impl Machine {
         })
     }
 
-    /// One step of the run. The caller sees to it that the machine has not ended, and that it stands in the run of this
-    /// program in this case, as after `start` and steps with these two. The only error is want of memory, which comes
-    /// at VALUES, JOIN and FILE alone, and the machine is then as before.
+    /// Executes one instruction. The machine must not have ended, and must be in the run of this program in this case:
+    /// it was started with the program, and stepped with these two alone. The only error is a refused allocation, which
+    /// comes at VALUES, JOIN and FILE alone; the machine is then unchanged.
     pub fn step<C: Case>(&mut self, program: &Verified, case: &C) -> Result<(), AllocError>
         requires running { self.old.end ≡ None }
         requires stands { Stands program.now (C.facts case.now) self.old }
@@ -85,21 +85,21 @@ impl Machine {
         Ok(())
     }
 
-    /// Whether the run has ended.
+    /// Whether the run has ended, with or without a fault.
     pub fn is_ended(&self) -> bool
         ensures { result ≡ is_some self.now.end }
     {
         self.end.is_some()
     }
 
-    /// The place of the next instruction; of the last one, once the run has ended.
+    /// The program counter: the place of the next instruction, or of the last one once the run has ended.
     pub fn place(&self) -> usize
         ensures { result ≡ self.now.at.place }
     {
         self.at.place
     }
 
-    /// What stands on the top of the stack; none where that is empty.
+    /// The topmost entry of the stack; none where the stack is empty.
     pub fn top(&self) -> Option<Top>
         ensures { (c : Facts) → result ≡ top_of_stack (state c self.now.at).stack }
     {
@@ -110,10 +110,10 @@ impl Machine {
         }
     }
 
-    /// Where a list stands on the top of the stack, the first field of it, by its place in the header from 0, whose value
-    /// matches a key; none where no value does, or where no list stands there. The comparison is that of MATCH: 0 `:is`,
-    /// 2 `:contains`, 4 `:matches` under `i;octet`, and one more for the same under `i;ascii-casemap`. The caller sees to it
-    /// that the machine stands in a run in this case.
+    /// The first field of the list on the top of the stack whose value matches a key, by its place in the header,
+    /// counted from 0. None where no value matches, or where no list is on the top. Under `i;octet` the comparison is 0
+    /// for `:is`, 2 for `:contains` and 4 for `:matches`, as for MATCH; under `i;ascii-casemap` it is one more. The
+    /// machine must be in a run in this case.
     pub fn first_match<C: Case>(&self, case: &C, comparison: u8, key: &[u8]) -> Option<usize>
         requires { AllByRecursion (InCase (C.facts case.now)) self.now.at.stack }
         ensures matches { IfSome result (λ f. value_matches (C.facts case.now) comparison key.now f ≡ true) }
@@ -125,15 +125,15 @@ impl Machine {
         }
     }
 
-    /// How many steps the run has made.
+    /// The number of steps that the run has made.
     pub fn steps_done(&self) -> u64
         ensures { result ≡ self.now.steps }
     {
         self.steps
     }
 
-    /// What the run captured, and its length. The caller sees to it that the machine has ended. The only error is want
-    /// of memory.
+    /// What the run captured, and its length in steps. The machine must have ended. The only error is a refused
+    /// allocation.
     pub fn outcome(&self) -> Result<Outcome, AllocError>
         requires { is_some self.now.end ≡ true }
         ensures leaves { IfOk result (λ o. Leaves self.now (answer o)) }
@@ -153,8 +153,8 @@ impl Machine {
     }
 }
 
-/// Runs a program in a case to its end: what the run captures, and its length, which is within the budget. The only
-/// error is want of memory.
+/// Runs a program in a case to its end. Answers what the run captures, and its length in steps, which is within the
+/// budget. The only error is a refused allocation.
 pub fn run<C: Case>(alloc: Global, program: &Verified, case: &C) -> Result<Outcome, AllocError>
     ensures outcome { IfOk result (λ o. HasOutcome program.now (C.facts case.now) o.steps (answer o)) }
     ensures budget { IfOk result (λ o. o.steps ≤ program.now.budget) }

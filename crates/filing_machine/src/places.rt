@@ -27,7 +27,7 @@ impl Model for FieldPlaces {
 }
 
 impl FieldPlaces {
-    /// No fields.
+    /// The empty list; it takes no memory.
     pub fn new(alloc: Global) -> FieldPlaces
         ensures { result ≡ [] }
     {
@@ -37,7 +37,7 @@ impl FieldPlaces {
         }
     }
 
-    /// Adds a field at the end; the only error is want of memory, and the list is then as before.
+    /// Adds a field at the end. The only error is a refused allocation, and the list is then unchanged.
     pub fn push(&mut self, place: usize) -> Result<(), AllocError>
         ensures ok { OnOk result (self.new ≡ self.old ++ place ∷ []) }
         ensures err { OnErr result (self.new ≡ self.old) }
@@ -50,7 +50,8 @@ impl FieldPlaces {
         Ok(())
     }
 
-    /// Adds others at the end; the only error is want of memory, and the list is then as before.
+    /// Adds all fields of another list at the end. The only error is a refused allocation, and the list is then
+    /// unchanged.
     pub fn append(&mut self, others: &FieldPlaces) -> Result<(), AllocError>
         ensures ok { OnOk result (self.new ≡ self.old ++ others.now) }
         ensures err { OnErr result (self.new ≡ self.old) }
@@ -65,14 +66,14 @@ impl FieldPlaces {
         Ok(())
     }
 
-    /// How many fields there are.
+    /// The number of fields.
     pub fn count(&self) -> usize
         ensures { result ≡ length self.now }
     {
         self.narrow.len() + self.wide.len()
     }
 
-    /// The field at a place of the list, counted from 0.
+    /// The field at an index of the list, which counts from 0 and must be below `count`.
     pub fn at(&self, index: usize) -> usize
         requires { index < length self.now }
         ensures { result ≡ slice_index self.now index }
@@ -84,7 +85,7 @@ impl FieldPlaces {
     }
 }
 
-/// Adds the places of two lists at the end, where there is memory for all.
+/// Adds the places of two lists at the end, or none of them where memory is refused.
 fn append_wide(places: &mut Vec<usize>, narrow: &[u32], wide: &[usize]) -> Result<(), AllocError>
     ensures ok { OnOk result (places.new.items ≡ places.old.items ++ (narrow.now ++ wide.now)) }
     ensures err { OnErr result (places.new.items ≡ places.old.items) }

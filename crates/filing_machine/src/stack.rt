@@ -1,4 +1,4 @@
-//! A stack that never asks for memory.
+//! A stack that allocates its memory only when it is made.
 
 ghost use Rattle.std.specs.Prelude.{◌≡◌, ◌≤◌, ◌<◌, List, [], ◌∷◌, length, reverse, slice_get, option_copied, IfOk, MatchOption, vec_capacity};
 ghost use Rattle.filing_machine.specs.declared.state.Item.{Item as ItemType};
@@ -24,7 +24,7 @@ impl Model for Stack {
 }
 
 impl Stack {
-    /// An empty stack; the only error is want of memory.
+    /// An empty stack. The only error is a refused allocation.
     pub fn new(alloc: Global) -> Result<Stack, AllocError>
         ensures { IfOk result (λ s. s ≡ []) }
     {
@@ -33,7 +33,7 @@ impl Stack {
         })
     }
 
-    /// Puts an item on the top, where there is room.
+    /// Pushes an item. The stack must have fewer than 32.
     pub fn push(&mut self, item: Item)
         requires { length self.old < 32 }
         ensures { self.new ≡ item ∷ self.old }
@@ -43,7 +43,7 @@ impl Stack {
         }
     }
 
-    /// Takes the item on the top away; none where the stack is empty.
+    /// Pops the item on the top; none where the stack is empty.
     pub fn pop(&mut self) -> Option<Item>
         ensures { MatchOption result (self.old ≡ []) (λ item. self.old ≡ item ∷ self.new) }
     {
@@ -57,7 +57,7 @@ impl Stack {
         self.items.as_slice().last()
     }
 
-    /// Takes the truth on the top away.
+    /// Pops the truth value on the top, which must be there.
     pub fn pop_truth(&mut self) -> bool
         requires { HasTruth self.old }
         ensures { self.old ≡ Item.Truth result ∷ self.new }
@@ -68,7 +68,7 @@ impl Stack {
         truth
     }
 
-    /// Takes the list of fields on the top away.
+    /// Pops the list of fields on the top, which must be there.
     pub fn pop_fields(&mut self) -> FieldPlaces
         requires { HasFields self.old }
         ensures { self.old ≡ Item.Fields result ∷ self.new }
@@ -79,7 +79,7 @@ impl Stack {
         fields
     }
 
-    /// Takes the number on the top away.
+    /// Pops the number on the top, which must be there.
     pub fn pop_count(&mut self) -> u64
         requires { HasCount self.old }
         ensures { self.old ≡ Item.Count result ∷ self.new }

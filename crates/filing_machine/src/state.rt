@@ -1,4 +1,4 @@
-//! Where a machine stands.
+//! The state of a machine.
 
 use crate::places::FieldPlaces;
 use crate::stack::Stack;
@@ -12,13 +12,13 @@ pub enum Item {
     Count(u64),
 }
 
-/// What a run has done so far.
+/// The state of a run.
 #[derive(Drop)]
 pub struct Standing {
-    /// The place of the next instruction.
+    /// The program counter: the place of the next instruction.
     pub place: usize,
     pub stack: Stack,
-    /// The classes that the message was filed into.
+    /// The paths of the classes that the message was filed into.
     pub filed: Paths,
     pub kept: bool,
     /// Whether the implicit keep is cancelled.

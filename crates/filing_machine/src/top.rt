@@ -1,10 +1,10 @@
-//! What stands on the top of a machine's stack.
+//! The topmost entry of a machine's stack.
 
-/// What stands on the top of a machine's stack.
+/// The topmost entry of a machine's stack.
 #[derive(Clone, Copy, Debug, PartialEq, Eq)]
 pub enum Top {
     Truth(bool),
-    /// A list of so many values.
+    /// A list, with the number of its values.
     Values(usize),
     Number(u64),
 }

@@ -12,7 +12,7 @@ use Rattle.filing_officers.specs.Ends.{IsEnd, alone}
 some_is : {A : Type 0} (x y : A) → Some x ≡ Some y → x ≡ y
 some_is x y e = cc
 
--- what holds of an operation that ends a run
+-- an operation that ends a run: it neither jumps nor goes on, and leaves the stack as it is
 pub record EndsRun (o : Operation) : Type 0 where
   pub stops : goes_on o ≡ false
   pub jumps_not : target o ≡ None

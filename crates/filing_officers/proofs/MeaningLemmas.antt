@@ -10,7 +10,7 @@ use Rattle.script_library.specs.Libraries as kept
 use Rattle.filing_commands.specs.Scripts.{script_at, put_script, HasNoRoom, location, meanings_of}
 use Rattle.filing_officers.specs.Register.{library_in, meaning_of}
 
--- a name has the meaning of the script that is stored at it
+-- the meaning at a name is that of the script that is stored at it
 pub meaning_at : (name : List ℕ) (es : List NamedScript) → option_map meaning_of (named name es) ≡ script_at name (meanings_of es)
 meaning_at name [] = refl
 meaning_at name (e ∷ es) = go _ refl (meaning_at name es)
@@ -35,7 +35,7 @@ missing : (found : Option Script) → option_map meaning_of found ≡ None → f
 missing None e = refl
 missing (Some x) e = cc
 
--- there is room among the meanings exactly where there is among the scripts
+-- there is room among the meanings exactly where there is room among the scripts
 pub no_room : (es : List NamedScript) (name : List ℕ) → kept.HasNoRoom es name → HasNoRoom (meanings_of es) name
 no_room es name h = record { full = as_many es ∙ h.full; missing = sym (meaning_at name es) ∙ ap (option_map meaning_of) h.missing }
 

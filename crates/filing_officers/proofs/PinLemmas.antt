@@ -1,4 +1,4 @@
--- What the compiler gives is what is pinned.
+-- What the compiler answers is what is pinned.
 use Rattle.std.proofs.Common.{◌≡◌, ◌<◌, ℕ, List, refl, arith, ap, ◌∙◌, sym, subst, Bool, true, false, Option, Some, None, Result, Ok, Err}
 use Rattle.std.specs.Prelude.{nat_lt, option_map, IfOk}
 use Rattle.std.proofs.lemmas.Bool.Decides.{nat_tests}

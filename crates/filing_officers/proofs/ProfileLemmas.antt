@@ -1,4 +1,4 @@
--- A map of profiles beside the settings that it shows.
+-- A map of profiles and the settings that it shows.
 use Rattle.std.proofs.Common.{◌≡◌, ℕ, ◌+◌, min, Bool, true, false, cond, List, [], ◌∷◌, length, Option, Some, None, is_some, option_map, Result, Ok, Err, OnOk, OnErr, Vec, Global, Ordering, Less, Equal, Greater, nat_cmp, refl, sym, ap, ◌∙◌, subst, arith}
 use Rattle.std.proofs.Math.Path.{fun_ext}
 use Rattle.std.proofs.lemmas.Map.Text.{is_eq-slice_cmp}
@@ -49,7 +49,7 @@ module _ (name : List ℕ) where
   none_or true e rest o ih h = absurd (cc h)
   none_or false e rest o ih h = ih h
 
-  -- of whom nothing is found, nothing is known
+  -- where nothing is found, the officer has set nothing
   pub missing_is : (es : Entries) → lookup (is_at (compare name)) es ≡ None → officer_in es name ≡ new_officer
   missing_is [] h = refl
   missing_is (e ∷ es) h =
@@ -99,7 +99,7 @@ same_or : (b : Bool) (e : Vec ℕ Global × Profile) (es new : Entries) (rest : 
 same_or true e es new rest p w s ih h = let was : e.1 ≡ p = cc in ap (λ (x : Settings). (e.0.items, x) ∷ settings_in es) (s ∙ ap settings_of (sym was))
 same_or false e es new rest p w s ih h = ap (λ (xs : List (List ℕ × Settings)). (e.0.items, settings_of e.1) ∷ xs) (ih h)
 
--- a profile with the settings that it had
+-- a profile that is replaced by one with the same settings
 pub set_same : (test : Vec ℕ Global → Bool) (es : Entries) (p w : Profile) → lookup test es ≡ Some p → settings_of w ≡ settings_of p → settings_in (set_value test es w) ≡ settings_in es
 set_same test [] p w h s = refl
 set_same test (e ∷ es) p w h s = same_or (test e.0) e es (set_value test es w) (lookup test es) p w s (λ k. set_same test es p w k s) h
@@ -108,7 +108,8 @@ module _ (name n : List ℕ) where
   abbrev With : Bool → Profile → Entries → Officer
   With b w es = cond b (officer_of (settings_of w)) (officer_in es n)
 
-  -- the first test says whether the entry is that of the name, the second whether it is that of n, the third whether both are one
+  -- the first test says whether the entry has the name, the second whether it has n, the third whether the two are
+  -- equal
   set_at : (a b : Bool) (e : Vec ℕ Global × Profile) (es new : Entries) (rest : Option Profile) (p w : Profile) → bytes_eq name e.0.items ≡ a → bytes_eq n name ≡ b → (rest ≡ Some p → officer_in new n ≡ With b w es) → cond a (Some e.1) rest ≡ Some p
       → officer_in (cond a ((e.0, w) ∷ es) (e ∷ new)) n ≡ With b w (e ∷ es)
   set_at true true e es new rest p w is same ih h =
@@ -161,7 +162,7 @@ module _ (name n : List ℕ) where
 
 -- CHANGES
 
--- what was found is changed
+-- the profile that was found is changed
 pub changed_there : (name : List ℕ) (es new : Entries) (p w : Profile) (o : Officer) → lookup (is_at (compare name)) es ≡ Some p → new ≡ set_value (is_at (compare name)) es w → w.kept ≡ None → officer_of (settings_of w) ≡ o → ChangesOnly es new name o
 changed_there name es new p w o found is void has = record {
   officers = λ n. ap (λ (x : Entries). officer_in x n) is ∙ set_gives name n es p w found ∙ ap (λ (x : Officer). cond (bytes_eq n name) x (officer_in es n)) has;
@@ -170,7 +171,7 @@ changed_there name es new p w o found is void has = record {
       subst (λ (x : Entries). AllKeepCurrent edition globals x) (sym is) (set_keeps edition globals (is_at (compare name)) es w all keeps);
 }
 
--- an officer comes in
+-- an officer is added
 pub changed_new : (name : List ℕ) (es new : Entries) (k : Vec ℕ Global) (v : Profile) (o : Officer) → k.items ≡ name → new ≡ insert_entry cmp_names es k v → v.kept ≡ None → officer_of (settings_of v) ≡ o → ChangesOnly es new name o
 changed_new name es new k v o key is void has = record {
   officers = λ n. ap (λ (x : Entries). officer_in x n) is ∙ insert_gives name n es k v key ∙ ap (λ (x : Officer). cond (bytes_eq n name) x (officer_in es n)) has;
@@ -179,7 +180,7 @@ changed_new name es new k v o key is void has = record {
       subst (λ (x : Entries). AllKeepCurrent edition globals x) (sym is) (insert_keeps edition globals cmp_names es k v all keeps);
 }
 
--- an officer has what he had
+-- an officer stays the same
 pub changed_not : (name : List ℕ) (es new : Entries) (o : Officer) → new ≡ es → officer_in es name ≡ o → ChangesOnly es new name o
 changed_not name es new o is has = record {
   officers = λ n. ap (λ (x : Entries). officer_in x n) is ∙ known_or name n (bytes_eq n name) refl es o has;
@@ -193,14 +194,14 @@ no_program_known o is = is ∙ ap (λ (x : Officer). with_program x no_program) 
 pub program_set : (p w : Profile) (o : Officer) (a : Active) → o ≡ officer_of (settings_of p) → w ≡ record p { active = a; kept = None } → officer_of (settings_of w) ≡ with_program o (active_of a)
 program_set p w o a is e = ap (λ (x : Profile). officer_of (settings_of x)) e ∙ ap (λ (x : Officer). with_program x (active_of a)) (sym is)
 
--- the office where an officer has changed
+-- the office after an officer has changed
 pub office_changed : (name : List ℕ) (g : List NamedScript) (es new : Entries) (r : Register) (f : List (List ℕ × Settings) → Officer) → record { globals = g; officers = settings_in es } ≡ r → ChangesOnly es new name (f (settings_in es)) → (a : Archive)
     → office_of a (record { globals = g; officers = settings_in new }) ≡ with_officer (office_of a r) name (f r.officers)
 office_changed name g es new r f view h a =
     subst (λ (x : Register). office_of a (record { globals = g; officers = settings_in new }) ≡ with_officer (office_of a x) name (f x.officers)) view
     (ap (λ (os : List ℕ → Officer). record { archive = a; globals = meanings_of g; officers = os }) (fun_ext h.officers))
 
--- the office where the global scripts have changed
+-- the office after the global scripts have changed
 pub office_shared : (g new : List NamedScript) (xs : List (List ℕ × Settings)) (r : Register) (name : List ℕ) (main : Commands) → record { globals = g; officers = xs } ≡ r → meanings_of new ≡ put_script name main (meanings_of g) → (a : Archive) → office_of a (record { globals = new; officers = xs }) ≡ sharing (office_of a r) name main
 office_shared g new xs r name main view h a =
     subst (λ (x : Register). office_of a (record { globals = new; officers = xs }) ≡ sharing (office_of a x) name main) view
@@ -219,7 +220,7 @@ later_or edition next globals new s (Some i) is k =
       pinned = λ same. absurd (omega (arith, is, early, apart, same));
     }
 
--- at the next edition no image is told to be of this one
+-- at the next edition no kept image is of that edition
 pub later : (edition next : ℕ) (globals new : List NamedScript) (es : Entries) → next ≡ min (edition + 1) last_edition → AllKeepCurrent edition globals es → AllKeepCurrent next new es
 later edition next globals new [] is all = tt
 later edition next globals new (e ∷ es) is all = (later_or edition next globals new (settings_of e.1) e.1.kept is all.0, later edition next globals new es is all.1)
@@ -245,7 +246,7 @@ some_map f (Some x) = refl
 pub has_named : (name : List ℕ) (es : List NamedScript) → is_some (named name es) ≡ is_some (script_at name (meanings_of es))
 has_named name es = sym (some_map meaning_of (named name es)) ∙ ap is_some (meaning_at name es)
 
--- an unknown officer has no script, and so there is room
+-- an officer who has set nothing has no script, and so there is room
 pub room_unknown : (o : Officer) (name : List ℕ) → o ≡ new_officer → HasNoRoom o.scripts name → ⊥
 room_unknown o name is full =
     let none : length o.scripts ≡ 0 = ap (λ (x : Officer). length x.scripts) is in

@@ -8,22 +8,23 @@ use Rattle.filing_officers.specs.declared.profile.Profile.{Profile}
 use Rattle.filing_officers.specs.Register.{Settings, PinsFor, officer_of}
 use Rattle.filing_officers.specs.Profiles.{settings_of}
 
--- the last edition of the global scripts that is told from those before it
+-- The last edition of the global scripts; all later changes share it.
 abbrev pub last_edition : ℕ
 last_edition = 18446744073709551615
 
--- An image was made at an edition of the global scripts. One of this edition is what is pinned now.
+-- The image was made at an edition of the global scripts up to this one. Where it is this one, the image is what is
+-- pinned now.
 pub record IsCurrent (edition : ℕ) (globals : List NamedScript) (s : Settings) (k : KeptImage) : Type 0 where
   pub so_far : k.edition ≤ edition
   pub told_apart : k.edition < last_edition
   pub pinned : k.edition ≡ edition → PinsFor (officer_of s) (meanings_of globals) k.image.value
 
--- an image that is kept is current
+-- An image that is kept is current.
 abbrev pub KeepsCurrent : (edition : ℕ) (globals : List NamedScript) → Settings → Option KeptImage → Type 0
 KeepsCurrent edition globals s None = Unit {0}
 KeepsCurrent edition globals s (Some k) = IsCurrent edition globals s k
 
--- so of each officer
+-- The same for each officer.
 abbrev pub AllKeepCurrent : (edition : ℕ) (globals : List NamedScript) → List (Vec ℕ Global × Profile) → Type 0
 AllKeepCurrent edition globals [] = Unit {0}
 AllKeepCurrent edition globals (e ∷ es) = KeepsCurrent edition globals (settings_of e.1) e.1.kept × AllKeepCurrent edition globals es

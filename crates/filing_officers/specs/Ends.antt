@@ -4,7 +4,7 @@ use Rattle.filing_image.specs.Program.{Program}
 use Rattle.filing_image.specs.declared.instruction.Operation.{Operation}
 use Rattle.filing_image.specs.declared.instruction.Operation.TheVariants.{Stop, Fault}
 
--- an operation that ends the run of what is pinned for no script: STOP, or FAULT 5
+-- an operation that ends the run of a program of one instruction: STOP, or FAULT 5
 abbrev pub IsEnd : Operation → Type 0
 IsEnd o = (o ≡ Stop) ⊎ (o ≡ Fault 5)
 

@@ -1,4 +1,4 @@
--- What is kept of officers, as it lies in memory.
+-- What is kept of officers in memory.
 use Rattle.std.specs.Prelude.{ℕ, List, map, Vec}
 use Rattle.std.specs.declared.alloc.Global.{Global}
 use Rattle.filing_commands.specs.Pinning.{Officer}

@@ -1,4 +1,4 @@
--- What officers have set, and the office that it stands for.
+-- What officers have set, and the office that it represents.
 use Rattle.std.specs.Prelude.{◌≡◌, ℕ, List, [], ◌∷◌, if◌then◌else◌}
 use Rattle.std.specs.Str.{bytes_eq}
 use Rattle.sieve_syntax.specs.View.{tree_of}
@@ -13,12 +13,12 @@ use Rattle.filing_commands.specs.Office.{Office, with_globals, with_officer, wit
 use Rattle.filing_commands.specs.Pinning.{Active, Officer, PinsChosen, chosen_by, new_officer}
 use Rattle.filing_commands.specs.Scripts.{library, meanings_of, put_script}
 
--- what an officer has set: his program, and his scripts as trees
+-- what an officer has set: a program, and scripts as trees
 pub record Settings : Type 0 where
   pub active : Active
   pub scripts : List NamedScript
 
--- the global scripts, and the officers of whom something is known, each with his name
+-- the global scripts, and the officers who have set something, each with the name
 pub record Register : Type 0 where
   pub globals : List NamedScript
   pub officers : List (List ℕ × Settings)
@@ -35,19 +35,19 @@ officer_at name (e ∷ es) = if bytes_eq name e.0 then officer_of e.1 else offic
 abbrev pub office_of : Archive → Register → Office
 office_of a r = record { archive = a; globals = meanings_of r.globals; officers = λ name. officer_at name r.officers }
 
--- with that script under that name
+-- the officer with that script under that name
 abbrev pub with_script : Officer → (name : List ℕ) → Commands → Officer
 with_script o name script = with_scripts o (put_script name script o.scripts)
 
--- the office where an officer keeps that script under that name
+-- the office after an officer kept that script under that name
 abbrev pub keeping : Office → (officer name : List ℕ) → Commands → Office
 keeping s officer name script = with_officer s officer (with_script (s.officers officer) name script)
 
--- the office where that script is kept under that name for all officers
+-- the office after that script was kept under that name for all officers
 abbrev pub sharing : Office → (name : List ℕ) → Commands → Office
 sharing s name script = with_globals s (put_script name script s.globals)
 
--- what is pinned for an officer beside those global scripts
+-- what is pinned for an officer with those global scripts
 abbrev pub PinsFor : Officer → (globals : List (List ℕ × Commands)) → Program → Type 0
 PinsFor o globals p = PinsChosen (chosen_by o.active o.scripts) (library o.scripts globals) p
 

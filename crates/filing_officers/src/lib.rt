@@ -1,7 +1,9 @@
-//! The scripts that all officers share, what each officer has set, and the image that is pinned for a capture of his.
+//! The scripts that all officers share, what each officer has set, and the image that is pinned for an officer's
+//! capture.
 //!
-//! In `specs/`, `Register` says for which office the officers stand, and `Current` which images may be kept: an officer's script is
-//! compiled (`pinned`) once for each change of the scripts that it can include, and the image is then shared.
+//! In `specs/`, `Register` says which office the officers represent, and `Current` which images may be kept. An
+//! officer's script is compiled (`pinned`) once for each change of the scripts that it can include, and the image is
+//! then shared.
 #![tactic(auto)]
 
 mod officers;

@@ -20,8 +20,8 @@ use std::collections::BTreeMap;
 use std::marker::Model;
 use std::rc::Rc;
 
-/// The global scripts, and what each officer has set. An officer of whom nothing is known has no program and no script; names are
-/// compared octet by octet. Each call takes time logarithmic in the number of officers.
+/// The global scripts, and what each officer has set. An officer who has set nothing has no program and no script.
+/// Names are compared octet by octet. Each call takes time logarithmic in the number of officers.
 #[derive(Drop)]
 pub struct Officers {
     alloc: Global,
@@ -47,7 +47,7 @@ impl Model for Officers {
 }
 
 impl Officers {
-    /// No script, and no program of any officer; takes no memory.
+    /// No global script, and no program or script of any officer. It allocates nothing.
     pub fn new(alloc: Global) -> Officers
         ensures { (a : Archive) → office_of a result ≡ opening_office a }
     {
@@ -59,16 +59,16 @@ impl Officers {
         }
     }
 
-    /// The global scripts, which scripts of all officers include by `:global`.
+    /// The global scripts, which scripts of all officers include by `:global` (RFC 6609, section 3.2).
     pub fn globals(&self) -> &Shelf
         ensures { result.now ≡ self.now.globals }
     {
         &self.globals
     }
 
-    /// Keeps a script under a name for all officers, in the place of the one that has the name, if there is one. It is refused where
-    /// thirty-two global scripts have other names (96), and 99 is want of memory; nothing is changed then. Each image that was kept
-    /// is void.
+    /// Keeps a script under a name for all officers, in the place of the one that has the name. Refused where
+    /// thirty-two global scripts have other names (96) and where there is no memory (99); nothing is changed then.
+    /// Images that were kept before are not used again.
     pub fn set_global(&mut self, name: &[u8], script: Checked) -> Result<(), DeskFault>
         ensures done { OnOk result ((a : Archive) → office_of a self.new ≡ sharing (office_of a self.old) name.now (meaning_of script.script)) }
         ensures full { result ≡ Err LibraryFull → HasNoRoom (meanings_of self.old.globals) name.now }
@@ -82,8 +82,8 @@ impl Officers {
         Ok(())
     }
 
-    /// Keeps a script of an officer under a name, in the place of the one that has the name, if there is one. It is refused where
-    /// thirty-two scripts of the officer have other names (96), and 99 is want of memory; nothing is changed then.
+    /// Keeps a script of an officer under a name, in the place of the one that has the name. Refused where thirty-two
+    /// scripts of the officer have other names (96) and where there is no memory (99); nothing is changed then.
     pub fn set_script(
         &mut self,
         officer: &[u8],
@@ -101,8 +101,8 @@ impl Officers {
         Ok(())
     }
 
-    /// Sets the script of that name as an officer's program: the one that has the name when a capture begins. It is refused where
-    /// the officer has none of that name (93), and 99 is want of memory; nothing is changed then.
+    /// Sets the script of that name as an officer's program: the one that has the name when a capture begins. Refused
+    /// where the officer has no script of that name (93) and where there is no memory (99); nothing is changed then.
     pub fn activate(&mut self, officer: &[u8], name: &[u8]) -> Result<(), DeskFault>
         ensures done { OnOk result ((a : Archive) → office_of a self.new ≡ setting (office_of a self.old) officer.now (script_named name.now)) }
         ensures no_script { result ≡ Err NoScript ↔ (is_some (script_at name.now (officer_at officer.now self.old.officers).scripts) ≡ false) }
@@ -123,14 +123,14 @@ impl Officers {
         Ok(())
     }
 
-    /// Sets no program for an officer; takes no memory.
+    /// Sets no program for an officer. It allocates nothing and is never refused.
     pub fn deactivate(&mut self, officer: &[u8])
         ensures { (a : Archive) → office_of a self.new ≡ setting (office_of a self.old) officer.now no_program }
     {
         clear(&mut self.profiles, officer);
     }
 
-    /// Sets an image as an officer's program. The only fault is want of memory (99); nothing is changed then.
+    /// Sets an image as an officer's program. The only refusal is no memory (99); nothing is changed then.
     pub fn set_image(&mut self, officer: &[u8], program: Verified) -> Result<(), DeskFault>
         ensures done { OnOk result ((a : Archive) → office_of a self.new ≡ setting (office_of a self.old) officer.now (image program)) }
         ensures fault { IfErr result (λ f. f ≡ NoMemory) }
@@ -146,10 +146,12 @@ impl Officers {
         Ok(())
     }
 
-    /// What is pinned for a capture of an officer's that begins now: his image; the image of his script and what it includes, or one
-    /// FAULT 5 where that weighs more than 60,000; or one STOP where he has no program. A script is compiled only where one that it
-    /// can include was set since it was compiled last, or the officer's program; the image is shared. The meaning of all that is set
-    /// stays the same.
+    /// What is pinned for a capture that begins now: the officer's image; the image of the officer's script with what
+    /// it includes, or one FAULT 5 where that weighs more than 60,000; or one STOP where no program is set. The only
+    /// error is out of memory.
+    ///
+    /// A script is compiled once, and again only after the officer's program or a script that it can include was set.
+    /// The image is shared. What officers have set stays the same.
     pub fn pin(&mut self, officer: &[u8]) -> Result<Rc<Verified>, AllocError>
         ensures pinned { IfOk result (λ v. PinsFor (officer_at officer.now self.old.officers) (meanings_of self.old.globals) v.value) }
         ensures well { IfOk result (λ v. IsWell v.value) }

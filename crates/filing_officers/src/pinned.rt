@@ -14,7 +14,7 @@ use script_library::{Shelf, Shelves};
 use sieve_check::Checked;
 use std::alloc::{AllocError, Global};
 
-/// The program of one instruction, which ends the run.
+/// The program of one instruction that ends the run.
 fn single(alloc: Global, operation: Operation) -> Result<Verified, AllocError>
     requires { IsEnd operation }
     ensures { IfOk result (λ v. v ≡ alone operation) }
@@ -33,7 +33,7 @@ pub(crate) fn pin_nothing(alloc: Global) -> Result<Verified, AllocError>
     single(alloc, Operation::Stop)
 }
 
-/// What is pinned for a script by its name: its image, or one FAULT 5 where it is too heavy for one.
+/// What is pinned for a script with its name: its image, or one FAULT 5 where it is too heavy.
 fn pin_script(
     alloc: Global,
     name: &[u8],
@@ -49,7 +49,7 @@ fn pin_script(
     }
 }
 
-/// What is pinned for the script that has a name now.
+/// What is pinned for the script that has the name now, or one STOP where there is none.
 pub(crate) fn pin_named(
     alloc: Global,
     name: &[u8],

@@ -15,19 +15,19 @@ use sieve_check::Checked;
 use std::alloc::{AllocError, Global};
 use std::rc::Rc;
 
-/// The last edition of the global scripts that is told from those before it. No image is kept then.
+/// The last edition of the global scripts, which all later changes share. No image is kept at it.
 const LAST_EDITION: u64 = u64::MAX;
 
 /// The program that an officer has set.
 #[derive(Drop)]
 pub(crate) enum Active {
     NoProgram,
-    /// One of his scripts, by its name.
+    /// One of the officer's scripts, by its name.
     Script(Vec<u8>),
     Image(Rc<Verified>),
 }
 
-/// An image that was pinned, and the edition of the global scripts at which it was made.
+/// An image that was pinned, and the edition of the global scripts for which it was made.
 #[derive(Drop)]
 pub(crate) struct KeptImage {
     pub image: Rc<Verified>,
@@ -42,7 +42,7 @@ pub(crate) struct Profile {
     pub kept: Option<KeptImage>,
 }
 
-/// Puts a script on a shelf, in the place of the one that has the name, if there is one.
+/// Puts a script on a shelf, in the place of the one that has the name.
 pub(crate) fn put_on(
     shelf: &mut Shelf,
     name: &[u8],
@@ -56,7 +56,7 @@ pub(crate) fn put_on(
 }
 
 impl Profile {
-    /// No program and no script; takes no memory.
+    /// No program and no script. It allocates nothing.
     pub fn new(alloc: Global) -> Profile
         ensures settings { settings_of result ≡ record { active = no_program; scripts = [] } }
         ensures kept { result.kept ≡ None }
@@ -68,7 +68,8 @@ impl Profile {
         }
     }
 
-    /// Keeps a script under a name. The image that was kept is void.
+    /// Keeps a script under a name, in the place of the one that has the name. The kept image is dropped. Refused where
+    /// thirty-two scripts have other names (96), and with 99 (no memory).
     pub fn put_script(&mut self, name: &[u8], script: Rc<Checked>) -> Result<(), LibraryFault>
         ensures ok { let o = officer_of (settings_of self.old) in
             OnOk result (officer_of (settings_of self.new) ≡ with_script o name.now (meaning_of script.value.script)) }
@@ -81,7 +82,7 @@ impl Profile {
         Ok(())
     }
 
-    /// Sets a program. The image that was kept is void.
+    /// Sets a program. The kept image is dropped.
     pub fn set(&mut self, active: Active)
         ensures { self.new ≡ record self.old { active = active; kept = None } }
     {
@@ -108,7 +109,8 @@ impl Profile {
         Ok(image)
     }
 
-    /// What is pinned for the officer beside the global scripts of an edition: the image that is kept, where it is of this edition.
+    /// What is pinned for the officer with the global scripts of an edition: the kept image, where it is of this
+    /// edition, or a new one. The only error is out of memory.
     pub fn pin(
         &mut self,
         alloc: Global,

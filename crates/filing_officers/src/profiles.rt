@@ -19,7 +19,6 @@ use std::alloc::{AllocError, Global};
 use std::collections::BTreeMap;
 use std::rc::Rc;
 
-/// Whether an officer has a script of that name.
 pub(crate) fn has_script(profiles: &BTreeMap<Vec<u8>, Profile>, officer: &[u8], name: &[u8]) -> bool
     ensures { result ≡ is_some (script_at name.now (officer_in profiles.now.entries officer.now).scripts) }
 {
@@ -29,7 +28,7 @@ pub(crate) fn has_script(profiles: &BTreeMap<Vec<u8>, Profile>, officer: &[u8], 
     }
 }
 
-/// Keeps a script of an officer under a name, in the place of the one that has the name, if there is one.
+/// Keeps a script of an officer under a name, in the place of the one that has the name.
 pub(crate) fn put_script(
     alloc: Global,
     profiles: &mut BTreeMap<Vec<u8>, Profile>,
@@ -74,7 +73,7 @@ pub(crate) fn set(
     Ok(())
 }
 
-/// Sets no program for an officer; takes no memory.
+/// Sets no program for an officer. It allocates nothing.
 pub(crate) fn clear(profiles: &mut BTreeMap<Vec<u8>, Profile>, officer: &[u8])
     ensures { ChangesOnly profiles.old.entries profiles.new.entries officer.now (with_program (officer_in profiles.old.entries officer.now) no_program) }
 {
@@ -83,7 +82,7 @@ pub(crate) fn clear(profiles: &mut BTreeMap<Vec<u8>, Profile>, officer: &[u8])
     }
 }
 
-/// What is pinned for an officer beside the global scripts of an edition.
+/// What is pinned for an officer with the global scripts of an edition.
 pub(crate) fn pin(
     alloc: Global,
     profiles: &mut BTreeMap<Vec<u8>, Profile>,

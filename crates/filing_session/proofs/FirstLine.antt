@@ -6,7 +6,7 @@ use Rattle.std.proofs.lemmas.Grind.{common_steps}
 use Rattle.std.proofs.lemmas.Bool.Decides.{nat_tests}
 use Rattle.filing_session.specs.Lines.{Line, Whole, TooLong, line_length, cut_at, line_of}
 
--- what a line that begins with these octets turns out to be; so many more are taken
+-- the line that begins with the octets seen and goes on with the input, with room for this number of further octets
 abbrev pub line_from : (room : ℕ) (seen input : List ℕ) → Line
 line_from room seen [] = cut_at seen
 line_from zero seen (x ∷ rest) = if x == 10 then Whole seen rest else TooLong rest

@@ -10,7 +10,7 @@ use Rattle.filing_session.specs.Words.{words_of}
 abbrev pub word_length : List ℕ → ℕ
 word_length text = position_or_len (λ o. o == 32) text
 
--- the same as `position` tells it
+-- the same, as `position` answers it
 abbrev pub space_at : List ℕ → Option ℕ
 space_at text = cond (nat_lt (word_length text) (length text)) (Some (word_length text)) None
 

@@ -1,4 +1,4 @@
--- Runs of desks, as runs of the states that they stand for.
+-- Runs of desks, as runs of the states that they represent.
 use Rattle.std.proofs.Common.{◌++◌, ◌∷◌, [], ℕ, List, take, refl, sym, subst}
 use Rattle.filing_commands.specs.Answers.{Answer}
 use Rattle.filing_commands.specs.Calls.{Calls}

@@ -47,7 +47,7 @@ ok_no_err : {E : Type 0} (x : Unit {0}) (f : E) → Ok x ≡ Err f → ⊥
 ok_no_err x f h = cc
 
 module _ {D : Type 0} (Does : D → Command → Answer → D → Type 0) where
-  -- some commands were done and answered, and so many more may come
+  -- some commands were done and answered, and at most this number of further ones follows
   pub record Served (n : ℕ) (all : Session) (s₀ : D) (w₀ left : List ℕ) (s : D) (w : List ℕ) : Type 0 where
     pub items : List Item
     pub answers : List Answer
@@ -61,7 +61,6 @@ module _ {D : Type 0} (Does : D → Command → Answer → D → Type 0) where
   run_more s₀ s s' [] (q ∷ answers) i r run step = absurd run
   run_more s₀ s s' (j ∷ items) [] i r run step = absurd run
 
-  -- a command more
   pub more : (n : ℕ) (all : Session) (s₀ : D) (w₀ left : List ℕ) (s : D) (w : List ℕ) (item : Item) (r : Answer) (rest : List ℕ) (s' : D) (w' : List ℕ) → Served (suc n) all s₀ w₀ left s w → heard left ≡ Got item rest → ItemStep Does s item r s' → w' ≡ w ++ reply_octets r → Served n all s₀ w₀ rest s' w'
   more n all s₀ w₀ left s w item r rest s' w' h e step ew =
       record {

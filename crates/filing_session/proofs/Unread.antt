@@ -12,16 +12,16 @@ left_none : (input : List ℕ) → left_by zero input ≡ input
 unfolding left_by
 left_none input = refl
 
--- behind an item, what is left of the rest
+-- after an item: what is left of the rest
 pub left_more : (i : ℕ) (input : List ℕ) (item : Item) (rest : List ℕ) → i < 1000000 → heard input ≡ Got item rest → left_by (1000000 - i) input ≡ left_by (1000000 - (i + 1)) rest
 left_more i input item rest h e =
     ap (λ n. left_by n input) (one_less i h) ∙ left_step (1000000 - (i + 1)) input ∙ ap (λ x. left_behind x (λ y. left_by (1000000 - (i + 1)) y)) e
 
--- behind a line that ends the session
+-- after a line that ends the session
 pub left_stop : (i : ℕ) (input rest : List ℕ) (e : Ending) → i < 1000000 → heard input ≡ Stop e rest → left_by (1000000 - i) input ≡ rest
 left_stop i input rest e h is =
     ap (λ n. left_by n input) (one_less i h) ∙ left_step (1000000 - (i + 1)) input ∙ ap (λ x. left_behind x (λ y. left_by (1000000 - (i + 1)) y)) is
 
--- behind the last item
+-- after the last item
 pub left_limit : (i : ℕ) (input : List ℕ) → 1000000 ≤ i → left_by (1000000 - i) input ≡ input
 left_limit i input h = ap (λ n. left_by n input) (none_left i h) ∙ left_none input

@@ -33,12 +33,12 @@ pub data Asked : Type 0 where
   Try : (image message : ℕ) → Asked
   -- to end
   Quit : Asked
-  -- nothing: its first word is no command's
+  -- nothing: its first word names no command
   Unknown : Asked
   -- nothing: a word, or the number of words, is wrong
   BadWord : Asked
 
--- ---- what the words after a command's name ask
+-- ---- the arguments of each command
 
 abbrev pub with_number : (ℕ → Asked) → Option ℕ → Asked
 with_number ask (Some n) = ask n
@@ -144,7 +144,7 @@ asked_of_captures name words =
     else if bytes_eq name (codes "FINISH") then finish_of words
     else asked_of_officers name words
 
--- and those of records, and the end
+-- and those of records, and QUIT
 abbrev pub asked_by : (name : List ℕ) → (words : List (List ℕ)) → Asked
 asked_by name words =
     if bytes_eq name (codes "HOLD") then hold_of words

@@ -8,12 +8,12 @@ use Rattle.filing_session.specs.declared.items.Said.{Said}
 use Rattle.filing_session.specs.declared.stream.ReadFault.{ReadFault}
 use Rattle.filing_session.specs.declared.items.Said.TheVariants as said
 
--- an item is done and answered so, and leaves what is behind it; an ending does nothing, and leaves what is behind it
+-- an item is executed with this answer, and an ending changes nothing; each leaves the rest of the input
 abbrev pub Answers : {D : Type 0} → (D → Command → Answer → D → Type 0) → D → Heard → Said → D → (left : List ℕ) → Type 0
 Answers Does s h (said.Reply r) new left = (item : Item) × (h ≡ Got item left) × ItemStep Does s item (answer_of r) new
 Answers Does s h (said.End e) new left = (h ≡ Stop e left) × (new ≡ s)
 
--- the input is said to have ended
+-- the result says that the input has ended
 abbrev pub SaysEnd : Result Said ReadFault → Type 0
 SaysEnd (Ok (said.Reply r)) = ⊥
 SaysEnd (Ok (said.End e)) = EndsByInput e

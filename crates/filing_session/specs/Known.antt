@@ -1,4 +1,4 @@
--- What an input has left, where its reader knows what it has left.
+-- The octets that an input has left, where its reader knows them.
 use Rattle.std.specs.Prelude.{ℕ, List, Option}
 use Rattle.std.specs.Io.KnownBytes.{prepend_known}
 use Rattle.filing_session.specs.declared.input.Input.{Input}

@@ -32,7 +32,7 @@ line_of input =
     else if nat_lt 512 (length input) then TooLong (drop 513 input)
     else cut_at input
 
--- what was found, as the program tells it
+-- what was found, as the program reports it
 abbrev pub line_as : LineEnd → (text rest : List ℕ) → Line
 line_as ended.Whole text rest = Whole text rest
 line_as ended.TooLong text rest = TooLong rest

@@ -4,7 +4,7 @@ use Rattle.filing_commands.specs.declared.payload.Payload.{Payload}
 use Rattle.filing_commands.specs.declared.payload.Payload.TheVariants as payload
 use Rattle.filing_commands.specs.Payloads.{IsOf}
 
--- octets are kept within their limit, and not beyond it
+-- a payload that is kept is within its limit
 abbrev pub IsWithin : (limit : ℕ) → Payload → Type 0
 IsWithin limit (payload.Whole v) = length v.items ≤ limit
 IsWithin limit payload.TooLong = Unit {0}
@@ -15,7 +15,7 @@ abbrev pub IsRead : (size limit : ℕ) → Option Payload → (old new : List �
 IsRead size limit (Some p) old new = (size ≤ length old) × (new ≡ drop size old) × IsOf limit p (take size old) × IsWithin limit p
 IsRead size limit None old new = (length old < size) × (new ≡ [])
 
--- and so are two payloads, one behind the other
+-- and so are two payloads, one directly after the other
 abbrev pub AreRead : (sizes limits : ℕ × ℕ) → Option (Payload × Payload) → (old new : List ℕ) → Type 0
 AreRead sizes limits (Some p) old new =
     (sizes.0 + sizes.1 ≤ length old) × (new ≡ drop (sizes.0 + sizes.1) old)

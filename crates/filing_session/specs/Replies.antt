@@ -71,7 +71,7 @@ reply_octets (filed fault lines) = capture_octets fault lines
 reply_octets (listed lines) = list_octets lines ++ codes "ok\n"
 reply_octets (refused number offset) = refused_octets number offset
 
--- the answer that a reply tells
+-- the answer that a reply represents
 abbrev pub answer_of : Reply → Answer
 answer_of reply.Done = done
 answer_of (reply.Captured o) = captured (outcome_view o)

@@ -19,12 +19,12 @@ pub data Item : Type 0 where
   -- a line with a wrong word, or a wrong number of words
   WrongWord : Item
 
--- what an input begins with: an item or the session's end, and the octets behind it
+-- what an input begins with: an item or the session's end, and the octets after it
 pub data Heard : Type 0 where
   Got : Item → (rest : List ℕ) → Heard
   Stop : Ending → (rest : List ℕ) → Heard
 
--- a session: its items, and its way of ending
+-- a session: its items, and how it ends
 pub record Session : Type 0 where
   pub items : List Item
   pub ending : Ending
@@ -33,7 +33,7 @@ pub record Session : Type 0 where
 abbrev pub with_payload : (size : ℕ) → (List ℕ → Command) → (rest : List ℕ) → Heard
 with_payload size command rest = if nat_le size (length rest) then Got (Call (command (take size rest))) (drop size rest) else Stop ending.CutShort []
 
--- and a second one the first
+-- and a second one directly follows the first
 abbrev pub with_payloads : (first second : ℕ) → (List ℕ → List ℕ → Command) → (rest : List ℕ) → Heard
 with_payloads first second command rest =
     if nat_le (first + second) (length rest) then Got (Call (command (take first rest) (take second (drop first rest)))) (drop (first + second) rest)
@@ -66,22 +66,22 @@ abbrev pub go_on : Heard → (List ℕ → Session) → Session
 go_on (Got item rest) next = record { items = item ∷ (next rest).items; ending = (next rest).ending }
 go_on (Stop e rest) next = record { items = []; ending = e }
 
--- the session of an input, of so many items at most
+-- the session of an input, with at most this number of items
 unfoldable pub session_of : ℕ → List ℕ → Session
 session_of zero input = record { items = []; ending = ending.Limit }
 session_of (suc most) input = go_on (heard input) (λ rest. session_of most rest)
 
--- the session of an input: it has 1,000,000 items at most
+-- the session of an input: it has at most 1,000,000 items
 abbrev pub session_in : List ℕ → Session
 session_in input = session_of 1000000 input
 
--- what is left unread: behind an item what is left of the rest, and behind the end all
+-- what is left unread: after an item, what is left of the rest; after an ending, all the rest
 abbrev pub left_behind : Heard → (List ℕ → List ℕ) → List ℕ
 left_behind (Got item rest) next = next rest
 left_behind (Stop e rest) next = rest
 
--- What a session of so many items at most leaves unread of an input: what stands behind the line that ends it, or behind its
--- last item; of a line that is too long 513 octets are read.
+-- What a session with at most this number of items leaves unread of an input: what follows the line that ends it, or
+-- its last item. Of a line that is too long, 513 octets are read.
 unfoldable pub left_by : ℕ → List ℕ → List ℕ
 left_by zero input = input
 left_by (suc most) input = left_behind (heard input) (λ rest. left_by most rest)
@@ -98,16 +98,16 @@ ending_octets ending.Limit = codes "end\n"
 abbrev pub answers_octets : List Answer → List ℕ
 answers_octets answers = flat_map reply_octets answers
 
--- What follows is said of desks, and of the states that desks stand for, by what a command may be answered there and what it
--- leaves.
+-- These definitions are over desks, and over the states that desks represent. `Does` says which answer a command may
+-- have, and what it leaves.
 module _ {D : Type 0} (Does : D → Command → Answer → D → Type 0) where
-  -- an item may be answered so, and leaves that: a command as the desk says, another line is refused and leaves all as it was
+  -- an item, its answer and what it leaves: a command as `Does` says; any other line is refused and changes nothing
   abbrev pub ItemStep : D → Item → Answer → D → Type 0
   ItemStep s (Call c) a new = Does s c a new
   ItemStep s UnknownCommand a new = (a ≡ refused 70 None) × (new ≡ s)
   ItemStep s WrongWord a new = (a ≡ refused 71 None) × (new ≡ s)
 
-  -- items may be answered so, one after the other, and leave that
+  -- items with their answers, one after the other, and what they leave
   abbrev pub Run : D → List Item → List Answer → D → Type 0
   Run s [] [] new = new ≡ s
   Run s (i ∷ items) (a ∷ answers) new = (mid : D) × ItemStep s i a mid × Run mid items answers new
@@ -135,7 +135,7 @@ module _ {D : Type 0} (Does : D → Command → Answer → D → Type 0) where
   IsCutInEnding session s old written new =
       (answers : List Answer) × Run s session.items answers new × IsBehind (old ++ answers_octets answers) (ending_octets session.ending) written
 
-  -- of what is to be written a rest is missing, of the last answer or of the ending
+  -- a rest of the output is missing, of the last answer or of the ending
   abbrev pub IsCut : Session → D → (old written : List ℕ) → D → Type 0
   IsCut session s old written new = IsCutInAnswer session s old written new ⊎ IsCutInEnding session s old written new
 

@@ -1,4 +1,4 @@
--- What sources and sinks tell of their octets and their troubles.
+-- What sources and sinks report about their octets and their troubles.
 use Rattle.std.specs.Prelude.{◌≡◌, ℕ, ◌+◌, ◌-◌, ◌^◌, ◌≤◌, ◌⊎◌, List, ◌++◌, take, Bool, true, false, not, ◌&&◌, ◌==◌, nat_lt, min, max, Result, Ok, Err, OnOk, OnErr}
 use Rattle.filing_session.specs.declared.stream.Trouble.{Trouble}
 use Rattle.filing_session.specs.declared.stream.Trouble.TheVariants.{Interrupted, Failed}
@@ -46,9 +46,9 @@ Rises before now = min (before + 1) (2 ^ 64 - 1) ≤ now
 abbrev pub GivesUp : (failures failures' interruptions' : ℕ) → Type 0
 GivesUp failures failures' interruptions' = Rises failures failures' ⊎ (64 ≤ interruptions')
 
--- What a result tells of the troubles that were met before it, by the counts of failures, of the last interruptions in a
--- row, and of the most in a row: after a fault some call failed or 64 in a row were interrupted, and never more were.
--- Without one no call failed, and fewer than 64 in a row were interrupted.
+-- What a result says about the troubles before it, by the counts of failures, of the last interruptions in a row, and
+-- of the most in a row. After a fault some call failed or 64 in a row were interrupted, and never more were. Without a
+-- fault no call failed, and fewer than 64 in a row were interrupted.
 abbrev pub TellsTroubles : {V T F : Type 0} → (failures interruptions most : V → ℕ) → Result T F → (old new : V) → Type 0
 TellsTroubles failures interruptions most result old new = record {
   fault : OnErr result (GivesUp (failures old) (failures new) (interruptions new));
@@ -58,22 +58,23 @@ TellsTroubles failures interruptions most result old new = record {
   patient : OnOk result (most new ≤ max (most old) (interruptions old + 63));
 }
 
--- No call is made again after 64 interruptions in a row, and where there is no fault there were fewer: by those in a row
--- before, and the most in a row before and now.
+-- No call is made again after 64 interruptions in a row, and where there is no fault there were fewer. The counts are
+-- those in a row before, and the most in a row before and now.
 abbrev pub TriesOn : {T F : Type 0} → Result T F → (interruptions most most' : ℕ) → Type 0
 TriesOn result interruptions most most' = record {
   within : most' ≤ max most (interruptions + 64);
   patient : OnOk result (most' ≤ max most (interruptions + 63));
 }
 
--- where the input is said to have ended, a read told so, by the counts of such reads before and now; none is forgotten
+-- where the result says that the input has ended, a read met its end, by the counts of such reads before and now; no
+-- such read is forgotten
 abbrev pub TellsEnd : (ended : Type 0) → (before now : ℕ) → Type 0
 TellsEnd ended before now = record {
   rises : before ≤ now;
   told : ended → Rises before now;
 }
 
--- what was met is counted once, and nothing else
+-- an event is counted once, and nothing else is
 abbrev pub Counts : Bool → (before now : ℕ) → Type 0
 Counts true before now = (before ≤ now) × Rises before now × (now ≤ before + 1)
 Counts false before now = now ≡ before

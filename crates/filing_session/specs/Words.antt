@@ -12,7 +12,7 @@ words_of line = slice_split (λ o. o == 32) line
 abbrev pub are_digits : List ℕ → Bool
 are_digits word = nat_lt 0 (length word) && list_all is_ascii_digit word
 
--- the number that digits tell, with leading zeros or without, where it is not above the greatest
+-- the number that digits spell, with leading zeros or without, where it is not above the greatest
 unfoldable pub number_in : (greatest : ℕ) → List ℕ → Option ℕ
 number_in greatest word = if are_digits word && nat_le (digits_value 10 word) greatest then Some (digits_value 10 word) else None
 

@@ -2,6 +2,6 @@
 use Rattle.std.specs.Prelude.{◌≡◌, ℕ, List, ◌++◌, Result, MatchResult}
 use Rattle.filing_session.specs.Streams.{IsBehind}
 
--- all these octets are behind those that were there, or after a fault a prefix of them
+-- all these octets follow those that were there, or after a fault a prefix of them does
 abbrev pub Writes : {F : Type 0} → Result (Unit {0}) F → (old octets new : List ℕ) → Type 0
 Writes r old octets new = MatchResult r (λ _. new ≡ old ++ octets) (λ _. IsBehind old octets new)

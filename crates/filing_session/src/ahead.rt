@@ -37,7 +37,7 @@ impl Drop for Ahead {
 }
 
 impl Ahead {
-    /// No octet.
+    /// An empty buffer.
     pub fn new() -> Ahead
         ensures { result ≡ [] }
     {
@@ -48,14 +48,14 @@ impl Ahead {
         }
     }
 
-    /// Whether there is no octet.
+    /// Whether no octet is left to be taken.
     pub fn is_empty(&self) -> bool
         ensures { IsTrue result ↔ self.now ≡ [] }
     {
         self.start >= self.end
     }
 
-    /// Reads octets where there are none. None are there after it only where the reader is at its end.
+    /// Fills an empty buffer by one read. It stays empty only at the reader's end or after an error.
     pub fn fill<R: Read>(&mut self, reader: &mut R) -> io::Result<()>
         requires { self.old ≡ [] }
         ensures bytes { OnOk result (Consumes (R.remaining reader.old) (R.remaining reader.new) self.new) }
@@ -69,7 +69,7 @@ impl Ahead {
         Ok(())
     }
 
-    /// Takes octets from the front, as many as there are and fit the room, and answers how many.
+    /// Takes as many octets from the front as there are and as fit `room`, and answers how many.
     pub fn take(&mut self, room: &mut [u8]) -> usize
         ensures count { result ≡ min (length self.old) (length room.old) }
         ensures taken { take result room.new ≡ take result self.old }

@@ -26,14 +26,14 @@ pub fn refused(number: u8) -> Reply
     })
 }
 
-/// What is answered where a call is refused.
+/// The reply to a call that is refused.
 fn refused_for(fault: DeskFault) -> Reply
     ensures { answer_of result ≡ refused_by fault }
 {
     Reply::Refused(fault.refusal())
 }
 
-/// What is answered where there is nothing to tell but that it was done.
+/// The reply to a call that answers nothing but success.
 fn settled(done: Result<(), DeskFault>) -> Reply
     ensures { answer_of result ≡ told_done done }
 {
@@ -43,7 +43,7 @@ fn settled(done: Result<(), DeskFault>) -> Reply
     }
 }
 
-/// What is answered where a dry run captures something.
+/// The reply to a dry run.
 fn captured(outcome: Result<Outcome, DeskFault>) -> Reply
     ensures { answer_of result ≡ told_outcome outcome }
 {
@@ -53,7 +53,7 @@ fn captured(outcome: Result<Outcome, DeskFault>) -> Reply
     }
 }
 
-/// What is answered where a capture begins.
+/// The reply to the beginning of a capture.
 fn begun(begun: Result<(u32, u32), DeskFault>) -> Reply
     ensures { answer_of result ≡ told_ticket begun }
 {
@@ -63,7 +63,7 @@ fn begun(begun: Result<(u32, u32), DeskFault>) -> Reply
     }
 }
 
-/// What is answered where a capture is granted turns.
+/// The reply to a grant of turns.
 fn turned(turn: Result<Turn, DeskFault>) -> Reply
     ensures { answer_of result ≡ told_turn turn }
 {
@@ -73,7 +73,7 @@ fn turned(turn: Result<Turn, DeskFault>) -> Reply
     }
 }
 
-/// What is answered where a capture is made whole.
+/// The reply to the finish of a capture.
 fn filed(capture: Result<Capture, DeskFault>) -> Reply
     ensures { answer_of result ≡ told_capture capture }
 {
@@ -83,7 +83,7 @@ fn filed(capture: Result<Capture, DeskFault>) -> Reply
     }
 }
 
-/// What is answered where records are listed.
+/// The reply to a due list.
 fn listed(lines: Result<Vec<Line>, DeskFault>) -> Reply
     ensures { answer_of result ≡ told_lines lines }
 {
@@ -93,7 +93,7 @@ fn listed(lines: Result<Vec<Line>, DeskFault>) -> Reply
     }
 }
 
-/// Does what needs no payload.
+/// Executes a command without a payload.
 pub fn do_alone<R: Registry>(registry: &mut R, command: &NoPayload<'_>) -> Reply
     ensures { Calls R.clean R.stands registry.old (command_of command.now) (answer_of result) registry.new }
 {
@@ -135,7 +135,7 @@ pub fn limits_of_two(command: TwoPayloads) -> (usize, usize)
     }
 }
 
-/// Does what one payload is for. A message is given away, and not copied.
+/// Executes a command with one payload. A message is moved into the call, and not copied.
 pub fn do_one<R: Registry>(registry: &mut R, command: OnePayload<'_>, payload: Payload) -> Reply
     ensures { CallsWith R.clean R.stands registry.old (one_limit command.entry) payload (one_command command.entry) (answer_of result) registry.new }
 {
@@ -150,7 +150,7 @@ pub fn do_one<R: Registry>(registry: &mut R, command: OnePayload<'_>, payload: P
     }
 }
 
-/// Does what two payloads are for.
+/// Executes a command with two payloads.
 pub fn do_two<R: Registry>(
     registry: &R,
     command: TwoPayloads,

@@ -1,4 +1,4 @@
-//! Dates as words.
+//! Dates as words of a command line: the full-date of RFC 3339, section 5.6.
 
 ghost use Rattle.std.specs.Prelude.{◌≡◌, ◌≤◌, Some, option_map, IfSome, IsTrue, length};
 ghost use Rattle.class_plan.specs.Calendar.{number_of_day};
@@ -51,7 +51,7 @@ fn day_from(year: Option<u64>, month: Option<u64>, day: Option<u64>) -> Option<D
     }
 }
 
-/// The day of a word `YYYY-MM-DD`: a date that the calendar has, in the years 1970 to 9999.
+/// The day of a word `YYYY-MM-DD`: a date that the calendar has, in the years 1970 to 9999. None for any other word.
 pub fn read_day(word: &[u8]) -> Option<Day>
     ensures { option_map (λ d. number_of_day d.date) result ≡ day_of word.now }
 {

@@ -1,5 +1,5 @@
-//! A reader as a session's source. Nothing is claimed of the octets of a terminal, a file or a pipe; where a reader knows what
-//! it has left, what is read is exactly that.
+//! A reader as a session's source. Nothing is claimed about the octets of a terminal, a file or a pipe. Where a reader
+//! knows what it has left, exactly that is read.
 
 ghost use Rattle.std.specs.Prelude.{◌<◌, ◌≤◌, ◌≡◌, length, IfOk};
 ghost use Rattle.std.specs.Io.KnownBytes.{ReadConsumes};
@@ -33,7 +33,8 @@ impl<R> Input<R> {
 }
 
 impl<R: Read> Input<R> {
-    /// Reads octets into the front of the room, those first that were read ahead, and answers how many: 0 only at the end.
+    /// Reads octets into the front of `room`, first those that were read ahead, and answers how many. The answer is 0
+    /// only at the end of the input.
     fn read_on(&mut self, room: &mut [u8]) -> io::Result<usize>
         requires { 0 < length room.old }
         ensures within { IfOk result (λ n. n ≤ length room.old) }

@@ -1,4 +1,4 @@
-//! A line with its payloads: it is read, and done.
+//! One line with its payloads, which is read and executed.
 
 ghost use Rattle.std.specs.Prelude.{◌≡◌, IfOk, OnErr};
 ghost use Rattle.filing_commands.specs.Calls.{Calls};
@@ -20,7 +20,7 @@ use std::alloc::Global;
 /// How a session ends.
 #[derive(Clone, Copy, Debug, PartialEq, Eq)]
 pub enum Ending {
-    /// By its command.
+    /// By `QUIT`.
     Quit,
     /// The input ended between commands.
     Ended,
@@ -32,7 +32,7 @@ pub enum Ending {
     Limit,
 }
 
-/// What is said to a line with its payloads.
+/// What a line with its payloads leads to.
 #[derive(Drop)]
 pub enum Said {
     /// A reply, and the session goes on.
@@ -41,7 +41,7 @@ pub enum Said {
     End(Ending),
 }
 
-/// Reads the payload of a command that has one, and does the command.
+/// Reads the payload of a command that has one, and executes the command.
 fn answer_one<S: Source, R: Registry>(
     alloc: Global,
     source: &mut S,
@@ -61,7 +61,7 @@ fn answer_one<S: Source, R: Registry>(
     Ok(Said::Reply(do_one(registry, command, payload)))
 }
 
-/// Reads the payloads of a command that has two, and does the command. Both are read before anything is judged.
+/// Reads the payloads of a command that has two, and executes the command. Both are read before anything is judged.
 fn answer_two<S: Source, R: Registry>(
     alloc: Global,
     source: &mut S,
@@ -81,7 +81,7 @@ fn answer_two<S: Source, R: Registry>(
     Ok(Said::Reply(do_two(registry, command, &first, &second)))
 }
 
-/// Does what a line asks; its payloads are read here.
+/// Executes what a line asks, once its payloads are read.
 fn answer<S: Source, R: Registry>(
     alloc: Global,
     source: &mut S,
@@ -106,7 +106,8 @@ fn answer<S: Source, R: Registry>(
     }
 }
 
-/// Reads a line with its payloads, and does what it asks.
+/// Reads a line with its payloads, and executes what it asks. A line that is no command is refused with 70 or 71. Input
+/// that ends inside a line or payload (72) and a line that is too long (73) end the session.
 pub fn next<S: Source, R: Registry>(
     alloc: Global,
     source: &mut S,

@@ -1,4 +1,4 @@
-//! The law, on a function with nothing to do.
+//! The law of sessions over states, as the contract of a function without code.
 
 ghost use Rattle.std.specs.Prelude.{ℕ, List};
 ghost use Rattle.filing_commands.specs.Calls.{Calls};
@@ -8,8 +8,8 @@ ghost use Rattle.filing_session.specs.Session.{Session, IsServed, IsAnswered, Is
 
 use filing_commands::Registry;
 
-/// What `serve` says of a registry before and after it holds of the states that the registry stands for: each state that it stood
-/// for leads, by what the commands do to states, to one that it stands for after the session.
+/// What the contract of `serve` says about a registry holds for the states that the registry represents. Each state
+/// that it represents before the session leads, by the steps of the commands, to one that it represents after it.
 pub fn sessions_refine_states<R: Registry>()
     ensures served { (session : Session) (old written : List ℕ) → Refines R.clean R.stands
         (λ desk. IsServed (Calls R.clean R.stands) session desk old written) (λ s. IsServed Step session s old written) }

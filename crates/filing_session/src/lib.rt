@@ -5,14 +5,15 @@
 //! - `lines`, `words`, `dates`, `requests`, `payload`: what is read, a line with its payloads at a time;
 //! - `reply`, `told_dates`: what is written;
 //! - `commands`: what each command does at a registry, which is the desk of an office;
-//! - `items`: a line with its payloads, which is read and done;
+//! - `items`: one line with its payloads, which is read and executed;
 //! - `input`, `output`: a source over a reader, which is read `ahead`, and a sink over a writer;
 //! - `memory`: a source and a sink for tests;
-//! - `session`: `serve`, whose contract says which octets it writes to which it read, and what the registry has done;
-//! - `laws`: what that says of the states that the registry stands for.
+//! - `session`: `serve`, whose contract relates the octets written to the octets read and to what the registry has
+//!   done;
+//! - `laws`: the same in terms of the states that the registry represents.
 //!
-//! In `specs/`, `Session` has the whole of it: the commands of an input, the runs of a registry or of the states that it stands
-//! for, and the octets of answers.
+//! The module `Session` of `specs/` defines the commands of an input, the runs of a registry or of the states that it
+//! represents, and the octets of the answers.
 #![tactic(auto)]
 
 mod ahead;

@@ -43,14 +43,12 @@ impl LineBuffer {
         }
     }
 
-    /// Drops all octets.
     fn clear(&mut self)
         ensures { self.new ≡ [] }
     {
         self.len = 0;
     }
 
-    /// Adds an octet at the end.
     fn push(&mut self, octet: u8)
         requires { length self.old < 512 }
         ensures { self.new ≡ self.old ++ octet ∷ [] }
@@ -59,14 +57,13 @@ impl LineBuffer {
         self.len += 1;
     }
 
-    /// Whether there is no octet.
     fn is_empty(&self) -> bool
         ensures { result ≡ (length self.now == 0) }
     {
         self.len == 0
     }
 
-    /// The octets.
+    /// The octets of the line, without its LF.
     pub fn as_slice(&self) -> &[u8]
         ensures { result.now ≡ self.now }
     {
@@ -87,7 +84,8 @@ pub enum LineEnd {
     Nothing,
 }
 
-/// Reads a line without its LF. Nothing after the LF is read, and of a line that is too long 513 octets are.
+/// Reads a line into `line`, without its LF. Nothing after the LF is read, and of a line that is too long 513 octets
+/// are read.
 #[tactic(auto, using(crate::proofs::FirstLine::line_of_is))]
 pub fn read_line<S: Source>(source: &mut S, line: &mut LineBuffer) -> Result<LineEnd, ReadFault>
     ensures line { S.tells → IfOk result (λ end. line_of (S.left source.old) ≡ line_as end line.new (S.left source.new)) }
@@ -110,7 +108,7 @@ pub fn read_line<S: Source>(source: &mut S, line: &mut LineBuffer) -> Result<Lin
     }
 }
 
-/// What a line is where the input has ended.
+/// How a line ends where the input has ended.
 fn ending(line: &LineBuffer) -> LineEnd
     ensures { line_as result line.now [] ≡ cut_at line.now }
 {

@@ -1,5 +1,5 @@
-//! A source and a sink over memory, which know their octets, for tests. They can be told to move few octets at once,
-//! and to meet trouble at a place.
+//! A source and a sink over memory, for tests. They know their octets. They can be set to move few octets at once, and
+//! to meet trouble at a place.
 
 ghost use Rattle.std.specs.Prelude.{◌≡◌, ◌<◌, ℕ, [], IfOk, max};
 ghost use Rattle.filing_session.specs.Memory.{left_of, written_of};
@@ -40,14 +40,14 @@ impl<'a> MemorySource<'a> {
         }
     }
 
-    /// The same, with at most so many octets a read; 0 counts as 1.
+    /// The same source with at most `piece` octets a read; 0 counts as 1.
     pub fn in_pieces(self, piece: usize) -> MemorySource<'a>
         ensures { left_of result ≡ left_of self.entry }
     {
         MemorySource { piece, ..self }
     }
 
-    /// The same, with a trouble that is met so many times in a row after so many octets.
+    /// The same source with a trouble that is met `times` times in a row after `before` octets.
     pub fn with_trouble(self, trouble: Trouble, before: usize, times: u64) -> MemorySource<'a>
         ensures { left_of result ≡ left_of self.entry }
     {
@@ -59,7 +59,7 @@ impl<'a> MemorySource<'a> {
         }
     }
 
-    /// What is left.
+    /// The octets that are left.
     pub fn as_slice(&self) -> &[u8]
         ensures { result.now ≡ left_of self.now }
     {
@@ -103,7 +103,7 @@ impl Source for MemorySource<'_> {
     }
 }
 
-/// What a write to memory can be told to meet.
+/// What a write to memory can be set to meet.
 #[derive(Clone, Copy, Debug, PartialEq, Eq)]
 pub enum Hitch {
     /// It is interrupted.
@@ -142,14 +142,14 @@ impl MemorySink {
         }
     }
 
-    /// The same, with at most so many octets a write; 0 counts as 1.
+    /// The same sink with at most `piece` octets a write; 0 counts as 1.
     pub fn in_pieces(self, piece: usize) -> MemorySink
         ensures { written_of result ≡ written_of self }
     {
         MemorySink { piece, ..self }
     }
 
-    /// The same, with a hitch that is met so many times in a row after so many octets.
+    /// The same sink with a hitch that is met `times` times in a row after `before` octets.
     pub fn with_hitch(self, hitch: Hitch, before: usize, times: u64) -> MemorySink
         ensures { written_of result ≡ written_of self }
     {
@@ -161,7 +161,6 @@ impl MemorySink {
         }
     }
 
-    /// Meets a hitch.
     fn meet(&mut self, hitch: Hitch) -> Result<usize, Trouble>
         ensures written { written_of self.new ≡ written_of self.old }
         ensures count { IfOk result (λ n. n ≡ 0) }
@@ -179,7 +178,7 @@ impl MemorySink {
         }
     }
 
-    /// What was taken.
+    /// The octets that were taken.
     pub fn as_slice(&self) -> &[u8]
         ensures { result.now ≡ written_of self.now }
     {

@@ -1,4 +1,4 @@
-//! A writer as a session's sink. Nothing is claimed of the octets of a terminal, a file or a pipe.
+//! A writer as a session's sink. Nothing is claimed about the octets of a terminal, a file or a pipe.
 
 ghost use Rattle.std.specs.Prelude.{◌≡◌, ◌≤◌, length, IfOk};
 
@@ -7,11 +7,11 @@ use crate::tally::Tally;
 use crate::trouble::trouble_of;
 use std::io::{self, Write};
 
-/// How many octets are held until their line ends.
+/// The most octets that are held until their line ends.
 const HELD: usize = 1024;
 
-/// A writer that is given whole lines where they are short enough, as soon as they end: so whoever waits for a reply
-/// has it before more input is asked for.
+/// A writer that is given whole lines as soon as they end, where they are short enough. So whoever waits for a reply
+/// has it before more input is read.
 #[derive(Drop)]
 pub struct Output<W> {
     inner: W,
@@ -68,7 +68,8 @@ impl<W: Write> Output<W> {
         Ok(true)
     }
 
-    /// Writes octets behind those that are held.
+    /// Writes what is held and then these octets, and answers how many of these the writer took. The answer is 0 also
+    /// where a write of what is held took no octet.
     fn write_through(&mut self, octets: &[u8]) -> io::Result<usize>
         ensures within { IfOk result (λ n. n ≤ length octets.now) }
         ensures tally { self.new.tally ≡ self.old.tally }

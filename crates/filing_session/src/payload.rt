@@ -1,5 +1,5 @@
-//! Payloads: so many octets as the line before them said. One that is not kept is read through all the same, so that
-//! the next line is where it should be.
+//! Payloads, whose lengths the command line gives. A payload that is not kept is read all the same, so that the next
+//! line is found where it begins.
 
 ghost use Rattle.std.specs.Prelude.{◌≡◌, ◌+◌, ◌<◌, ◌≤◌, ◌++◌, [], length, drop, IfOk, Ok, None, true, false, vec_len, vec_capacity};
 ghost use Rattle.filing_session.specs.Payloads.{IsRead, AreRead};
@@ -12,7 +12,7 @@ use std::alloc::Global;
 /// How many octets are read at once.
 const PIECE: usize = 4096;
 
-/// Reads so many octets and drops them; false where the input ends before.
+/// Reads `size` octets and drops them; false where the input ends before.
 fn skip<S: Source>(source: &mut S, size: usize) -> Result<bool, ReadFault>
     ensures whole { S.tells → result ≡ Ok true → (size ≤ length (S.left source.old)) × (S.left source.new ≡ drop size (S.left source.old)) }
     ensures cut { S.tells → result ≡ Ok false → (length (S.left source.old) < size) × (S.left source.new ≡ []) }
@@ -32,7 +32,7 @@ fn skip<S: Source>(source: &mut S, size: usize) -> Result<bool, ReadFault>
     Ok(true)
 }
 
-/// Appends where there is room.
+/// Appends octets for which there is capacity.
 fn append(octets: &mut Vec<u8>, more: &[u8])
     requires { vec_len octets.old + length more.now ≤ vec_capacity octets.old }
     ensures items { octets.new.items ≡ octets.old.items ++ more.now }
@@ -42,7 +42,7 @@ fn append(octets: &mut Vec<u8>, more: &[u8])
     octets.extend_from_slice(more).unwrap();
 }
 
-/// Reads so many octets behind those that are there, for which there is room; false where the input ends before.
+/// Reads `size` octets into an empty vector that has room for them; false where the input ends before.
 fn fill<S: Source>(source: &mut S, octets: &mut Vec<u8>, size: usize) -> Result<bool, ReadFault>
     requires empty { vec_len octets.old ≡ 0 }
     requires room { size ≤ vec_capacity octets.old }
@@ -64,7 +64,8 @@ fn fill<S: Source>(source: &mut S, octets: &mut Vec<u8>, size: usize) -> Result<
     Ok(true)
 }
 
-/// Reads a payload of so many octets, and keeps it if it is no longer than its limit; none where the input ends before.
+/// Reads a payload of `size` octets. It is kept where it is no longer than `limit` and there is memory for it, and is
+/// `TooLong` or `NoMemory` otherwise. None where the input ends before.
 pub fn read_payload<S: Source>(
     alloc: Global,
     source: &mut S,
@@ -84,8 +85,8 @@ pub fn read_payload<S: Source>(
     Ok(fill(source, &mut octets, size)?.then_some(Payload::Whole(octets)))
 }
 
-/// Reads two payloads of so many octets, one behind the other, and keeps each that is no longer than its limit; none where
-/// the input ends before.
+/// Reads two payloads of these sizes in octets, the second directly after the first, each as `read_payload` does. None
+/// where the input ends before.
 pub fn read_two<S: Source>(
     alloc: Global,
     source: &mut S,

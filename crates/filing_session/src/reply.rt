@@ -14,18 +14,18 @@ use itoa::Buffer;
 use record_store::Line;
 use sieve_syntax::Text;
 
-/// What a command is answered.
+/// The answer to a command.
 #[derive(Drop)]
 pub enum Reply {
     /// It is done.
     Done,
-    /// What a dry run captures.
+    /// The outcome of a dry run.
     Captured(Outcome),
     /// A capture has begun, with a budget in steps.
     Begun { ticket: u32, budget: u32 },
-    /// How far a capture has come.
+    /// How far a capture is, after turns were granted to it.
     Turned(Turn),
-    /// A capture is whole.
+    /// A capture is finished, with these records.
     Filed(Capture),
     /// The records that are due.
     Listed(Vec<Line>),
@@ -33,7 +33,6 @@ pub enum Reply {
     Refused(Refusal),
 }
 
-/// Writes the line of a class.
 fn write_class<K: Sink>(sink: &mut K, path: &[u8]) -> Result<(), WriteFault>
     ensures written { K.tells → Writes result (K.written sink.old) (class_octets path.now) (K.written sink.new) }
     ensures troubles { TellsTroubles K.failures K.interruptions K.most_interruptions result sink.old sink.new }
@@ -41,7 +40,7 @@ fn write_class<K: Sink>(sink: &mut K, path: &[u8]) -> Result<(), WriteFault>
     write_pieces(sink, &[b"class ".as_slice(), path, b"\n".as_slice()])
 }
 
-/// Writes the lines of classes, or that there is none.
+/// Writes a line for each class, or `discarded` where there is none.
 fn write_classes<K: Sink>(sink: &mut K, paths: &[Text]) -> Result<(), WriteFault>
     ensures written { K.tells → Writes result (K.written sink.old) (classes_octets paths.now) (K.written sink.new) }
     ensures troubles { TellsTroubles K.failures K.interruptions K.most_interruptions result sink.old sink.new }
@@ -55,7 +54,6 @@ fn write_classes<K: Sink>(sink: &mut K, paths: &[Text]) -> Result<(), WriteFault
     Ok(())
 }
 
-/// Writes the line of a fault.
 fn write_fault<K: Sink>(sink: &mut K, fault: u8) -> Result<(), WriteFault>
     ensures written { K.tells → Writes result (K.written sink.old) (fault_octets fault) (K.written sink.new) }
     ensures troubles { TellsTroubles K.failures K.interruptions K.most_interruptions result sink.old sink.new }
@@ -76,7 +74,6 @@ fn write_faults<K: Sink>(sink: &mut K, fault: Option<u8>) -> Result<(), WriteFau
     }
 }
 
-/// Writes the lines of an outcome.
 fn write_outcome<K: Sink>(sink: &mut K, outcome: &Outcome) -> Result<(), WriteFault>
     ensures written { K.tells → Writes result (K.written sink.old) (outcome_octets (outcome_view outcome.now)) (K.written sink.new) }
     ensures troubles { TellsTroubles K.failures K.interruptions K.most_interruptions result sink.old sink.new }
@@ -85,7 +82,7 @@ fn write_outcome<K: Sink>(sink: &mut K, outcome: &Outcome) -> Result<(), WriteFa
     write_classes(sink, outcome.classes.as_slice())
 }
 
-/// Writes the line of a capture that has begun.
+/// Writes the ticket and the budget in steps of a capture that has begun.
 fn write_ticket<K: Sink>(sink: &mut K, ticket: u32, budget: u32) -> Result<(), WriteFault>
     ensures written { K.tells → Writes result (K.written sink.old) (ticket_octets ticket budget) (K.written sink.new) }
     ensures troubles { TellsTroubles K.failures K.interruptions K.most_interruptions result sink.old sink.new }
@@ -106,7 +103,7 @@ fn write_ticket<K: Sink>(sink: &mut K, ticket: u32, budget: u32) -> Result<(), W
     )
 }
 
-/// Writes the line of a capture that was granted turns.
+/// Writes the steps of a capture so far, and whether it has come to its end.
 fn write_turn<K: Sink>(sink: &mut K, turn: Turn) -> Result<(), WriteFault>
     ensures written { K.tells → Writes result (K.written sink.old) (turn_octets turn.ended turn.steps) (K.written sink.new) }
     ensures troubles { TellsTroubles K.failures K.interruptions K.most_interruptions result sink.old sink.new }
@@ -139,7 +136,6 @@ fn write_head<K: Sink>(sink: &mut K, number: u32, path: &[u8]) -> Result<(), Wri
     )
 }
 
-/// Writes the line of a record.
 fn write_record<K: Sink>(sink: &mut K, line: &Line) -> Result<(), WriteFault>
     ensures written { K.tells → Writes result (K.written sink.old) (line_octets line.now) (K.written sink.new) }
     ensures troubles { TellsTroubles K.failures K.interruptions K.most_interruptions result sink.old sink.new }
@@ -148,7 +144,6 @@ fn write_record<K: Sink>(sink: &mut K, line: &Line) -> Result<(), WriteFault>
     write_due(sink, line.due)
 }
 
-/// Writes the lines of records.
 fn write_list<K: Sink>(sink: &mut K, lines: &[Line]) -> Result<(), WriteFault>
     ensures written { K.tells → Writes result (K.written sink.old) (flat_map line_octets lines.now) (K.written sink.new) }
     ensures troubles { TellsTroubles K.failures K.interruptions K.most_interruptions result sink.old sink.new }
@@ -159,7 +154,7 @@ fn write_list<K: Sink>(sink: &mut K, lines: &[Line]) -> Result<(), WriteFault>
     Ok(())
 }
 
-/// Writes the lines of records, or that there is none.
+/// Writes a line for each record, or `discarded` where there is none.
 fn write_records<K: Sink>(sink: &mut K, lines: &[Line]) -> Result<(), WriteFault>
     ensures written { K.tells → Writes result (K.written sink.old) (records_octets (map line_view lines.now)) (K.written sink.new) }
     ensures troubles { TellsTroubles K.failures K.interruptions K.most_interruptions result sink.old sink.new }
@@ -170,7 +165,7 @@ fn write_records<K: Sink>(sink: &mut K, lines: &[Line]) -> Result<(), WriteFault
     write_list(sink, lines)
 }
 
-/// Writes the lines of a whole capture.
+/// Writes the fault of a finished capture, where there is one, and its records.
 fn write_capture<K: Sink>(sink: &mut K, capture: &Capture) -> Result<(), WriteFault>
     ensures written { K.tells → Writes result (K.written sink.old)
         (capture_octets capture.now.fault (map line_view capture.now.lines.items)) (K.written sink.new) }
@@ -180,7 +175,7 @@ fn write_capture<K: Sink>(sink: &mut K, capture: &Capture) -> Result<(), WriteFa
     write_records(sink, capture.lines.as_slice())
 }
 
-/// Writes the lines of the records that are due, and that these are all.
+/// Writes the lines of a due list, and `ok` after them.
 fn write_due_list<K: Sink>(sink: &mut K, lines: &[Line]) -> Result<(), WriteFault>
     ensures written { K.tells → Writes result (K.written sink.old) (list_octets (map line_view lines.now) ++ codes "ok\n") (K.written sink.new) }
     ensures troubles { TellsTroubles K.failures K.interruptions K.most_interruptions result sink.old sink.new }
@@ -189,7 +184,6 @@ fn write_due_list<K: Sink>(sink: &mut K, lines: &[Line]) -> Result<(), WriteFaul
     write_all(sink, b"ok\n")
 }
 
-/// Writes the line of a refusal.
 fn write_refusal<K: Sink>(sink: &mut K, refusal: Refusal) -> Result<(), WriteFault>
     ensures written { K.tells → Writes result (K.written sink.old) (refused_octets refusal.number refusal.offset) (K.written sink.new) }
     ensures troubles { TellsTroubles K.failures K.interruptions K.most_interruptions result sink.old sink.new }
@@ -213,7 +207,7 @@ fn write_refusal<K: Sink>(sink: &mut K, refusal: Refusal) -> Result<(), WriteFau
     )
 }
 
-/// Writes a reply.
+/// Writes the lines of a reply, each with its LF. After a fault a prefix of their octets is written.
 pub fn write_reply<K: Sink>(sink: &mut K, reply: &Reply) -> Result<(), WriteFault>
     ensures written { K.tells → Writes result (K.written sink.old) (reply_octets (answer_of reply.now)) (K.written sink.new) }
     ensures troubles { TellsTroubles K.failures K.interruptions K.most_interruptions result sink.old sink.new }

@@ -17,7 +17,7 @@ pub enum NoPayload<'a> {
     Activate { officer: &'a [u8], name: &'a [u8] },
     /// Sets no program for an officer.
     Deactivate(&'a [u8]),
-    /// Grants so many turns to a capture.
+    /// Grants `count` turns to the capture of a ticket.
     Turn { ticket: u64, count: u32 },
     /// Makes the records of the capture of a ticket.
     Finish(u64),
@@ -34,7 +34,7 @@ pub enum NoPayload<'a> {
 /// A command with one payload.
 #[derive(Clone, Copy, Debug)]
 pub enum OnePayload<'a> {
-    /// Takes the payload over as a plan.
+    /// Takes the payload over as the plan.
     SetPlan,
     /// Keeps the payload as an officer's script, under this name.
     SetScript { officer: &'a [u8], name: &'a [u8] },
@@ -42,7 +42,8 @@ pub enum OnePayload<'a> {
     SetGlobal(&'a [u8]),
     /// Sets the payload, an image, as an officer's program.
     SetImage(&'a [u8]),
-    /// Begins a capture of the payload, a message, by an officer's program, at a moment in seconds since 1970-01-01T00:00:00Z.
+    /// Begins a capture of the payload, a message, by an officer's program, at a moment in seconds since
+    /// 1970-01-01T00:00:00Z.
     Begin { officer: &'a [u8], moment: u64 },
 }
 
@@ -58,21 +59,21 @@ pub enum TwoPayloads {
 /// What a line asks.
 #[derive(Clone, Copy, Debug)]
 pub enum Request<'a> {
-    /// What needs no payload.
+    /// A command without a payload.
     Alone(NoPayload<'a>),
-    /// What a payload of this length in octets is for.
+    /// A command with one payload, of this length in octets.
     One(OnePayload<'a>, usize),
-    /// What two payloads of these lengths in octets are for.
+    /// A command with two payloads, of these lengths in octets.
     Two(TwoPayloads, usize, usize),
     /// To end the session.
     Quit,
-    /// Nothing: the first word is no command's (70).
+    /// Nothing: the first word names no command (70).
     Unknown,
     /// Nothing: a word, or the number of words, is wrong (71).
     BadWord,
 }
 
-/// What `CLASS` asks with the words after it.
+/// Reads the arguments of `CLASS`.
 fn read_class<'a>(mut words: Words<'a>) -> Request<'a>
     ensures { asked_as result ≡ class_of (words_left words.entry) }
 {
@@ -82,7 +83,7 @@ fn read_class<'a>(mut words: Words<'a>) -> Request<'a>
     Request::Alone(NoPayload::AddClass(path))
 }
 
-/// What `PLAN` asks with the words after it.
+/// Reads the arguments of `PLAN`.
 fn read_plan<'a>(mut words: Words<'a>) -> Request<'a>
     ensures { asked_as result ≡ plan_of (words_left words.entry) }
 {
@@ -95,7 +96,7 @@ fn read_plan<'a>(mut words: Words<'a>) -> Request<'a>
     }
 }
 
-/// What `SCRIPT` asks with the words after it.
+/// Reads the arguments of `SCRIPT`.
 fn read_script<'a>(mut words: Words<'a>) -> Request<'a>
     ensures { asked_as result ≡ script_of (words_left words.entry) }
 {
@@ -116,7 +117,7 @@ fn read_script<'a>(mut words: Words<'a>) -> Request<'a>
     }
 }
 
-/// What `GLOBAL` asks with the words after it.
+/// Reads the arguments of `GLOBAL`.
 fn read_global<'a>(mut words: Words<'a>) -> Request<'a>
     ensures { asked_as result ≡ global_of (words_left words.entry) }
 {
@@ -129,7 +130,7 @@ fn read_global<'a>(mut words: Words<'a>) -> Request<'a>
     }
 }
 
-/// What `ACTIVE` asks with the words after it.
+/// Reads the arguments of `ACTIVE`.
 fn read_active<'a>(mut words: Words<'a>) -> Request<'a>
     ensures { asked_as result ≡ active_of (words_left words.entry) }
 {
@@ -143,7 +144,7 @@ fn read_active<'a>(mut words: Words<'a>) -> Request<'a>
     }
 }
 
-/// What `INACTIVE` asks with the words after it.
+/// Reads the arguments of `INACTIVE`.
 fn read_inactive<'a>(mut words: Words<'a>) -> Request<'a>
     ensures { asked_as result ≡ inactive_of (words_left words.entry) }
 {
@@ -157,7 +158,7 @@ fn read_inactive<'a>(mut words: Words<'a>) -> Request<'a>
     }
 }
 
-/// What `IMAGE` asks with the words after it.
+/// Reads the arguments of `IMAGE`.
 fn read_image<'a>(mut words: Words<'a>) -> Request<'a>
     ensures { asked_as result ≡ image_of (words_left words.entry) }
 {
@@ -170,7 +171,7 @@ fn read_image<'a>(mut words: Words<'a>) -> Request<'a>
     }
 }
 
-/// What `FILE` asks with the words after it.
+/// Reads the arguments of `FILE`.
 fn read_file<'a>(mut words: Words<'a>) -> Request<'a>
     ensures { asked_as result ≡ file_of (words_left words.entry) }
 {
@@ -183,7 +184,7 @@ fn read_file<'a>(mut words: Words<'a>) -> Request<'a>
     }
 }
 
-/// What `TRY` asks with the words after it.
+/// Reads the arguments of `TRY`.
 fn read_try<'a>(mut words: Words<'a>) -> Request<'a>
     ensures { asked_as result ≡ try_of (words_left words.entry) }
 {
@@ -196,7 +197,7 @@ fn read_try<'a>(mut words: Words<'a>) -> Request<'a>
     }
 }
 
-/// What `BEGIN` asks with the words after it.
+/// Reads the arguments of `BEGIN`.
 fn read_begin<'a>(mut words: Words<'a>) -> Request<'a>
     ensures { asked_as result ≡ begin_of (words_left words.entry) }
 {
@@ -217,7 +218,7 @@ fn read_begin<'a>(mut words: Words<'a>) -> Request<'a>
     }
 }
 
-/// What `TURN` asks with the words after it.
+/// Reads the arguments of `TURN`.
 fn read_turn<'a>(mut words: Words<'a>) -> Request<'a>
     ensures { asked_as result ≡ turn_of (words_left words.entry) }
 {
@@ -230,7 +231,7 @@ fn read_turn<'a>(mut words: Words<'a>) -> Request<'a>
     }
 }
 
-/// What `FINISH` asks with the words after it.
+/// Reads the arguments of `FINISH`.
 fn read_finish<'a>(mut words: Words<'a>) -> Request<'a>
     ensures { asked_as result ≡ finish_of (words_left words.entry) }
 {
@@ -243,7 +244,7 @@ fn read_finish<'a>(mut words: Words<'a>) -> Request<'a>
     }
 }
 
-/// What `HOLD` asks with the words after it.
+/// Reads the arguments of `HOLD`.
 fn read_hold<'a>(mut words: Words<'a>) -> Request<'a>
     ensures { asked_as result ≡ hold_of (words_left words.entry) }
 {
@@ -256,7 +257,7 @@ fn read_hold<'a>(mut words: Words<'a>) -> Request<'a>
     }
 }
 
-/// What `RELEASE` asks with the words after it.
+/// Reads the arguments of `RELEASE`.
 fn read_release<'a>(mut words: Words<'a>) -> Request<'a>
     ensures { asked_as result ≡ release_of (words_left words.entry) }
 {
@@ -269,7 +270,7 @@ fn read_release<'a>(mut words: Words<'a>) -> Request<'a>
     }
 }
 
-/// What `DUE` asks with the words after it.
+/// Reads the arguments of `DUE`.
 fn read_due<'a>(mut words: Words<'a>) -> Request<'a>
     ensures { asked_as result ≡ due_of (words_left words.entry) }
 {
@@ -282,7 +283,7 @@ fn read_due<'a>(mut words: Words<'a>) -> Request<'a>
     }
 }
 
-/// What `DESTROY` asks with the words after it.
+/// Reads the arguments of `DESTROY`.
 fn read_destroy<'a>(mut words: Words<'a>) -> Request<'a>
     ensures { asked_as result ≡ destroy_of (words_left words.entry) }
 {
@@ -295,7 +296,7 @@ fn read_destroy<'a>(mut words: Words<'a>) -> Request<'a>
     }
 }
 
-/// What `QUIT` asks with the words after it.
+/// Reads the arguments of `QUIT`, which has none.
 fn read_quit<'a>(mut words: Words<'a>) -> Request<'a>
     ensures { asked_as result ≡ quit_of (words_left words.entry) }
 {
@@ -305,7 +306,7 @@ fn read_quit<'a>(mut words: Words<'a>) -> Request<'a>
     }
 }
 
-/// What a command of plans, scripts and officers asks with the words after it; nothing, where the name is none of these.
+/// Reads the arguments of a command of classes, plans, scripts or officers; `Unknown` for any other name.
 fn request_of_officers<'a>(name: &[u8], words: Words<'a>) -> Request<'a>
     ensures { asked_as result ≡ asked_of_officers name.now (words_left words.entry) }
 {
@@ -328,7 +329,7 @@ fn request_of_officers<'a>(name: &[u8], words: Words<'a>) -> Request<'a>
     }
 }
 
-/// The same of dry runs and captures too.
+/// The same with the commands of dry runs and captures.
 fn request_of_captures<'a>(name: &[u8], words: Words<'a>) -> Request<'a>
     ensures { asked_as result ≡ asked_of_captures name.now (words_left words.entry) }
 {
@@ -347,7 +348,7 @@ fn request_of_captures<'a>(name: &[u8], words: Words<'a>) -> Request<'a>
     }
 }
 
-/// The same of all commands.
+/// The same with all commands.
 fn request_by<'a>(name: &[u8], words: Words<'a>) -> Request<'a>
     ensures { asked_as result ≡ asked_by name.now (words_left words.entry) }
 {
@@ -366,7 +367,8 @@ fn request_by<'a>(name: &[u8], words: Words<'a>) -> Request<'a>
     }
 }
 
-/// What a line asks; the line is without its LF.
+/// Reads what a command line asks. The line comes without its LF. A line that is no command is `Unknown` (70) or
+/// `BadWord` (71).
 #[tactic(auto, unfolding(crate::specs::Asked::asked))]
 pub fn read_request(line: &[u8]) -> Request<'_>
     ensures { asked_as result ≡ asked line.now }

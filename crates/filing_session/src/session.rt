@@ -1,4 +1,4 @@
-//! The session: lines are read, done and answered, one after the other.
+//! The session: each line is read, executed and answered before the next one.
 
 ghost use Rattle.std.specs.Prelude.{◌≡◌, ◌≢◌, OnOk, Ok, Err, IsErrOf};
 ghost use Rattle.filing_commands.specs.Calls.{Calls};
@@ -14,7 +14,7 @@ use filing_commands::Registry;
 use std::alloc::Global;
 use thiserror::Error;
 
-/// How many commands a session has at most; lines that are refused count.
+/// The most commands that a session may have. Refused lines count.
 pub const COMMANDS: u32 = 1_000_000;
 
 /// Why a session was given up.
@@ -39,7 +39,6 @@ fn ending_text(ending: Ending) -> &'static str
     }
 }
 
-/// Writes how a session ends.
 fn write_ending<K: Sink>(sink: &mut K, ending: Ending) -> Result<(), ServeFault>
     ensures written { K.tells → Writes result (K.written sink.old) (ending_octets ending) (K.written sink.new) }
     ensures read { result ≢ Err ServeFault.Read }
@@ -51,18 +50,19 @@ fn write_ending<K: Sink>(sink: &mut K, ending: Ending) -> Result<(), ServeFault>
     Ok(())
 }
 
-/// Serves a session: reads commands from a source, does them at a registry, and writes their answers to a sink, until a
-/// command or the input ends the session, or a fault does. What was done before a fault stays done, and nothing is done
-/// after it: on a read fault all that was done is answered, and on a write fault all but a rest of the last answer or of
-/// the ending. Nothing is read after `QUIT`, nor after the last command that a session may have, nor after the first 513
-/// octets of a line that is too long.
+/// Serves a session: reads commands from a source, executes them at a registry, and writes their answers to a sink,
+/// until a command, the end of the input or a fault ends the session.
 ///
-/// Memory is taken for payloads and by the calls, and for nothing else.
+/// What was done before a fault stays done, and nothing is done after it. On a read fault all that was done is
+/// answered. On a write fault only a rest of the last answer or of the ending is missing. Nothing is read after `QUIT`,
+/// after the last command that a session may have, or after the first 513 octets of a line that is too long.
+///
+/// Memory is allocated for payloads and by the registry's calls, and for nothing else.
 ///
 /// # Errors
 ///
-/// `Read` where a read failed or 64 in a row were interrupted, `Write` where a write failed, took no octet, or 64 in a row
-/// were interrupted. No call is made again after 64 in a row.
+/// `ServeFault::Read` where a read failed or 64 in a row were interrupted. `ServeFault::Write` where a write failed,
+/// took no octet, or 64 in a row were interrupted. No call is made again after 64 interruptions in a row.
 pub fn serve<S: Source, K: Sink, R: Registry>(
     alloc: Global,
     source: &mut S,

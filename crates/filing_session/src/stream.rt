@@ -1,8 +1,8 @@
-//! Where the octets of a session come from and go to, and calls that try again after an interruption.
+//! Sources and sinks of a session's octets, and calls that try again after an interruption.
 //!
-//! Nothing is known of the octets of a terminal, a file or a pipe. So the two traits leave it to the type whether it
-//! tells its octets, and count what each type can count: failures, interruptions in a row, and reads that told the input's
-//! end.
+//! Nothing is known of the octets of a terminal, a file or a pipe. So each type that implements a trait decides whether
+//! it claims to know its octets (`tells`). Every type can count failures, interruptions in a row, and reads that met
+//! the end of the input.
 
 ghost use Rattle.std.specs.Prelude.{◌≡◌, ℕ, List, ◌+◌, ◌<◌, ◌≤◌, ◌++◌, ◌∷◌, [], length, take, drop, IfOk, OnErr, IfSome, IfNone, true, Ok, None, max, flat_map};
 ghost use Rattle.filing_session.specs.Streams.{Counts, tells_end, fails_to_read, fails_to_write, is_interrupted, moved, CountsInARow, TellsEnd, TellsTroubles};
@@ -17,7 +17,7 @@ pub enum Trouble {
     Failed,
 }
 
-/// Where octets come from.
+/// A source of octets.
 pub trait Source {
     /// Whether the type knows its octets: `Unit {0}`, or `⊥` where nothing is claimed of them.
     ghost tells: { Type 0 };
@@ -28,18 +28,18 @@ pub trait Source {
     /// How many reads failed, and were not only interrupted. The count stays at its greatest value, 2^64 - 1.
     ghost failures: { Self → ℕ };
 
-    /// How many of the last reads were interrupted, one directly after the other. The count stays at its greatest value,
-    /// 2^64 - 1.
+    /// How many of the last reads were interrupted, one directly after the other. The count stays at its greatest
+    /// value, 2^64 - 1.
     ghost interruptions: { Self → ℕ };
 
     /// The most interruptions there ever were in a row.
     ghost most_interruptions: { Self → ℕ };
 
-    /// How many reads told the input's end. The count stays at its greatest value, 2^64 - 1.
+    /// How many reads met the end of the input. The count stays at its greatest value, 2^64 - 1.
     ghost ends: { Self → ℕ };
 
-    /// Reads octets into the front of the room, and answers how many. Into room for one octet or more, 0 tells the
-    /// input's end, which is no trouble.
+    /// Reads octets into the front of `room`, and answers how many. With room for one octet or more, 0 means the end of
+    /// the input, which is no trouble.
     fn read(&mut self, room: &mut [u8]) -> Result<usize, Trouble>
         ensures within { IfOk result (λ n. n ≤ length room.old) }
         ensures octets { tells → IfOk result (λ n. (n ≤ length (left self.old)) × (take n room.new ≡ take n (left self.old))) }
@@ -51,7 +51,7 @@ pub trait Source {
         ensures ends { Counts (tells_end (length room.old) result) (ends self.old) (ends self.new) };
 }
 
-/// Where octets go.
+/// A sink of octets.
 pub trait Sink {
     /// Whether the type knows its octets: `Unit {0}`, or `⊥` where nothing is claimed of them.
     ghost tells: { Type 0 };
@@ -63,14 +63,14 @@ pub trait Sink {
     /// count stays at its greatest value, 2^64 - 1.
     ghost failures: { Self → ℕ };
 
-    /// How many of the last writes were interrupted, one directly after the other. The count stays at its greatest value,
-    /// 2^64 - 1.
+    /// How many of the last writes were interrupted, one directly after the other. The count stays at its greatest
+    /// value, 2^64 - 1.
     ghost interruptions: { Self → ℕ };
 
     /// The most interruptions there ever were in a row.
     ghost most_interruptions: { Self → ℕ };
 
-    /// Takes octets from the front, and answers how many.
+    /// Takes octets from the front of `octets`, and answers how many.
     fn write(&mut self, octets: &[u8]) -> Result<usize, Trouble>
         ensures within { IfOk result (λ n. n ≤ length octets.now) }
         ensures written { tells → written self.new ≡ written self.old ++ take (moved result) octets.now }
@@ -90,7 +90,7 @@ pub struct WriteFault;
 /// How many interruptions in a row are a fault.
 const PATIENCE: u8 = 64;
 
-/// Reads as `Source::read` does, again after an interruption; 0 is the input's end.
+/// Reads as `Source::read` does, and tries again after an interruption. The answer 0 means the end of the input.
 pub fn read_some<S: Source>(source: &mut S, room: &mut [u8]) -> Result<usize, ReadFault>
     requires { 0 < length room.old }
     ensures within { IfOk result (λ n. n ≤ length room.old) }
@@ -110,7 +110,7 @@ pub fn read_some<S: Source>(source: &mut S, room: &mut [u8]) -> Result<usize, Re
     Err(ReadFault)
 }
 
-/// One octet, or none where the input has ended.
+/// Reads one octet; none at the end of the input.
 pub fn read_one<S: Source>(source: &mut S) -> Result<Option<u8>, ReadFault>
     ensures some { S.tells → IfOk result (λ o. IfSome o (λ x. S.left source.old ≡ x ∷ S.left source.new)) }
     ensures none { S.tells → IfOk result (λ o. IfNone o ((S.left source.old ≡ []) × (S.left source.new ≡ []))) }
@@ -124,7 +124,7 @@ pub fn read_one<S: Source>(source: &mut S) -> Result<Option<u8>, ReadFault>
     }
 }
 
-/// Writes one octet or more, again after an interruption.
+/// Writes one octet or more, and tries again after an interruption.
 fn write_some<K: Sink>(sink: &mut K, octets: &[u8]) -> Result<usize, WriteFault>
     requires { 0 < length octets.now }
     ensures within { IfOk result (λ n. (0 < n) × (n ≤ length octets.now)) }

@@ -18,7 +18,7 @@ pub struct Tally {
 }
 
 impl Tally {
-    /// No call yet.
+    /// The counts before the first call, all 0.
     pub fn new() -> Tally
         ensures { result ≡ record { failures = 0; interruptions = 0; most_interruptions = 0 } }
     {

@@ -1,4 +1,4 @@
-//! How due dates are told.
+//! How due dates are written.
 
 ghost use Rattle.std.specs.Prelude.{◌≡◌, ◌<◌, ◌++◌, pos, codes, decimal, option_map, MatchOption};
 ghost use Rattle.jiff.specs.Words.{epoch_day, IsBetween};
@@ -12,7 +12,7 @@ use crate::stream::{Sink, WriteFault, write_all, write_pieces};
 use class_plan::{Date, date_of, day_number};
 use itoa::Buffer;
 
-/// The date that tells the day of a due date: that date, which is one of the years 1970 to 9999.
+/// The date that is written for a due date: that date, where it is one of the years 1970 to 9999; none after these.
 fn told_date(due: Date) -> Option<Date>
     ensures { MatchOption result (last_day < number_of_day due)
         (λ d. IsBetween (pos 0) (pos 2932896) (epoch_day d) × (epoch_day d ≡ pos (number_of_day due))) }
@@ -64,7 +64,8 @@ fn write_date<K: Sink>(sink: &mut K, date: Date) -> Result<(), WriteFault>
     write_civil(sink, year, month, day)
 }
 
-/// Writes when a record is due and the end of its line.
+/// Writes the due date of a record as `YYYY-MM-DD` and the LF. It is `never` where there is no due date, or one after
+/// 9999-12-31.
 pub fn write_due<K: Sink>(sink: &mut K, due: Option<Date>) -> Result<(), WriteFault>
     ensures written { K.tells → Writes result (K.written sink.old) (due_octets (option_map number_of_day due) ++ codes "\n") (K.written sink.new) }
     ensures troubles { TellsTroubles K.failures K.interruptions K.most_interruptions result sink.old sink.new }

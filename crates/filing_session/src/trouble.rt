@@ -1,4 +1,4 @@
-//! The troubles of readers and writers, as a session tells them.
+//! The troubles of readers and writers, as a session counts them.
 
 ghost use Rattle.std.specs.Prelude.{◌≡◌, ◌↔◌};
 ghost use Rattle.std.specs.IoError.{error_kind};
@@ -6,7 +6,7 @@ ghost use Rattle.std.specs.IoError.{error_kind};
 use crate::stream::Trouble;
 use std::io::{self, ErrorKind};
 
-/// What trouble an error is: an interruption exactly where its kind is that.
+/// The trouble that an error is: an interruption exactly where its kind is `Interrupted`, and a failure otherwise.
 pub fn trouble_of(error: &io::Error) -> Trouble
     ensures { (result ≡ Trouble.Interrupted) ↔ (error_kind error.now ≡ ErrorKind.Interrupted) }
 {

@@ -1,4 +1,4 @@
-//! The words of a command line, and the numbers and names that they are.
+//! The words of a command line, and the numbers and names among them.
 
 ghost use Rattle.std.specs.Prelude.{◌≡◌, ◌≤◌, ◌∷◌, [], Some, None, true, nat_le, if◌then◌else◌, IfSome, IfNone};
 ghost use Rattle.std.specs.Char.{is_ascii_digit};
@@ -11,13 +11,13 @@ use std::str;
 /// How many octets a name has at most.
 const NAME_OCTETS: usize = 64;
 
-/// How long a payload is at most, in octets.
+/// The greatest length in octets that a command line may give for a payload.
 const GREATEST_LENGTH: u64 = 4_294_967_295;
 
 /// How many turns one command grants at most.
 const GREATEST_COUNT: u64 = 1_000_000;
 
-/// The words of a line that are still to be taken. None are left after the last word; an empty text is one empty word.
+/// The words of a line that are still to be taken. None are left after the last word. An empty text is one empty word.
 #[derive(Clone, Copy, Debug)]
 pub struct Words<'a> {
     rest: Option<&'a [u8]>,
@@ -31,7 +31,7 @@ impl<'a> Words<'a> {
         Words { rest: Some(line) }
     }
 
-    /// Takes the next word.
+    /// Takes the next word; none after the last one.
     pub fn next(&mut self) -> Option<&'a [u8]>
         ensures some { IfSome result (λ w. words_left self.old ≡ w.now ∷ words_left self.new) }
         ensures none { IfNone result (words_left self.old ≡ []) }
@@ -67,7 +67,7 @@ fn are_digits(word: &[u8]) -> bool
     }
 }
 
-/// The number that digits tell, where 64 bits have it.
+/// The number that decimal digits spell, where it fits 64 bits.
 fn read_any(digits: &[u8]) -> Option<u64>
     requires { are_digits_of digits.now ≡ true }
     ensures { result ≡ number_in greatest_number digits.now }
@@ -75,7 +75,7 @@ fn read_any(digits: &[u8]) -> Option<u64>
     str::from_utf8(digits).ok()?.parse().ok()
 }
 
-/// A number, where it is at most the greatest.
+/// A number, where it is at most `greatest`.
 fn at_most(number: u64, greatest: u64) -> Option<u64>
     ensures number { result ≡ if nat_le number greatest then Some number else None }
     ensures within { IfSome result (λ n. n ≤ greatest) }
@@ -86,7 +86,8 @@ fn at_most(number: u64, greatest: u64) -> Option<u64>
     Some(number)
 }
 
-/// The number that digits tell, with leading zeros or without, where it is at most the greatest.
+/// The number that decimal digits spell, with leading zeros or without, where it is at most `greatest`. None for any
+/// other word.
 pub fn read_digits(word: &[u8], greatest: u64) -> Option<u64>
     ensures number { result ≡ number_in greatest word.now }
     ensures within { IfSome result (λ n. n ≤ greatest) }
@@ -100,7 +101,7 @@ pub fn read_digits(word: &[u8], greatest: u64) -> Option<u64>
     }
 }
 
-/// The number of a decimal word without a leading zero, where it is at most the greatest.
+/// The number of a decimal word without a leading zero, where it is at most `greatest`.
 #[tactic(auto, unfolding(crate::specs::Words::number_of))]
 fn read_number_to(word: &[u8], greatest: u64) -> Option<u64>
     ensures number { result ≡ number_of greatest word.now }
@@ -112,14 +113,14 @@ fn read_number_to(word: &[u8], greatest: u64) -> Option<u64>
     }
 }
 
-/// The number of a record, a ticket or a moment, at most 18,446,744,073,709,551,615.
+/// The number of a record, a ticket or a moment: decimal, without a leading zero, at most 18,446,744,073,709,551,615.
 pub fn read_number(word: &[u8]) -> Option<u64>
     ensures { result ≡ number_of greatest_number word.now }
 {
     read_number_to(word, u64::MAX)
 }
 
-/// The length of a payload in octets, at most 4,294,967,295.
+/// The length of a payload in octets: decimal, without a leading zero, at most 4,294,967,295.
 pub fn read_length(word: &[u8]) -> Option<usize>
     ensures { result ≡ number_of greatest_length word.now }
 {
@@ -129,7 +130,7 @@ pub fn read_length(word: &[u8]) -> Option<usize>
     }
 }
 
-/// How many turns are granted, at most 1,000,000.
+/// A number of turns: decimal, without a leading zero, at most 1,000,000.
 pub fn read_count(word: &[u8]) -> Option<u32>
     ensures { result ≡ number_of greatest_count word.now }
 {

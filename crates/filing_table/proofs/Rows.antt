@@ -65,7 +65,8 @@ match_pattern : stack_after (Values 4 ∷ Match 5 0 ∷ []) 2 ≡ T false ∷ L 
 unfolding items_from suffixes covers
 match_pattern = refl
 
--- the number of a comparison: 0 is `:is`, 2 `:contains`, 4 `:matches`, each under `i;octet`, and `b` is only a part of `yb`
+-- the number of a comparison: 0 is `:is`, 2 `:contains`, 4 `:matches`, each under `i;octet`, and `b` is only a part of
+-- `yb`
 is_number : stack_after (Values 4 ∷ Match 0 3 ∷ []) 2 ≡ T false ∷ L (codes "yb" ∷ []) ∷ []
 unfolding equals
 is_number = refl
@@ -188,7 +189,7 @@ thirty_third_truth = refl
 thirty_third_number : after_steps (program (replicate 32 PushTrue ++ Number 0 ∷ [])) facts 33 ≡ Trap
 thirty_third_number = refl
 
--- an operand names no text, number or slot: five texts, two numbers and two slots are there
+-- an operand names no text, number or slot, where there are five texts, two numbers and two slots
 no_text : after_steps (program (Exists 5 ∷ [])) facts 1 ≡ Trap
 no_text = refl
 

@@ -5,12 +5,12 @@ use Rattle.sieve_meaning.specs.Case.{Facts}
 use Rattle.sieve_meaning.specs.Outcome.{Outcome, outcome_at}
 use Rattle.filing_table.specs.Machine.{State, At, Over, after_steps}
 
--- The run of the program in the case ends with its nth step, with or without a fault, in a state.
+-- The run of the program in the case ends with its nth step, with this fault or with none, in this state.
 pub record Ends (p : Program) (c : Facts) (n : ℕ) (fault : Option ℕ) (s : State) : Type 0 where
   pub over : after_steps p c n ≡ Over fault s
   pub going : (k : ℕ) → k < n → (t : State) × (after_steps p c k ≡ At t)
 
--- what a state at the end captures
+-- the outcome of a run that ended in this state, with this fault or with none
 abbrev pub outcome_left : Option ℕ → State → Outcome
 outcome_left fault s = outcome_at fault s.filed s.kept s.cancelled
 

@@ -1,4 +1,4 @@
--- The table machine: what each instruction does, by a table, and a run as one instruction after the other.
+-- The table machine: a table of what each instruction does, and a run as one instruction after the other.
 use Rattle.std.specs.Prelude.{ℕ, zero, suc, ◌+◌, List, [], ◌∷◌, ◌++◌, map, length, Bool, true, false, not, ◌&&◌, ◌||◌, nat_lt, nat_le, nat_eq, if◌then◌else◌, Option, Some, None, slice_get, slice_set, slice_index_or, replicate}
 use Rattle.std.specs.List.{list_any, filter}
 use Rattle.filing_image.specs.declared.instruction.Operation.{Operation}
@@ -11,13 +11,13 @@ use Rattle.sieve_meaning.specs.Case.{Facts, is_named}
 use Rattle.sieve_meaning.specs.Truth.{has_field}
 use Rattle.sieve_meaning.specs.Paths.{Paths, insert_path}
 
--- an entry of the stack: a truth, a list of values, a number
+-- an entry of the stack: a truth value, a list of values, a number
 pub data Entry : Type 0 where
   T : Bool → Entry
   L : List (List ℕ) → Entry
   N : ℕ → Entry
 
--- what a run has done so far; the topmost entry of the stack stands first
+-- the state of a run: place is the program counter, and the topmost entry of the stack comes first
 pub record State : Type 0 where
   pub place : ℕ
   pub stack : List Entry
@@ -28,7 +28,7 @@ pub record State : Type 0 where
   -- whether each slot is set
   pub marks : List Bool
 
--- where a run stands: before an instruction, at its end with or without a fault, or nowhere
+-- where a run is: before an instruction, at its end with or without a fault, or trapped
 pub data Run : Type 0 where
   At : State → Run
   Over : Option ℕ → State → Run
@@ -42,11 +42,11 @@ start = record { place = 0; stack = []; filed = []; kept = false; cancelled = fa
 abbrev pub values_of : Facts → List ℕ → List (List ℕ)
 values_of c name = map (λ f. f.value) (filter (is_named name) c.fields)
 
--- on to the next place with this stack, which has at most 32 entries
+-- goes on to the next place with this stack; a trap where it has more than 32 entries
 abbrev pub with_stack : State → List Entry → Run
 with_stack s stack = if nat_lt 32 (length stack) then Trap else At (record s { place = s.place + 1; stack = stack })
 
--- the text or number that an operand names
+-- goes on with the text or number that an operand names; a trap where there is none
 abbrev pub with_named : {A : Type 0} → Option A → (A → Run) → Run
 with_named None go = Trap
 with_named (Some x) go = go x
@@ -54,8 +54,8 @@ with_named (Some x) go = go x
 abbrev pub only_if : Bool → Run → Run
 only_if b r = if b then r else Trap
 
--- whether a value matches a key, by the number of the comparison: 0 `:is`, 2 `:contains`, 4 `:matches` under
--- `i;octet`, one more for the same under `i;ascii-casemap`
+-- whether a value matches a key (RFC 5228, sections 2.7.1 and 2.7.3), by the number of the comparison: under `i;octet`
+-- 0 is `:is`, 2 `:contains` and 4 `:matches`; under `i;ascii-casemap` it is one more
 abbrev pub compared : ℕ → (key value : List ℕ) → Bool
 compared zero = key_matches match_types.Is comparators.Octet
 compared (suc zero) = key_matches match_types.Is comparators.Casemap
@@ -64,11 +64,12 @@ compared (suc (suc (suc zero))) = key_matches match_types.Contains comparators.C
 compared (suc (suc (suc (suc zero)))) = key_matches match_types.Matches comparators.Octet
 compared (suc (suc (suc (suc (suc n))))) = key_matches match_types.Matches comparators.Casemap
 
--- to a place where this holds, else to the next one
+-- jumps to place b where go holds, and else goes on to the next place
 abbrev pub jump : State → List Entry → Bool → ℕ → Run
 jump s rest go b = At (record s { place = if go then b else s.place + 1; stack = rest })
 
--- files under a path, where it is open, and is fault 1 where not; 0 cancels the implicit keep, and 1 is a copy
+-- files under a path where it is open, and ends with fault 1 where it is not; 0 cancels the implicit keep, and 1 is a
+-- copy (RFC 3894, section 3)
 abbrev pub file : Facts → State → ℕ → List ℕ → Run
 file c s a path =
     if c.is_open path
@@ -119,7 +120,7 @@ step p c (At s) = at_place p c (slice_get p.code s.place) s
 step p c (Over f s) = Over f s
 step p c Trap = Trap
 
--- where the run stands after n steps
+-- where the run is after n steps
 abbrev pub after_steps : Program → Facts → ℕ → Run
 after_steps p c zero = At start
 after_steps p c (suc n) = step p c (after_steps p c n)

@@ -1,8 +1,8 @@
-//! The table machine, by which filing programs run: a definition that the machine is proved to be, and the compiler
-//! to be right by.
+//! The table machine: the definition of how filing programs run. The machine (`filing_machine`) is proved to do what it
+//! says, and the compiler (`filing_gen`) is proved correct by it.
 //!
-//! There is no code here. `specs/Machine` says what each instruction does to the state of a run, and what a run is;
-//! `specs/Ends` says how a run ends and what it captures. `laws` has what is proved of them.
+//! This crate has no code. `specs/Machine` defines what each instruction does to the state of a run, and what a run is.
+//! `specs/Ends` defines how a run ends and what it captures. `laws` states what is proved of them.
 #![tactic(auto)]
 
 mod laws;

@@ -1,4 +1,4 @@
--- One more step that is told.
+-- One more step that is recorded.
 use Rattle.std.proofs.Common.{◌≡◌, ℕ, zero, suc, ◌+◌, true, List, [], ◌∷◌, ◌++◌, length, Option, Some, None, IfSome, is_some, slice_get, refl, sym, ap, subst, ◌∙◌, arith}
 use Rattle.std.specs.Option.{unwrap_or}
 use Rattle.filing_image.specs.Program.{Program}
@@ -14,11 +14,11 @@ standing_at : (end : Option (Option ℕ)) (s : State) → standing (run_at end s
 standing_at None s = refl
 standing_at (Some fault) s = refl
 
--- where a machine stands in its run
+-- where a machine is in its run
 here : (p : Program) (c : Facts) (m : Stored) → Stands p c m → standing (after_steps p c m.steps) ≡ state c m.at
 here p c m stands = ap standing (sym stands.on_run) ∙ standing_at m.end (state c m.at)
 
--- what is read of the machine before a step and after it
+-- what is read from the machine before a step and after it
 pub step_is_told : (p : Program) (c : Facts) (m n : Stored) (x : Step) → Stands p c m → Stands p c n → n.steps ≡ m.steps + 1 → x.place ≡ m.at.place → x.top ≡ top_of_stack (state c n.at).stack → is_some x.matched ≡ finds p (state c m.at) → IfSome x.matched (λ f. is_found_by p c m.at.place f ≡ true) → IsTold p c m.steps x
 step_is_told p c m n x before after one place top found matched = record {
   place = place ∙ ap (λ (s : State). s.place) (sym (here p c m before));
@@ -27,7 +27,7 @@ step_is_told p c m n x before after one place top found matched = record {
   matched = let P : ℕ → Type 0 = λ at. IfSome x.matched (λ f. is_found_by p c at f ≡ true) in subst P (sym place) matched;
 }
 
--- what holds of each element by its place holds with one more that it holds of
+-- what holds of each element by its place, and of one added at the end, holds of all
 pub one_more : (P : ℕ → Step → Type 0) (xs : List Step) (x : Step) → ((k : ℕ) (s : Step) → slice_get xs k ≡ Some s → P k s) → P (length xs) x → (k : ℕ) (s : Step) → slice_get (xs ++ x ∷ []) k ≡ Some s → P k s
 one_more P [] x old new zero s e = let is : x ≡ s = ap (λ o. unwrap_or o x) e in subst (P 0) is new
 one_more P [] x old new (suc k) s e = absurd (cc e)
@@ -37,7 +37,7 @@ one_more P (y ∷ ys) x old new (suc k) s e =
     let Q : ℕ → Type 0 = λ n. P n x in
     one_more (λ n. P (suc n)) ys x (λ n t. old (suc n) t) (subst Q there new) k s e
 
--- of no step everything holds
+-- of an empty list everything holds
 pub none_told : (P : ℕ → Step → Type 0) (xs : List Step) → xs ≡ [] → (k : ℕ) (s : Step) → slice_get xs k ≡ Some s → P k s
 none_told P [] none zero s e = absurd (cc e)
 none_told P [] none (suc k) s e = absurd (cc e)

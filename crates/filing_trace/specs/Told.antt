@@ -1,4 +1,4 @@
--- What is told of a step of a run, by the table machine.
+-- What is recorded of a step of a run, by the table machine.
 use Rattle.std.specs.Prelude.{◌≡◌, ℕ, ◌+◌, Bool, true, false, List, Option, Some, None, is_some, IfSome, slice_get}
 use Rattle.filing_image.specs.declared.instruction.Operation.{Operation}
 use Rattle.filing_image.specs.declared.instruction.Operation.TheVariants.{Match}
@@ -14,7 +14,7 @@ standing (At s) = s
 standing (Over fault s) = s
 standing Trap = start
 
--- a test of the comparison and of the key of a MATCH; nothing else has them
+-- a test of the key of a MATCH, false where there is no key
 abbrev pub by_key : Option (List ℕ) → (List ℕ → Bool) → Bool
 by_key None test = false
 by_key (Some key) test = test key
@@ -23,15 +23,15 @@ abbrev pub of_match : Program → Option Operation → (ℕ → List ℕ → Boo
 of_match p (Some (Match comparison key)) test = by_key (slice_get p.texts key) (test comparison)
 of_match p _ test = false
 
--- whether the next instruction is a MATCH with a list on the top of the stack of which a value matches its key
+-- whether the next instruction is a MATCH, and a value of the list on the top of the stack matches its key
 abbrev pub finds : Program → State → Bool
 finds p s = of_match p (slice_get p.code s.place) (λ comparison key. any_on_top comparison key s.stack)
 
--- whether there is a MATCH at a place, and the value of the field at another one, in the header, matches its key
+-- whether the instruction at a place is a MATCH, and the value of this field of the header matches its key
 abbrev pub is_found_by : Program → Facts → ℕ → ℕ → Bool
 is_found_by p c place field = of_match p (slice_get p.code place) (λ comparison key. value_matches c comparison key field)
 
--- The step that the run makes after k steps is told so.
+-- This is the record of the step that the run makes after k steps.
 pub record IsTold (p : Program) (c : Facts) (k : ℕ) (step : Step) : Type 0 where
   pub place : step.place ≡ (standing (after_steps p c k)).place
   pub top : step.top ≡ top_of_stack (standing (after_steps p c (k + 1))).stack

@@ -1,8 +1,8 @@
-//! Runs whose steps are told.
+//! Traces of runs.
 //!
-//! The machine of `filing_machine` is stepped, and beside each step it is told where the machine stood, what stands on the top
-//! of its stack after the step, and of a MATCH the field that decided it. So the outcome is that of `filing_machine::run`, and
-//! what is told is what the table machine of `filing_table` does.
+//! The machine of `filing_machine` is stepped, and each step is recorded: the program counter, the topmost entry of the
+//! stack after the step and, for a MATCH that is true, the field that decided it. So the outcome is that of
+//! `filing_machine::run`, and what is recorded is what the table machine of `filing_table` does.
 #![tactic(auto)]
 
 mod steps;

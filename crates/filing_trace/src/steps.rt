@@ -1,4 +1,4 @@
-//! A run, and what is told of its steps.
+//! A run, and the record of its steps.
 
 ghost use Rattle.std.specs.Prelude.{◌≡◌, ℕ, length, slice_get, option_copied, Some, true, is_some, IfOk, IfSome};
 ghost use Rattle.std.specs.List.{AllByRecursion};
@@ -14,15 +14,15 @@ use filing_machine::{Machine, Outcome, Top};
 use filing_verify::Verified;
 use std::alloc::{AllocError, Global};
 
-/// A step of a run.
+/// The record of one step of a run.
 #[derive(Clone, Copy, Debug, PartialEq, Eq)]
 pub struct Step {
     /// The place of its instruction in the code.
     pub place: usize,
-    /// What stands on the top of the stack after it; none where that is empty.
+    /// The topmost entry of the stack after it; none where the stack is empty.
     pub top: Option<Top>,
-    /// Of a MATCH that is true the first field whose value matches the key, by its place in the header, which counts from 0;
-    /// of any other step none.
+    /// For a MATCH that is true, the first field whose value matches the key, by its place in the header, counted from
+    /// 0; for any other step none.
     pub matched: Option<usize>,
 }
 
@@ -30,18 +30,18 @@ pub struct Step {
 #[derive(Drop)]
 pub struct Trace {
     pub outcome: Outcome,
-    /// The steps, the first one first.
+    /// The steps, the first one first: as many as `outcome` says.
     pub steps: Vec<Step>,
 }
 
-/// The operation at a place of the code.
+/// The operation at a place of the code, if there is one.
 fn operation_at(image: &Image, place: usize) -> Option<Operation>
     ensures { result ≡ slice_get image.now.code place }
 {
     image.code().get(place).copied()
 }
 
-/// The text at a place among the texts.
+/// The text at a place among the texts, if there is one.
 fn text_at(image: &Image, place: usize) -> Option<&[u8]>
     ensures { option_copied result ≡ slice_get image.now.texts place }
 {
@@ -65,8 +65,8 @@ fn matched_field<C: Case>(image: &Image, case: &C, machine: &Machine) -> Option<
     machine.first_match(case, comparison, key)
 }
 
-/// Runs a program in a case to its end, as `filing_machine::run` does and with the same outcome, and tells each step. The only
-/// error is want of memory.
+/// Runs a program in a case to its end, as `filing_machine::run` does and with the same outcome, and records each step.
+/// The only error is a refused allocation.
 pub fn trace_run<C: Case>(alloc: Global, program: &Verified, case: &C) -> Result<Trace, AllocError>
     ensures outcome { IfOk result (λ t. HasOutcome program.now (C.facts case.now) t.outcome.steps (answer t.outcome)) }
     ensures whole { IfOk result (λ t. length t.steps.items ≡ t.outcome.steps) }

@@ -1,4 +1,4 @@
--- Where an operation goes on, and which places a program comes to. Places count from 0.
+-- The successors of an operation, and the places that a program reaches. Places count from 0.
 use Rattle.std.specs.Prelude.{◌≡◌, ℕ, zero, suc, ◌+◌, Option, Some, None, Bool, true, false, slice_get, ◌⊎◌}
 use Rattle.filing_image.specs.Program.{Program}
 use Rattle.filing_image.specs.declared.instruction.Operation.{Operation}
@@ -18,7 +18,7 @@ goes_on Stop = false
 goes_on (Fault a) = false
 goes_on _ = true
 
--- In this program the run may come from the operation at place p to place q.
+-- In this program the run may go from the operation at place p to place q.
 abbrev pub Follows : Program → Operation → ℕ → ℕ → Type 0
 Follows program o p q = ((goes_on o ≡ true) × (q ≡ p + 1)) ⊎ (target o ≡ Some q)
 

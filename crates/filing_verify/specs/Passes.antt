@@ -1,4 +1,4 @@
--- What the passes over the code keep: the tables of the proof, of which no statement of the verifier speaks.
+-- Invariants of the passes over the code, which the contract of the verifier does not use.
 use Rattle.std.specs.Prelude.{◌≡◌, ◌≢◌, ℕ, ◌+◌, ◌<◌, ◌≤◌, ◌⊎◌, List, [], length, Bool, true, false, Option, Some, None, slice_get, slice_set, slice_index_or, max, ◌↔◌}
 use Rattle.filing_image.specs.Program.{Program}
 use Rattle.filing_image.specs.declared.instruction.Operation.{Operation}
@@ -9,11 +9,11 @@ use Rattle.filing_verify.specs.Shapes.{after, IsAssignment}
 abbrev pub IsMarked : List Bool → ℕ → Type 0
 IsMarked ms p = slice_get ms p ≡ Some true
 
--- each place has a mark, which is set where the place is reached
+-- each place has a mark, which is set exactly where the place is reached
 abbrev pub MarksReached : Program → List Bool → Type 0
 MarksReached program ms = (length ms ≡ length program.code) × ((p : ℕ) → p < length program.code → (IsMarked ms p ↔ Reached program p))
 
--- the marks with that of the place that a jump names
+-- the marks with that of the place that a jump names set
 abbrev pub with_target : Option ℕ → List Bool → List Bool
 with_target None ms = ms
 with_target (Some q) ms = slice_set ms q true
@@ -22,7 +22,7 @@ abbrev pub with_next : Bool → ℕ → List Bool → List Bool
 with_next true p ms = slice_set ms (p + 1) true
 with_next false p ms = ms
 
--- the marks when the places before i have passed theirs on
+-- the marks once the places before i have passed theirs on
 pub record Marks (program : Program) (i : ℕ) (ms : List Bool) : Type 0 where
   pub long : length ms ≡ length program.code
   pub first : 0 < length program.code → IsMarked ms 0
@@ -38,7 +38,7 @@ Has table p ks = slice_get table p ≡ Some (Some ks)
 abbrev pub FollowsBy : Operation → ℕ → ℕ → Type 0
 FollowsBy o p q = ((goes_on o ≡ true) × (q ≡ p + 1)) ⊎ (target o ≡ Some q)
 
--- The places At, and no others, have got this shape, where they are places of the table.
+-- The places At that the table has were given this shape, and no other place was changed.
 pub record Takes (old : List (Option (List Kind))) (At : ℕ → Type 0) (r : List Kind) (new : List (Option (List Kind))) : Type 0 where
   pub long : length new ≡ length old
   pub offered : (q : ℕ) → At q → q < length old → Has new q r
@@ -53,7 +53,7 @@ pub record Clashes (old : List (Option (List Kind))) (At : ℕ → Type 0) (r : 
   pub there : Has old place other
   pub differs : other ≢ r
 
--- the table when the places before i have passed theirs on
+-- the table once the places before i have passed theirs on
 pub record Shaping (program : Program) (i : ℕ) (table : List (Option (List Kind))) : Type 0 where
   pub long : length table ≡ length program.code
   pub first : 0 < length program.code → Has table 0 []
@@ -62,7 +62,7 @@ pub record Shaping (program : Program) (i : ℕ) (table : List (Option (List Kin
   pub forced : (p : ℕ) (ks : List Kind) → Has table p ks → (shape : ℕ → List Kind) → IsAssignment program shape → shape p ≡ ks
   pub passed : (p : ℕ) (ks : List Kind) (o : Operation) → p < i → Has table p ks → slice_get program.code p ≡ Some o → (r : List Kind) × (after o ks ≡ Some r) × (length r ≤ 32) × ((q : ℕ) → Follows program o p q → q < length program.code → Has table q r)
 
--- the most places on a path from place i on, where the places after i have theirs, and places past the end have 0
+-- the cost of the place that a jump names, 0 where there is none
 abbrev pub by_target : Option ℕ → List ℕ → ℕ
 by_target None costs = 0
 by_target (Some q) costs = slice_index_or costs q 0
@@ -71,10 +71,11 @@ abbrev pub by_next : Bool → ℕ → List ℕ → ℕ
 by_next true p costs = slice_index_or costs (p + 1) 0
 by_next false p costs = 0
 
+-- the places on the longest path from a place on, by the costs of its successors; places past the end cost 0
 abbrev pub cost_at : Operation → ℕ → List ℕ → ℕ
 cost_at o p costs = 1 + max (by_next (goes_on o) p costs) (by_target (target o) costs)
 
--- the places from i on have the most places on a path from them, where they are reached
+-- the cost of each reached place from i on is the number of places on the longest path from it
 pub record Costs (program : Program) (i : ℕ) (costs : List ℕ) : Type 0 where
   pub long : length costs ≡ length program.code
   pub small : (p : ℕ) → p < length program.code → slice_index_or costs p 0 + p ≤ length program.code

@@ -8,8 +8,8 @@ use Rattle.filing_verify.specs.declared.fault.VerifyFault.TheVariants.{NoMemory,
 use Rattle.filing_verify.specs.Flow.{target, Leads, Path, Reached}
 use Rattle.filing_verify.specs.Shapes.{HasShapes}
 
--- each operand names something that is there, or is one of its values: of Match, 0 to 5 name the comparisons; of
--- File, 1 is for a copy; of Fault, 2 to 5 are the faults
+-- each operand names something that exists, or has one of its values: for Match, 0 to 5 are the comparisons; for File,
+-- 1 is a copy; for Fault, 2 to 5 are the faults
 abbrev pub InRange : Program → Operation → Type 0
 InRange p (Values b) = b < length p.texts
 InRange p (Match a b) = (a ≤ 5) × (b < length p.texts)
@@ -29,11 +29,11 @@ pub record AreInRange (p : Program) : Type 0 where
   pub slots : p.slots ≤ 64
   pub each : All (InRange p) p.code
 
--- each jump that is reached goes to a greater place
+-- each reached jump goes to a greater place
 abbrev pub GoesForward : Program → Type 0
 GoesForward program = (p q : ℕ) (o : Operation) → Reached program p → slice_get program.code p ≡ Some o → target o ≡ Some q → p < q
 
--- there is a place, and no place that is reached leads one past the last
+-- there is a place, and no reached place leads to the one past the end
 pub record StaysInside (program : Program) : Type 0 where
   pub some : 0 < length program.code
   pub inside : (p : ℕ) → Reached program p → Leads program p (length program.code) → ⊥
@@ -52,7 +52,7 @@ pub record IsWell (program : Program) : Type 0 where
   pub inside : StaysInside program
   pub within : IsWithin program
 
--- The first that fails gives the fault. Memory is taken once all operations are in range, and not before.
+-- The first rule that is broken gives the fault. Memory is taken only once all operations are in range.
 abbrev pub Fails : VerifyFault → Program → Type 0
 Fails NoMemory p = AreInRange p
 Fails Operand p = AreInRange p → ⊥
@@ -61,7 +61,7 @@ Fails Stack p = AreInRange p × GoesForward p × (HasShapes p → ⊥)
 Fails RunsOff p = AreInRange p × GoesForward p × HasShapes p × (StaysInside p → ⊥)
 Fails Budget p = AreInRange p × GoesForward p × HasShapes p × StaysInside p × (IsWithin p → ⊥)
 
--- the numbers by which faults are told
+-- the numbers by which faults are reported
 abbrev pub verify_number : VerifyFault → ℕ
 verify_number Operand = 62
 verify_number Backward = 63

@@ -9,7 +9,8 @@ use crate::flow::{goes_on, operation_at, place_count, target};
 use filing_image::{Image, Operation};
 use std::alloc::{AllocError, Global};
 
-/// The most places on a path of successors from place 0.
+/// The number of places on the longest path of successors from place 0. There must be a place, each reached jump must
+/// go forward, and `marks` must say which places are reached. The only error is a refused allocation.
 pub fn longest(alloc: Global, image: &Image, marks: &[bool]) -> Result<usize, AllocError>
     requires forward { GoesForward image.now }
     requires marks { MarksReached image.now marks.now }
@@ -25,7 +26,7 @@ pub fn longest(alloc: Global, image: &Image, marks: &[bool]) -> Result<usize, Al
     Ok(costs[0])
 }
 
-/// Sets the cost of a place that is reached, over those of the places behind it.
+/// Sets the cost of a reached place from the costs of the places after it.
 fn set_cost(image: &Image, marks: &[bool], costs: &mut [usize], place: usize)
     requires within { place < length image.now.code }
     requires forward { GoesForward image.now }
@@ -38,7 +39,7 @@ fn set_cost(image: &Image, marks: &[bool], costs: &mut [usize], place: usize)
     }
 }
 
-/// The most places of a path from a place on, by the costs of the places behind it.
+/// The number of places on the longest path from a place on, from the costs of the places after it.
 fn cost(operation: Operation, place: usize, costs: &[usize]) -> usize
     requires small { (p : ℕ) → p < length costs.now → slice_index_or costs.now p 0 + p ≤ length costs.now }
     requires within { place < length costs.now }

@@ -8,7 +8,7 @@ use crate::kind::Kind;
 use crate::shape::Shape;
 use filing_image::Operation;
 
-/// Takes the topmost entry off, and answers whether it is one of this kind.
+/// Pops the topmost entry, and answers whether it is of this kind.
 fn takes(kind: Kind, shape: &mut Shape) -> bool
     ensures taken { result ≡ true → shape.old ≡ kind ∷ shape.new }
     ensures other { result ≡ false → (top : KindType) (rest : List KindType) → shape.old ≡ top ∷ rest → top ≢ kind }
@@ -19,7 +19,7 @@ fn takes(kind: Kind, shape: &mut Shape) -> bool
     }
 }
 
-/// Puts an entry on top, which is done in any case.
+/// Pushes an entry, and answers true.
 fn puts(kind: Kind, shape: &mut Shape) -> bool
     requires { length shape.old ≤ 32 }
     ensures done { result ≡ true }
@@ -29,7 +29,8 @@ fn puts(kind: Kind, shape: &mut Shape) -> bool
     true
 }
 
-/// Makes of a shape what the operation makes of it, or answers that it lacks an operand.
+/// Applies the effect of an operation to the shape of a stack, which must have at most 32 entries. False where an
+/// operand is missing or of another kind.
 pub fn apply(operation: Operation, shape: &mut Shape) -> bool
     requires { length shape.old ≤ 32 }
     ensures finds { result ≡ true → after operation shape.old ≡ Some shape.new }

@@ -7,18 +7,18 @@ ghost use Rattle.filing_verify.specs.declared.fault.VerifyFault.TheVariants.{NoM
 use std::alloc::{AllocError, AllocFailed};
 use thiserror::Error;
 
-/// Why an image may not run. Where several hold, the one with the smallest number is answered.
+/// Why an image may not run. Where it breaks several rules, the smallest number is reported.
 #[derive(Clone, Copy, Debug, PartialEq, Eq, Error)]
 pub enum VerifyFault {
-    /// 62: there are more than 64 slots, or an operation, reached or not, names a text, number, slot or place that is
-    /// not there, or has an operand outside its values.
+    /// 62: there are more than 64 slots, or an operation, reached or not, names a text, number, slot or place that does
+    /// not exist, or has an operand outside its values.
     #[error("an operand is out of range")]
     Operand,
-    /// 63: a jump that is reached goes to no greater place.
+    /// 63: a reached jump does not go to a greater place.
     #[error("a jump does not go forward")]
     Backward,
-    /// 64: no shapes of the stack fit the places that are reached: an operand is missing or of another kind, two paths
-    /// leave different shapes at one place, or the stack is deeper than 32.
+    /// 64: no shapes of the stack fit the reached places: an operand is missing or of another kind, two paths leave
+    /// different shapes at one place, or the stack is deeper than 32.
     #[error("the stack has no one shape at each place")]
     Stack,
     /// 65: there is no instruction, or the run may go on past the last one.
@@ -33,7 +33,7 @@ pub enum VerifyFault {
 }
 
 impl VerifyFault {
-    /// The number by which the fault is told: 62 to 66 or 99.
+    /// The number by which the fault is reported: 62 to 66 or 99.
     pub fn number(self) -> u8
         ensures { result ≡ verify_number self }
     {

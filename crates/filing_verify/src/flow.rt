@@ -1,4 +1,4 @@
-//! Where an operation goes on, and what it may name.
+//! The successors of an operation, and the range of its operands.
 
 ghost use Rattle.std.specs.Prelude.{◌≡◌, IsTrue, ◌↔◌, ◌<◌, ◌^◌, length, slice_get, Some};
 ghost use Rattle.filing_verify.specs.Flow.{target, goes_on};
@@ -6,7 +6,7 @@ ghost use Rattle.filing_verify.specs.Well.{InRange, AreInRange};
 
 use filing_image::{Image, Operation};
 
-/// How many places there are.
+/// The number of places, one for each operation of the code; at most 65,535.
 pub fn place_count(image: &Image) -> usize
     ensures value { result ≡ length image.now.code }
     ensures short { result < 2 ^ 16 }
@@ -14,7 +14,7 @@ pub fn place_count(image: &Image) -> usize
     image.code().len()
 }
 
-/// The operation at a place.
+/// The operation at a place, which counts from 0 and must be below `place_count`.
 pub fn operation_at(image: &Image, place: usize) -> Operation
     requires { place < length image.now.code }
     ensures { slice_get image.now.code place ≡ Some result }
@@ -22,7 +22,7 @@ pub fn operation_at(image: &Image, place: usize) -> Operation
     image.code()[place]
 }
 
-/// The place that a jump names.
+/// The place that a jump names; none for any other operation.
 pub fn target(operation: Operation) -> Option<usize>
     ensures { result ≡ target operation }
 {
@@ -32,7 +32,7 @@ pub fn target(operation: Operation) -> Option<usize>
     }
 }
 
-/// Whether the run may go on to the next place.
+/// Whether the run may go on to the next place, which it may not after `Jump`, `Stop` and `Fault`.
 pub fn goes_on(operation: Operation) -> bool
     ensures { result ≡ goes_on operation }
 {
@@ -42,7 +42,7 @@ pub fn goes_on(operation: Operation) -> bool
     )
 }
 
-/// Whether each operand names something that is there, or is one of its values.
+/// Whether each operand names something that exists, or has one of its values.
 fn is_in_range(image: &Image, operation: Operation) -> bool
     ensures { IsTrue result ↔ InRange image.now operation }
 {
@@ -60,7 +60,7 @@ fn is_in_range(image: &Image, operation: Operation) -> bool
     }
 }
 
-/// Whether there are at most 64 slots, and each operation is in range.
+/// Whether there are at most 64 slots, and each operation, reached or not, has its operands in range.
 pub fn are_in_range(image: &Image) -> bool
     ensures { IsTrue result ↔ AreInRange image.now }
 {

@@ -8,7 +8,8 @@ ghost use Rattle.filing_verify.specs.Well.{StaysInside};
 use crate::flow::{goes_on, operation_at, place_count, target};
 use filing_image::{Image, Operation};
 
-/// Whether there is a place, and none that is reached leads past the last.
+/// Whether the code has a place, and no reached place leads to the one past the end. `marks` must say which places are
+/// reached.
 pub fn stays_inside(image: &Image, marks: &[bool]) -> bool
     requires { MarksReached image.now marks.now }
     ensures inside { result ≡ true → StaysInside image.now }
@@ -25,7 +26,7 @@ pub fn stays_inside(image: &Image, marks: &[bool]) -> bool
     true
 }
 
-/// Whether a place is reached and leads past the last one.
+/// Whether a place is reached and leads to the one past the end.
 fn runs_off(image: &Image, marks: &[bool], place: usize) -> bool
     requires within { place < length image.now.code }
     requires marks { MarksReached image.now marks.now }

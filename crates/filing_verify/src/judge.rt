@@ -30,7 +30,7 @@ impl Model for Verified {
 }
 
 impl Verified {
-    /// An image that is known to be one that may run. The caller proves it, so that nothing is judged or allocated here.
+    /// Wraps an image of which the caller proves that it may run. Nothing is checked or allocated.
     pub fn known(image: Image) -> Verified
         requires { IsWell image }
         ensures { result ≡ image }
@@ -54,9 +54,9 @@ impl Verified {
     }
 }
 
-/// Accepts exactly the images that may run, and refuses each other one by the first rule that it breaks, 62 to 66; 99
-/// where memory ran out, which is never told in the place of 62. A refused image is handed back unchanged. Time and
-/// memory are linear in the length of the code.
+/// Accepts exactly the images that may run. Each other image is refused with the first rule that it breaks, 62 to 66,
+/// or with 99 where an allocation was refused; rule 62 is checked before memory is taken. A refused image is handed
+/// back unchanged. Time and memory are linear in the length of the code.
 pub fn verify(alloc: Global, image: Image) -> Result<Verified, (VerifyFault, Image)>
     ensures accepted { IfOk result (λ v. v ≡ image) }
     ensures well { IfOk result (λ v. IsWell image) }

@@ -1,9 +1,9 @@
-//! What stands on the stack.
+//! The kinds of the stack's entries.
 
-/// What an entry of the stack is.
+/// The kind of an entry of the stack.
 #[derive(Clone, Copy, Debug, PartialEq, Eq)]
 pub enum Kind {
-    /// A truth.
+    /// A truth value.
     Truth,
     /// A list of texts.
     Texts,

@@ -1,9 +1,9 @@
-//! Which images may run: the typed stack and the budget.
+//! The verifier: which images may run, by the kinds of the stack's entries and by the budget.
 //!
-//! In `specs/`, `Flow` says where a program may go on and which places it reaches, `Shapes` which kinds stand on the
-//! stack there, and `Well` which programs may run and by which rule each other one is refused. They are relations over
-//! paths and assignments. The code makes small passes over the code, each with a table; what the tables keep stands in
-//! `Passes`.
+//! In `specs/`, `Flow` defines the successors of a place and the places that are reached, `Shapes` the kinds of the
+//! stack's entries there, and `Well` which programs may run and by which rule each other one is refused. These are
+//! relations over paths and assignments. The functions make small passes over the code, each with a table; `Passes` has
+//! the invariants of the tables.
 #![tactic(auto)]
 
 mod cost;

@@ -9,7 +9,8 @@ use crate::flow::{goes_on, operation_at, place_count, target};
 use filing_image::{Image, Operation};
 use std::alloc::{AllocError, Global};
 
-/// A mark for each place that is reached, or none where a jump that is reached does not go forward.
+/// For each place, whether it is reached; none where a reached jump does not go forward. The only error is a refused
+/// allocation.
 pub fn reach(alloc: Global, image: &Image) -> Result<Option<Vec<bool>>, AllocError>
     ensures marks { IfOk result (λ m. IfSome m (λ v. MarksReached image.now v.items)) }
     ensures forward { IfOk result (λ m. IfSome m (λ _. GoesForward image.now)) }
@@ -26,7 +27,7 @@ pub fn reach(alloc: Global, image: &Image) -> Result<Option<Vec<bool>>, AllocErr
     Ok(Some(marks))
 }
 
-/// Passes the mark of a place on to its successors, or finds a jump that does not go forward.
+/// Passes the mark of a place on to its successors; false where its jump does not go forward.
 fn pass_on(image: &Image, marks: &mut [bool], place: usize) -> bool
     requires within { place < length image.now.code }
     requires so_far { Marks image.now place marks.old }
@@ -59,7 +60,7 @@ fn mark_successors(operation: Operation, marks: &mut [bool], place: usize)
     }
 }
 
-/// Marks a place, where there is one.
+/// Marks a place, if the code has it.
 fn mark(marks: &mut [bool], place: usize)
     ensures { marks.new ≡ slice_set marks.old place true }
 {

@@ -6,8 +6,8 @@ ghost use Rattle.filing_verify.specs.declared.kind.Kind.{Kind as KindType};
 use crate::kind::Kind;
 use std::marker::Model;
 
-/// The kinds of at most 33 entries, one more than a stack may have, the topmost last. A shape owns no memory beside
-/// itself, so that a table with one for each place is one allocation.
+/// The kinds of at most 33 entries, one more than a stack may have. Contracts see them as a list, the topmost first. A
+/// shape owns no memory outside itself, so that a table with one for each place is one allocation.
 #[derive(Debug, Drop)]
 pub struct Shape {
     kinds: [Kind; 33],
@@ -23,7 +23,7 @@ impl Model for Shape {
 }
 
 impl Shape {
-    /// No entry.
+    /// The shape of the empty stack.
     pub fn new() -> Shape
         ensures { result ≡ [] }
     {
@@ -33,7 +33,7 @@ impl Shape {
         }
     }
 
-    /// The same kinds again.
+    /// A copy of the shape; it takes no memory.
     pub fn copy(&self) -> Shape
         ensures { result ≡ self.now }
     {
@@ -43,14 +43,14 @@ impl Shape {
         }
     }
 
-    /// Whether the kinds are those of another shape.
+    /// Whether both shapes have the same kinds.
     pub fn is(&self, other: &Shape) -> bool
         ensures { IsTrue result ↔ self.now ≡ other.now }
     {
         are_same(self.entries(), other.entries())
     }
 
-    /// How many entries there are.
+    /// The number of entries, at most 33.
     pub fn depth(&self) -> usize
         ensures { result ≡ length self.now }
     {
@@ -64,7 +64,7 @@ impl Shape {
         &self.kinds[..self.depth as usize]
     }
 
-    /// Puts an entry on top. The caller keeps the depth below 33.
+    /// Pushes an entry. The depth before must be below 33.
     pub fn push(&mut self, kind: Kind)
         requires { length self.old < 33 }
         ensures { self.new ≡ kind ∷ self.old }
@@ -73,7 +73,7 @@ impl Shape {
         self.depth += 1;
     }
 
-    /// Takes the topmost entry off, or none where there is none.
+    /// Pops the topmost entry and answers its kind; none where there is no entry.
     pub fn pop(&mut self) -> Option<Kind>
         ensures { MatchOption result (self.old ≡ []) (λ k. self.old ≡ k ∷ self.new) }
     {
@@ -85,7 +85,6 @@ impl Shape {
     }
 }
 
-/// Whether two stacks have the same kinds.
 fn are_same(a: &[Kind], b: &[Kind]) -> bool
     ensures { IsTrue result ↔ a.now ≡ b.now }
 {

@@ -12,7 +12,8 @@ use crate::shape::Shape;
 use filing_image::{Image, Operation};
 use std::alloc::{AllocError, Global};
 
-/// Whether there are shapes for the places that are reached.
+/// Whether shapes of the stack, at most 32 deep, can be assigned to the places that are reached. Each reached jump must
+/// go forward. The only error is a refused allocation.
 pub fn has_shapes(alloc: Global, image: &Image) -> Result<bool, AllocError>
     requires { GoesForward image.now }
     ensures yes { IfOk result (λ yes. yes ≡ true → HasShapes image.now) }
@@ -31,7 +32,7 @@ pub fn has_shapes(alloc: Global, image: &Image) -> Result<bool, AllocError>
     Ok(true)
 }
 
-/// Passes the shape of a place, after its operation, on to its successors.
+/// Passes the shape after a place's operation on to its successors; false where there can be no assignment.
 fn pass_on(image: &Image, table: &mut [Option<Shape>], place: usize) -> bool
     requires within { place < length image.now.code }
     requires forward { GoesForward image.now }

@@ -8,7 +8,7 @@ use Rattle.mail_head.specs.Fields.{field_of, fields_of}
 use Rattle.mail_head.specs.Pieces.{header_octets, at_line_start}
 use Rattle.mail_head.proofs.PieceLemmas.{NoEnd, NoEnd-get, header_of-open, header_of-lf, header_of-crlf, concat-append, Rest, unended, lf, crlf, Cut, cut}
 
--- whole lines in front stay
+-- whole lines at the front stay
 Cut-octets : (bs : List ℕ) (c : Cut bs) (q : List ℕ) → header_octets (c.lead ++ q) ≡ c.lead ++ header_octets q
 Cut-octets bs c q = ap concat (c.lines q) ∙ concat-append (header_of c.lead) (header_of q) ∙ ap (λ x. x ++ header_octets q) c.octets
 
@@ -27,7 +27,7 @@ Ended-octets bs c h q = ap (λ x. header_octets (x ++ q)) c.joined ∙ ap header
 Open-octets : (bs : List ℕ) (c : Cut bs) → NoEnd c.rest → header_octets bs ≡ bs
 Open-octets bs c h = ap header_octets c.joined ∙ Cut-octets bs c c.rest ∙ ap (λ x. c.lead ++ x) (header_of-open c.rest h) ∙ sym c.joined
 
--- the header ends within the text, or it has all of it
+-- the header ends within the text, or it is all of it
 pub record IsEnded (bs : List ℕ) : Type 0 where
   pub shorter : length (header_octets bs) < length bs
   pub stays : (q : List ℕ) → header_octets (bs ++ q) ≡ header_octets bs
@@ -47,7 +47,7 @@ whole_or_ended bs c (inr h) =
 pub header_whole_or_ended : (bs : List ℕ) → (header_octets bs ≡ bs) ⊎ IsEnded bs
 header_whole_or_ended bs = let c = cut (length bs) bs (omega arith) in whole_or_ended bs c (by_state c.rest c.state)
 
--- behind a header that ended nothing is kept
+-- after a header that has ended nothing more is kept
 pub header_octets_ended : (bs q : List ℕ) → length (header_octets bs) ≢ length bs → header_octets (bs ++ q) ≡ header_octets bs
 header_octets_ended bs q h = at (header_whole_or_ended bs)
   where
@@ -71,7 +71,7 @@ fields_of-kept bs = at (header_whole_or_ended bs)
     at (inl e) = ap (λ x. filter_map field_of (logical_lines (header_of x))) e
     at (inr e) = ap (λ x. filter_map field_of (logical_lines x)) e.fields
 
--- a last octet that no LF follows
+-- the text does not end in an LF
 pub last_unended : (lead : List ℕ) (b : ℕ) (t : List ℕ) → NoEnd (b ∷ t) → at_line_start (lead ++ b ∷ t) ≡ false
 last_unended lead b t h =
     let long : length (lead ++ b ∷ t) ≡ suc (length lead + length t) = omega (arith, length-append lead (b ∷ t)) in
@@ -87,7 +87,7 @@ line_start_of lead (inr (front, e)) =
     let last : length (front ++ 10 ∷ []) - 1 ≡ length front = omega arith in
     rw (e, some, last, get_or_at front 10 [] 0 (length front) refl) refl
 
--- octets that the header has all of
+-- octets that all belong to the header
 abbrev pub IsOpen : List ℕ → Type 0
 IsOpen kept = (lead : List ℕ) × (rest : List ℕ) × (kept ≡ lead ++ rest) × ((q : List ℕ) → header_octets (lead ++ q) ≡ lead ++ header_octets q) × (at_line_start lead ≡ true) × NoEnd rest
 
@@ -102,7 +102,7 @@ open_of kept e =
         let octets : header_octets kept ≡ c.lead = ap header_octets (sym (append-nil kept)) ∙ Ended-octets kept c h [] in
         absurd (omega (arith, ap length octets, ap length e, ap length c.joined, length-append c.lead c.rest, h.1))
 
--- a piece behind a line's start
+-- a piece after a line's start
 pub part_at_line_start : (kept piece : List ℕ) → at_line_start kept ≡ true → header_octets kept ≡ kept → header_octets (kept ++ piece) ≡ kept ++ header_octets piece
 part_at_line_start kept piece start e = at (open_of kept e)
   where

@@ -6,22 +6,22 @@ use Rattle.std.specs.List.{prefix_len}
 use Rattle.mail_head.specs.Lines.{is_blank, without_end, header_of, logical_lines}
 use Rattle.mail_head.specs.Fields.{is_name_octet, begins_with, field_of, fields_of}
 
--- one logical line more, which is a field
+-- the next logical line is a field
 pub fields_of-some : (before : List (List ℕ × List ℕ)) (bs line rest : List ℕ) (f : List ℕ × List ℕ) (all : List (List ℕ × List ℕ)) → logical_lines (header_of bs) ≡ line ∷ logical_lines (header_of rest) → Some f ≡ field_of line → before ++ fields_of bs ≡ all → (before ++ f ∷ []) ++ fields_of rest ≡ all
 unfolding fields_of
 fields_of-some before bs line rest f all e h i = rw append_assoc (rw (e, ← h) at i)
 
--- one that is none
+-- the next logical line is no field
 pub fields_of-none : (before : List (List ℕ × List ℕ)) (bs line rest : List ℕ) (all : List (List ℕ × List ℕ)) → logical_lines (header_of bs) ≡ line ∷ logical_lines (header_of rest) → None ≡ field_of line → before ++ fields_of bs ≡ all → before ++ fields_of rest ≡ all
 unfolding fields_of
 fields_of-none before bs line rest all e h i = rw (e, ← h) at i
 
--- none is left
+-- no logical line is left
 pub fields_of-done : (before : List (List ℕ × List ℕ)) (bs : List ℕ) (all : List (List ℕ × List ℕ)) → header_of bs ≡ [] → before ++ fields_of bs ≡ all → before ≡ all
 unfolding fields_of logical_lines
 fields_of-done before bs all e i = sym (append-nil before) ∙ (rw e at i)
 
--- what lies behind the first d octets of a line, up to m octets
+-- a text of m octets after the first d octets of a line
 part_at : (line body text : List ℕ) (d : ℕ) → body ≡ drop d line → d ≤ length line → text ≡ take (length text) body → slice_range line (length line - length body) (length line - length body + length text) ≡ text
 part_at line body text d e h t =
     let start : length line - length body ≡ d = rw e (omega (arith, length-drop d line, h)) in

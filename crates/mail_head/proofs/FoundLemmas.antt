@@ -11,7 +11,7 @@ use Rattle.mail_head.specs.Found.{IsFirstField}
 use Rattle.mail_head.specs.Starts.{field_from, IsFieldStart}
 use Rattle.mail_head.proofs.FieldLemmas.{fields_of-some, fields_of-none, fields_of-done}
 
--- no field stands in a text before `rest`, with which it ends
+-- no field stands in a text before `rest`, which is its end
 pub record Passed (text rest : List ℕ) : Type 0 where
   pub same : fields_of text ≡ fields_of rest
   pub end : rest ≡ drop (length text - length rest) text
@@ -30,7 +30,7 @@ end_of_end text rest after n e within room ea =
     let places : (length text - length rest) + n ≡ length text - length after = omega arith in
     ea ∙ ap (drop n) e ∙ drop-drop n (length text - length rest) text ∙ ap (λ m. drop m text) places
 
--- a logical line that is no field is passed
+-- a logical line that is no field is passed over
 pub Passed-more : (text rest line after : List ℕ) (n : ℕ) → Passed text rest → logical_lines (header_of rest) ≡ take n rest ∷ logical_lines (header_of (drop n rest)) → n ≤ length rest → line ≡ take n rest → after ≡ drop n rest → None ≡ field_of line → Passed text after
 Passed-more text rest line after n h lines room el ea none =
     let cut : logical_lines (header_of rest) ≡ line ∷ logical_lines (header_of (drop n rest)) = lines ∙ ap (λ x. x ∷ logical_lines (header_of (drop n rest))) (sym el) in
@@ -41,7 +41,7 @@ Passed-more text rest line after n h lines room el ea none =
       within = omega (arith, h.within);
     }
 
--- one that is a field is the first
+-- the first logical line that is a field
 pub Passed-found : (text rest line after : List ℕ) (n : ℕ) (found : FoundField) → Passed text rest → logical_lines (header_of rest) ≡ take n rest ∷ logical_lines (header_of (drop n rest)) → n ≤ length rest → line ≡ take n rest → length line ≡ n → after ≡ drop n rest → Some found.field ≡ field_of line → length found.field.0 + length found.field.1 < length line → found.from.now ≡ rest → found.after.now ≡ after → IsFirstField text found
 Passed-found text rest line after n found h lines room el size ea some short from behind =
     let cut : logical_lines (header_of rest) ≡ line ∷ logical_lines (header_of (drop n rest)) = lines ∙ ap (λ x. x ∷ logical_lines (header_of (drop n rest))) (sym el) in
@@ -74,7 +74,7 @@ Started-none octets starts e = record {
   begin = rw e (λ k d lt. absurd (omega (arith, lt)));
 }
 
--- one field more
+-- one more field
 pub Started-more : (octets rest after starts : List ℕ) (found : FoundField) (start : ℕ) → Started octets rest starts → IsFirstField rest found → start ≡ length octets - length found.from.now → after ≡ found.after.now → Started octets after (starts ++ start ∷ [])
 Started-more octets rest after starts found start h f es ea =
     let from : found.from.now ≡ drop start octets = end_of_end octets rest found.from.now (length rest - length found.from.now) h.end h.within (omega arith) f.from_end ∙ ap (λ m. drop m octets) (sym es) in
@@ -92,7 +92,7 @@ Started-more octets rest after starts found start h f es ea =
 pub Started-done : (octets rest starts : List ℕ) → Started octets rest starts → fields_of rest ≡ [] → map (field_from octets) starts ≡ fields_of octets
 Started-done octets rest starts h none = sym (let e : map (field_from octets) starts ++ [] ≡ map (field_from octets) starts = append-nil (map (field_from octets) starts) in ap (λ fs. map (field_from octets) starts ++ fs) none ∙ e) ∙ h.value
 
--- room for one start more
+-- room for one more start
 pub Started-room : (octets rest starts : List ℕ) (found : FoundField) → Started octets rest starts → IsFirstField rest found → length starts < length (fields_of octets)
 Started-room octets rest starts found h f =
     let counted : length (map (field_from octets) starts ++ found.field ∷ fields_of found.after.now) ≡ length (fields_of octets) = ap length (ap (λ fs. map (field_from octets) starts ++ fs) (sym (f.first ∙ f.field)) ∙ h.value) in

@@ -6,7 +6,7 @@ use Rattle.std.specs.Prelude.{nat_lt, IsTrue}
 use Rattle.memchr.specs.Find.{IsFirstByte, is_byte}
 use Rattle.mail_head.specs.Lines.{into_first, raw_lines, line_len, without_last, without_end, header_lines, header_of, logical_from, logical_lines, begins_blank, is_blank}
 
--- the first line ends behind the first LF
+-- the first line ends after the first LF
 pub line_len_at : (bs : List ℕ) (k : ℕ) → k < length bs → get_or bs k 0 ≡ 10 → ((j : ℕ) → j < k → get_or bs j 0 ≢ 10) → line_len bs ≡ k + 1
 unfolding line_len
 line_len_at [] k h at before = absurd (omega arith)
@@ -16,7 +16,7 @@ line_len_at (b ∷ bs) (suc k) h at before =
     let other : eqb b 10 ≡ false = ne_eqb b 10 (before 0 (omega arith)) in
     rw (other, rest) (omega arith)
 
--- or with the text
+-- without an LF it ends with the text
 pub line_len_none : (bs : List ℕ) → ((j : ℕ) → j < length bs → get_or bs j 0 ≢ 10) → line_len bs ≡ length bs
 unfolding line_len
 line_len_none [] before = refl
@@ -25,7 +25,7 @@ line_len_none (b ∷ bs) before =
     let other : eqb b 10 ≡ false = ne_eqb b 10 (before 0 (omega arith)) in
     rw (other, rest) refl
 
--- what a search for an LF says of the first line
+-- what a search for an LF says about the first line
 pub line_len_found : (bs : List ℕ) (k : ℕ) → IsFirstByte (is_byte 10) bs (Some k) → k + 1 ≡ line_len bs
 line_len_found bs k (first, at) = sym (line_len_at bs k first.high (eqb-true (get_or bs k 0) 10 at) (λ j below same. first.before j (omega arith) below (eq-eqb (get_or bs j 0) 10 same)))
 
@@ -59,7 +59,7 @@ unfolding header_lines raw_lines
 header_of-none [] h = refl
 header_of-none (b ∷ bs) h = rw (raw_lines_first b bs) ((header_step _ _ _ []).1 h)
 
--- what a test of the first line says of the header
+-- what a test of the first line says about the header
 pub record HeaderSays (bs : List ℕ) (over : Bool) : Type 0 where
   pub ends : IsTrue over → header_of bs ≡ []
   pub goes_on : over ≡ false → header_of bs ≡ take (line_len bs) bs ∷ header_of (drop (line_len bs) bs)
@@ -74,7 +74,7 @@ header_says bs text n r en et er =
     let both = empty_test (length (without_end (take (line_len bs) bs))) r test in
     record { ends = λ h. header_of-none bs (both.0 h); goes_on = λ h. header_of-some bs (both.1 h) }
 
--- the first logical line, n octets so far
+-- the first n octets of the first logical line
 pub record Begun (bs : List ℕ) (n : ℕ) : Type 0 where
   pub some : 0 < n
   pub within : n ≤ length bs
@@ -135,7 +135,7 @@ unfolding logical_from logical_lines
 complete_at true begun b bs e h = rw (header_of-some (b ∷ bs) e, begins_first b bs, h) refl
 complete_at false begun b bs e h = rw (header_of-none (b ∷ bs) e) refl
 
--- no line follows that belongs to it
+-- no further line belongs to it
 complete : (begun : List ℕ) (bs : List ℕ) → begins_blank bs ≡ false → logical_from begun (header_of bs) ≡ begun ∷ logical_lines (header_of bs)
 unfolding logical_from logical_lines header_lines raw_lines
 complete begun [] h = refl

@@ -1,4 +1,4 @@
--- The three cases of a piece behind octets that the header has all of.
+-- The three cases of a piece after octets that all belong to the header.
 use Rattle.std.proofs.Common.{◌≡◌, ℕ, ◌+◌, ◌-◌, ◌<◌, ◌≤◌, Bool, true, false, eqb, List, [], ◌∷◌, ◌++◌, length, take, drop, refl, sym, ap, ◌∙◌, arith, get_or, ◌⊎◌, inl, inr, append_assoc, eqb-true, ltb-true}
 use Rattle.std.proofs.Math.Seq.{take-add}
 use Rattle.std.proofs.lemmas.List.{append-nil, length-append, take_all, take_at, drop_at, get_or_at, same_from_push, drop-drop, length-drop, take_more}
@@ -10,7 +10,7 @@ use Rattle.mail_head.specs.Pieces.{header_octets, at_line_start, ends_in_lone_cr
 use Rattle.mail_head.proofs.PieceLemmas.{NoEnd, NoEnd-append, Whole, first_line, line_len_whole, line_len_open, HasText, HasText-long, HasText-one, header_of-line, header_of-open, header_of-crlf}
 use Rattle.mail_head.proofs.FeedLemmas.{IsOpen, open_of, last_unended}
 
--- the octets of a header, so far
+-- the first octets of a header
 pub record Taken (text rest : List ℕ) (len : ℕ) : Type 0 where
   pub within : len ≤ length text
   pub behind : rest ≡ drop len text
@@ -31,7 +31,7 @@ Taken-more text rest line after len n h lines en within ea long =
 pub Taken-done : (text rest : List ℕ) (len : ℕ) → Taken text rest len → header_of rest ≡ [] → header_octets text ≡ take len text
 Taken-done text rest len h e = h.octets ∙ ap (λ x. take len text ++ concat x) e ∙ append-nil (take len text)
 
--- the line that goes on has text
+-- the line that the piece continues has text
 part_text : (lead : List ℕ) (b : ℕ) (t u r : List ℕ) → at_line_start lead ≡ true → (ends_in_lone_cr (lead ++ b ∷ t) && begins_with 10 (u ++ 10 ∷ r)) ≡ false → HasText (b ∷ t ++ u)
 part_text lead b [] [] r start h = at (eqb b 13) refl
   where
@@ -48,7 +48,7 @@ part_text lead b [] [] r start h = at (eqb b 13) refl
 part_text lead b [] (c ∷ u) r start h = HasText-long b c u
 part_text lead b (c ∷ t) u r start h = HasText-long b c (t ++ u)
 
--- a piece in a line that has begun
+-- a piece within a line that has begun
 pub part_inside : (kept piece : List ℕ) (n m : ℕ) → at_line_start kept ≡ false → (ends_in_lone_cr kept && begins_with 10 piece) ≡ false → n ≡ line_len piece → header_octets (drop n piece) ≡ take m (drop n piece) → header_octets kept ≡ kept → header_octets (kept ++ piece) ≡ kept ++ take (n + m) piece
 part_inside kept piece n m inside plain en rest e = at_open (open_of kept e)
   where
@@ -77,7 +77,7 @@ part_inside kept piece n m inside plain en rest e = at_open (open_of kept e)
         absurd (cc (yes, inside))
     at_open (lead, b ∷ t, joined, law, start, h) = at_piece lead b t joined law start h (first_line piece)
 
--- all but the last octet
+-- all but the last octet, and the last one
 pub last_split : (bs : List ℕ) → 0 < length bs → bs ≡ take (length bs - 1) bs ++ get_or bs (length bs - 1) 0 ∷ []
 last_split bs h =
     let more : take (length bs - 1 + 1) bs ≡ take (length bs - 1) bs ++ get_or bs (length bs - 1) 0 ∷ [] = take_more bs (length bs - 1) 0 (omega arith) in
@@ -90,7 +90,7 @@ unended_front c (d ∷ t) h =
     let more = unended_front d t h.1 in
     (c ∷ more.0, more.1, ap (λ x. c ∷ x) more.2, (h.0, more.3))
 
--- an LF behind one CR
+-- an LF after one CR
 pub part_less : (front r : List ℕ) → at_line_start front ≡ true → header_octets (front ++ 13 ∷ []) ≡ front ++ 13 ∷ [] → header_octets ((front ++ 13 ∷ []) ++ 10 ∷ r) ≡ front
 part_less front r start e = at (open_of (front ++ 13 ∷ []) e)
   where
@@ -118,7 +118,7 @@ begins_lf : (piece : List ℕ) → begins_with 10 piece ≡ true → (r : List �
 begins_lf [] h = absurd cc
 begins_lf (b ∷ r) h = (r, ap (λ x. x ∷ r) (eqb-true b 10 h))
 
--- what the CR and the LF of an empty line say
+-- what follows from the CR and the LF of an empty line
 pub part_lone : (kept piece : List ℕ) → ends_in_lone_cr kept ≡ true → begins_with 10 piece ≡ true → (kept ≡ take (length kept - 1) kept ++ 13 ∷ []) × (header_octets kept ≡ kept → header_octets (kept ++ piece) ≡ take (length kept - 1) kept)
 part_lone kept piece lone begins =
     let parts = front_of_lone (nat_lt 0 (length kept)) (eqb (get_or kept (length kept - 1) 0) 13) (at_line_start (take (length kept - 1) kept)) lone in

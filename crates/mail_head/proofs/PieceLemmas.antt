@@ -49,7 +49,6 @@ unfolding line_len
 line_len_open [] h = refl
 line_len_open (b ∷ t) h = rw (h.0, line_len_open t h.1) refl
 
--- a last octet
 abbrev last_of : List ℕ → ℕ
 last_of bs = get_or bs (length bs - 1) 0
 
@@ -66,7 +65,7 @@ length_cond : (t : Bool) (xs : List ℕ) → length xs - 1 ≤ length (cond t (t
 length_cond true xs = omega (arith, length-take (length xs - 1) xs)
 length_cond false xs = omega arith
 
--- a line of two octets or more, or of one that is no CR, has text before its end
+-- a line that ends in LF has text before its end: two octets or more, or one that is no CR
 abbrev pub HasText : List ℕ → Type 0
 HasText t = nat_lt 0 (length (without_end (t ++ 10 ∷ []))) ≡ true
 
@@ -78,7 +77,7 @@ HasText-long b c t =
 pub HasText-one : (b : ℕ) → eqb b 13 ≡ false → HasText (b ∷ [])
 HasText-one b h = rw h refl
 
--- a header's first line, where it has text
+-- the first line of a header, where it has text
 pub header_of-line : (t r : List ℕ) → NoEnd t → HasText t → header_of (t ++ 10 ∷ r) ≡ (t ++ 10 ∷ []) ∷ header_of r
 unfolding header_lines
 header_of-line t r h k = rw (raw_lines_whole t r h, k) refl
@@ -108,7 +107,8 @@ pub concat-append : (xs ys : List (List ℕ)) → concat (xs ++ ys) ≡ concat x
 concat-append [] ys = refl
 concat-append (x ∷ xs) ys = rw (concat-append xs ys) (sym (append_assoc x (concat xs) (concat ys)))
 
--- a text is whole lines with text, which the header has, and a rest that has no line end or begins with an empty line
+-- a text is cut into whole lines with text, which belong to the header, and a rest that has no line end or begins with
+-- an empty line
 pub data Rest (bs : List ℕ) : Type 0 where
   unended : NoEnd bs → Rest bs
   lf : (r : List ℕ) → bs ≡ 10 ∷ r → Rest bs
@@ -139,7 +139,7 @@ ends_line : (t lead : List ℕ) → (lead ≡ []) ⊎ ((front : List ℕ) × (le
 ends_line t lead (inl e) = inr (t, rw e refl)
 ends_line t lead (inr e) = inr (t ++ 10 ∷ e.0, ap (λ xs. t ++ 10 ∷ xs) e.1 ∙ sym (append_assoc t (10 ∷ e.0) (10 ∷ [])))
 
--- a line with text before what is cut
+-- a line with text before the rest
 cut_more : (bs t r : List ℕ) → bs ≡ t ++ 10 ∷ r → NoEnd t → HasText t → Cut r → Cut bs
 cut_more bs t r e h k c =
     let first : (q : List ℕ) → (t ++ 10 ∷ c.lead) ++ q ≡ t ++ 10 ∷ (c.lead ++ q) = λ q. append_assoc t (10 ∷ c.lead) q in

@@ -68,12 +68,10 @@ length-fields_of : (bs : List ℕ) → length (fields_of bs) ≤ count_by (λ b.
 unfolding fields_of
 length-fields_of bs = omega (arith, length-filter_map field_of (logical_lines (header_of bs)), length-logical_lines (header_of bs), length-header_lines (raw_lines bs), length-raw_lines bs)
 
--- there is room for the fields
 pub fields_room : (bs : List ℕ) (n room : ℕ) → count_by (λ b. b == 10) bs ≤ n → (0 < length bs → n < room) → length (fields_of bs) ≤ room
 fields_room [] n room e h = omega (arith, fields_none)
 fields_room (b ∷ bs) n room e h = omega (arith, length-fields_of (b ∷ bs), h (omega arith))
 
--- a header from its parts
 pub owned_is : (a : Owned) (fields : List (List ℕ × List ℕ)) (size : ℕ) (octets : List ℕ) → a.fields ≡ fields → a.size ≡ size → a.octets ≡ octets → a ≡ record { fields = fields; size = size; octets = octets }
 owned_is a fields size octets ef es eo = rw (← ef, ← es, ← eo) refl
 
@@ -107,12 +105,12 @@ part_ended r piece long = record {
       append-nil r.kept ∙ ap (λ x. x.kept) e ∙ sym (header_octets_ended message piece other);
 }
 
--- a piece more
+-- one more piece
 pub fed : (r s : Reader) (message piece : List ℕ) (part : HeaderPart) → r ≡ reader_of message → IsNextPart r piece part → s ≡ record r { kept = with_part r.kept piece part; size = r.size + length piece } → s ≡ reader_of (message ++ piece)
 fed r s message piece part e h es =
     reader_is s (header_octets (message ++ piece)) (length (message ++ piece)) false (ap (λ x. x.kept) es ∙ h.next message e) (ap (λ x. x.size) es ∙ omega (arith, ap (λ x. x.size) e, length-append message piece)) (ap (λ x. x.refuses) es ∙ ap (λ x. x.refuses) e)
 
--- the header has no line end but those that it had, and those of what it gained
+-- the line ends of the header are those it had and those of the octets that it gained
 count-append : (xs ys : List ℕ) → count_by (λ b. b == 10) (xs ++ ys) ≡ count_by (λ b. b == 10) xs + count_by (λ b. b == 10) ys
 count-append xs ys = sum_by-append (λ x. cond (eqb x 10) 1 0) xs ys
 

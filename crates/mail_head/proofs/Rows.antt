@@ -1,4 +1,4 @@
--- Worked rows of the definitions.
+-- Examples of the definitions.
 use Rattle.std.proofs.Common.{◌≡◌, [], ◌∷◌, refl}
 use Rattle.std.specs.Prelude.{codes}
 use Rattle.mail_head.specs.Lines.{raw_lines, header_lines, logical_from, logical_lines}

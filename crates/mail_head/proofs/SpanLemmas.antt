@@ -1,4 +1,4 @@
--- The fields of a message are those of the spans that it is cut into.
+-- The computed fields of a message are those of the spans that it is cut into.
 use Rattle.std.proofs.Common.{◌≡◌, ℕ, suc, ◌+◌, ◌-◌, ◌<◌, Bool, true, false, cond, eqb, List, [], ◌∷◌, ◌++◌, length, take, drop, refl, sym, ap, ◌∙◌, subst, arith, inl, inr, ◌⊎◌, Option, Some, None, append_assoc, eqb-true, eq-eqb, lt-ltb, ltb-true}
 use Rattle.std.proofs.Math.Seq.{take-append_seam}
 use Rattle.std.proofs.lemmas.List.{append-nil, length-append, take-append-drop}
@@ -149,7 +149,7 @@ test_at front b c =
 cut_last : (front : List ℕ) (b : ℕ) → take (length (front ++ b ∷ []) - 1) (front ++ b ∷ []) ≡ front
 cut_last front b = ap (λ k. take k (front ++ b ∷ [])) (less_one front b) ∙ take-append_seam front (b ∷ [])
 
--- an octet at the end is cut off where it is the one
+-- the last octet is cut off where it is c
 without_it : (front : List ℕ) (c : ℕ) → without_last c (front ++ c ∷ []) ≡ front
 without_it front c = ap (λ t. cond t (take (length (front ++ c ∷ []) - 1) (front ++ c ∷ [])) (front ++ c ∷ [])) (test_at front c c ∙ eq-eqb c c refl) ∙ cut_last front c
 

@@ -3,7 +3,7 @@ use Rattle.std.specs.Prelude.{ℕ}
 use Rattle.mail_head.specs.declared.buffer.HeadFault.{HeadFault}
 use Rattle.mail_head.specs.declared.buffer.HeadFault.TheVariants.{TooLong, NoMemory}
 
--- a message that is too long is 1, and want of memory 99
+-- 1 for a message that is too long, 99 for no memory
 abbrev pub number_of : HeadFault → ℕ
 number_of TooLong = 1
 number_of NoMemory = 99

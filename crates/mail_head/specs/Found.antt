@@ -3,8 +3,8 @@ use Rattle.std.specs.Prelude.{◌≡◌, ℕ, ◌+◌, ◌-◌, ◌<◌, ◌≤�
 use Rattle.mail_head.specs.Fields.{fields_of}
 use Rattle.mail_head.specs.declared.reading.FoundField.{FoundField}
 
--- the first field of a text's header: `from` and `after` are ends of the text, no field stands before `from`, and the fields
--- from there on are this one and those of `after`; name and body stand between the two
+-- The first field of a text's header: `from` and `after` are ends of the text, and no field stands before `from`. The
+-- fields from there on are this one and those of `after`, and its name and body stand between the two.
 pub record IsFirstField (text : List ℕ) (found : FoundField) : Type 0 where
   pub first : fields_of text ≡ fields_of found.from.now
   pub field : fields_of found.from.now ≡ found.field ∷ fields_of found.after.now

@@ -7,23 +7,23 @@ use Rattle.mail_head.specs.Lines.{header_of}
 abbrev pub header_octets : List ℕ → List ℕ
 header_octets text = concat (header_of text)
 
--- a reader: the octets that it keeps, how many it was fed, and whether it refuses
+-- a reader: the octets that it keeps, the number of octets that it was fed, and whether it refuses
 pub record Reader : Type 0 where
   pub kept : List ℕ
   pub size : ℕ
   pub refuses : Bool
 
--- the reader that was fed a message: of the message it keeps the header and nothing else
+-- the reader that was fed a message: it keeps the header of the message and nothing else
 abbrev pub reader_of : List ℕ → Reader
 reader_of message = record { kept = header_octets message; size = length message; refuses = false }
 
--- a header that owns its octets: the fields, the message's octet count, and the octets that it owns
+-- a header that owns its octets: the fields, the number of the message's octets, and the octets that it owns
 pub record Owned : Type 0 where
   pub fields : List (List ℕ × List ℕ)
   pub size : ℕ
   pub octets : List ℕ
 
--- no octet of a text stands in a line that has not ended
+-- a text that is empty or ends in an LF
 abbrev pub at_line_start : List ℕ → Bool
 at_line_start bs = not (nat_lt 0 (length bs)) || (slice_index bs (length bs - 1) == 10)
 

@@ -9,10 +9,10 @@ use std::alloc::{AllocError, Global};
 use std::marker::Model;
 use thiserror::Error;
 
-/// How many octets a message has at most: 8 MiB.
+/// The most octets that a message may have: 8 MiB.
 pub const MOST_OCTETS: u64 = 8_388_608;
 
-/// Why a reader refuses.
+/// Why a reader refuses a message.
 #[derive(Clone, Copy, Debug, PartialEq, Eq, Error)]
 pub enum HeadFault {
     /// 1: the message has more than 8,388,608 octets.
@@ -48,8 +48,8 @@ impl From<AllocError> for HeadFault {
     }
 }
 
-/// A buffer that is fed a message piece by piece. It keeps the octets of the header and none of the body, in room for at
-/// most a quarter more than it keeps.
+/// A buffer that is fed a message piece by piece. It keeps the octets of the header and none of the body, with a
+/// capacity of at most a quarter more than it keeps.
 #[derive(Drop)]
 pub struct HeaderBuffer {
     kept: Vec<u8>,
@@ -69,7 +69,7 @@ impl Model for HeaderBuffer {
 }
 
 impl HeaderBuffer {
-    /// A buffer that was fed nothing. It takes no memory yet.
+    /// A buffer that was fed nothing. It allocates nothing yet.
     pub fn new(alloc: Global) -> HeaderBuffer
         ensures { result ≡ reader_of [] }
     {
@@ -80,8 +80,8 @@ impl HeaderBuffer {
         }
     }
 
-    /// Takes the next piece, which may be empty. `TooLong` (1) comes where the message so far would have more than
-    /// 8,388,608 octets, and from then on for good. After `NoMemory` (99) the buffer is unchanged.
+    /// Takes the next piece, which may be empty. Refuses with `TooLong` (1) where the message would then have more than
+    /// 8,388,608 octets, and again in every later call. Refuses with `NoMemory` (99) and leaves the buffer unchanged.
     pub fn feed(&mut self, piece: &[u8]) -> Result<(), HeadFault>
         ensures fed { (message : List ℕ) → self.old ≡ reader_of message → OnOk result (self.new ≡ reader_of (message ++ piece.now)) }
         ensures too_long { (result ≡ Err HeadFault.TooLong) ↔ (IsTrue self.old.refuses ⊎ (MOST_OCTETS < self.old.size + length piece.now)) }
@@ -93,7 +93,7 @@ impl HeaderBuffer {
         Ok(())
     }
 
-    /// What the next piece adds to the header. `TooLong` (1) is its one refusal, and comes where it comes from `feed`.
+    /// What the next piece adds to the header. The one refusal is `TooLong` (1), in the cases of `feed`.
     pub(crate) fn next_part(&mut self, piece: &[u8]) -> Result<HeaderPart, HeadFault>
         ensures part { IfOk result (IsNextPart self.old piece.now) }
         ensures room { OnOk result (self.old.size + length piece.now ≤ MOST_OCTETS) }
@@ -112,7 +112,7 @@ impl HeaderBuffer {
         Ok(HeaderPart::Front(0))
     }
 
-    /// Takes the next piece, which adds this part to the header. The one error is want of memory, and the buffer is then
+    /// Takes the next piece, which adds `part` to the header. The one error is out of memory, and the buffer is then
     /// unchanged.
     pub(crate) fn add(&mut self, piece: &[u8], part: HeaderPart) -> Result<(), AllocError>
         requires part { IsOfPiece piece.now part }
@@ -132,7 +132,7 @@ impl HeaderBuffer {
         Ok(())
     }
 
-    /// The octets of the header so far. `TooLong` (1) comes exactly where a `feed` answered it.
+    /// The octets of the header so far. Refuses with `TooLong` (1) exactly where a `feed` did.
     pub fn octets(&self) -> Result<&[u8], HeadFault>
         ensures octets { IfOk result (λ octets. octets.now ≡ self.now.kept) }
         ensures within { IfOk result (λ octets. length octets.now ≤ MOST_OCTETS) }
@@ -145,7 +145,7 @@ impl HeaderBuffer {
         Ok(self.kept.as_slice())
     }
 
-    /// How many octets were fed.
+    /// How many octets of the message were fed, those of its body included.
     pub fn size(&self) -> u64
         ensures { result ≡ self.now.size }
     {
@@ -161,7 +161,7 @@ impl HeaderBuffer {
     }
 }
 
-/// Adds octets at the end, in room for at most a quarter more than there are then, or as much as was there before.
+/// Appends octets. The capacity is then at most a quarter above the length, or what it was before.
 fn keep(kept: &mut Vec<u8>, octets: &[u8]) -> Result<(), AllocError>
     ensures ok { OnOk result (kept.new.items ≡ kept.old.items ++ octets.now) }
     ensures err { OnErr result (kept.new.items ≡ kept.old.items) }

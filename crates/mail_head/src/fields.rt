@@ -24,15 +24,15 @@ impl<'a> Model for Field<'a> {
 }
 
 impl<'a> Field<'a> {
-    /// The field's name: one octet or more, each 33 to 126 and no colon.
+    /// The field's name: one octet or more, each 33 to 126 and no colon (RFC 5322, section 2.2).
     pub fn name(&self) -> &'a [u8]
         ensures { result.now ≡ self.now.0 }
     {
         self.name
     }
 
-    /// The field's body as it stands behind the colon, with the blanks and line ends inside, and without the end of
-    /// its last line.
+    /// The field's body as it stands after the colon: with its blanks and inner line ends, but without the end of its
+    /// last line.
     pub fn raw(&self) -> &'a [u8]
         ensures { result.now ≡ self.now.1 }
     {
@@ -65,7 +65,6 @@ fn blank_len(text: &[u8]) -> usize
         .count()
 }
 
-/// Whether the first octet is a colon.
 fn begins_with_colon(text: &[u8]) -> bool
     ensures value { result ≡ begins_with 58 text.now }
     ensures some { IsTrue result → 0 < length text.now }
@@ -76,7 +75,8 @@ fn begins_with_colon(text: &[u8]) -> bool
     }
 }
 
-/// The field that a logical line is, if it is one.
+/// The field in a logical line: a name of one octet or more, blanks, a colon and the body (RFC 5322, section 2.2). None
+/// where the line is no field.
 #[tactic(auto, unfolding(crate::specs::Fields::field_of))]
 pub fn field_at(line: &[u8]) -> Option<Field<'_>>
     ensures value { result ≡ field_of line.now }

@@ -1,16 +1,16 @@
 //! The header of a message (RFC 5322, section 2.2): its fields, as slices of the octets that were handed in.
 //!
-//! Any octets are a message. Reading is lenient, since mail comes as it comes: a bare LF ends a line as CRLF does,
-//! blanks may stand before a field's colon, and a line that is no field is passed over. Octets are never changed
-//! here: a folded body keeps its line ends, and encoded words stay as they stand.
+//! Any octets are a message. Reading is lenient: a bare LF ends a line as CRLF does, blanks may stand before a field's
+//! colon, and a line that is no field is passed over. Octets are never changed here: a folded body keeps its line ends,
+//! and encoded words stay as they stand.
 //!
 //! `read_head` reads a whole message, `HeadReader` one that comes in pieces; both give the same fields. `lines` cuts a
-//! header into logical lines, `fields` takes one apart, and `reading` finds one field after another. `parts` says what a
-//! piece adds to the header of those before it, `buffer` keeps the header's octets, and of these `pieces` makes the header
-//! that `owned` has.
+//! header into logical lines, `fields` takes one apart, and `reading` finds one field after another. `parts` says what
+//! a piece adds to the header of the pieces before it, and `buffer` keeps the header's octets. From these `pieces`
+//! makes the header type of `owned`.
 //!
-//! In `specs/`, `Spans` says what the fields are by the spans that a message is cut into, and `Lines` and `Fields` compute
-//! them. `laws` has what ties the two.
+//! In `specs/`, `Spans` defines the fields by the spans that a message is cut into, and `Lines` and `Fields` compute
+//! them. `laws` has the law that ties the two.
 #![tactic(auto)]
 
 mod buffer;

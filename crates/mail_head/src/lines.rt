@@ -5,7 +5,7 @@ ghost use Rattle.mail_head.specs.Lines.{is_blank, line_len, without_end, header_
 
 use memchr::memchr;
 
-/// Whether the octet is a space or a tab.
+/// Whether the octet is a space or a tab, which are white space in RFC 5322, section 2.2.
 pub fn is_blank_octet(octet: u8) -> bool
     ensures { result ≡ is_blank octet }
 {
@@ -25,7 +25,7 @@ pub fn line_text(line: &[u8]) -> &[u8]
     }
 }
 
-/// How many octets the first line has, with its end.
+/// The length of the first line in octets, its end included. Without an LF the whole text is one line.
 pub fn first_line_len(text: &[u8]) -> usize
     ensures value { result ≡ line_len text.now }
     ensures within { result ≤ length text.now }
@@ -37,7 +37,7 @@ pub fn first_line_len(text: &[u8]) -> usize
     }
 }
 
-/// Whether the header has no line from here on.
+/// Whether no line of the header is left: the rest is empty, or its first line has no octets before its end.
 pub fn header_ends(rest: &[u8]) -> bool
     ensures over { IsTrue result → header_of rest.now ≡ [] }
     ensures goes_on { result ≡ false → header_of rest.now ≡ take (line_len rest.now) rest.now ∷ header_of (drop (line_len rest.now) rest.now) }
@@ -46,7 +46,7 @@ pub fn header_ends(rest: &[u8]) -> bool
     line_text(&rest[..first_line_len(rest)]).is_empty()
 }
 
-/// How many octets the first logical line has, with its end.
+/// The length of the first logical line in octets, its end included (RFC 5322, section 2.2.3).
 pub fn logical_len(rest: &[u8]) -> usize
     requires { header_of rest.now ≢ [] }
     ensures value { logical_lines (header_of rest.now) ≡ take result rest.now ∷ logical_lines (header_of (drop result rest.now)) }

@@ -15,7 +15,7 @@ use std::marker::Model;
 #[derive(Drop)]
 pub struct PieceHead {
     octets: Vec<u8>,
-    /// Where each field begins.
+    /// The offset of each field in `octets`.
     starts: Vec<u32>,
     size: u64,
 }
@@ -34,7 +34,7 @@ impl Model for PieceHead {
 }
 
 impl PieceHead {
-    /// The header in `octets`, for the starts of whose fields the empty `starts` has room.
+    /// The header in `octets`. The empty `starts` has room for the start of each field.
     pub(crate) fn from_octets(octets: Vec<u8>, starts: Vec<u32>, size: u64) -> PieceHead
         requires empty { starts.items ≡ [] }
         requires room { length (fields_of octets.items) ≤ vec_capacity starts }
@@ -51,7 +51,6 @@ impl PieceHead {
         }
     }
 
-    /// The field `index`, counted from 0.
     fn field(&self, index: usize) -> Field<'_>
         requires { index < length self.now.fields }
         ensures { HoldsAt (λ f. result ≡ f) self.now.fields index }
@@ -78,8 +77,8 @@ impl PieceHead {
         self.field(index).name()
     }
 
-    /// The body of the field `index`, counted from 0 and below `field_count`, as it stands in the message. It takes time
-    /// linear in the field.
+    /// The body of the field `index`, counted from 0 and below `field_count`, as it stands in the message. It takes
+    /// time linear in the field.
     pub fn raw(&self, index: usize) -> &[u8]
         requires { index < length self.now.fields }
         ensures { HoldsAt (λ f. result.now ≡ f.1) self.now.fields index }
@@ -95,7 +94,7 @@ impl PieceHead {
     }
 }
 
-/// Where the fields of a header begin, in order, in the room that `starts` has.
+/// The offsets of a header's fields, in order. They fill `starts`, which has room for them.
 fn field_starts(mut starts: Vec<u32>, octets: &[u8]) -> Vec<u32>
     requires empty { starts.items ≡ [] }
     requires room { length (fields_of octets.now) ≤ vec_capacity starts }

@@ -7,15 +7,16 @@ ghost use Rattle.mail_head.specs.Pieces.{header_octets, at_line_start, ends_in_l
 
 use crate::lines::{first_line_len, header_ends};
 
-/// What a piece adds to a header: its first octets, so many; or nothing, since it begins with the LF that makes an empty
-/// line of the CR at the header's end, which then is no part of the header either.
+/// What a piece adds to a header: a number of its first octets, or nothing (`LessCr`). `LessCr` means that the header's
+/// last line is one CR so far and that the piece begins with an LF. The two make an empty line, so the CR leaves the
+/// header.
 #[derive(Clone, Copy)]
 pub enum HeaderPart {
     Front(usize),
     LessCr,
 }
 
-/// How many octets of a text that begins at a line's start belong to its header.
+/// How many octets at the front of a text belong to its header. The text begins at a line's start.
 pub fn header_len(text: &[u8]) -> usize
     ensures value { header_octets text.now ≡ take result text.now }
     ensures within { result ≤ length text.now }
@@ -50,7 +51,6 @@ fn has_lone_cr(text: &[u8]) -> bool
     }
 }
 
-/// Whether the first octet is LF.
 fn begins_with_lf(text: &[u8]) -> bool
     ensures { result ≡ begins_with 10 text.now }
 {
@@ -60,7 +60,7 @@ fn begins_with_lf(text: &[u8]) -> bool
     }
 }
 
-/// What `piece` adds to the header `kept`, which has all octets before it.
+/// What `piece` adds to the header `kept`, which is all of the message before the piece.
 pub fn header_part(kept: &[u8], piece: &[u8]) -> HeaderPart
     ensures { IsPart kept.now piece.now result }
 {

@@ -14,12 +14,12 @@ use crate::parts::HeaderPart;
 use std::alloc::{AllocError, Global};
 use std::marker::Model;
 
-/// A reader that is fed a message piece by piece. It keeps the octets of the header and none of the body, and room of
-/// four octets for each line end of the header, so that `finish` takes no memory.
+/// A reader that is fed a message piece by piece. It keeps the octets of the header and none of the body. It also
+/// reserves four octets for each line end of the header, so that `finish` allocates nothing.
 #[derive(Drop)]
 pub struct HeadReader {
     header: HeaderBuffer,
-    /// At least as many as the header has.
+    /// At least the number of line ends in the header.
     line_ends: usize,
     /// Empty, with room for the start of each field that the header can have.
     starts: Vec<u32>,
@@ -38,7 +38,7 @@ impl Model for HeadReader {
 }
 
 impl HeadReader {
-    /// A reader that was fed nothing. It takes no memory yet.
+    /// A reader that was fed nothing. It allocates nothing yet.
     pub fn new(alloc: Global) -> HeadReader
         ensures { result ≡ reader_of [] }
     {
@@ -49,8 +49,8 @@ impl HeadReader {
         }
     }
 
-    /// Takes the next piece, which may be empty. `TooLong` (1) comes where the message so far would have more than
-    /// 8,388,608 octets, and from then on for good. After `NoMemory` (99) the reader is unchanged.
+    /// Takes the next piece, which may be empty. Refuses with `TooLong` (1) where the message would then have more than
+    /// 8,388,608 octets, and again in every later call. Refuses with `NoMemory` (99) and leaves the reader unchanged.
     pub fn feed(&mut self, piece: &[u8]) -> Result<(), HeadFault>
         ensures fed { (message : List ℕ) → self.old ≡ reader_of message → OnOk result (self.new ≡ reader_of (message ++ piece.now)) }
         ensures too_long { (result ≡ Err TooLong) ↔ (IsTrue self.old.refuses ⊎ (MOST_OCTETS < self.old.size + length piece.now)) }
@@ -65,8 +65,8 @@ impl HeadReader {
         Ok(())
     }
 
-    /// The header of the message that was fed. It takes no memory, and `TooLong` (1) comes only where a `feed`
-    /// answered it.
+    /// The header of the message that was fed. It allocates nothing. The one refusal is `TooLong` (1), exactly where a
+    /// `feed` answered it.
     pub fn finish(self) -> Result<PieceHead, HeadFault>
         ensures head { (message : List ℕ) → self ≡ reader_of message → IfOk result (λ h. h ≡ record { fields = fields_of message; size = length message; octets = header_octets message }) }
         ensures too_long { IsErrOf result TooLong ↔ IsTrue self.refuses }
@@ -79,7 +79,7 @@ impl HeadReader {
     }
 }
 
-/// How many LF the octets of a piece have that belong to the header.
+/// How many LF are among the octets of a piece that belong to the header.
 fn line_ends_gained(piece: &[u8], part: HeaderPart) -> usize
     requires { IsOfPiece piece.now part }
     ensures value { result ≡ count_by (λ b. b == 10) (gained piece.now part) }
@@ -99,8 +99,8 @@ fn line_end_count(text: &[u8]) -> usize
     text.iter().filter(|octet| **octet == b'\n').count()
 }
 
-/// Makes room for the starts of one field more than there are line ends: for as many as are asked for and at most a
-/// quarter more, or as much as was there before.
+/// Makes room for one start more than there are line ends. The room is at most a quarter more than that, or what it was
+/// before.
 fn make_room(starts: &mut Vec<u32>, line_ends: usize) -> Result<(), AllocError>
     requires empty { starts.old.items ≡ [] }
     requires few { line_ends ≤ MOST_OCTETS }

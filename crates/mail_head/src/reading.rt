@@ -9,7 +9,7 @@ use crate::lines::{header_ends, logical_len};
 use std::alloc::{AllocError, Global};
 use std::marker::Model;
 
-/// A field where it stands in a text.
+/// A field, and where it stands in a text.
 #[derive(Drop)]
 pub struct FoundField<'a> {
     pub field: Field<'a>,
@@ -19,8 +19,8 @@ pub struct FoundField<'a> {
     pub after: &'a [u8],
 }
 
-/// The first field of the header of a text, which begins at a line's start; lines before it that are no fields are passed
-/// over. None where the header has no field.
+/// The first field of a text's header. The text begins at a line's start, and logical lines that are no fields are
+/// passed over. None where the header has no field.
 pub fn first_field(text: &[u8]) -> Option<FoundField<'_>>
     ensures { MatchOption result (fields_of text.now ≡ []) (IsFirstField text.now) }
 {
@@ -70,8 +70,8 @@ impl<'a> Head<'a> {
     }
 }
 
-/// The header of a message: the fields of RFC 5322, section 2.2, read leniently, in order, as slices of `msg`, and
-/// the number of its octets, those after the header included. Its one refusal is want of memory.
+/// The header of a message (RFC 5322, section 2.2), read leniently: its fields in order, as slices of `msg`, and the
+/// number of the message's octets, its body included. The one error is out of memory.
 pub fn read_head(alloc: Global, msg: &[u8]) -> Result<Head<'_>, AllocError>
     ensures { IfOk result (λ h. h ≡ (fields_of msg.now, length msg.now)) }
 {

@@ -24,20 +24,19 @@ bytes_cond : (t : Bool) (b : ℕ) (xs : List ℕ) → b < 256 → IsBytes xs →
 bytes_cond true b xs l h = h
 bytes_cond false b xs l h = bytes_cons b xs l h
 
--- what is left of octets are octets
+-- unfolding leaves octets
 pub bytes_unfolded : (xs : List ℕ) → IsBytes xs → IsBytes (unfolded xs)
 unfolding unfolded
 bytes_unfolded [] h = bytes_nil
 bytes_unfolded (b ∷ bs) h = bytes_cond _ b (unfolded bs) (h 0) (bytes_unfolded bs (λ i. h (suc i)))
 
--- how long an encoding is
 pub length-encoded : (octets : List ℕ) → length (encode_of standard octets) ≡ 4 * ((length octets + 2) / 3)
 length-encoded octets =
     let pads : List ℕ = replicate (padding_len (length octets)) standard.padding.value in
     let whole : length (encode_of standard octets) ≡ length (encode_symbols standard.encode_table octets) + length pads = length-append (encode_symbols standard.encode_table octets) pads in
     omega (arith, whole, length-encode_symbols standard.encode_table octets, length-replicate (padding_len (length octets)) standard.padding.value)
 
--- the first 64 symbols of an encoding are that of the first 48 octets
+-- the first 64 symbols of an encoding encode the first 48 octets
 pub record Split (octets : List ℕ) : Type 0 where
   pub front : take 64 (encode_of standard octets) ≡ encode_of standard (take 48 octets)
   pub back : drop 64 (encode_of standard octets) ≡ encode_of standard (drop 48 octets)
@@ -83,7 +82,7 @@ encoded text octets bytes h =
 no_some : (x : List ℕ) → None ≡ Some x → ⊥
 no_some x e = absurd cc
 
--- symbols that decode, with nothing or whole groups before what follows
+-- symbols that decode, to 48 octets or with nothing after them
 pub chunk-good : (text a : List ℕ) → IsBytes text → b_octets (take 64 text) ≡ Some a → ((length a ≡ 48) ⊎ (drop 64 text ≡ [])) → b_octets text ≡ option_map (λ more. a ++ more) (b_octets (drop 64 text))
 chunk-good text a bytes h whole = at (b_octets text) refl (b_octets (drop 64 text)) refl
   where
@@ -166,7 +165,7 @@ b_octets-nil = (b_law [] [] bytes_nil).1 (bytes_nil, sym (encode_of-nil standard
 pub Decoding-all : (charset : Charset) (text rest old out : List ℕ) → Decoding charset text rest old out → rest ≡ [] → ArePut true charset old (b_octets text) out
 Decoding-all charset text rest old out d e = ArePut-some charset old (b_octets text) out d.octets (sym d.same ∙ ap (option_map (λ more. d.octets ++ more)) (ap b_octets e ∙ b_octets-nil) ∙ ap Some (append-nil d.octets)) d.put
 
--- the symbols that are read, and the octets that they stand for
+-- the symbols that are read, and the octets that they encode
 pub read_part : (text symbols rest : List ℕ) (count : ℕ) → text ≡ take count symbols ++ rest → count ≤ 64 → length symbols ≡ 64 → 64 ≤ count → (take count symbols ≡ take 64 text) × (rest ≡ drop 64 text)
 read_part text symbols rest count e h long full =
     let size : length (take count symbols) ≡ 64 = omega (arith, length-take count symbols, h, long, full) in
@@ -178,7 +177,7 @@ read_all text symbols rest count e none h =
     let short : length text ≤ 64 = omega (arith, ap length whole, length-take count symbols, h) in
     (sym whole ∙ sym (take_all 64 text short), none ∙ sym (drop_all 64 text short))
 
--- what the first symbols decode to, where they were read into a row of symbols
+-- what the first symbols decode to, once they are read into an array
 pub symbols_read : (symbols rest : List ℕ) (count : ℕ) (o : Option (List ℕ)) → take count symbols ≡ take 64 rest → b_octets (take count symbols) ≡ o → b_octets (take 64 rest) ≡ o
 symbols_read symbols rest count o e h = ap b_octets (sym e) ∙ h
 

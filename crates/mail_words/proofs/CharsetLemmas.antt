@@ -16,7 +16,7 @@ not_utf8 : (bs : List ℕ) (t : Bool) → is_utf8 bs ≡ t → (IsUtf8 bs → �
 not_utf8 bs true e h = absurd (h (IsUtf8-from_is_utf8 bs e))
 not_utf8 bs false e h = sym e
 
--- what `from_utf8` says of some octets
+-- what `from_utf8` answers of some octets
 pub utf8_test : {T E : Type 0} (bs : List ℕ) (P : T → Type 0) (Q : E → Type 0) (r : Result T E) → MatchResult r (λ s. P s × IsUtf8 bs) (λ e. (IsUtf8 bs → ⊥) × Q e) → is_ok r ≡ is_utf8 bs
 utf8_test bs P Q (Ok s) h = sym (is_utf8-from_IsUtf8 bs h.1)
 utf8_test bs P Q (Err e) h = not_utf8 bs (is_utf8 bs) refl h.0
@@ -50,7 +50,7 @@ pub ArePut-none : (charset : Charset) (old : List ℕ) (o : Option (List ℕ)) (
 ArePut-none charset old None new more e h = (more, h)
 ArePut-none charset old (Some x) new more e h = absurd cc
 
--- what is appended of a word
+-- what is appended for a word
 text_in-written : (charset : Charset) (octets : List ℕ) → text_in charset octets ≡ cond (is_text_in charset (written_in charset octets)) (Some (written_in charset octets)) None
 unfolding text_in
 text_in-written Ascii octets = refl

@@ -16,7 +16,7 @@ use Rattle.mail_words.proofs.MeaningLemmas.{means_from, means_to, bad_word}
 abbrev Part : Type 0
 Part = List ℕ × Word
 
--- a word that stands behind another stands in what is behind that one
+-- a word that stands after another stands in the text after that one
 lowered : (text gap : List ℕ) (w : Word) (after before : List ℕ) (u : Word) (rest : List ℕ) → StandsIn true text gap w after → StandsIn true text (gap ++ (spelling w ++ before)) u rest → StandsIn true after before u rest
 lowered text gap w after before u rest h k = record {
   joined =
@@ -34,7 +34,7 @@ lowered text gap w after before u rest h k = record {
 too_long : (gap : List ℕ) (w : Word) (before : List ℕ) → gap ++ (spelling w ++ before) ≡ gap → ⊥
 too_long gap w before e = absurd (omega (arith, ap length e, length-append gap (spelling w ++ before), length-append (spelling w) before))
 
--- a word of what is behind the first one of a cut
+-- a word of the text after the first one of a cut
 abbrev IsAt : List Part → List ℕ → Word → Type 0
 IsAt parts before u = (front : List Part) × (gap : List ℕ) × (back : List Part) × (parts ≡ front ++ (gap, u) ∷ back) × (before ≡ written front gap)
 
@@ -48,7 +48,7 @@ behind_first gap w parts before u (p ∷ front) place back e f =
     let whole : gap ++ (spelling w ++ before) ≡ gap ++ (spelling w ++ written front place) = f ∙ ap (λ q. q.0 ++ (spelling q.1 ++ written front place)) (sym first) in
     (front, place, back, others, append_cancel_left (spelling w) before (written front place) (append_cancel_left gap (spelling w ++ before) (spelling w ++ written front place) whole))
 
--- what stands behind the first word of a cut has the cut's other words
+-- the text after the first word of a cut has the cut's other words
 rest_cut : (text gap : List ℕ) (w : Word) (parts : List Part) (last : List ℕ) → IsCutOf text ((gap, w) ∷ parts, last) → IsCutOf (written parts last) (parts, last)
 rest_cut text gap w parts last k =
     let first : StandsIn true text gap w (written parts last) = k.words [] (gap, w) parts refl in

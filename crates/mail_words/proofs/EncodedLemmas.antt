@@ -1,4 +1,4 @@
--- B text decodes to the octets whose encoding it is, and other text does not decode.
+-- B text decodes to the octets that it encodes, and other text does not decode.
 use Rattle.std.proofs.Common.{◌≡◌, ℕ, zero, suc, ◌+◌, ◌-◌, ◌*◌, ◌/◌, ◌%◌, ◌<◌, ◌≤◌, Bool, true, List, [], ◌∷◌, ◌++◌, length, take, drop, slice_index, refl, ap, subst, arith, inl, inr, ◌⊎◌, Option, Some, None, Result, Ok, Err, ◌↔◌}
 use Rattle.std.proofs.lemmas.List.{length-drop, get_or-drop}
 use Rattle.std.specs.Result.{result_ok}
@@ -30,7 +30,7 @@ bytes_take zero xs h = bytes_nil
 bytes_take (suc n) [] h = bytes_nil
 bytes_take (suc n) (x ∷ xs) h = bytes_cons x (take n xs) (h 0) (bytes_take n xs (λ i. h (suc i)))
 
--- three octets of four values below 64
+-- a group of four values below 64 gives octets
 group_is_bytes : (a b c d : ℕ) → a < 64 → b < 64 → c < 64 → d < 64 → IsBytes (decode_group a b c d)
 group_is_bytes a b c d la lb lc ld =
     bytes_cons (a * 4 + b / 16) ((b % 16 * 16 + c / 4) ∷ (c % 4 * 64 + d) ∷ []) (omega arith) (bytes_cons (b % 16 * 16 + c / 4) ((c % 4 * 64 + d) ∷ []) (omega arith) (bytes_cons (c % 4 * 64 + d) [] (omega arith) bytes_nil))

@@ -12,7 +12,7 @@ use Rattle.mail_words.specs.declared.words.Part.{Part}
 use Rattle.mail_words.specs.declared.words.Part.TheVariants.{Charset, Text}
 use Rattle.mail_words.proofs.UnfoldingLemmas.{before_lf, without_cr-cons}
 
--- the last octet is this one
+-- the last octet is c
 abbrev pub last_is : ℕ → List ℕ → Bool
 last_is c [] = false
 last_is c (b ∷ []) = eqb b c
@@ -22,7 +22,7 @@ push_append : (t : Bool) (b : ℕ) (xs ys : List ℕ) → cond t (xs ++ ys) (b �
 push_append true b xs ys = refl
 push_append false b xs ys = refl
 
--- texts that no line end joins
+-- two texts that make no line end where they are joined
 pub unfolded-append : (xs ys : List ℕ) → (last_is 13 xs && begins_with 10 ys) ≡ false → unfolded (xs ++ ys) ≡ unfolded xs ++ unfolded ys
 unfolding unfolded
 unfolded-append [] ys h = refl
@@ -109,7 +109,7 @@ ends_in-snoc c (x ∷ xs) h =
 pub unfolded-line : (text line rest : List ℕ) → ends_in 10 text ≡ true → line ≡ take (length text - 1) text → rest ≡ without_cr line → unfolded text ≡ unfolded rest
 unfolded-line text line rest h el er = ap unfolded (ends_in-snoc 10 text h ∙ ap (λ x. x ++ 10 ∷ []) (sym el)) ∙ unfolded-end line ∙ ap unfolded (sym er)
 
--- an octet that is not LF at the end
+-- the last octet, where it is no LF
 ends_in-last : (c : ℕ) (xs : List ℕ) (b : ℕ) → ends_in c (xs ++ b ∷ []) ≡ eqb b c
 ends_in-last c xs b =
     let some : nat_lt 0 (length (xs ++ b ∷ [])) ≡ true = rw (length-append xs (b ∷ [])) (grind arith) in

@@ -16,12 +16,12 @@ closes_pair [] = refl
 closes_pair (a ∷ []) = refl
 closes_pair (a ∷ b ∷ bs) = refl
 
--- the text begins as a word does up to its charset
+-- whether the text begins as a word does up to its charset
 pub front-not_open : (bs : List ℕ) → begins_with_pair 61 63 bs ≡ false → None ≡ word_at bs
 unfolding word_at
 front-not_open bs h = rw (opens_pair bs, h) refl
 
--- the parts of the text, one behind another
+-- the parts of the text, one after another
 pub record Opened (bs opened charset encoded : List ℕ) : Type 0 where
   pub begins : bs ≡ 61 ∷ 63 ∷ opened
   pub charset_is : charset ≡ take_while is_charset_octet opened

@@ -31,7 +31,7 @@ length-trimmed bs =
     let front = without_first_blanks bs in
     omega (arith, length-take (length front - suffix_len is_blank front) front, length-drop (prefix_len is_blank bs) bs)
 
--- a word's octets are no more than its text has
+-- a word encodes no more octets than its text has
 length-q : (text octets : List ℕ) → QText text octets → length octets ≤ length text
 length-q _ _ q_end = omega arith
 length-q _ _ (q_itself b text octets n m h) = omega (arith, length-q text octets h)
@@ -42,7 +42,7 @@ length-octets : (letter : ℕ) (text octets : List ℕ) → IsEncoding letter te
 length-octets letter text octets (inl h) = omega (arith, length-encoded octets, ap length h.1.1)
 length-octets letter text octets (inr h) = length-q text octets h.1
 
--- and each is written in four octets at most
+-- and each is written in at most four octets
 length-written : (octets : List ℕ) → length (encode_utf8_all octets) ≤ 4 * length octets
 length-written [] = omega arith
 length-written (b ∷ bs) = simp length-append (omega (arith, length-encode b, len_utf8_bounds b, length-written bs))
@@ -69,7 +69,7 @@ length-gap : (t : Bool) (gap : List ℕ) → length (cond t [] gap) ≤ length g
 length-gap true gap = omega arith
 length-gap false gap = omega arith
 
--- a word as it is shown, with the gap before it and what comes after it
+-- a word as it is shown, with the gap before it and what follows it
 length-shown_word : (after_good : Bool) (gap after : List ℕ) (w : Word) (o : Option (List ℕ)) (more : Bool → List ℕ) → IsWord w → text_of w ≡ o → ((good : Bool) → length (more good) ≤ 4 * length after) → length (shown_word after_good gap w o more) ≤ 4 * (length gap + (length (spelling w) + length after))
 length-shown_word after_good gap after w (Some text) more h e rest =
     let kept : List ℕ = cond (after_good && list_all is_blank gap) [] gap in
@@ -91,7 +91,7 @@ unfolding cut_words shown AllShort
 length-shown zero = λ good bs. omega arith
 length-shown (suc n) = λ good bs. length-cut n good bs (first_word true bs) refl (length-shown n)
 
--- a value has at most four octets for each of the body
+-- a value has at most four octets for each octet of the body
 pub length-value : (raw : List ℕ) → length (value_of_body raw) ≤ 4 * length raw
 unfolding value_of_body AllShort
 length-value raw = omega (arith, length-shown (length (trimmed (unfolded raw))) false (trimmed (unfolded raw)), length-trimmed (unfolded raw), length-unfolded raw)

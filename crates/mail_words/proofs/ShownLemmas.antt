@@ -8,7 +8,7 @@ use Rattle.mail_words.specs.Words.{Word, spelling, first_word}
 use Rattle.mail_words.specs.Decoding.{text_of}
 use Rattle.mail_words.specs.Value.{cut_at, cut_words, shown_word, shown, words_shown, IsPutWord}
 
--- what was shown, and the rest of the text, of which all is what comes of it
+-- what was shown, and the rest of the text; the two determine the whole
 pub record Showing (all out rest : List ℕ) (after_good : Bool) : Type 0 where
   pub turns : ℕ
   pub enough : length rest ≤ turns
@@ -17,7 +17,7 @@ pub record Showing (all out rest : List ℕ) (after_good : Bool) : Type 0 where
 pub Showing-none : (old text : List ℕ) → Showing (old ++ words_shown text) old text false
 Showing-none old text = record { turns = length text; enough = omega arith; same = refl }
 
--- what a cut is after one word
+-- the cut of a text after its first word
 cut_more : (n : ℕ) (rest gap after : List ℕ) (w : Word) → Some (gap, w, after) ≡ first_word true rest → cut_words (suc n) rest ≡ ((gap, w) ∷ (cut_words n after).0, (cut_words n after).1)
 unfolding cut_words
 cut_more n rest gap after w e = ap (λ o. cut_at rest o (cut_words n)) (sym e)
@@ -40,7 +40,7 @@ Showing-done all out rest after_good h e =
     let cut = cut_last h.turns rest e in
     ap (λ x. out ++ x) (sym (ap (λ c. shown after_good c.0 c.1) cut ∙ shown_last after_good rest)) ∙ h.same
 
--- one word more
+-- one more word
 record Next (all out rest gap after : List ℕ) (w : Word) (after_good : Bool) : Type 0 where
   pub turns : ℕ
   pub enough : length after ≤ turns

@@ -9,7 +9,7 @@ use Rattle.mail_words.specs.Value.{Cut, cut_at, cut_words}
 use Rattle.mail_words.specs.Spans.{may_stand_behind, StandsIn, written, IsCutOf, StandApart}
 use Rattle.mail_words.proofs.SpellingLemmas.{Found, first_word-stands}
 
--- a run that a text begins with is the whole of it that passes
+-- a prefix of octets that pass, before one that does not, is all of it
 run_stops : (p : ℕ → Bool) (xs : List ℕ) (y : ℕ) (ys : List ℕ) → list_all p xs ≡ true → p y ≡ false → prefix_len p (xs ++ y ∷ ys) ≡ length xs
 run_stops p [] y ys h k = rw k refl
 run_stops p (x ∷ xs) y ys h k =
@@ -27,7 +27,7 @@ drop_run (x ∷ xs) ys = drop_run xs ys
 some_length : (xs : List ℕ) → 0 < length xs → nat_lt 0 (length xs) ≡ true
 some_length xs h = grind arith
 
--- the octets of a word as they stand, with what is behind it
+-- the octets of a word as they are written, with the text after it
 word_written : (w : Word) (after : List ℕ) → spelling w ++ after ≡ 61 ∷ 63 ∷ (w.charset ++ 63 ∷ w.encoding ∷ 63 ∷ (w.text ++ 63 ∷ 61 ∷ after))
 word_written w after =
     ap (λ x. 61 ∷ 63 ∷ x) (append_assoc w.charset (63 ∷ w.encoding ∷ 63 ∷ (w.text ++ 63 ∷ 61 ∷ [])) after) ∙ ap (λ x. 61 ∷ 63 ∷ (w.charset ++ 63 ∷ w.encoding ∷ 63 ∷ x)) (append_assoc w.text (63 ∷ 61 ∷ []) after)
@@ -90,7 +90,7 @@ skip_plain (x ∷ xs) ys (p ∷ pre) rest e h =
     let more = skip_plain xs ys pre rest (cc) (and_parts (not (x == 61)) (list_all (λ b. not (b == 61)) xs) h).1 in
     (more.0, ap (λ a. a ∷ pre) (sym first) ∙ ap (λ a. x ∷ a) more.1, more.2)
 
--- nor in encoded text, which has no "?": behind "=?" a charset begins, and that begins with no "="
+-- nor in encoded text, which has no "?": after "=?" a charset begins, and that begins with no "="
 skip_text : (xs ys pre rest : List ℕ) (c : ℕ) → xs ++ 63 ∷ 61 ∷ ys ≡ pre ++ 61 ∷ 63 ∷ c ∷ rest → list_all is_text_octet xs ≡ true → eqb c 61 ≡ false → (more : List ℕ) × (pre ≡ xs ++ more) × (63 ∷ 61 ∷ ys ≡ more ++ 61 ∷ 63 ∷ c ∷ rest)
 skip_text [] ys pre rest c e h k = (pre, refl, e)
 skip_text (x ∷ []) ys [] rest c e h k =
@@ -137,7 +137,7 @@ charset_first : (c : ℕ) (t : Bool) → eqb c 61 ≡ t → is_charset_octet c �
 charset_first c false e k = e
 charset_first c true e k = let is : c ≡ 61 = eqb-true c 61 e in absurd (no_truth (rw is at k))
 
--- what a word that begins behind the first octet of another leaves of it
+-- no word begins within the "?=" that ends another
 behind_end : (m : List ℕ) (after : List ℕ) (rest : List ℕ) → 63 ∷ 61 ∷ after ≡ m ++ 61 ∷ 63 ∷ rest → can_follow after ≡ true → (gap : List ℕ) × (m ≡ 63 ∷ 61 ∷ gap) × (after ≡ gap ++ 61 ∷ 63 ∷ rest)
 behind_end [] after rest e k = let no : get_or (63 ∷ 61 ∷ after) 0 0 ≡ get_or (61 ∷ 63 ∷ rest) 0 0 = ap (λ x. get_or x 0 0) e in absurd (omega (arith, no))
 behind_end (a ∷ []) after rest e k =
@@ -149,7 +149,7 @@ behind_end (a ∷ b ∷ m) after rest e k =
     let more : after ≡ m ++ 61 ∷ 63 ∷ rest = cc in
     (m, ap (λ x. x ∷ b ∷ m) (sym one) ∙ ap (λ x. 63 ∷ x ∷ m) (sym two), more)
 
--- a word that begins behind the first octet of another begins behind its end
+-- a word that begins after the first octet of another begins at or after its end
 apart : (w u : Word) (after rest : List ℕ) (b : ℕ) (more : List ℕ) → spelling w ++ after ≡ (b ∷ more) ++ (spelling u ++ rest) → IsWord w → IsWord u → can_follow after ≡ true → (gap : List ℕ) × (b ∷ more ≡ spelling w ++ gap) × (after ≡ gap ++ (spelling u ++ rest))
 apart w u after rest b more e hw hu ends =
     let c = first_of is_charset_octet u.charset hu.some_charset hu.charset in
@@ -167,7 +167,6 @@ apart w u after rest b more e hw hu ends =
     let regroup : 61 ∷ (front ++ (w.text ++ 63 ∷ 61 ∷ three.0)) ≡ 61 ∷ 63 ∷ (w.charset ++ 63 ∷ w.encoding ∷ 63 ∷ (w.text ++ 63 ∷ 61 ∷ three.0)) = ap (λ x. 61 ∷ 63 ∷ x) (append_assoc w.charset (63 ∷ w.encoding ∷ 63 ∷ []) (w.text ++ 63 ∷ 61 ∷ three.0)) in
     (three.0, begun ∙ regroup ∙ sym (word_written w three.0), three.2 ∙ ap (λ x. three.0 ++ x) (sym second))
 
--- two words that stand in a text never overlap
 pub words_apart : (text : List ℕ) → StandApart text
 words_apart text before w after b more u rest h k =
     let both : before ++ (spelling w ++ after) ≡ before ++ ((b ∷ more) ++ (spelling u ++ rest)) = sym h.joined ∙ k.joined ∙ append_assoc before (b ∷ more) (spelling u ++ rest) in
@@ -185,7 +184,7 @@ behind_more start (y ∷ ys) b bs = behind_more (precedes y) ys b bs
 pub behind_word : (gap : List ℕ) (w : Word) (b : ℕ) (bs : List ℕ) → may_stand_behind true (gap ++ (spelling w ++ b ∷ bs)) ≡ may_stand_behind true (b ∷ bs)
 behind_word gap w b bs = ap (may_stand_behind true) (sym (append_assoc gap (spelling w) (b ∷ bs))) ∙ behind_more true (gap ++ spelling w) b bs
 
--- a word that stands behind another
+-- a word that stands after another
 pub lifted : (text gap : List ℕ) (w : Word) (after before : List ℕ) (u : Word) (rest : List ℕ) → StandsIn true text gap w after → StandsIn true after before u rest → StandsIn true text (gap ++ (spelling w ++ before)) u rest
 lifted text gap w after [] u rest h k = absurd (not_at_end after u rest k.joined h.ends)
 lifted text gap w after (b ∷ bs) u rest h k = record {

@@ -8,7 +8,7 @@ use Rattle.std.specs.List.{list_all, prefix_len, take_while}
 use Rattle.mail_words.specs.Spans.{StandsIn}
 use Rattle.mail_words.specs.Words.{Word, spelling, IsWord, is_charset_octet, is_text_octet, is_encoding, precedes, can_follow, opens, closes, names_encoding, word_at, if_followed, followed_word_at, or_later, first_word}
 
--- a run and what stands behind it
+-- a prefix of octets that pass, and the rest
 run_joined : (p : ℕ → Bool) (bs : List ℕ) → bs ≡ take_while p bs ++ drop (length (take_while p bs)) bs
 run_joined p bs = sym (ap (λ n. take_while p bs ++ drop n bs) (length-prefix_len p bs) ∙ take-append-drop (prefix_len p bs) bs)
 
@@ -104,7 +104,6 @@ step_cases true (Some w) b more f h = inl (w, refl, refl, cc)
 step_cases true None b more f h = inr (from_more b more f h)
 step_cases false o b more f h = inr (from_more b more f h)
 
--- the word that is found stands there
 pub first_word-stands : (start : Bool) (bs : List ℕ) (f : Found) → first_word start bs ≡ Some f → StandsIn start bs f.0 f.1 f.2
 unfolding first_word
 first_word-stands start [] f h = absurd cc
@@ -123,6 +122,6 @@ first_word-stands start (b ∷ bs) f h = at (step_cases start (followed_word_at 
         let here : P (b ∷ g.0, g.1, g.2) = record { joined = ap (λ x. b ∷ x) later.joined; word = later.word; begins = later.begins; ends = later.ends } in
         subst P (sym e) here
 
--- what a search that found a word says of the text
+-- what a search that found a word says about the text
 pub first_word-spelled : (bs gap after : List ℕ) (w : Word) → Some (gap, w, after) ≡ first_word true bs → bs ≡ gap ++ (spelling w ++ after)
 first_word-spelled bs gap after w h = (first_word-stands true bs (gap, w, after) (sym h)).joined

@@ -9,7 +9,7 @@ push_cond : (t : Bool) (b : ℕ) (xs ys : List ℕ) → cond t (b ∷ xs) (b ∷
 push_cond true b xs ys = refl
 push_cond false b xs ys = refl
 
--- a CR goes only from the end
+-- a CR is removed only at the end
 pub without_cr-cons : (b c : ℕ) (cs : List ℕ) → without_cr (b ∷ c ∷ cs) ≡ b ∷ without_cr (c ∷ cs)
 without_cr-cons b c cs =
     let one : suc (suc (length cs)) - 1 ≡ suc (length cs) = omega arith in

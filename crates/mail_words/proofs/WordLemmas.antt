@@ -14,7 +14,7 @@ use Rattle.mail_words.proofs.FoldedLemmas.{last_is, last-snoc, unfolded-append, 
 abbrev pub Standing : Type 0
 Standing = List ℕ × Word × List ℕ
 
--- a word that stands behind some octets more
+-- a word that is found after some more octets
 abbrev pub behind : List ℕ → Standing → Standing
 behind front f = (front ++ f.0, f.1, f.2)
 
@@ -34,7 +34,7 @@ cond_none : {X : Type 0} (t : Bool) (o : Option X) → o ≡ None → cond t o N
 cond_none true o e = e
 cond_none false o e = refl
 
--- no word begins with another octet than "="
+-- a word begins with "=" only
 opens_no : (b : ℕ) (bs : List ℕ) → eqb b 61 ≡ false → opens (b ∷ bs) ≡ false
 opens_no b [] e = refl
 opens_no b (c ∷ cs) e = rw e refl
@@ -59,7 +59,7 @@ first_word-none : (xs : List ℕ) (start : Bool) → list_all is_other xs ≡ tr
 unfolding first_word
 first_word-none xs start h = ap (first_word start) (sym (append-nil xs)) ∙ skip xs [] start h
 
--- what is left of octets without "=" has none
+-- a part of octets without "=" has none
 pass_cond : (t : Bool) (b : ℕ) (xs : List ℕ) → is_other b ≡ true → list_all is_other xs ≡ true → list_all is_other (cond t xs (b ∷ xs)) ≡ true
 pass_cond true b xs h k = k
 pass_cond false b xs h k = rw (h, k) refl

@@ -1,4 +1,4 @@
--- What an encoded word means, computed (RFC 2047, sections 3 and 4); `Meaning` says the same without computing it.
+-- What an encoded word means, computed (RFC 2047, sections 3 and 4). `Meaning` defines the same without computing it.
 use Rattle.std.specs.Prelude.{◌≡◌, ℕ, ◌+◌, ◌-◌, ◌*◌, Bool, true, false, List, [], ◌∷◌, ◌++◌, Option, Some, None, option_map, option_and_then, nat_le, ◌==◌, ◌&&◌, if◌then◌else◌}
 use Rattle.std.specs.Result.{result_ok}
 use Rattle.std.specs.Char.{to_ascii_lowercase}
@@ -21,8 +21,8 @@ hex_value b =
     else if nat_le 97 b && nat_le b 102 then Some (b - 87)
     else None
 
--- the octets of Q text (section 4.2): "_" is a space, "=" and two hexadecimal digits are the octet of that number, another
--- "=" is bad, and another octet is itself
+-- the octets of Q text (RFC 2047, section 4.2): "_" is a space, "=" and two hexadecimal digits are the octet of that
+-- number, another "=" is bad, and another octet is itself
 unfoldable pub q_octets : Place → List ℕ → Option (List ℕ)
 q_octets Plain [] = Some []
 q_octets Escape [] = None
@@ -31,7 +31,7 @@ q_octets Plain (b ∷ bs) = if b == 61 then q_octets Escape bs else option_map (
 q_octets Escape (b ∷ bs) = hex_value b >>= λ high. q_octets (Digit high) bs
 q_octets (Digit high) (b ∷ bs) = hex_value b >>= λ low. option_map (λ more. (high * 16 + low) ∷ more) (q_octets Plain bs)
 
--- the octets of B text (section 4.1), which decodes to them
+-- the octets of B text (RFC 2047, section 4.1), which decodes to them
 abbrev pub b_octets : List ℕ → Option (List ℕ)
 b_octets text = result_ok (decode_of standard text)
 
@@ -42,7 +42,7 @@ octets_of w = if to_ascii_lowercase w.encoding == 98 then b_octets w.text else q
 unfoldable pub text_of : Word → Option (List ℕ)
 text_of w = charset_named w.charset >>= λ charset. octets_of w >>= text_in charset
 
--- the text, where there is one, is written behind the old text; where there is none, something may be
+-- a text, if there is one, is appended to the old text; if there is none, anything may be appended
 abbrev pub IsAppended : Bool → List ℕ → Option (List ℕ) → List ℕ → Type 0
 IsAppended true old (Some text) new = new ≡ old ++ text
 IsAppended true old None new = ⊥

@@ -1,5 +1,5 @@
--- A text and what is shown of it, said by the spans of its words (RFC 2047, sections 2, 5 and 6.2): which words stand in
--- the text, that it is cut at all of them and nowhere else, and what is shown of such a cut.
+-- A text and what is shown of it, defined by the spans of its words (RFC 2047, sections 2, 5 and 6.2). A text is cut at
+-- exactly the words that stand in it, and each word and gap of the cut is shown in one way.
 use Rattle.std.specs.Prelude.{◌≡◌, ◌⊎◌, ℕ, Bool, true, List, [], ◌∷◌, ◌++◌, Option, Some, None, ◌↔◌}
 use Rattle.std.specs.List.{list_all}
 use Rattle.mail_words.specs.Unfolding.{is_blank}
@@ -7,40 +7,41 @@ use Rattle.mail_words.specs.Words.{Word, spelling, IsWord, precedes, can_follow}
 use Rattle.mail_words.specs.Value.{Cut, words_shown}
 use Rattle.mail_words.specs.Meaning.{Means, IsGood}
 
--- a word may stand behind these octets: there are none, where one may stand at the start, or the last of them is a blank
--- or "("
+-- a word may stand after these octets (RFC 2047, section 5): there are none and one may stand at the start, or the last
+-- of them is a blank or "("
 abbrev pub may_stand_behind : Bool → List ℕ → Bool
 may_stand_behind start [] = start
 may_stand_behind start (b ∷ bs) = may_stand_behind (precedes b) bs
 
--- a word stands in a text, between what is before it and what is behind it
+-- a word stands in a text, between the text before it and the text after it
 pub record StandsIn (start : Bool) (text before : List ℕ) (w : Word) (after : List ℕ) : Type 0 where
   pub joined : text ≡ before ++ (spelling w ++ after)
   pub word : IsWord w
   pub begins : may_stand_behind start before ≡ true
   pub ends : can_follow after ≡ true
 
--- gaps and words, written one after another, and what stands behind them
+-- gaps and words, written one after another, and then the last text
 abbrev pub written : List (List ℕ × Word) → List ℕ → List ℕ
 written [] last = last
 written (part ∷ parts) last = part.0 ++ (spelling part.1 ++ written parts last)
 
--- a cut is a text's: it is the text, each of its words stands there, and each word that stands there is one of its words
+-- a cut is that of a text: it is the text, each of its words stands there, and each word that stands there is one of
+-- its words
 pub record IsCutOf (text : List ℕ) (cut : Cut) : Type 0 where
   pub whole : text ≡ written cut.0 cut.1
   pub words : (front : List (List ℕ × Word)) (part : List ℕ × Word) (back : List (List ℕ × Word)) → cut.0 ≡ front ++ part ∷ back → StandsIn true text (written front part.0) part.1 (written back cut.1)
   pub all : (before : List ℕ) (w : Word) (after : List ℕ) → StandsIn true text before w after → (front : List (List ℕ × Word)) × (gap : List ℕ) × (back : List (List ℕ × Word)) × (cut.0 ≡ front ++ (gap, w) ∷ back) × (before ≡ written front gap)
 
--- what is shown of a word: of a good one the text that it means, of another one the word as it is written
+-- what is shown of a word (RFC 2047, section 6.2): of a good one the text that it means, of another one its spelling
 abbrev pub IsWordShown : Word → List ℕ → Type 0
 IsWordShown w octets = Means w octets ⊎ ((IsGood w → ⊥) × (octets ≡ spelling w))
 
--- the word before, if there is one, is good
+-- there is a word before, and it is good
 abbrev pub IsBehindGood : Option Word → Type 0
 IsBehindGood None = ⊥
 IsBehindGood (Some w) = IsGood w
 
--- a gap is dropped: it is blanks alone and stands between two good words
+-- a gap is dropped (RFC 2047, section 6.2): it is blanks alone and stands between two good words
 abbrev pub IsDropped : Option Word → List ℕ → Word → Type 0
 IsDropped before gap w = IsBehindGood before × (list_all is_blank gap ≡ true) × IsGood w
 
@@ -48,19 +49,19 @@ IsDropped before gap w = IsBehindGood before × (list_all is_blank gap ≡ true)
 abbrev pub IsGapShown : Option Word → List ℕ → Word → List ℕ → Type 0
 IsGapShown before gap w octets = (IsDropped before gap w × (octets ≡ [])) ⊎ ((IsDropped before gap w → ⊥) × (octets ≡ gap))
 
--- what is shown of gaps and words behind a word, and of what stands behind them
+-- what is shown of the gaps and words after a word, and of the last text
 abbrev pub IsShownBehind : Option Word → List (List ℕ × Word) → List ℕ → List ℕ → Type 0
 IsShownBehind before [] last value = value ≡ last
 IsShownBehind before (part ∷ parts) last value = (gap : List ℕ) × (word : List ℕ) × (rest : List ℕ) × IsGapShown before part.0 part.1 gap × IsWordShown part.1 word × IsShownBehind (Some part.1) parts last rest × (value ≡ gap ++ (word ++ rest))
 
--- what is shown of a text: of its words and gaps, and of what stands behind them
+-- what is shown of a text: its words and gaps, and the text after them
 abbrev pub IsShown : List ℕ → List ℕ → Type 0
 IsShown text value = (cut : Cut) × IsCutOf text cut × IsShownBehind None cut.0 cut.1 value
 
--- what is computed is shown of a text, and nothing else is
+-- what is computed is what is shown of a text, and nothing else is
 abbrev pub ShownLaw : Type 0
 ShownLaw = (text value : List ℕ) → (value ≡ words_shown text) ↔ IsShown text value
 
--- two words that stand in a text never overlap: the second begins behind the end of the first
+-- two words that stand in a text never overlap: the second begins at or after the end of the first
 abbrev pub StandApart : List ℕ → Type 0
 StandApart text = (before : List ℕ) (w : Word) (after : List ℕ) (b : ℕ) (more : List ℕ) (u : Word) (rest : List ℕ) → StandsIn true text before w after → StandsIn true text (before ++ b ∷ more) u rest → (gap : List ℕ) × (b ∷ more ≡ spelling w ++ gap)

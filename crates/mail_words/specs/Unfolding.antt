@@ -2,7 +2,7 @@
 use Rattle.std.specs.Prelude.{◌≡◌, ℕ, ◌-◌, Bool, true, false, List, [], ◌∷◌, ◌++◌, length, take, drop, nat_lt, slice_index, ◌==◌, ◌&&◌, ◌||◌, if◌then◌else◌}
 use Rattle.std.specs.List.{prefix_len, suffix_len}
 
--- space or tab
+-- space or tab: white space in RFC 5322, section 2.2
 abbrev pub is_blank : ℕ → Bool
 is_blank b = (b == 32) || (b == 9)
 
@@ -17,21 +17,21 @@ is_nil (b ∷ bs) = false
 abbrev pub ends_in : ℕ → List ℕ → Bool
 ends_in c bs = nat_lt 0 (length bs) && (slice_index bs (length bs - 1) == c)
 
--- without one CR at the end
+-- the octets without one CR at the end
 abbrev pub without_cr : List ℕ → List ℕ
 without_cr bs = if ends_in 13 bs then take (length bs - 1) bs else bs
 
--- the first octet is one of a line end: an LF, or a CR directly before one
+-- the first octet belongs to a line end: an LF, or a CR directly before one
 abbrev pub begins_line_end : List ℕ → Bool
 begins_line_end [] = false
 begins_line_end (b ∷ bs) = (b == 10) || ((b == 13) && begins_with 10 bs)
 
--- every LF, with one CR directly before it, is removed
+-- a folded text as one line (RFC 5322, section 2.2.3): every LF, with one CR directly before it, is removed
 unfoldable pub unfolded : List ℕ → List ℕ
 unfolded [] = []
 unfolded (b ∷ bs) = if (b == 10) || ((b == 13) && begins_with 10 bs) then unfolded bs else b ∷ unfolded bs
 
--- the first octet that is kept, and what stands behind it
+-- the first octet that is kept, and the text after it
 abbrev pub IsFirstOctet : List ℕ → ℕ → List ℕ → Type 0
 IsFirstOctet text octet behind = (ends : List ℕ) × (text ≡ ends ++ octet ∷ behind) × (unfolded text ≡ octet ∷ unfolded behind)
 

@@ -5,7 +5,7 @@ use Rattle.mail_words.specs.Unfolding.{is_blank, unfolded, trimmed}
 use Rattle.mail_words.specs.Words.{Word, spelling, first_word}
 use Rattle.mail_words.specs.Decoding.{text_of}
 
--- a text cut at its standing words: each with the gap before it, and what stands behind the last one
+-- a text cut at its standing words: each with the gap before it, and the text after the last one
 abbrev pub Cut : Type 0
 Cut = List (List ℕ × Word) × List ℕ
 
@@ -13,18 +13,18 @@ abbrev pub cut_at : List ℕ → Option (List ℕ × Word × List ℕ) → (List
 cut_at bs None more = ([], bs)
 cut_at bs (Some found) more = let rest = more found.2 in ((found.0, found.1) ∷ rest.0, rest.1)
 
--- the cut of a text, computed from the front; the number is one that is as great as the text is long
+-- the cut of a text, computed from the front; the number is at least the length of the text
 unfoldable pub cut_words : ℕ → List ℕ → Cut
 cut_words zero bs = ([], bs)
 cut_words (suc n) bs = cut_at bs (first_word true bs) (cut_words n)
 
 -- a word as it is shown, with the gap before it: a good one as its text, and after a good one without a gap of blanks
--- alone; another one as it stands
+-- alone; another one as its spelling
 abbrev pub shown_word : Bool → List ℕ → Word → Option (List ℕ) → (Bool → List ℕ) → List ℕ
 shown_word after_good gap w (Some text) more = (if after_good && list_all is_blank gap then [] else gap) ++ (text ++ more true)
 shown_word after_good gap w None more = gap ++ (spelling w ++ more false)
 
--- a word, good or not, and the gap before it are written behind the old text as they are shown
+-- a word, good or not, and the gap before it are appended to the old text as they are shown
 abbrev pub IsPutWord : Bool → Bool → List ℕ → Word → List ℕ → List ℕ → Type 0
 IsPutWord true after_good gap w old new = (text : List ℕ) × (text_of w ≡ Some text) × (new ≡ old ++ ((if after_good && list_all is_blank gap then [] else gap) ++ text))
 IsPutWord false after_good gap w old new = (text_of w ≡ None) × (new ≡ old ++ (gap ++ spelling w))
@@ -39,6 +39,6 @@ shown_cut cut = shown false cut.0 cut.1
 abbrev pub words_shown : List ℕ → List ℕ
 words_shown text = shown_cut (cut_words (length text) text)
 
--- the value of a field with this body
+-- the value of a field with this body (RFC 2047, section 6.2)
 unfoldable pub value_of_body : List ℕ → List ℕ
 value_of_body raw = words_shown (trimmed (unfolded raw))

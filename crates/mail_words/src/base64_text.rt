@@ -13,10 +13,10 @@ use std::alloc::AllocError;
 /// How many symbols are decoded at once: whole groups of four.
 const SYMBOLS: usize = 64;
 
-/// How many octets so many symbols stand for.
+/// How many octets 64 symbols encode.
 const OCTETS: usize = 48;
 
-/// Reads the first symbols of a text, as many as there is room for; answers their number, and what stands behind them.
+/// Reads the first symbols of a text, as many as there is room for. Answers their number, and the rest of the text.
 fn read_symbols<'a>(text: &'a [u8], symbols: &mut [u8; SYMBOLS]) -> (usize, &'a [u8])
     ensures read { take result.0 symbols.new ≡ take 64 (unfolded text.now) }
     ensures behind { unfolded result.1.now ≡ drop 64 (unfolded text.now) }
@@ -35,7 +35,7 @@ fn read_symbols<'a>(text: &'a [u8], symbols: &mut [u8; SYMBOLS]) -> (usize, &'a 
     (count, rest)
 }
 
-/// Decodes symbols, and answers how many octets they stand for, if they are the padded encoding of some.
+/// Decodes symbols. Answers how many octets they encode, or None where they are not a padded encoding.
 fn decode_symbols(symbols: &[u8], octets: &mut [u8; OCTETS]) -> Option<usize>
     requires { length symbols.now ≤ 64 }
     ensures value { MatchOption result (b_octets symbols.now ≡ None) (λ size. b_octets symbols.now ≡ Some (take size octets.new)) }
@@ -48,8 +48,8 @@ fn decode_symbols(symbols: &[u8], octets: &mut [u8; OCTETS]) -> Option<usize>
     }
 }
 
-/// Appends the octets whose padded encoding the B text is, as they are written in a charset, and answers whether there
-/// are such. Behind bad text some octets may have been appended.
+/// Appends the octets that B text encodes with padding (RFC 4648, section 4), as they are written in a charset. Answers
+/// whether the text is good. Where it is bad, some octets may have been appended.
 pub fn append_b(shown: &mut Vec<u8>, charset: Charset, text: &[u8]) -> Result<bool, AllocError>
     ensures { IfOk result (λ good. ArePut good charset shown.old.items (b_octets (unfolded text.now)) shown.new.items) }
 {
@@ -61,7 +61,7 @@ pub fn append_b(shown: &mut Vec<u8>, charset: Charset, text: &[u8]) -> Result<bo
         let Some(size) = decode_symbols(&symbols[..count], &mut octets) else {
             return Ok(false);
         };
-        // Padding stands at the end alone.
+        // Padding stands only at the end.
         if size < OCTETS && !is_empty(behind) {
             return Ok(false);
         }

@@ -16,7 +16,7 @@ pub enum Charset {
     Utf8,
 }
 
-/// Whether `name` is `other`, which has no capital letter, whatever the case of the letters in `name`.
+/// Whether `name` is `other` in any case of its letters (RFC 2047, section 2). `other` has no capital letter.
 fn is_called(name: &[u8], other: &[u8]) -> bool
     requires { map to_ascii_lowercase other.now ≡ other.now }
     ensures { result ≡ is_named name.now other.now }
@@ -24,7 +24,8 @@ fn is_called(name: &[u8], other: &[u8]) -> bool
     name.eq_ignore_ascii_case(other)
 }
 
-/// The charset of a name, if it is one of those that are read.
+/// The charset of a name in any case of its letters: us-ascii, utf-8, or iso-8859-1 to iso-8859-16. None for another
+/// name.
 #[tactic(auto, unfolding(crate::specs::Charsets::charset_named))]
 pub fn charset_of(name: &[u8]) -> Option<Charset>
     ensures { result ≡ charset_named name.now }
@@ -41,7 +42,7 @@ pub fn charset_of(name: &[u8]) -> Option<Charset>
     None
 }
 
-/// Whether the name is that of a part of ISO 8859 from 2 to 16.
+/// Whether the name is iso-8859-2 to iso-8859-16.
 fn is_ascii_part(name: &[u8]) -> bool
     ensures { result ≡ list_any (λ part. is_named name.now (codes "iso-8859-" ++ part)) ascii_parts }
 {
@@ -62,8 +63,8 @@ fn is_ascii_part(name: &[u8]) -> bool
         || is_called(name, b"iso-8859-16")
 }
 
-/// Appends an octet as it is written in UTF-8, if it has a meaning in the charset: one of ISO 8859-1 as the character of
-/// its number, and another one as it is.
+/// Appends an octet in UTF-8: in ISO 8859-1 as the character of its number, in the other charsets as it is. `is_read`
+/// answers afterwards whether it has a meaning in the charset.
 pub fn append_octet(shown: &mut Vec<u8>, charset: Charset, octet: u8) -> Result<(), AllocError>
     ensures { OnOk result (shown.new.items ≡ shown.old.items ++ written_in charset (octet ∷ [])) }
 {
@@ -77,7 +78,7 @@ pub fn append_octet(shown: &mut Vec<u8>, charset: Charset, octet: u8) -> Result<
     Ok(())
 }
 
-/// Appends octets as they are written in UTF-8, if they have a meaning in the charset.
+/// Appends each octet as `append_octet` does.
 pub fn append_octets(shown: &mut Vec<u8>, charset: Charset, octets: &[u8]) -> Result<(), AllocError>
     ensures { OnOk result (shown.new.items ≡ shown.old.items ++ written_in charset octets.now) }
 {
@@ -87,7 +88,8 @@ pub fn append_octets(shown: &mut Vec<u8>, charset: Charset, octets: &[u8]) -> Re
     Ok(())
 }
 
-/// Whether octets that were appended so have a meaning in the charset.
+/// Whether octets that `append_octets` wrote have a meaning in the charset: in US-ASCII all are below 128, and in UTF-8
+/// they are well-formed.
 pub fn is_read(charset: Charset, written: &[u8]) -> bool
     ensures { result ≡ is_text_in charset written.now }
 {

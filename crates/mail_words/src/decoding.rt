@@ -1,4 +1,4 @@
-//! What an encoded word stands for (RFC 2047, sections 3 and 4).
+//! What an encoded word means (RFC 2047, sections 3 and 4).
 
 ghost use Rattle.std.specs.Prelude.{◌≡◌, IfOk, OnOk};
 ghost use Rattle.mail_words.specs.Unfolding.{unfolded};
@@ -12,8 +12,8 @@ use crate::unfolding::append_unfolded;
 use crate::words::EncodedWord;
 use std::alloc::AllocError;
 
-/// The charset of a name, if it is one of those that are read. The name stands at the end of `shown` for a moment, as
-/// it may be written over several lines.
+/// The charset of a name, if it is one of those that are read. The name may be folded, so it is unfolded at the end of
+/// `shown`, and removed from there again.
 fn charset_written(shown: &mut Vec<u8>, name: &[u8]) -> Result<Option<Charset>, AllocError>
     ensures value { IfOk result (λ c. c ≡ charset_named (unfolded name.now)) }
     ensures same { OnOk result (shown.new.items ≡ shown.old.items) }
@@ -25,8 +25,8 @@ fn charset_written(shown: &mut Vec<u8>, name: &[u8]) -> Result<Option<Charset>, 
     Ok(charset)
 }
 
-/// Appends the octets that a word's text stands for, as they are written in a charset, and answers whether the text is
-/// good. Behind bad text some octets may have been appended.
+/// Appends the octets that a word's text encodes, as they are written in a charset, and answers whether the text is
+/// good. Where it is bad, some octets may have been appended.
 fn append_text(
     shown: &mut Vec<u8>,
     charset: Charset,
@@ -41,8 +41,9 @@ fn append_text(
     }
 }
 
-/// Appends the text of a word in UTF-8 and answers whether the word is good: its charset is one that is read, its text is
-/// good, and each octet has a meaning in the charset. Behind another word some octets may have been appended.
+/// Appends the text of a word in UTF-8 and answers whether the word is good (RFC 2047, sections 3 and 4). It is good
+/// where its charset is one that is read, its text is good, and each octet has a meaning in the charset. For another
+/// word some octets may have been appended.
 #[tactic(auto, unfolding(crate::specs::Decoding::text_of))]
 pub fn append_decoded(shown: &mut Vec<u8>, word: &EncodedWord<'_>) -> Result<bool, AllocError>
     ensures { IfOk result (λ good. IsAppended good shown.old.items (text_of word.now) shown.new.items) }

@@ -9,7 +9,7 @@ use crate::charset::{Charset, append_octet};
 use crate::unfolding::first_octet;
 use std::alloc::AllocError;
 
-/// A place in Q text: where an octet may begin, behind "=", or behind "=" and one digit.
+/// A place in Q text: where an octet may begin, after "=", or after "=" and one digit.
 #[derive(Clone, Copy)]
 pub enum Place {
     Plain,
@@ -30,15 +30,15 @@ fn hex_digit(octet: u8) -> Option<u8>
     }
 }
 
-/// The octet that one of Q text stands for, where it is no "=".
+/// The octet that an octet of Q text other than "=" encodes: a space for "_", and otherwise itself.
 fn plain_octet(octet: u8) -> u8
     ensures { result ≡ (if octet == 95 then 32 else octet) }
 {
     if octet == b'_' { b' ' } else { octet }
 }
 
-/// Appends the octets that Q text stands for, as they are written in a charset, and answers whether the text is good.
-/// Behind bad text some octets may have been appended.
+/// Appends the octets that Q text encodes, as they are written in a charset, and answers whether the text is good.
+/// Where it is bad, some octets may have been appended.
 #[tactic(auto, unfolding(crate::specs::Decoding::q_octets))]
 pub fn append_q(shown: &mut Vec<u8>, charset: Charset, text: &[u8]) -> Result<bool, AllocError>
     ensures { IfOk result (λ good. ArePut good charset shown.old.items (q_octets Place.Plain (unfolded text.now)) shown.new.items) }

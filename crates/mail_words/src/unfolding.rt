@@ -1,5 +1,5 @@
-//! A folded body as one line (RFC 5322, section 2.2.3), read without making that line: a text is seen without its line
-//! ends, each an LF with one CR directly before it, and a contract speaks of it as `unfolded`.
+//! A folded body as one line (RFC 5322, section 2.2.3), read without making that line. A text is seen without its line
+//! ends, each an LF with one CR directly before it; contracts call that `unfolded`.
 
 ghost use Rattle.std.specs.Prelude.{◌≡◌, ◌∷◌, [], ◌++◌, ◌≤◌, length, OnOk, IsTrue, MatchOption, ◌==◌};
 ghost use Rattle.std.specs.List.{list_all};
@@ -8,14 +8,13 @@ ghost use Rattle.mail_words.specs.Unfolding.{is_blank, without_cr, begins_line_e
 use memchr::memchr;
 use std::alloc::AllocError;
 
-/// Whether the octet is a space or a tab.
+/// Whether the octet is a space or a tab, which are white space in RFC 5322, section 2.2.
 pub fn is_blank_octet(octet: u8) -> bool
     ensures { result ≡ is_blank octet }
 {
     octet == b' ' || octet == b'\t'
 }
 
-/// The octets before an LF, without one CR directly before it.
 fn line_text(line: &[u8]) -> &[u8]
     ensures { result.now ≡ without_cr line.now }
 {
@@ -25,7 +24,7 @@ fn line_text(line: &[u8]) -> &[u8]
     }
 }
 
-/// Appends the text without its line ends.
+/// Appends the text without its line ends. The one error is out of memory.
 pub fn append_unfolded(line: &mut Vec<u8>, text: &[u8]) -> Result<(), AllocError>
     ensures { OnOk result (line.new.items ≡ line.old.items ++ unfolded text.now) }
 {
@@ -40,7 +39,7 @@ pub fn append_unfolded(line: &mut Vec<u8>, text: &[u8]) -> Result<(), AllocError
     Ok(())
 }
 
-/// Whether the first octet is one of a line end: an LF, or a CR directly before one.
+/// Whether the first octet belongs to a line end: an LF, or a CR directly before one.
 fn stands_at_line_end(text: &[u8]) -> bool
     ensures value { result ≡ begins_line_end text.now }
     ensures some { IsTrue result → 1 ≤ length text.now }
@@ -52,7 +51,7 @@ fn stands_at_line_end(text: &[u8]) -> bool
     }
 }
 
-/// The first octet of a text that is no line end's, and what stands behind it.
+/// The first octet of a text that belongs to no line end, and the rest of the text. None where there is no such octet.
 pub fn first_octet(text: &[u8]) -> Option<(u8, &[u8])>
     ensures { MatchOption result (unfolded text.now ≡ []) (λ f. IsFirstOctet text.now f.0 f.1.now) }
 {
@@ -67,7 +66,7 @@ pub fn first_octet(text: &[u8]) -> Option<(u8, &[u8])>
     }
 }
 
-/// Whether nothing but line ends stands in the text.
+/// Whether the text is empty but for line ends.
 pub fn is_empty(text: &[u8]) -> bool
     ensures { result ≡ is_nil (unfolded text.now) }
 {
@@ -77,7 +76,6 @@ pub fn is_empty(text: &[u8]) -> bool
     }
 }
 
-/// Whether the text ends in an LF.
 fn ends_line(text: &[u8]) -> bool
     ensures value { result ≡ ends_in 10 text.now }
     ensures some { IsTrue result → 1 ≤ length text.now }
@@ -88,7 +86,7 @@ fn ends_line(text: &[u8]) -> bool
     }
 }
 
-/// The last octet of a text that is no line end's, behind what stands before it.
+/// The last octet of a text that belongs to no line end, with the text before it. None where there is no such octet.
 pub fn last_octet(text: &[u8]) -> Option<(&[u8], u8)>
     ensures { MatchOption result (unfolded text.now ≡ []) (λ l. unfolded text.now ≡ unfolded l.0.now ++ l.1 ∷ []) }
 {
@@ -103,7 +101,7 @@ pub fn last_octet(text: &[u8]) -> Option<(&[u8], u8)>
     }
 }
 
-/// Whether the text is blanks alone.
+/// Whether the text has blanks only, but for line ends.
 pub fn is_all_blank(text: &[u8]) -> bool
     ensures { result ≡ list_all is_blank (unfolded text.now) }
 {
@@ -143,7 +141,7 @@ fn trim_end(text: &[u8]) -> &[u8]
     rest
 }
 
-/// The text without the blanks at both ends.
+/// A part of the text that, read as unfolded, is the unfolded text without the blanks at both ends.
 pub fn trim(text: &[u8]) -> &[u8]
     ensures { unfolded result.now ≡ trimmed (unfolded text.now) }
 {

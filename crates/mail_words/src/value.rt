@@ -12,7 +12,8 @@ use crate::unfolding::{append_unfolded, is_all_blank, trim};
 use crate::words::{EncodedWord, StandingWord, next_word};
 use std::alloc::{AllocError, Global};
 
-/// What is shown of the gap before a good word: nothing where it is blanks alone and stands behind a good word.
+/// What is shown of the gap before a good word: nothing where it is blanks alone and follows a good word, otherwise
+/// all.
 fn shown_gap(gap: &[u8], after_good: bool) -> &[u8]
     ensures { unfolded result.now ≡ (if after_good && list_all is_blank (unfolded gap.now) then [] else unfolded gap.now) }
 {
@@ -23,7 +24,7 @@ fn shown_gap(gap: &[u8], after_good: bool) -> &[u8]
     }
 }
 
-/// Appends a word as it is spelled.
+/// Appends a word as it is written.
 fn append_spelling(shown: &mut Vec<u8>, word: &EncodedWord<'_>) -> Result<(), AllocError>
     ensures { OnOk result (shown.new.items ≡ shown.old.items ++ spelling word.now) }
 {
@@ -35,7 +36,7 @@ fn append_spelling(shown: &mut Vec<u8>, word: &EncodedWord<'_>) -> Result<(), Al
     Ok(())
 }
 
-/// Appends a word and the gap before it as they are shown behind a word that is good or not, and answers whether this one
+/// Appends a word and the gap before it as they are shown, after a word that is good or not. Answers whether this one
 /// is good.
 fn append_word(
     shown: &mut Vec<u8>,
@@ -55,8 +56,8 @@ fn append_word(
     Ok(false)
 }
 
-/// Appends the text with its good words replaced by what they stand for, and without the blanks that alone stand between two
-/// of them.
+/// Appends the text with its good words replaced by the texts that they mean. Blanks that alone stand between two good
+/// words are left out.
 fn append_shown(shown: &mut Vec<u8>, text: &[u8]) -> Result<(), AllocError>
     ensures { OnOk result (shown.new.items ≡ shown.old.items ++ words_shown (unfolded text.now)) }
 {
@@ -71,8 +72,8 @@ fn append_shown(shown: &mut Vec<u8>, text: &[u8]) -> Result<(), AllocError>
     Ok(())
 }
 
-/// Appends the value of a field whose body is `raw`, as `value_of` answers it: at most four octets for each of the body. The
-/// one refusal is want of memory, and some octets may have been appended then.
+/// Appends the value of a field whose body is `raw`, as `value_of` answers it: at most four octets for each octet of
+/// the body. The one error is out of memory, and some octets may have been appended then.
 #[tactic(auto, unfolding(crate::specs::Value::value_of_body))]
 pub fn append_value(shown: &mut Vec<u8>, raw: &[u8]) -> Result<(), AllocError>
     ensures value { OnOk result (shown.new.items ≡ shown.old.items ++ value_of_body raw.now) }
@@ -83,18 +84,18 @@ pub fn append_value(shown: &mut Vec<u8>, raw: &[u8]) -> Result<(), AllocError>
 }
 
 /// The value of a field whose body is `raw`: unfolded (RFC 5322, section 2.2.3), without blanks at both ends, and with
-/// its encoded words (RFC 2047) replaced by what they stand for, in UTF-8. A word that is not good stays as it is, and
-/// so do the blanks beside it; blanks that alone stand between two good words are dropped.
+/// its encoded words (RFC 2047) replaced by the texts that they mean, in UTF-8. A word that is not good stays as it is,
+/// and so do the blanks beside it; blanks that alone stand between two good words are dropped (RFC 2047, section 6.2).
 ///
-/// A word stands at the value's start or behind a space, a tab or "(", and at its end or before a space, a tab or ")".
-/// Its encoding is B or Q and its charset us-ascii, utf-8 or iso-8859-1 to iso-8859-16; of the parts of ISO 8859 from 2 on
-/// only octets below 128 are read. Words have no limit on their length. The one refusal is want of memory.
+/// A word stands at the value's start or after a space, a tab or "(", and at its end or before a space, a tab or ")".
+/// Its encoding is B or Q and its charset us-ascii, utf-8 or iso-8859-1 to iso-8859-16. Of the parts of ISO 8859 from 2
+/// on only octets below 128 are read. Words have no limit on their length. The one error is out of memory.
 ///
-/// The value is that computed by the definition (`value`), and is what is said of the words that stand in the unfolded and
-/// trimmed body, of what they mean and of the gaps between them (`spans`).
+/// The contract gives the value twice: as the definition computes it (`value`), and by the words and gaps of the
+/// unfolded and trimmed body (`spans`).
 ///
-/// Room for as many octets as the trimmed body has is taken at once: only words of ISO 8859-1 in B text can come out longer
-/// than they are written, by less than a half, and then the room grows.
+/// Room for as many octets as the trimmed body has is taken at once. Only words of ISO 8859-1 in B text can come out
+/// longer than they are written, by less than a half, and then the room grows.
 #[tactic(auto, unfolding(crate::specs::Value::value_of_body))]
 pub fn value_of(alloc: Global, raw: &[u8]) -> Result<Vec<u8>, AllocError>
     ensures value { IfOk result (λ v. v.items ≡ value_of_body raw.now) }

@@ -17,7 +17,7 @@ pub enum Part {
     Text,
 }
 
-/// The three parts of an encoded word, as they are written, line ends included.
+/// The three parts of an encoded word (RFC 2047, section 2) as they are written, line ends included.
 #[derive(Drop)]
 pub struct EncodedWord<'a> {
     charset: &'a [u8],
@@ -35,21 +35,21 @@ impl<'a> Model for EncodedWord<'a> {
 }
 
 impl<'a> EncodedWord<'a> {
-    /// The charset's name.
+    /// The charset's name, line ends included.
     pub fn charset(&self) -> &'a [u8]
         ensures { unfolded result.now ≡ self.now.charset }
     {
         self.charset
     }
 
-    /// The letter of the encoding.
+    /// The letter of the encoding: B, b, Q or q.
     pub fn encoding(&self) -> u8
         ensures { result ≡ self.now.encoding }
     {
         self.encoding
     }
 
-    /// The encoded text.
+    /// The encoded text, line ends included.
     pub fn text(&self) -> &'a [u8]
         ensures { unfolded result.now ≡ self.now.text }
     {
@@ -57,7 +57,7 @@ impl<'a> EncodedWord<'a> {
     }
 }
 
-/// A word at the front of a text, and what stands behind it.
+/// A word at the front of a text, and the rest of the text.
 #[derive(Drop)]
 pub struct FrontWord<'a> {
     word: EncodedWord<'a>,
@@ -75,7 +75,7 @@ impl<'a> Model for FrontWord<'a> {
 }
 
 impl<'a> FrontWord<'a> {
-    /// The word where `gap` stands before it.
+    /// The word with `gap` before it.
     fn with_gap(self, gap: &'a [u8]) -> StandingWord<'a>
         ensures { result ≡ (unfolded gap.entry.now, self.entry.0, self.entry.1) }
     {
@@ -87,7 +87,7 @@ impl<'a> FrontWord<'a> {
     }
 }
 
-/// A word that stands in a text: what stands before it, the word, and what stands behind it.
+/// A word that stands in a text, with the texts before and after it.
 #[derive(Drop)]
 pub struct StandingWord<'a> {
     gap: &'a [u8],
@@ -106,21 +106,20 @@ impl<'a> Model for StandingWord<'a> {
 }
 
 impl<'a> StandingWord<'a> {
-    /// What stands before the word.
+    /// The text before the word.
     pub fn gap(&self) -> &'a [u8]
         ensures { unfolded result.now ≡ self.now.0 }
     {
         self.gap
     }
 
-    /// The word.
     pub fn word(&self) -> &EncodedWord<'a>
         ensures { result.now ≡ self.now.1 }
     {
         &self.word
     }
 
-    /// What stands behind the word.
+    /// The text after the word.
     pub fn behind(&self) -> &'a [u8]
         ensures { unfolded result.now ≡ self.now.2 }
     {
@@ -173,7 +172,7 @@ fn is_in_part(part: Part, octet: u8) -> bool
     }
 }
 
-/// What stands behind the first octet, if that is one of the part.
+/// The rest after the first octet, if that is one of the part.
 fn behind_part_octet(text: &[u8], part: Part) -> Option<&[u8]>
     ensures { MatchOption result (take_while (is_part_octet part) (unfolded text.now) ≡ []) (λ behind. IsPartOctet part text.now behind.now) }
 {
@@ -183,7 +182,7 @@ fn behind_part_octet(text: &[u8], part: Part) -> Option<&[u8]>
     }
 }
 
-/// The octets at the front of a text that are the part's, and what stands behind them.
+/// The octets at the front of a text that are the part's, and the rest.
 fn split_part(text: &[u8], part: Part) -> (&[u8], &[u8])
     ensures front { unfolded result.0.now ≡ take_while (is_part_octet part) (unfolded text.now) }
     ensures behind { unfolded result.1.now ≡ drop (length (take_while (is_part_octet part) (unfolded text.now))) (unfolded text.now) }
@@ -196,7 +195,7 @@ fn split_part(text: &[u8], part: Part) -> (&[u8], &[u8])
     (front, rest)
 }
 
-/// What stands behind these two octets, if the text begins with them.
+/// The rest after these two octets, if the text begins with them.
 fn behind_pair(text: &[u8], first: u8, second: u8) -> Option<&[u8]>
     ensures { MatchOption result (begins_with_pair first second (unfolded text.now) ≡ false) (λ behind. unfolded text.now ≡ first ∷ second ∷ unfolded behind.now) }
 {
@@ -209,7 +208,7 @@ fn behind_pair(text: &[u8], first: u8, second: u8) -> Option<&[u8]>
     }
 }
 
-/// The letter of an encoding and what stands behind it, if the text begins with one between two "?".
+/// The letter of an encoding and the rest after it, if the text begins with one between two "?".
 fn behind_encoding(text: &[u8]) -> Option<(u8, &[u8])>
     ensures { MatchOption result (names_encoding (unfolded text.now) ≡ false) (λ e. (unfolded text.now ≡ 63 ∷ e.0 ∷ 63 ∷ unfolded e.1.now) × (is_encoding e.0 ≡ true)) }
 {
@@ -223,14 +222,14 @@ fn behind_encoding(text: &[u8]) -> Option<(u8, &[u8])>
     }
 }
 
-/// Whether a word may stand directly behind the octet.
+/// Whether a word may stand directly after the octet.
 fn may_precede(octet: u8) -> bool
     ensures { result ≡ precedes octet }
 {
     is_blank_octet(octet) || octet == b'('
 }
 
-/// Whether the text may stand directly behind a word.
+/// Whether the text may stand directly after a word.
 fn may_follow(text: &[u8]) -> bool
     ensures { result ≡ can_follow (unfolded text.now) }
 {
@@ -260,7 +259,7 @@ fn front_word(text: &[u8]) -> Option<FrontWord<'_>>
     Some(FrontWord { word, behind })
 }
 
-/// The word at the front of a text, if one stands there and may be followed by what follows.
+/// The word at the front of a text, if one stands there and the rest may follow a word.
 fn followed_word(text: &[u8]) -> Option<FrontWord<'_>>
     ensures { result ≡ followed_word_at (unfolded text.now) }
 {
@@ -270,7 +269,7 @@ fn followed_word(text: &[u8]) -> Option<FrontWord<'_>>
     }
 }
 
-/// Whether a word may stand at the end of what stands before it.
+/// Whether a word may stand directly after the gap.
 fn may_begin_behind(gap: &[u8]) -> bool
     ensures { result ≡ may_stand_behind true (unfolded gap.now) }
 {
@@ -280,7 +279,7 @@ fn may_begin_behind(gap: &[u8]) -> bool
     }
 }
 
-/// The first word that stands in a text at whose start one may stand.
+/// The first word that stands in a text. One may stand at the text's start.
 pub fn next_word(text: &[u8]) -> Option<StandingWord<'_>>
     ensures first { result ≡ first_word true (unfolded text.now) }
     ensures spelled { IfSome result (λ s. unfolded text.now ≡ s.0 ++ (spelling s.1 ++ s.2)) }

@@ -11,7 +11,7 @@ use std::rt::Env;
 pub enum LineFault {
     /// A word is not UTF-8.
     NotText,
-    /// What `clap` tells: help, what is wrong with a word, or that there is no memory.
+    /// What `clap` reports: help, what is wrong with a word, or that there is no memory.
     Told(Error),
 }
 
@@ -30,14 +30,14 @@ fn read_words<R: Env + Alloc<A = Global>>(rt: &R) -> Result<Vec<String>, LineFau
     }
 }
 
-/// What a command line asks.
+/// The options of a command line.
 #[derive(Drop)]
 pub struct CommandLine {
-    /// The path of the file that keeps the store, as it was handed in; without one the store is in memory.
+    /// The path of the file that keeps the store, as it was given. Without one the store is in memory.
     pub store: Option<String>,
 }
 
-/// The command line as `clap` knows it.
+/// The command line as `clap` is to parse it.
 fn command<'a>(alloc: Global) -> Result<Command<'a>, AllocError> {
     let store = Arg::new(alloc, "store")
         .long("store")
@@ -50,7 +50,8 @@ fn command<'a>(alloc: Global) -> Result<Command<'a>, AllocError> {
         .arg(store)
 }
 
-/// Reads the command line.
+/// Reads the command line. The error is `NotText` where a word is not UTF-8, and `Told` for help, a wrong word or no
+/// memory.
 pub fn read_command_line<R: Env + Alloc<A = Global>>(rt: &R) -> Result<CommandLine, LineFault> {
     let words = read_words(rt)?;
     let matches = match command(rt.alloc())?.try_get_matches_from(words.as_slice()) {

@@ -42,7 +42,6 @@ fn serve_at<S: Alter + Drop>(rt: &HostRuntime, desk: &mut Desk<S>) -> ExitCode {
     }
 }
 
-/// Serves a session over the store in memory.
 fn serve_in_memory(rt: &HostRuntime) -> ExitCode {
     let Ok(conn) = Connection::open_in_memory(rt.alloc()) else {
         return end_without_store(rt);
@@ -53,8 +52,9 @@ fn serve_in_memory(rt: &HostRuntime) -> ExitCode {
     serve_at(rt, &mut desk)
 }
 
-/// Serves a session over the store in a file, whose pages end in check sums where the file is new. At the end what the log of the
-/// database has is copied into the file; where that fails it stays in the log, in which the next opening finds it.
+/// Serves a session over the store in a file, whose pages end in checksums where the file is new. At the end, what the
+/// log of the database has is copied into the file. Where that fails it stays in the log, where the next opening finds
+/// it.
 fn serve_in_file(rt: &HostRuntime, path: &str) -> ExitCode {
     let Ok(conn) = Connection::open_with_sums(rt, path) else {
         return end_without_store(rt);
@@ -73,7 +73,7 @@ fn end_without_store(rt: &HostRuntime) -> ExitCode {
     ExitCode::from(STATUS_NO_STORE)
 }
 
-/// Ends without a session: tells what `clap` has to say, which for `--help` is no fault.
+/// Ends without a session: prints what `clap` reports, which for `--help` is no fault.
 fn end_without_session(rt: &HostRuntime, fault: &LineFault) -> ExitCode {
     let LineFault::Told(error) = fault else {
         return ExitCode::from(STATUS_USAGE);

@@ -8,15 +8,15 @@ use clap::ArgMatches;
 use std::alloc::{AllocError, Global};
 use tool_texts::{Payload, place_of, refusal_text};
 
-/// How much longer than a script may be a file is that is still read, and refused by its number.
+/// A file of up to this number of times the limit of a script is still read, and refused by its number.
 const LONGER: u64 = 64;
 
-/// The text of a number, as it stands after a file's name.
+/// The text of a refusal's number, as it is written after a file's name; `refused` where the number has no text.
 pub fn text_of(number: u8) -> &'static str {
     refusal_text(number).unwrap_or("refused")
 }
 
-/// The line that tells of a script at fault.
+/// The line that reports a refused script: its path, line, column, number and text.
 fn line_of(alloc: Global, path: &str, text: &[u8], finding: Finding) -> Result<String, AllocError> {
     let place = place_of(text, finding.at);
     let (line, column, number) = (place.line, place.column, finding.number);
@@ -24,7 +24,7 @@ fn line_of(alloc: Global, path: &str, text: &[u8], finding: Finding) -> Result<S
     format!(in alloc; "{path}:{line}:{column}: {number}: {words}")
 }
 
-/// The text of a script's file; none where it is at fault, which is told.
+/// The text of a script's file; none where the script is refused, which is reported on standard output.
 pub fn read_good_script(rt: &HostRuntime, path: &str) -> Result<Option<Vec<u8>>, Failure> {
     let text = read_file(rt, path, Payload::Script.limit().saturating_mul(LONGER))?;
     match judge(rt.alloc(), &text)? {
@@ -36,7 +36,8 @@ pub fn read_good_script(rt: &HostRuntime, path: &str) -> Result<Option<Vec<u8>>,
     }
 }
 
-/// Judges scripts, one after the other.
+/// Judges the scripts that the command line names, one after the other. The verdict is `Refused` where one of them is
+/// refused.
 pub fn check_scripts(rt: &HostRuntime, asked: &ArgMatches<'_>) -> Result<Verdict, Failure> {
     let mut verdict = Verdict::Good;
     for path in asked.get_strs("scripts").unwrap_or(&[]) {

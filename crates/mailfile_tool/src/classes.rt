@@ -9,7 +9,7 @@ use filing_trace::Trace;
 use std::alloc::{AllocError, Global};
 use std::str;
 
-/// The command of a script that an instruction is, where it is one that files into a class.
+/// The script command of an instruction that files into the class of a path; none for any other instruction.
 fn filing_command(
     alloc: Global,
     image: &Image,
@@ -59,7 +59,7 @@ fn keeping_step(image: &Image, run: &Trace) -> Option<usize> {
     None
 }
 
-/// What a message is in a class by.
+/// Why a message is in a class: a fault, or the step that filed or kept it, or that no command did.
 fn reason(alloc: Global, image: &Image, run: &Trace, path: &[u8]) -> Result<String, AllocError> {
     if let Some(fault) = run.outcome.fault {
         return format!(in alloc; "fault {fault}");
@@ -76,7 +76,7 @@ fn reason(alloc: Global, image: &Image, run: &Trace, path: &[u8]) -> Result<Stri
     }
 }
 
-/// The schedule of a class, and the date at which a record of a moment falls due in it.
+/// The schedule of a class, and the date on which a record of a moment falls due in it.
 fn told_schedule(
     alloc: Global,
     plan: &Plan,
@@ -97,7 +97,7 @@ fn told_schedule(
     }
 }
 
-/// Writes the classes of a run, a line each.
+/// Writes the classes of a run, a line each, with the reason and the schedule.
 pub fn show_classes(
     rt: &HostRuntime,
     image: &Image,
@@ -115,7 +115,7 @@ pub fn show_classes(
     Ok(())
 }
 
-/// Writes an outcome as a session does.
+/// Writes an outcome as a session does: the fault, if there is one, then the classes, or `discarded`.
 pub fn show_outcome(rt: &HostRuntime, outcome: &Outcome) -> Result<(), Failure> {
     let alloc = rt.alloc();
     if let Some(fault) = outcome.fault {

@@ -6,7 +6,7 @@ use std::alloc::{AllocError, Global};
 use std::env;
 use std::io::ErrorKind;
 
-/// The words of the command line, the program's name first. A word that is not UTF-8 is told.
+/// The words of the command line, the program's name first. A word that is not UTF-8 is a failure.
 pub fn words(rt: &HostRuntime) -> Result<Vec<String>, Failure> {
     match env::args(rt) {
         Ok(words) => Ok(words.collect(rt.alloc())?),
@@ -18,7 +18,6 @@ pub fn words(rt: &HostRuntime) -> Result<Vec<String>, Failure> {
     }
 }
 
-/// `explain`.
 fn explain<'a>(alloc: Global) -> Result<Command<'a>, AllocError> {
     let script = Arg::new(alloc, "script")
         .long("script")
@@ -36,7 +35,6 @@ fn explain<'a>(alloc: Global) -> Result<Command<'a>, AllocError> {
         .arg(numbers)
 }
 
-/// `check`.
 fn check<'a>(alloc: Global) -> Result<Command<'a>, AllocError> {
     let scripts = Arg::new(alloc, "scripts")
         .value_name("SCRIPT")
@@ -51,7 +49,7 @@ fn check<'a>(alloc: Global) -> Result<Command<'a>, AllocError> {
         .arg(scripts)
 }
 
-/// The folders of scripts that can be included.
+/// Adds the options for folders of scripts that can be included.
 fn with_folders<'a>(alloc: Global, command: Command<'a>) -> Result<Command<'a>, AllocError> {
     let personal = Arg::new(alloc, "personal")
         .long("personal")
@@ -66,7 +64,6 @@ fn with_folders<'a>(alloc: Global, command: Command<'a>) -> Result<Command<'a>, 
     command.arg(personal)?.arg(global)
 }
 
-/// `compile`.
 fn compile<'a>(alloc: Global) -> Result<Command<'a>, AllocError> {
     let script = Arg::new(alloc, "script")
         .value_name("SCRIPT")
@@ -86,7 +83,6 @@ fn compile<'a>(alloc: Global) -> Result<Command<'a>, AllocError> {
     with_folders(alloc, command)
 }
 
-/// `dump`.
 fn dump<'a>(alloc: Global) -> Result<Command<'a>, AllocError> {
     let image = Arg::new(alloc, "image")
         .value_name("IMAGE")
@@ -98,7 +94,6 @@ fn dump<'a>(alloc: Global) -> Result<Command<'a>, AllocError> {
         .arg(image)
 }
 
-/// `frame`.
 fn frame<'a>(alloc: Global) -> Result<Command<'a>, AllocError> {
     let file = Arg::new(alloc, "file")
         .value_name("FILE")
@@ -112,7 +107,6 @@ fn frame<'a>(alloc: Global) -> Result<Command<'a>, AllocError> {
         .arg(file)
 }
 
-/// `why`.
 fn why<'a>(alloc: Global) -> Result<Command<'a>, AllocError> {
     let script = Arg::new(alloc, "script")
         .value_name("SCRIPT")
@@ -146,7 +140,7 @@ fn why<'a>(alloc: Global) -> Result<Command<'a>, AllocError> {
     with_folders(alloc, command)
 }
 
-/// The whole command line.
+/// The whole command line, with all subcommands.
 pub fn command<'a>(alloc: Global) -> Result<Command<'a>, AllocError> {
     Command::new(alloc, "mailfile-tool")
         .version("0.1.0")

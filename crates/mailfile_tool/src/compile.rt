@@ -23,7 +23,7 @@ fn checked(alloc: Global, text: &[u8]) -> Result<Option<Checked>, Failure> {
     }
 }
 
-/// The checked script of a file; none where it is at fault, which is told.
+/// The checked script of a file; none where it is refused, which is reported on standard output.
 pub fn read_script(rt: &HostRuntime, path: &str) -> Result<Option<Checked>, Failure> {
     match read_good_script(rt, path)? {
         Some(text) => checked(rt.alloc(), &text),
@@ -31,7 +31,7 @@ pub fn read_script(rt: &HostRuntime, path: &str) -> Result<Option<Checked>, Fail
     }
 }
 
-/// The scripts of the folders that are named; none where one is refused, which is told.
+/// The scripts of the folders that the command line names; none where one is refused, which is reported.
 fn library_of(rt: &HostRuntime, asked: &ArgMatches<'_>) -> Result<Option<Library>, Failure> {
     let mut library = Library::new(rt.alloc());
     if let Some(folder) = asked.get_str("personal") {
@@ -47,8 +47,8 @@ fn library_of(rt: &HostRuntime, asked: &ArgMatches<'_>) -> Result<Option<Library
     Ok(Some(library))
 }
 
-/// The image of a script with what it includes; none where something is refused, which is told. Where there is a folder of
-/// personal scripts the script is one of them, known by its file's name.
+/// The image of a script with what it includes; none where something is refused, which is reported. Where there is a
+/// folder of personal scripts, the script is one of them, known by the name of its file.
 pub fn image_of(rt: &HostRuntime, asked: &ArgMatches<'_>) -> Result<Option<Verified>, Failure> {
     let alloc = rt.alloc();
     let path = asked.get_str("script").unwrap_or("");
@@ -71,7 +71,7 @@ pub fn image_of(rt: &HostRuntime, asked: &ArgMatches<'_>) -> Result<Option<Verif
     }
 }
 
-/// Writes the image of a script, and tells its budget.
+/// Writes the image of a script to a file, and reports its budget in steps.
 pub fn compile_script(rt: &HostRuntime, asked: &ArgMatches<'_>) -> Result<Verdict, Failure> {
     let alloc = rt.alloc();
     let Some(program) = image_of(rt, asked)? else {

@@ -53,7 +53,6 @@ fn show(rt: &HostRuntime, image: &Image) -> Result<(), Failure> {
     write(rt, instructions.as_bytes())
 }
 
-/// The texts of an image.
 fn texts_of(alloc: Global, image: &Image) -> Result<Vec<Vec<u8>>, AllocError> {
     let mut texts = Vec::new(alloc);
     for place in 0..image.text_count() {
@@ -62,7 +61,8 @@ fn texts_of(alloc: Global, image: &Image) -> Result<Vec<Vec<u8>>, AllocError> {
     Ok(texts)
 }
 
-/// The image with so many of its first instructions, and STOP in place of each other one; none where that has no form.
+/// The image with its first `count` instructions, and STOP in place of each other one; none where the format has no
+/// such image.
 fn cut(alloc: Global, image: &Image, count: usize) -> Result<Option<Image>, AllocError> {
     let mut code = Vec::new(alloc);
     for (place, operation) in image.code().iter().enumerate() {
@@ -77,7 +77,7 @@ fn cut(alloc: Global, image: &Image, count: usize) -> Result<Option<Image>, Allo
     Ok(Image::from_code(image.budget(), texts, numbers, image.slots(), code).ok())
 }
 
-/// Whether the image that is cut after so many instructions is refused by the same number.
+/// Whether the image that is cut after `count` instructions is refused by the same number.
 fn is_refused_so(
     alloc: Global,
     image: &Image,
@@ -94,8 +94,8 @@ fn is_refused_so(
     }
 }
 
-/// The place of the first instruction with which an image breaks the rule by which it is refused; none where it breaks it with
-/// no instruction too.
+/// The place of the first instruction with which an image breaks the rule by which it is refused. None where it breaks
+/// the rule with no instruction too.
 fn place_of_fault(
     alloc: Global,
     image: &Image,

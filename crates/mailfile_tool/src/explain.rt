@@ -10,14 +10,14 @@ use std::io::BufReader;
 use std::str;
 use tool_texts::{Payload, fault_text, line_at, place_of, refusal_text};
 
-/// The script that was refused, and where it lies.
+/// The script that was refused, and its path.
 #[derive(Drop)]
 struct Script<'a> {
     path: &'a str,
     octets: Vec<u8>,
 }
 
-/// What a line of a reply tells.
+/// What a line of a reply says.
 #[derive(Clone, Copy)]
 enum Reply {
     /// A refusal by its number, and perhaps the offset at which it stands.
@@ -28,7 +28,7 @@ enum Reply {
     Other,
 }
 
-/// What a refusal tells after its first word.
+/// Reads a refusal from what follows its first word.
 fn read_refusal(words: &str) -> Option<Reply> {
     match words.split_once(" at ") {
         Some((number, at)) => Some(Reply::Refused(number.parse().ok()?, Some(at.parse().ok()?))),
@@ -36,7 +36,7 @@ fn read_refusal(words: &str) -> Option<Reply> {
     }
 }
 
-/// What a line tells, which is without its line feed.
+/// Reads a line, which comes without its LF.
 fn read_reply(line: &[u8]) -> Reply {
     let Ok(text) = str::from_utf8(line) else {
         return Reply::Other;
@@ -50,7 +50,7 @@ fn read_reply(line: &[u8]) -> Reply {
     }
 }
 
-/// Blanks as wide as a part of a line: a tab for a tab, and one for each character.
+/// Blanks as wide as a part of a line: a tab for a tab, and a space for each other character.
 fn blanks(alloc: Global, part: &[u8]) -> Result<Vec<u8>, AllocError> {
     let mut blanks = Vec::new(alloc);
     for octet in part {
@@ -80,8 +80,8 @@ fn show_place(rt: &HostRuntime, script: &Script<'_>, at: usize) -> Result<(), Fa
     write(rt, &shown)
 }
 
-/// Where a refusal of a script stands in it: at the offset that the reply tells, or where the script is found at fault by that
-/// number.
+/// The place of a refusal in its script: the offset that the reply gives, or for 30 to 41 the place where the script is
+/// refused by that number. None where neither is known.
 fn place_of_refusal(
     alloc: Global,
     script: &Script<'_>,
@@ -97,7 +97,7 @@ fn place_of_refusal(
     }
 }
 
-/// Writes a line, without its line feed, and the text of its number.
+/// Writes a line, which comes without its LF, and the text of its number.
 fn write_explained(rt: &HostRuntime, line: &[u8], text: Option<&str>) -> Result<(), Failure> {
     let mut explained = Vec::from_slice(rt.alloc(), line)?;
     if let Some(text) = text {
@@ -108,7 +108,7 @@ fn write_explained(rt: &HostRuntime, line: &[u8], text: Option<&str>) -> Result<
     write(rt, &explained)
 }
 
-/// Writes a line, without its line feed, with what is to be told of it.
+/// Writes a line, which comes without its LF, with its explanation.
 fn explain_line(rt: &HostRuntime, line: &[u8], script: Option<&Script<'_>>) -> Result<(), Failure> {
     match read_reply(line) {
         Reply::Refused(number, told) => {
@@ -157,7 +157,7 @@ fn explain_replies(rt: &HostRuntime, script: Option<&Script<'_>>) -> Result<(), 
     Ok(())
 }
 
-/// Tells the texts of all numbers, or those of the replies that it reads.
+/// Writes the texts of all numbers, or the replies that it reads with the texts of their numbers.
 pub fn explain(rt: &HostRuntime, asked: &ArgMatches<'_>) -> Result<Verdict, Failure> {
     if asked.get_flag("numbers") {
         tell_numbers(rt)?;

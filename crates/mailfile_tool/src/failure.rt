@@ -7,14 +7,14 @@ use thiserror::Error;
 /// Why something is not done.
 #[derive(Drop)]
 pub enum Failure {
-    /// Whoever read the output went away.
+    /// The reader of the output has gone.
     Closed,
     NoMemory,
-    /// Told in words.
+    /// Reported in these words.
     Told(String),
 }
 
-/// What is told of a file.
+/// What is wrong with a file.
 #[derive(Clone, Copy, Debug, Error)]
 pub enum FileFault {
     #[error("longer than {0} octets")]
@@ -24,7 +24,7 @@ pub enum FileFault {
 }
 
 impl Failure {
-    /// A failure that is told in these words.
+    /// A failure that is reported in these words.
     pub fn told(alloc: Global, words: &str) -> Failure {
         match String::from_str(alloc, words) {
             Ok(text) => Failure::Told(text),
@@ -32,7 +32,7 @@ impl Failure {
         }
     }
 
-    /// A failure that is told of a file, or of a stream.
+    /// A failure at a file or a stream, reported with its path and the reason.
     pub fn at<T: Display>(alloc: Global, path: &str, reason: &T) -> Failure {
         match format!(in alloc; "{path}: {reason}") {
             Ok(text) => Failure::Told(text),

@@ -5,7 +5,7 @@ use std::alloc::Global;
 use std::fs::{self, File};
 use std::io::{self, ErrorKind, Read, Write};
 
-/// Opens a file.
+/// Opens a file for reading. A failure names its path.
 pub fn open(rt: &HostRuntime, path: &str) -> Result<File, Failure> {
     match fs::open(rt, path) {
         Ok(file) => Ok(file),
@@ -13,7 +13,7 @@ pub fn open(rt: &HostRuntime, path: &str) -> Result<File, Failure> {
     }
 }
 
-/// The length that a plain file says it has; none for a pipe and the like.
+/// The length that a regular file reports; none for a pipe and the like.
 fn told_length(alloc: Global, file: &File, path: &str) -> Result<Option<u64>, Failure> {
     match file.metadata() {
         Ok(metadata) if metadata.is_file() => Ok(Some(metadata.len())),
@@ -22,8 +22,8 @@ fn told_length(alloc: Global, file: &File, path: &str) -> Result<Option<u64>, Fa
     }
 }
 
-/// The octets of a file, which are as many as the file said before it was read. A file that says it is longer than the limit is
-/// not read, and no file is read further than one octet past it.
+/// The octets of a file, which must be as many as the file reported before it was read. A file that reports more than
+/// `limit` octets is not read, and no file is read further than one octet past that limit.
 pub fn read_file(rt: &HostRuntime, path: &str, limit: u64) -> Result<Vec<u8>, Failure> {
     let alloc = rt.alloc();
     let file = open(rt, path)?;
@@ -54,7 +54,7 @@ pub fn write(rt: &HostRuntime, octets: &[u8]) -> Result<(), Failure> {
     }
 }
 
-/// Writes a text to standard output, and a line feed after it.
+/// Writes a line to standard output, with its LF.
 pub fn write_line(rt: &HostRuntime, mut line: String) -> Result<(), Failure> {
     line.push('\n')?;
     write(rt, line.as_bytes())
@@ -68,7 +68,7 @@ pub fn write_file(rt: &HostRuntime, path: &str, octets: &[u8]) -> Result<(), Fai
     }
 }
 
-/// Reads the next line of a reader, with its line feed, in place of what is there; false at the end.
+/// Reads the next line of a reader, with its LF, in place of what is there; false at the end.
 pub fn read_line<R: io::BufRead>(
     alloc: Global,
     reader: &mut R,
@@ -81,7 +81,7 @@ pub fn read_line<R: io::BufRead>(
     }
 }
 
-/// Copies so many octets from a reader to standard output, or fewer where its input ends before.
+/// Copies `count` octets from a reader to standard output, or fewer where its input ends before.
 pub fn copy<R: io::Read>(rt: &HostRuntime, reader: &mut R, count: u64) -> Result<(), Failure> {
     match io::copy(&mut reader.by_ref().take(count), &mut rt.stdout()) {
         Ok(_) => Ok(()),

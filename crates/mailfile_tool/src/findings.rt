@@ -1,4 +1,4 @@
-//! Where a script is at fault.
+//! Why a script is refused, and where.
 
 use crate::halving::Search;
 use sieve_check::check;
@@ -6,8 +6,8 @@ use sieve_syntax::{Mark, Token, TokenKind};
 use sieve_text::{ScanFault, TextFault, parse, scan};
 use std::alloc::{AllocError, Global};
 
-/// Why a script is refused, by its number, and the offset in octets at which it stands. For the rules of well made scripts, 30
-/// to 41, that is where the first faulty command begins.
+/// Why a script is refused: the number, and the offset in octets. For the rules of well made scripts, 30 to 41, that is
+/// where the first faulty command begins.
 #[derive(Clone, Copy)]
 pub struct Finding {
     pub number: u8,
@@ -44,7 +44,7 @@ pub fn judge(alloc: Global, text: &[u8]) -> Result<Option<Finding>, AllocError> 
     }
 }
 
-/// Why a text is no well made script; none where it is one.
+/// Why a text is no well made script; none where it is well made.
 fn refusal_of(alloc: Global, text: &[u8]) -> Result<Option<Refusal>, AllocError> {
     let script = match parse(alloc, text) {
         Ok(script) => script,
@@ -101,8 +101,9 @@ fn is_refused_up_to(alloc: Global, text: &[u8], front: Option<&Front>) -> Result
     Ok(refusal_of(alloc, &script)?.is_some())
 }
 
-/// The offset of the first faulty command of a script that is not well made: the last of the shortest script of its first
-/// commands that is not. The refusal is that of the first faulty command, so a longer such script is refused too.
+/// The offset of the first faulty command of a script that is not well made. It is the last command of the shortest
+/// beginning of the script that is not well made. The refusal is that of the first faulty command, so each longer
+/// beginning is refused too.
 fn faulty_command(alloc: Global, text: &[u8]) -> Result<usize, AllocError> {
     let tokens = match scan(alloc, text) {
         Ok(tokens) => tokens,

@@ -10,7 +10,7 @@ use std::str;
 use std::time::{SystemTime, UNIX_EPOCH};
 use tool_texts::{Framed, Part, Payload, framed_line, parts, slots};
 
-/// The seconds of the clock.
+/// The time of the clock, in seconds since 1970-01-01T00:00:00Z.
 pub fn now(rt: &HostRuntime) -> Result<u64, Failure> {
     let since = match SystemTime::now(rt) {
         Ok(time) => time.duration_since(UNIX_EPOCH),
@@ -30,7 +30,7 @@ fn payload(rt: &HostRuntime, kind: Payload, path: &[u8]) -> Result<Vec<u8>, Fail
     }
 }
 
-/// What stands for a part of a command in a session.
+/// What replaces a part of a command in a session.
 fn framed<'a>(rt: &HostRuntime, part: Part<'a>) -> Result<Framed<'a>, Failure> {
     match part {
         Part::Word(word) => Ok(Framed::Word(word)),
@@ -40,8 +40,8 @@ fn framed<'a>(rt: &HostRuntime, part: Part<'a>) -> Result<Framed<'a>, Failure> {
     }
 }
 
-/// Whether a line names a file and has another number of words than its command takes, so that the session would not read the
-/// file's octets as a payload.
+/// Whether a line names a file, but has another number of words than its command takes. The session would not read the
+/// octets of that file as a payload.
 fn is_misshapen(parts: &[Part<'_>]) -> bool {
     let Some(Part::Word(command)) = parts.first() else {
         return false;
@@ -50,7 +50,7 @@ fn is_misshapen(parts: &[Part<'_>]) -> bool {
     names_file && parts.len().saturating_sub(1) != slots(*command).len()
 }
 
-/// The words of a command, whose files are read.
+/// The words of a command, with its files read.
 fn framed_words<'a>(rt: &HostRuntime, line: &'a [u8]) -> Result<Vec<Framed<'a>>, Failure> {
     let alloc = rt.alloc();
     let parts = parts(alloc, line)?;
@@ -89,7 +89,7 @@ fn at_line(alloc: Global, number: u64, failure: Failure) -> Failure {
     }
 }
 
-/// Frames the commands of a reader up to its end. A last line without a line feed is no command, and goes through as it is.
+/// Frames the commands of a reader up to its end. A last line without LF is no command, and is written as it is.
 fn frame_all<R: BufRead>(rt: &HostRuntime, reader: &mut R) -> Result<(), Failure> {
     let alloc = rt.alloc();
     let mut line = Vec::new(alloc);

@@ -1,7 +1,7 @@
 //! A search by halves.
 
-/// A search for the least number below a count for which a test holds, where it holds for each greater one too. It is over
-/// after at most as many tests as a number has bits.
+/// A search for the least number below a count for which a test holds. The test holds for each greater number too. The
+/// search is over after at most as many tests as a number has bits.
 #[derive(Clone, Copy)]
 pub struct Search {
     low: usize,
@@ -9,7 +9,7 @@ pub struct Search {
 }
 
 impl Search {
-    /// Before the first test.
+    /// A search below `count`, before its first test.
     pub fn below(count: usize) -> Search {
         Search {
             low: 0,
@@ -26,7 +26,7 @@ impl Search {
         }
     }
 
-    /// What the test of a number said.
+    /// Takes the result of the test of a number.
     pub fn told(&mut self, number: usize, holds: bool) {
         if holds {
             self.high = number;

@@ -13,7 +13,7 @@ use std::rc::Rc;
 /// What the name of a script's file ends with.
 const ENDING: &str = ".sieve";
 
-/// The name of a script by the path of its file: what stands after the last `/`, without `.sieve`.
+/// The name of a script by the path of its file: what follows the last `/`, without `.sieve`.
 pub fn script_name(path: &str) -> &str {
     let name = match path.rsplit_once('/') {
         Some((_, name)) => name,
@@ -45,7 +45,7 @@ fn scripts_in(rt: &HostRuntime, folder: &str) -> Result<Vec<String>, Failure> {
     Ok(paths)
 }
 
-/// Adds the script of a file to a location of a library; false where it is refused, which is told.
+/// Adds the script of a file to a location of a library; false where it is refused, which is reported.
 fn add_script(
     rt: &HostRuntime,
     path: &str,
@@ -73,7 +73,8 @@ fn add_script(
     }
 }
 
-/// Adds the scripts of a folder to a location of a library; false where one is refused, which is told.
+/// Adds the scripts of a folder to a location of a library; false where one is refused, which is reported. 96 is the
+/// refusal of a new name where the location has thirty-two scripts.
 pub fn add_folder(
     rt: &HostRuntime,
     folder: &str,

@@ -1,5 +1,5 @@
-//! Tools beside the session: commands with the paths of files in place of lengths, texts for numbers, scripts judged from the
-//! shell, images as text, and why a message is filed where it is.
+//! Tools beside the session. They read commands with the paths of files in place of lengths, add texts to numbers,
+//! judge scripts, show images as text, and say why a message is filed where it is.
 #![tactic(auto)]
 
 mod check;
@@ -26,17 +26,17 @@ use std::process::ExitCode;
 /// The status where a script or an image is refused.
 const STATUS_REFUSED: u8 = 1;
 
-/// The status where something could not be done: a bad command line, a file that cannot be read, want of memory.
+/// The status where something could not be done: a bad command line, a file that cannot be read or written, no memory.
 const STATUS_FAILURE: u8 = 2;
 
-/// Whether all that was judged is good.
+/// Whether all that was judged is good, or something was refused.
 #[derive(Clone, Copy)]
 pub enum Verdict {
     Good,
     Refused,
 }
 
-/// Does what a subcommand asks.
+/// Runs the subcommand of the command line.
 fn do_subcommand(rt: &HostRuntime, matches: &ArgMatches<'_>) -> Result<Verdict, Failure> {
     match matches.subcommand() {
         Some(("explain", asked)) => explain::explain(rt, asked),
@@ -49,7 +49,7 @@ fn do_subcommand(rt: &HostRuntime, matches: &ArgMatches<'_>) -> Result<Verdict, 
     }
 }
 
-/// Tells what `clap` has to say, which for `--help` is no fault.
+/// Prints what `clap` reports, which for `--help` is no fault.
 fn tell_clap(rt: &HostRuntime, error: &Error) -> ExitCode {
     let _ = error.print(rt);
     if error.use_stderr() {
@@ -59,7 +59,7 @@ fn tell_clap(rt: &HostRuntime, error: &Error) -> ExitCode {
     }
 }
 
-/// Tells why something was not done; a reader that went away is told nothing.
+/// Reports why something was not done; nothing is reported where the reader of the output has gone.
 fn tell_failure(rt: &HostRuntime, failure: &Failure) -> ExitCode {
     match failure {
         Failure::Closed => ExitCode::SUCCESS,
@@ -74,13 +74,13 @@ fn tell_failure(rt: &HostRuntime, failure: &Failure) -> ExitCode {
     }
 }
 
-/// What the words of the command line ask.
+/// Parses the words of the command line.
 fn read_matches<'a>(alloc: Global, words: &'a [String]) -> Result<ArgMatches<'a>, Error> {
     let command = command(alloc)?;
     command.try_get_matches_from(words)
 }
 
-/// Does what the words of the command line ask.
+/// Executes the words of the command line.
 fn serve_words(rt: &HostRuntime, words: &[String]) -> ExitCode {
     let matches = match read_matches(rt.alloc(), words) {
         Ok(matches) => matches,
@@ -93,7 +93,7 @@ fn serve_words(rt: &HostRuntime, words: &[String]) -> ExitCode {
     }
 }
 
-/// Reads the command line and does what it asks.
+/// Reads the command line and executes it.
 fn serve(rt: &HostRuntime) -> ExitCode {
     match words(rt) {
         Ok(words) => serve_words(rt, words.as_slice()),

@@ -1,4 +1,4 @@
-//! What a message was read as, and the steps of a run over it.
+//! The fields that a message was read as, and the steps of a run over it.
 
 use crate::failure::Failure;
 use crate::files::write_line;
@@ -45,7 +45,7 @@ pub fn show_fields<C: Case>(rt: &HostRuntime, message: &[u8], case: &C) -> Resul
     Ok(())
 }
 
-/// What a truth that a step left says.
+/// A truth that a step left, as text, with the field that matched, if there is one.
 fn told_truth<C: Case>(
     alloc: Global,
     case: &C,
@@ -62,7 +62,7 @@ fn told_truth<C: Case>(
     }
 }
 
-/// What a step did, in words after its instruction; nothing for one that answers nothing.
+/// What a step did, in words after its instruction; empty where there is nothing to show.
 fn told<C: Case>(
     alloc: Global,
     case: &C,
@@ -95,7 +95,7 @@ fn told<C: Case>(
     }
 }
 
-/// Writes the steps of a run, a line each: its number from 1, its instruction's place and the instruction, and what it answered.
+/// Writes the steps of a run, a line each: its number from 1, the instruction and its place, and what it left.
 pub fn show_steps<C: Case>(
     rt: &HostRuntime,
     image: &Image,

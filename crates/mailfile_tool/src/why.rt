@@ -1,4 +1,4 @@
-//! `why`: a message's way to its classes.
+//! `why`: why a message is filed in its classes.
 
 use crate::Verdict;
 use crate::check::text_of;
@@ -18,7 +18,7 @@ use tool_texts::Payload;
 /// The seconds of a day.
 const DAY: u64 = 86_400;
 
-/// The plan of the file that is named, or the one of `unfiled` alone; none where it is refused, which is told.
+/// The plan of the file that is named, or the one of `unfiled` alone; none where it is refused, which is reported.
 fn plan_of(rt: &HostRuntime, asked: &ArgMatches<'_>) -> Result<Option<Plan>, Failure> {
     let alloc = rt.alloc();
     let Some(path) = asked.get_str("plan") else {
@@ -37,7 +37,7 @@ fn plan_of(rt: &HostRuntime, asked: &ArgMatches<'_>) -> Result<Option<Plan>, Fai
     }
 }
 
-/// The number of a word that is so many digits.
+/// The number of a word of exactly `count` decimal digits.
 fn digits(word: &str, count: usize) -> Option<i16> {
     if word.len() != count || !word.bytes().all(|octet| octet.is_ascii_digit()) {
         return None;
@@ -45,7 +45,7 @@ fn digits(word: &str, count: usize) -> Option<i16> {
     word.parse().ok()
 }
 
-/// The first second of a day YYYY-MM-DD.
+/// The first second of a day `YYYY-MM-DD`, counted from 1970-01-01; none for any other text.
 fn read_day(text: &str) -> Option<u64> {
     let (year, rest) = text.split_once('-')?;
     let (month, day) = rest.split_once('-')?;
@@ -55,7 +55,7 @@ fn read_day(text: &str) -> Option<u64> {
     u64::try_from(day_number(date)).ok()?.checked_mul(DAY)
 }
 
-/// A moment of the day that is asked for, or the clock's.
+/// A moment of the day that the command line names, or the clock's.
 fn moment_asked(rt: &HostRuntime, asked: &ArgMatches<'_>) -> Result<u64, Failure> {
     let moment = match asked.get_str("day") {
         Some(text) => read_day(text),
@@ -70,7 +70,6 @@ fn moment_asked(rt: &HostRuntime, asked: &ArgMatches<'_>) -> Result<u64, Failure
     }
 }
 
-/// The octets of the message's file.
 fn message_of(rt: &HostRuntime, asked: &ArgMatches<'_>) -> Result<Vec<u8>, Failure> {
     read_file(
         rt,
@@ -79,7 +78,7 @@ fn message_of(rt: &HostRuntime, asked: &ArgMatches<'_>) -> Result<Vec<u8>, Failu
     )
 }
 
-/// Tells why a message is filed where it is.
+/// Writes why a message is filed where it is: its fields, the steps of the run, its classes and the outcome.
 pub fn tell_why(rt: &HostRuntime, asked: &ArgMatches<'_>) -> Result<Verdict, Failure> {
     let alloc = rt.alloc();
     let moment = moment_asked(rt, asked)?;

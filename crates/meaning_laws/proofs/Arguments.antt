@@ -26,7 +26,7 @@ pub lower_is : (a b : List ℕ) → same_name a b ≡ true → str_to_ascii_lowe
 unfolding same_name
 lower_is a b h = (bytes_eq-Decides (str_to_ascii_lowercase a) (str_to_ascii_lowercase b)).0 h
 
--- names that are the same without case are the same as a third one, or not
+-- names that are equal in any case of their letters are equal to the same words
 pub same_as : (a b c : List ℕ) → same_name a b ≡ true → same_word a c ≡ same_word b c
 same_as a b c h = ap (λ (l : List ℕ). bytes_eq l (str_to_ascii_lowercase c)) (lower_is a b h)
 
@@ -42,7 +42,7 @@ abbrev pub AreRead : List (List ℕ) → List TagWord → Type 0
 AreRead names [] = Unit {0}
 AreRead names (w ∷ ws) = (w.names_comparator ≡ same_word w.name (codes "comparator")) × (list_any (same_word w.name) names ≡ true) × AreRead names ws
 
--- a tag that the table has
+-- a tag that is in the table
 record IsRow (names : List (List ℕ)) (t : List ℕ) (w : TagWord) : Type 0 where
   comparator : w.names_comparator ≡ same_word t (codes "comparator")
   listed : list_any (same_word t) names ≡ true
@@ -113,7 +113,7 @@ no_string : (w : TagWord) (b : Bool) (more : List PieceWord) → comparator_piec
 no_string w true more = refl
 no_string w false more = refl
 
--- what the checker finds of a tag, where its row is given
+-- what the checker finds for a tag without a string after it
 tag_alone : (names : List (List ℕ)) (tags : List TagWord) → AreRead names tags → (t : List ℕ) (more : List Argument) → string_first more ≡ None → list_any is_unknown_tag (pieces tags (arguments.Tag t ∷ more)) ≡ false → list_any lacks_string (pieces tags (arguments.Tag t ∷ more)) ≡ false → (list_any is_unknown_tag (pieces tags more) ≡ false → list_any lacks_string (pieces tags more) ≡ false → IsPieced names tags more) → IsPieced names tags (arguments.Tag t ∷ more)
 tag_alone names tags all t more none u l rest = go (tag_named t tags) refl
   where

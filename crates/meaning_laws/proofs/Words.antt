@@ -1,4 +1,4 @@
--- What stands after each name.
+-- What follows each name.
 use Rattle.std.proofs.Common.{◌≡◌, ℕ, Bool, true, false, List, [], ◌∷◌, Option, Some, None, refl, sym, ap, subst, ◌∙◌, ◌⊎◌, inl, inr}
 use Rattle.std.specs.Prelude.{◌||◌, not, codes, if◌then◌else◌}
 use Rattle.std.specs.List.{list_any}
@@ -58,7 +58,7 @@ test_same a b h = ap (λ (l : List ℕ).
     else if bytes_eq l (str_to_ascii_lowercase (codes "false")) then tests.False
     else tests.Other) (lower_is a b h)
 
--- the row that was found is one of the table whose test holds
+-- the row that was found is a row of the table that passes the test
 Found : {R : Type 0} → (R → Bool) → List R → R → Type 0
 Found holds [] w = ⊥
 Found holds (r ∷ rs) w = ((holds r ≡ true) × (r ≡ w)) ⊎ Found holds rs w

@@ -1,5 +1,6 @@
--- What the meaning of a script reads is there: each name is one that it knows, and stands before the tags, strings, numbers,
--- tests and the block that are read of that name, and no others (RFC 5228, sections 3 to 5; RFC 3894; RFC 6609, section 3).
+-- What the meaning of a script reads. Each name is one that the meaning knows. It is followed by the tags, strings,
+-- numbers, tests and block that are read for that name, and by no others (RFC 5228, sections 3 to 5; RFC 3894; RFC
+-- 6609, section 3).
 use Rattle.std.specs.Prelude.{◌≡◌, ℕ, ◌||◌, Bool, true, false, List, [], ◌∷◌, None, codes}
 use Rattle.std.specs.List.{list_any, list_all}
 use Rattle.std.specs.Str.{bytes_eq}
@@ -17,7 +18,7 @@ use Rattle.sieve_meaning.specs.declared.words.TestWord.TheVariants as tests
 use Rattle.sieve_meaning.specs.Reading.{has_tag, string_lists}
 use Rattle.sieve_meaning.specs.Words.{same_word, command_word, test_word}
 
--- the names of the tags that are read
+-- the names of the tags that are read, of `header`, `size`, `fileinto` and `include`
 abbrev pub header_tags : List (List ℕ)
 header_tags = codes "comparator" ∷ codes "is" ∷ codes "contains" ∷ codes "matches" ∷ []
 
@@ -30,7 +31,7 @@ fileinto_tags = codes "copy" ∷ []
 abbrev pub include_tags : List (List ℕ)
 include_tags = codes "personal" ∷ codes "global" ∷ codes "once" ∷ codes "optional" ∷ []
 
--- whether an argument that is a tag has one of these names
+-- whether an argument, if it is a tag, has one of these names
 abbrev pub is_tag_of : List (List ℕ) → Argument → Bool
 is_tag_of names (arguments.Tag t) = list_any (same_word t) names
 is_tag_of names (arguments.Number n) = true
@@ -42,7 +43,7 @@ numbers_in (arguments.Number n ∷ args) = n ∷ numbers_in args
 numbers_in (arguments.Strings l ∷ args) = numbers_in args
 numbers_in (arguments.Tag t ∷ args) = numbers_in args
 
--- the strings that follow `:comparator` directly, where the truth says whether it stands before
+-- the strings that follow `:comparator` directly; the flag says whether `:comparator` stands directly before
 abbrev pub comparators_in : Bool → List Argument → List StringList
 comparators_in named [] = []
 comparators_in true (arguments.Strings l ∷ args) = l ∷ comparators_in false args
@@ -50,7 +51,7 @@ comparators_in false (arguments.Strings l ∷ args) = comparators_in false args
 comparators_in named (arguments.Number n ∷ args) = comparators_in false args
 comparators_in named (arguments.Tag t ∷ args) = comparators_in (same_word t (codes "comparator")) args
 
--- RFC 5228, section 2.7.3
+-- the comparators of RFC 5228, section 2.7.3
 abbrev pub is_comparator : StringList → Bool
 is_comparator l = bytes_eq (first_of l) (codes "i;octet") || bytes_eq (first_of l) (codes "i;ascii-casemap")
 
@@ -77,7 +78,7 @@ HasTestList inner = (t : TestTree) × (row : TestRow) × (inner ≡ listed_tests
 abbrev pub HasBlock : EndingTree → Type 0
 HasBlock finish = (cs : CommandTrees) × (finish ≡ block cs)
 
--- what stands after the name of a test is what its meaning reads
+-- the arguments and tests after the name of a test are those that its meaning reads (RFC 5228, section 5)
 abbrev pub TestReads : TestWord → List Argument → InnerTests → Type 0
 TestReads tests.True args inner = HasNone args × (inner ≡ no_tests)
 TestReads tests.False args inner = HasNone args × (inner ≡ no_tests)
@@ -102,7 +103,8 @@ abbrev mutual
   RowIsRead last_test = Unit {0}
   RowIsRead (next_test t row) = TestIsRead t × RowIsRead row
 
--- what stands after the name of a command is what its meaning reads
+-- the arguments, tests and block after the name of a command are those that its meaning reads (RFC 5228, sections 3 and
+-- 4; RFC 3894; RFC 6609, section 3)
 abbrev pub CommandReads : CommandWord → List Argument → InnerTests → EndingTree → Type 0
 CommandReads commands.Require args inner finish = ((names : StringList) × HasArguments [] (names ∷ []) [] args) × (inner ≡ no_tests) × (finish ≡ semicolon)
 CommandReads commands.If args inner finish = HasNone args × HasOneTest inner × HasBlock finish
@@ -116,7 +118,7 @@ CommandReads commands.FileInto args inner finish = HasString fileinto_tags args 
 CommandReads commands.Include args inner finish = HasString include_tags args × (inner ≡ no_tests) × (finish ≡ semicolon)
 CommandReads commands.Other args inner finish = ⊥
 
--- whether an `elsif` or `else` may follow
+-- whether an `elsif` or `else` may follow (RFC 5228, section 3.1)
 abbrev pub is_branch : CommandWord → Bool
 is_branch commands.If = true
 is_branch commands.ElsIf = true
@@ -130,7 +132,8 @@ is_branch commands.FileInto = false
 is_branch commands.Include = false
 is_branch commands.Other = false
 
--- an `elsif` or `else` directly follows an `if` or `elsif`, which the truth says
+-- an `elsif` or `else` directly follows an `if` or `elsif` (RFC 5228, section 3.1); the flag says whether one stands
+-- before
 abbrev pub Follows : CommandWord → Bool → Type 0
 Follows commands.ElsIf follows = follows ≡ true
 Follows commands.Else follows = follows ≡ true
@@ -159,6 +162,6 @@ abbrev mutual
   CommandsAreRead follows no_commands = Unit {0}
   CommandsAreRead follows (command_then c cs) = CommandIsRead follows c × CommandsAreRead (is_branch (word_of c)) cs
 
--- a script without refusal is read as it stands
+-- a script that the checker does not refuse is read as it stands
 abbrev pub ReadLaw : Type 0
 ReadLaw = (tree : CommandTrees) → refusal_of tree ≡ None → CommandsAreRead false tree

@@ -1,9 +1,10 @@
-//! The law, on a function with nothing to do.
+//! The law, as the contract of a function that does nothing.
 
 ghost use Rattle.meaning_laws.specs.Read.{ReadLaw};
 
-/// Of a script without refusal each name is one that has a meaning, and its tags, strings, numbers, comparators, tests and
-/// block are those that its meaning reads, and no others (RFC 5228, sections 3 to 5; RFC 3894; RFC 6609, section 3).
+/// In a script that the checker does not refuse, each name is one that has a meaning. Its tags, strings, numbers,
+/// comparators, tests and block are those that its meaning reads, and no others (RFC 5228, sections 3 to 5; RFC 3894;
+/// RFC 6609, section 3).
 pub fn checked_scripts_are_read()
     ensures { ReadLaw }
 {}

@@ -1,5 +1,5 @@
-//! What ties the rules of the checker (`sieve_check`) to what scripts mean (`sieve_meaning`), which know nothing of each
-//! other: whatever the checker accepts is read by the meaning as it stands.
+//! The law that ties the rules of the checker (`sieve_check`) to the meaning of scripts (`sieve_meaning`), which do not
+//! depend on each other: whatever the checker accepts is read by the meaning as it stands.
 #![tactic(auto)]
 
 mod laws;

@@ -14,24 +14,24 @@ use Rattle.sieve_meaning.specs.declared.scripts.ScriptName as code
 use Rattle.plain_evaluator.specs.declared.filing.Filing as kept
 use Rattle.plain_evaluator.proofs.TruthLemmas.{list_any-map}
 
--- among the names of the code
+-- whether a script is among the names of the code
 pub among_names : (names : List code.ScriptName) (s : ScriptName) → list_any (λ x. same_script s (script_of x)) names ≡ is_among (map script_of names) s
 among_names names s = sym (list_any-map (same_script s) script_of names)
 
--- what the code tells of a name that is looked for
+-- what the code answers for a name that is looked for
 pub among_told : (names : List code.ScriptName) (s : ScriptName) (told is : Bool) → told ≡ list_any (λ other. same_script s (script_of other)) names → told ≡ is → is_among (map script_of names) s ≡ is
 among_told names s told is tells at = sym (among_names names s) ∙ sym tells ∙ at
 
--- what it tells of an include that is not passed
+-- what it answers for an include that is not passed over
 pub not_passed : (once : Bool) (names entered : List code.ScriptName) (s : ScriptName) (told : Bool) → names ≡ entered → told ≡ (once && is_among (map script_of names) s) → told ≡ false → (once && is_among (map script_of entered) s) ≡ false
 not_passed once names entered s told same tells is = rw (← same) (sym tells ∙ is)
 
--- the judgement, and behind it the entry
+-- the judgement, and then the entry
 pub included_is : (facts : Facts) (lib : Library) (left : ℕ) (chain : List ScriptName) (i : Include) (f : meaning.Filing) → included facts lib left chain i f ≡ including lib chain (entered facts lib left chain i) i f
 included_is facts lib zero chain i f = refl
 included_is facts lib (suc left) chain i f = refl
 
--- an include that is not passed is judged by what is found
+-- an include that is not passed over is judged by what is found
 judged : (lib : Library) (chain : List ScriptName) (enter : Commands → meaning.Filing → meaning.Ending) (i : Include) (f : meaning.Filing) (found : Option Commands) → (i.once && is_among f.entered (script_named i)) ≡ false → lib.find (script_named i) ≡ found → unless_missing found i.optional (λ script. unless_active (is_among chain (script_named i)) (enter script)) f ≡ including lib chain enter i f
 judged lib chain enter i f found once is =
     sym (ap (λ b. unless_entered b (unless_missing (lib.find (script_named i)) i.optional (λ script. unless_active (is_among chain (script_named i)) (enter script))) f) once ∙ ap (λ x. unless_missing x i.optional (λ script. unless_active (is_among chain (script_named i)) (enter script)) f) is)
@@ -44,7 +44,7 @@ pub included_entered : (facts : Facts) (lib : Library) (left : ℕ) (chain : Lis
 included_entered facts lib left chain i f script e once is active ran =
     ran ∙ sym (ap (λ b. unless_active b (entered facts lib left chain i script) f) active) ∙ judged lib chain (entered facts lib left chain i) i f (Some script) once is ∙ sym (included_is facts lib left chain i f)
 
--- the script is written down before the others
+-- the entered script comes before the others
 pub filing_entered : (f g : kept.Filing) (s : code.ScriptName) → g.filed ≡ f.filed → g.kept ≡ f.kept → g.cancelled ≡ f.cancelled → g.entered.items ≡ insert f.entered.items 0 s → filing_of g ≡ entering (script_of s) (filing_of f)
 filing_entered f g s filed is_kept cancelled is = rw (filed, is_kept, cancelled, is) refl
 

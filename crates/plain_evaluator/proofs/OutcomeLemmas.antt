@@ -1,4 +1,4 @@
--- Outcomes, from what a run leaves.
+-- Outcomes, from the end of a run.
 use Rattle.std.proofs.Common.{◌≡◌, ℕ, List, [], false, map, refl, sym, ap, ◌∙◌}
 use Rattle.std.specs.Prelude.{Option}
 use Rattle.sieve_syntax.specs.Tree.{CommandTrees}

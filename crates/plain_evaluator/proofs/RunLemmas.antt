@@ -27,7 +27,7 @@ pub block_in-commands : (finish : EndingTree) → block_in finish ≡ program_of
 block_in-commands semicolon = refl
 block_in-commands (block cs) = refl
 
--- what follows a choice follows each side of it
+-- what follows a choice follows each of its sides
 and_then-if : (b : Bool) (x y : meaning.Ending) (go : meaning.Filing → meaning.Ending) → and_then (if b then x else y) go ≡ (if b then and_then x go else and_then y go)
 and_then-if true x y go = refl
 and_then-if false x y go = refl
@@ -92,7 +92,7 @@ plain_leads facts inc words.Include false name args inner finish f e is part tol
 plain_leads facts inc words.Other true name args inner finish f e is part told more = rw is (told tt (only_in inner) (block_in finish) (branches_of more) (program_of more))
 plain_leads facts inc words.Other false name args inner finish f e is part told more = rw is (told tt (only_in inner) (block_in finish) (branches_of more) (program_of more))
 
--- no commands go on
+-- without commands the run goes on
 pub runs_from_none : (facts : Facts) (inc : Included) (is_open : Bool) (f : meaning.Filing) → runs_from facts inc is_open no_commands f ≡ meaning.GoesOn f
 unfolding runs_from
 runs_from_none facts inc true f = refl

@@ -57,7 +57,7 @@ exists-shown case names more = all_shown (strings_of names)
 pub header-shown : (case : BorrowedCase Paths) (m : MatchType) (c : Comparator) (names keys : StringList) (more : List StringList) → truth (facts_of case) (header_of m c (names ∷ keys ∷ more)) ≡ list_any (λ f. list_any (λ name. is_named name (lent f)) (strings_of names) && list_any (λ key. key_matches m c key (lent f).value) (strings_of keys)) case.fields.items
 header-shown case m c names keys more = list_any-map (λ f. list_any (λ name. is_named name f) (strings_of names) && list_any (λ key. key_matches m c key f.value) (strings_of keys)) lent case.fields.items
 
--- what the code of `exists` and of `header` answers, from what it was told on its way
+-- what the code of `exists` and of `header` answers
 pub exists_answer : (case : BorrowedCase Paths) (args : List Argument) (fields : List BorrowedField) (names : StringList) (more : List StringList) (answer : Bool) → fields ≡ case.fields.items → string_lists false args ≡ names ∷ more → answer ≡ list_all (λ name. list_any (λ f. is_named name (lent f)) fields) (strings_of names) → answer ≡ truth (facts_of case) (exists_of (string_lists false args))
 exists_answer case args fields names more answer same lists told = rw lists (told ∙ ap (λ xs. list_all (λ name. list_any (λ f. is_named name (lent f)) xs) (strings_of names)) same ∙ sym (exists-shown case names more))
 

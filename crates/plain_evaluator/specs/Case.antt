@@ -1,4 +1,4 @@
--- The case of a message, as the evaluator is handed it.
+-- The case of a message, as it is given to the evaluator.
 use Rattle.std.specs.Prelude.{ℕ, List, Bool, map}
 use Rattle.sieve_meaning.specs.Case.{Facts, Field}
 use Rattle.sieve_meaning.specs.Paths.{Paths}
@@ -10,10 +10,10 @@ use Rattle.plain_evaluator.specs.declared.case.BorrowedField.{BorrowedField}
 abbrev pub lent : BorrowedField → Field
 lent f = record { name = f.name.now; value = f.value.items }
 
--- what there is to learn of a message, where a function tells which paths are open
+-- what a run can learn of a message, where a function answers which paths are open
 abbrev pub facts_by : {P : Type 0} → (P → List ℕ → Bool) → BorrowedCase P → Facts
 facts_by opens c = record { size = c.size; fields = map lent c.fields.items; is_open = opens c.paths }
 
--- what a case stands for whose open classes are those of a set
+-- what a case means whose open classes are those of a set
 abbrev pub facts_of : BorrowedCase Paths → Facts
 facts_of c = facts_by is_among c

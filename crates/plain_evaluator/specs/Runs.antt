@@ -1,4 +1,4 @@
--- Runs of a script as the evaluator goes over its commands; what an include does is handed in.
+-- Runs of a script as the evaluator walks over its commands. What an include does is a parameter.
 use Rattle.std.specs.Prelude.{◌≡◌, ℕ, zero, suc, List, ◌∷◌, map, Bool, true, false, codes, if◌then◌else◌, Option, Some, None}
 use Rattle.sieve_syntax.specs.Tree.{CommandTree, command, CommandTrees, no_commands, command_then, EndingTree, semicolon, block}
 use Rattle.sieve_syntax.specs.declared.tree.Argument.{Argument}
@@ -19,7 +19,7 @@ use Rattle.plain_evaluator.specs.declared.filing.Ending.{Ending}
 use Rattle.plain_evaluator.specs.declared.filing.Ending.TheVariants as endings
 use Rattle.plain_evaluator.specs.declared.scope.Scope.{Scope}
 
--- what the code's state of a run stands for
+-- what the code's state of a run means
 abbrev pub filing_of : Filing → meaning.Filing
 filing_of f = record { filed = f.filed; kept = f.kept; cancelled = f.cancelled; entered = map script_of f.entered.items }
 
@@ -29,47 +29,48 @@ ending_at endings.Returns f = meaning.Returns (filing_of f)
 ending_at endings.Stops f = meaning.Stops (filing_of f)
 ending_at (endings.Faults n) f = meaning.Faults n (filing_of f)
 
--- the number of a fault that a run ended in
+-- the number of the fault that a run ended in
 abbrev pub fault_of : Ending → Option ℕ
 fault_of endings.GoesOn = None
 fault_of endings.Returns = None
 fault_of endings.Stops = None
 fault_of (endings.Faults n) = Some n
 
--- what an `include` does in a scope, where so many further scripts may be active
+-- what an `include` does in a scope where the number of further scripts that may be active is given (RFC 6609, section
+-- 3.2)
 abbrev pub includes_at : ℕ → Scope → Included
 includes_at left s = included (facts_of s.case.now) (library_of (scripts_of s.shelves)) left (map script_of s.chain.now)
 
--- A script is entered by an include behind the active ones, where so many further ones may be active.
+-- a script that an include enters after the active ones; without a further level it is fault 4
 abbrev pub entered : Facts → Library → ℕ → (chain : List ScriptName) → Include → Commands → meaning.Filing → meaning.Ending
 entered facts lib zero chain i script f = meaning.Faults 4 f
 entered facts lib (suc left) chain i script f = ended (run facts (included facts lib left (script_named i ∷ chain)) script (entering (script_named i) f))
 
--- an include whose script is missing
+-- an include whose script is missing: nothing where it is optional (RFC 6609, section 3.2), otherwise fault 2
 abbrev pub missing : (optional : Bool) → meaning.Filing → meaning.Ending
 missing optional f = if optional then meaning.GoesOn f else meaning.Faults 2 f
 
--- Commands are run. An `elsif` or `else` at their front is open where no test of the branches before it was
--- true, and is passed over otherwise.
+-- commands run in order; an `elsif` or `else` at their front is open where no test of the branches before it was true,
+-- and is otherwise passed over
 unfoldable pub runs_from : Facts → Included → (is_open : Bool) → CommandTrees → meaning.Filing → meaning.Ending
 runs_from facts inc true cs f = and_then (run_branches facts inc (branches_of cs) f) (run facts inc (program_of cs))
 runs_from facts inc false cs f = run facts inc (program_of cs) f
 
--- `fileinto` with these arguments
+-- `fileinto` with these arguments (RFC 5228, section 4.1; RFC 3894)
 abbrev pub filing_into : Facts → List Argument → meaning.Filing → meaning.Ending
 filing_into facts args f = filing facts (has_tag (codes "copy") args) (first_string (string_lists false args)) f
 
--- not `if`, which needs its test and block
+-- any command but `if`, which needs its test and block
 abbrev pub IsNoIf : CommandWord → Type 0
 IsNoIf words.If = ⊥
 IsNoIf word = Unit {0}
 
--- A command with this word and these arguments ends so, whatever test, block, branches and further commands
--- stand with it; an `elsif` or `else` is passed over.
+-- a command with this word and these arguments has this ending, whatever test, block, branches and further commands
+-- stand with it; an `elsif` or `else` is passed over
 abbrev pub PlainlyEnds : Facts → Included → CommandWord → List Argument → meaning.Filing → meaning.Ending → Type 0
 PlainlyEnds facts inc word args f e = (t : Test) (inner : Commands) (rest : Branches) (more : Commands) → run facts inc (command_named word args t inner rest more) f ≡ and_then e (run facts inc more)
 
--- a command before further ones leads to this ending, and leaves the branches behind it open or not
+-- a command before further ones has this ending, and leaves the branches after it open or not
 abbrev pub Leads : Facts → Included → Bool → CommandTree → meaning.Filing → meaning.Ending → Bool → Type 0
 Leads facts inc is_open c f e opens = (more : CommandTrees) → runs_from facts inc is_open (command_then c more) f ≡ and_then e (runs_from facts inc opens more)
 
@@ -77,6 +78,6 @@ abbrev pub commands_in : EndingTree → CommandTrees
 commands_in semicolon = no_commands
 commands_in (block cs) = cs
 
--- a test and a block that are taken where the test is true lead to this ending
+-- a test, and a block that is run where the test is true, have this ending
 abbrev pub BranchLeads : Facts → Included → CommandTree → meaning.Filing → meaning.Ending → Bool → Type 0
 BranchLeads facts inc (command name args inner finish) f e opens = (more : CommandTrees) → (if truth facts (only_in inner) then and_then (run facts inc (block_in finish) f) (runs_from facts inc false more) else runs_from facts inc true more f) ≡ and_then e (runs_from facts inc opens more)

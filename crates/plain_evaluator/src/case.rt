@@ -10,28 +10,28 @@ use mail_words::value_of;
 use sieve_meaning::is_word;
 use std::alloc::{AllocError, Global};
 
-/// A field of the header: its name, which stands in the message, and its value with folding and encoded words undone.
+/// A field of the header: its name, a slice of the message, and its value with folding and encoded words undone.
 #[derive(Drop)]
 pub struct BorrowedField<'a> {
     pub name: &'a [u8],
     pub value: Vec<u8>,
 }
 
-/// A message that the caller keeps, and who tells which paths are open. It owns the values of the header's fields, and
-/// no other octet of the message.
+/// A message that the caller keeps, and what answers which paths are open. It owns the values of the header's fields,
+/// and no other octet of the message.
 #[derive(Drop)]
 pub struct BorrowedCase<'a, P> {
-    /// The octets of the message, as it was handed in.
+    /// How many octets the message has, its body included.
     pub size: u64,
     /// The fields of the header (RFC 5322, section 2.2), in order.
     pub fields: Vec<BorrowedField<'a>>,
-    /// Who tells which paths are open.
+    /// Answers which paths are open.
     pub paths: P,
 }
 
 impl<'a, P: OpenPaths + Drop> BorrowedCase<'a, P> {
-    /// The case of a message, which the caller keeps. Its fields are those of the header (RFC 5322, section 2.2), in
-    /// order, each with the value of its body; each value is decoded once, here. The only error is want of memory.
+    /// The case of a message that the caller keeps. Its fields are those of the header (RFC 5322, section 2.2), in
+    /// order, each with the value of its body. Each value is decoded once, here. The only error is out of memory.
     pub fn read(
         alloc: Global,
         message: &'a [u8],

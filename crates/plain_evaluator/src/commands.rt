@@ -18,7 +18,8 @@ use sieve_meaning::{CommandWord, Paths, command_word};
 use sieve_syntax::{Argument, Command, Ending as CommandEnding};
 use std::alloc::{AllocError, Global};
 
-/// `fileinto`: adds the path, and cancels the implicit keep unless a copy is filed.
+/// `fileinto` (RFC 5228, section 4.1): adds the path, and cancels the implicit keep unless `:copy` is given (RFC 3894).
+/// Fault 1 where the path is not open.
 fn file_into(
     alloc: Global,
     case: &BorrowedCase<'_, Paths>,
@@ -85,7 +86,7 @@ fn run_block<'a, L: Level>(
     }
 }
 
-/// Runs an `if`, or an `elsif` that is open; says whether the branches behind it are open.
+/// Runs an `if`, or an `elsif` that is open. Answers whether the branches after it are open.
 #[cycle(running)]
 fn run_branch<'a, L: Level>(
     alloc: Global,
@@ -102,7 +103,7 @@ fn run_branch<'a, L: Level>(
     Ok((ending, false))
 }
 
-/// Runs one command; says whether the branches behind it are open.
+/// Runs one command. Answers whether the branches after it are open.
 #[cycle(running)]
 fn run_command<'a, L: Level>(
     alloc: Global,
@@ -130,7 +131,7 @@ fn run_command<'a, L: Level>(
     }
 }
 
-/// Runs commands in order while each goes on.
+/// Runs commands in order as long as each goes on.
 #[cycle(running)]
 pub fn run<'a, L: Level>(
     alloc: Global,

@@ -19,9 +19,9 @@ pub struct Filing<'a> {
 #[derive(Clone, Copy, Debug, PartialEq, Eq)]
 pub enum Ending {
     GoesOn,
-    /// `return`.
+    /// `return` (RFC 6609, section 3.3).
     Returns,
-    /// `stop`.
+    /// `stop` (RFC 5228, section 3.3).
     Stops,
     /// A fault with its number.
     Faults(u8),

@@ -13,21 +13,20 @@ use crate::scope::Scope;
 use sieve_meaning::{Include, ScriptName};
 use std::alloc::{AllocError, Global};
 
-/// Whether a script is among some.
 fn is_among(names: &[ScriptName<'_>], script: &ScriptName<'_>) -> bool
     ensures { result ≡ list_any (λ other. same_script (script_of script.now) (script_of other)) names.now }
 {
     names.iter().any(|other| script.is_same(other))
 }
 
-/// Whether an include does nothing since it asks for once and its script was entered.
+/// Whether an include does nothing: it has `:once`, and its script was entered before.
 fn is_passed(include: &Include<'_>, entered: &[ScriptName<'_>]) -> bool
     ensures { result ≡ (include.now.is_once && is_among_of (map script_of entered.now) (script_of include.now.script)) }
 {
     include.is_once && is_among(entered, &include.script)
 }
 
-/// An include whose script is missing: nothing where it is optional, and else fault 2.
+/// An include of a missing script: nothing where it is optional, otherwise fault 2.
 fn missing(is_optional: bool) -> Ending
     ensures { (f : Filing) → ending_at result f ≡ missing_of is_optional (filing_of f) }
 {
@@ -38,8 +37,9 @@ fn missing(is_optional: bool) -> Ending
     }
 }
 
-/// An include is judged in this order: under `:once` it does nothing where the script was entered; a script may be
-/// missing; an active one is fault 3; any other is entered.
+/// Runs an include (RFC 6609, section 3.2), judged in this order. Under `:once` it does nothing where its script was
+/// entered before. A missing script is fault 2, or nothing under `:optional`; an active one is fault 3. Any other is
+/// entered.
 pub fn run_include<'a, L: Level>(
     alloc: Global,
     scope: &Scope<'_, '_, 'a>,

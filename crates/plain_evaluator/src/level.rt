@@ -1,5 +1,5 @@
-//! The entry of included scripts, level by level: a level is how many further scripts may be active, so that a run ends
-//! however the includes lead on.
+//! The entry of included scripts, level by level. A level is the number of further scripts that may be active, so a run
+//! ends whatever the scripts include.
 
 ghost use Rattle.std.specs.Prelude.{◌≡◌, ℕ, IfOk, map};
 ghost use Rattle.script_library.specs.Lent.{scripts_of};
@@ -16,9 +16,9 @@ use sieve_meaning::Include;
 use sieve_syntax::Script;
 use std::alloc::{AllocError, Global};
 
-/// How scripts are entered where so many further ones may be active.
+/// How scripts are entered at one level.
 pub trait Level {
-    /// How many.
+    /// How many further scripts may be active.
     ghost depth: { ℕ };
 
     /// Enters the script that an include names, which is there and not active, and runs it.

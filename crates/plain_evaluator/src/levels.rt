@@ -14,7 +14,7 @@ use sieve_syntax::Script;
 use std::alloc::{AllocError, Global};
 use std::marker::PhantomData;
 
-/// No further script may be active.
+/// No further script may be active: to enter one is fault 4.
 pub struct Deepest {}
 
 impl Level for Deepest {
@@ -31,12 +31,12 @@ impl Level for Deepest {
     }
 }
 
-/// One more script may be active than below.
+/// One more script may be active than at the level below.
 pub struct Above<L> {
     below: PhantomData<L>,
 }
 
-/// The active scripts with one more, which is the innermost.
+/// The active scripts with one more in front, the innermost.
 fn chain_with<'a>(
     alloc: Global,
     script: ScriptName<'a>,
@@ -49,7 +49,7 @@ fn chain_with<'a>(
     Ok(longer)
 }
 
-/// How an include ends whose script ended so: a script that returns has ended, and the run goes on behind it.
+/// How an include ends, from the end of its script. Where the script returns, the run goes on after the include.
 fn ended(ending: Ending) -> Ending
     ensures { (f : Filing) → ending_at result f ≡ ended_of (ending_at ending f) }
 {
@@ -82,5 +82,5 @@ impl<L: Level> Level for Above<L> {
     }
 }
 
-/// Seven scripts may be active behind the main one.
+/// Seven scripts may be active besides the main one.
 pub type Levels = Above<Above<Above<Above<Above<Above<Above<Deepest>>>>>>>;

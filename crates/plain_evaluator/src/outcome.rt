@@ -22,17 +22,17 @@ use sieve_meaning::{Location, Paths, ScriptName, captured_classes};
 use sieve_syntax::Script;
 use std::alloc::{AllocError, Global};
 
-/// What a script captured a message in.
+/// What a script captures a message in.
 #[derive(Drop)]
 pub struct Outcome {
     /// The classes, in byte order.
     pub classes: Paths,
-    /// The number of the fault, if the run ended in one: 1, a class that is not open; 2, an include of a missing script; 3, of
-    /// an active one; 4, of one more where eight are active.
+    /// The number of the fault, if the run ended in one. 1: a class that is not open. 2: an include of a missing
+    /// script. 3: an include of an active one. 4: an include where eight scripts are active.
     pub fault: Option<u8>,
 }
 
-/// What a run leaves that ended so.
+/// The outcome of a run, from its end and from what it has done.
 fn captured(alloc: Global, ending: Ending, filing: &Filing<'_>) -> Result<Outcome, AllocError>
     ensures { IfOk result (λ o. outcome_view o ≡ outcome_at (fault_of ending) filing.now.filed filing.now.kept filing.now.cancelled) }
 {
@@ -58,9 +58,9 @@ fn main_names<'a>(
     Ok(names)
 }
 
-/// What a main script captures a message in, which may be known by a personal name, and may include the scripts of two
-/// shelves: the outcome of what the script means in the message's case. Its weight is left aside: a script that is too
-/// heavy for an image is run like any other. The only error is want of memory.
+/// What a main script captures a message in: the outcome of what the script means in the message's case. The script may
+/// be known by a personal name, and may include the scripts of two shelves. Its weight is not looked at: a script that
+/// is too heavy for an image is run like any other. The only error is out of memory.
 pub fn evaluate<'a>(
     alloc: Global,
     main: &'a Script,

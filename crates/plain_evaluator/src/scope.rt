@@ -4,7 +4,7 @@ use crate::case::BorrowedCase;
 use script_library::Shelves;
 use sieve_meaning::{Paths, ScriptName};
 
-/// What is the same for all commands of a script that runs.
+/// What stays the same for all commands of a running script.
 #[derive(Clone, Copy, Drop)]
 pub struct Scope<'s, 'm, 'a> {
     pub case: &'s BorrowedCase<'m, Paths>,

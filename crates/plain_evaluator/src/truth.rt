@@ -61,7 +61,7 @@ fn has_listed_key(
     ) || is_any_match(field, keys.others(), how, comparator)
 }
 
-/// Whether some field has one of the names, and its value matches one of the keys.
+/// Whether some field has one of the names, and a value that matches one of the keys.
 fn is_any_field(
     fields: &[BorrowedField<'_>],
     names: &StringList,
@@ -75,7 +75,7 @@ fn is_any_field(
         && has_listed_key(field, keys, how, comparator))
 }
 
-/// `header`: whether some field has one of the names, and its value matches one of the keys.
+/// `header` (RFC 5228, section 5.7): whether some field has one of the names, and a value that matches one of the keys.
 fn is_header_true(case: &BorrowedCase<'_, Paths>, arguments: &[Argument]) -> bool
     ensures { result ≡ truth (facts_of case.now) (header_of (match_type_of arguments.now) (comparator_from false arguments.now) (string_lists false arguments.now)) }
 {
@@ -94,7 +94,6 @@ fn is_header_true(case: &BorrowedCase<'_, Paths>, arguments: &[Argument]) -> boo
     )
 }
 
-/// Whether a field with a name is there.
 fn has_field(fields: &[BorrowedField<'_>], name: &[u8]) -> bool
     ensures { result ≡ list_any (λ f. is_named name.now (lent f)) fields.now }
 {
@@ -115,7 +114,7 @@ fn has_listed_fields(fields: &[BorrowedField<'_>], names: &StringList) -> bool
     has_field(fields, names.first().as_slice()) && has_each_field(fields, names.others())
 }
 
-/// `exists`: whether a field is there for each name.
+/// `exists` (RFC 5228, section 5.5): whether a field is there for each name.
 fn is_exists_true(case: &BorrowedCase<'_, Paths>, arguments: &[Argument]) -> bool
     ensures { result ≡ truth (facts_of case.now) (exists_of (string_lists false arguments.now)) }
 {
@@ -125,7 +124,7 @@ fn is_exists_true(case: &BorrowedCase<'_, Paths>, arguments: &[Argument]) -> boo
     }
 }
 
-/// `size`: whether the message has more, or fewer, octets than the number.
+/// `size` (RFC 5228, section 5.9): whether the message has more octets than the number under `:over`, otherwise fewer.
 fn is_size_true(case: &BorrowedCase<'_, Paths>, arguments: &[Argument]) -> bool
     ensures { result ≡ truth (facts_of case.now) (size_of (has_tag_of (codes "over") arguments.now) (number_in arguments.now)) }
 {
@@ -137,7 +136,7 @@ fn is_size_true(case: &BorrowedCase<'_, Paths>, arguments: &[Argument]) -> bool
     }
 }
 
-/// Whether a test is true.
+/// Whether a test is true in a case. A test of an unknown name is false.
 #[cycle(truth)]
 pub fn is_true(case: &BorrowedCase<'_, Paths>, test: &Test) -> bool
     ensures { result ≡ truth (facts_of case.now) (test_in (test_of test.now)) }
@@ -155,7 +154,7 @@ pub fn is_true(case: &BorrowedCase<'_, Paths>, test: &Test) -> bool
     }
 }
 
-/// Whether the only test is true.
+/// Whether the first test is true. False where there is none.
 #[cycle(truth)]
 pub fn is_only_true(case: &BorrowedCase<'_, Paths>, tests: &Tests) -> bool
     ensures { result ≡ truth (facts_of case.now) (only_in (inner_of tests.now)) }
@@ -167,7 +166,6 @@ pub fn is_only_true(case: &BorrowedCase<'_, Paths>, tests: &Tests) -> bool
     }
 }
 
-/// Whether all tests are true.
 #[cycle(truth)]
 fn are_all_true(case: &BorrowedCase<'_, Paths>, tests: &Tests) -> bool
     ensures { result ≡ all_true (facts_of case.now) (tests_in (inner_of tests.now)) }
@@ -189,7 +187,6 @@ fn are_all_true(case: &BorrowedCase<'_, Paths>, tests: &Tests) -> bool
     }
 }
 
-/// Whether some test is true.
 #[cycle(truth)]
 fn is_some_true(case: &BorrowedCase<'_, Paths>, tests: &Tests) -> bool
     ensures { result ≡ some_true (facts_of case.now) (tests_in (inner_of tests.now)) }

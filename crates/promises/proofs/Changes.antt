@@ -116,7 +116,7 @@ begin_change s officer moment message (listed ls) new h = absurd h
 
 -- ---- turns
 
--- of a TURN of a ticket, that ticket is granted what it grants, and each other one none
+-- a TURN of a ticket grants its turns to that ticket, and none to any other
 turn_grants : (t k n : ℕ) (a : Answer) (u : ℕ) → TurnGrants k a n → Grants u (turn t k) a (if t == u then n else 0)
 turn_grants t k n a u h = go (t == u)
   where

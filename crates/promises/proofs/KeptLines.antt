@@ -10,7 +10,7 @@ use Rattle.filing_session.specs.Session.{Item, Call, UnknownCommand, WrongWord, 
 use Rattle.filing_session.proofs.Refinement.{run_refines}
 use Rattle.promises.specs.Lines.{is_struck_item, kept_items, kept_replies, IsSession, IsServedFrom, LeaveTheSame, AreServedAlike}
 
--- items are answered so, one after the other, and none of them is struck
+-- items with their answers, one after the other, none of them struck
 abbrev SerialItems : Serial → List Item → List Answer → Serial → Type 0
 SerialItems s [] [] new = new ≡ s
 SerialItems s (i ∷ items) (a ∷ answers) new = (mid : Serial) × (is_struck_item i a ≡ false) × ItemStep SerialStep s i a mid × SerialItems mid items answers new

@@ -188,7 +188,7 @@ settles_captures s (destroy r day) x o h k = k
 
 -- ---- due lists
 
--- a due list is told alone, and is one
+-- a command that answers a due list answers one alone, and nothing else
 record IsToldAlone (s : Office) (c : PlainCommand) (lines : List Line) : Type 0 where
   once : (others : List Line) → Lists s c others → lines ≡ others
   unsettled : (x : Office) → Settles s c x → ⊥

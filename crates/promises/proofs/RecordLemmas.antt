@@ -1,4 +1,4 @@
--- What captures and due lists say of records.
+-- What captures and due lists say about records.
 use Rattle.std.proofs.Common.{◌≡◌, ◌+◌, ◌<◌, ◌≤◌, [], ◌∷◌, ℕ, List, map, filter, refl, arith, ap, ◌∙◌, sym, subst, inl, inr, Bool, true, false, not, ◌&&◌, Option, Some, None, Result, Ok, Err, Ordering, is_gt}
 use Rattle.std.specs.Prelude.{if◌then◌else◌, max, nat_lt, All, Contains}
 use Rattle.std.specs.List.{AllByRecursion, AllZip}

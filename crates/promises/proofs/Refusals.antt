@@ -1,4 +1,4 @@
--- Exactly when TURN, FINISH and BEGIN are refused, and what TURN tells.
+-- Exactly when TURN, FINISH and BEGIN are refused, and what TURN answers.
 use Rattle.std.proofs.Common.{◌≡◌, ◌≢◌, ◌+◌, ◌<◌, ◌≤◌, ℕ, List, length, refl, arith, ap, ◌∙◌, sym, subst, inl, inr, Bool, true, false, Option, Some, None}
 use Rattle.std.specs.Prelude.{◌⊎◌, ◌↔◌, if◌then◌else◌, nat_le, nat_lt}
 use Rattle.std.specs.Option.{option_map}
@@ -104,7 +104,7 @@ whole_92 : (s : Standing) (t m n : ℕ) (early : Bool) (stood : Stood) (a : Answ
 whole_92 s t m n true stood a new is h = (λ _. grind (arith, nat_tests, is), λ _. h.0)
 whole_92 s t m n false stood a new is h = (λ e. absurd (not_92 (whole_number s t stood a new 92 h e)), λ lt. absurd (grind (arith, nat_tests, is, lt)))
 
--- a finish of a capture in flight, in the words of that capture
+-- a finish of a capture in flight, in terms of that capture
 pub finish_of : (s : Standing) (t : ℕ) (a : Answer) (new : Standing) (f : Flight) → Step s (finish t) a new → flight_of t s.flights ≡ Some f → FinishWhole s t (nat_lt f.granted f.run_length) f.stood a new
 unfolding Step
 finish_of s t a new f h e = let P : Option Flight → Type 0 = λ x. FinishStep s t x a new in subst P e h

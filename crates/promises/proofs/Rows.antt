@@ -9,8 +9,8 @@ use Rattle.promises.specs.Beginnings.{tickets_given, AreNumbersUpTo}
 use Rattle.promises.specs.Serial.{kept_commands, kept_answers}
 use Rattle.promises.specs.Turns.{AllGrant, TellsTurns}
 
--- Two captures whose turns are mixed. What is struck are the turns, a plain command for want of memory, a finish before the end,
--- and one that the database refused.
+-- Two captures whose turns are mixed. The turns are struck, and so are a plain command that found no memory, a finish
+-- before the end, and one that the database refused.
 module _ (officer message : List ℕ) (c : PlainCommand) (lines : List Line) where
   mixed_kept :
       kept_commands

@@ -28,7 +28,7 @@ stood_shows : (t : ℕ) (fs : List Flight) → stood_of t (map ticket_of fs) ≡
 stood_shows t [] = refl
 stood_shows t (f ∷ fs) = let rest = stood_shows t fs in grind (arith, nat_tests, rest)
 
--- ---- what is pinned declares the budget that is told
+-- ---- what is pinned declares the budget that is answered
 
 script_budget : (heavy : Bool) (lib : Library) (name : List ℕ) (c : Commands) (p : Program) → PinsScript heavy lib name c p → p.budget ≡ (if heavy then 1 else linked_weight lib (Some name) c)
 script_budget true lib name c p h = ap (λ (q : Program). q.budget) h

@@ -29,7 +29,7 @@ step_in_order s c a new h k = change_in_order s c a new (step_change s c a new h
 
 -- ---- one step
 
--- the capture was there before, and the step granted it so many turns
+-- the capture was there before, and its turns grew by those that the step granted
 record IsCarried (s : Standing) (c : Command) (a : Answer) (t : ℕ) (f : Flight) : Type 0 where
   old : Flight
   there : flight_of t s.flights ≡ Some old
@@ -162,7 +162,7 @@ step_grants_none s c a new t k step later = go (step_change s c a new step)
 
 -- ---- runs
 
--- the capture was there before, and the commands granted it so many turns
+-- the capture was there before, and its turns grew by those that the commands granted
 record IsCarriedThrough (s : Standing) (cs : List Command) (answers : List Answer) (t : ℕ) (f : Flight) : Type 0 where
   old : Flight
   there : flight_of t s.flights ≡ Some old

@@ -86,7 +86,7 @@ none_above m l t (f ∷ fs) h e =
     let end = tickets_end f.ticket l fs h.1 in
     grind (arith, nat_tests, rest, end, e)
 
--- a ticket that was given up is not there any more
+-- a ticket that was given up is not in flight any more
 pub of_without : (m l t : ℕ) (fs : List Flight) → AreTickets m fs l → flight_of t (without t fs) ≡ None
 of_without m l t [] h = refl
 of_without m l t (f ∷ fs) h = go (f.ticket == t) refl (of_without f.ticket l t fs h.1)

@@ -49,7 +49,7 @@ refused_unchanged s (begin officer moment message) n at new h other = h.0
 refused_unchanged s (turn t k) n at new h other = turn_unchanged s t k (flight_of t s.flights) n at new other h
 refused_unchanged s (finish t) n at new h other = finish_unchanged s t (flight_of t s.flights) n at new h
 
--- of a TURN the turns may stay that were made
+-- after 99 a TURN may keep the turns that were made
 pub turns_alone : (s : Standing) (c : Command) (at : Option ℕ) (new : Standing) → Step s c (refused 99 at) new → forget new ≡ forget s
 turns_alone s (plain c) at new h = step_follows s (plain c) (refused 99 at) new h
 turns_alone s (begin officer moment message) at new h = step_follows s (begin officer moment message) (refused 99 at) new h

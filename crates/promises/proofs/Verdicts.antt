@@ -1,4 +1,4 @@
--- What is found of a script or an image is found once.
+-- A script or an image has one verdict.
 use Rattle.std.proofs.Common.{◌≡◌, ◌≢◌, [], ℕ, List, refl, arith, ap, ◌∙◌, sym, subst, inl, inr, Some, None}
 use Rattle.std.proofs.lemmas.List.{append-nil}
 use Rattle.sieve_syntax.specs.Tree.{CommandTrees}
@@ -71,7 +71,7 @@ well_fails p Stack w h e = h.2 w.shaped
 well_fails p RunsOff w h e = h.3 w.inside
 well_fails p Budget w h e = h.4 w.within
 
--- the first that fails is one
+-- the first fault that holds is one alone
 fails_once : (p : Program) (f g : VerifyFault) → Fails f p → Fails g p → verify_number f ≢ 99 → verify_number g ≢ 99 → verify_number f ≡ verify_number g
 fails_once p NoMemory g h k e d = absurd (e refl)
 fails_once p Operand NoMemory h k e d = absurd (d refl)

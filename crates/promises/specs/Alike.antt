@@ -1,4 +1,4 @@
--- Answers that say the same, but for an offset, and for 20 in the place of 21.
+-- Answers that say the same, except for an offset and for 20 in the place of 21.
 use Rattle.std.specs.Prelude.{◌≡◌, ℕ, ◌⊎◌, List, [], ◌∷◌}
 use Rattle.filing_commands.specs.Answers.{Answer, refused}
 

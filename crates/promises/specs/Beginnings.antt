@@ -5,8 +5,8 @@ use Rattle.filing_commands.specs.Limits.{greatest_message, last_moment}
 use Rattle.filing_commands.specs.Standing.{Command, begin, Flight, Standing, stood_at}
 use Rattle.promises.specs.Runs.{Run}
 
--- Of the commands, answered so, one was a BEGIN that gave the ticket and told the budget of what is pinned; and what stood then, in
--- the state that the commands before it left, stands for the capture still.
+-- One of the commands, with these answers, was a BEGIN that gave the ticket and answered the budget of what is pinned.
+-- What stood then, in the state that the commands before it left, still holds for the capture.
 pub record HasBegun (old : Standing) (commands : List Command) (answers : List Answer) (f : Flight) : Type 0 where
   pub officer : List ℕ
   pub moment : ℕ

@@ -5,7 +5,7 @@ use Rattle.sieve_meaning.specs.Program.{Commands}
 use Rattle.filing_image.specs.Program.{Program}
 use Rattle.filing_commands.specs.Pinning.{PinsScript, is_too_heavy}
 
--- A script of that name, with what it can include, is compiled to the program: what the compiler owes, or one FAULT 5 where
--- the script is too heavy.
+-- A script of that name, with what it can include, is compiled to the program: what the compiler owes, or one FAULT 5
+-- where the script is too heavy.
 abbrev pub Compiles : Library → (name : List ℕ) → Commands → Program → Type 0
 Compiles lib name script p = PinsScript (is_too_heavy lib name script) lib name script p

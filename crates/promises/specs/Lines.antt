@@ -24,21 +24,21 @@ kept_replies (i ∷ items) (a ∷ answers) = if is_struck_item i a then kept_rep
 kept_replies [] answers = []
 kept_replies (i ∷ items) [] = []
 
--- What follows is said of registries, by when they are clean and the states for which they stand.
+-- These definitions are over registries, by when they are clean and which states they represent.
 module _ {D : Type 0} (clean : D → Type 0) (stands : D → Standing → Type 0) where
-  -- lines are answered so by a registry that stands for a state, and leave one that is clean
+  -- a registry that represents a state gives these answers to lines, and is clean afterwards
   pub record IsSession (s : Standing) (old : D) (items : List Item) (answers : List Answer) (new : D) : Type 0 where
     pub stood : stands old s
     pub run : session.Run (Calls clean stands) old items answers new
     pub is_clean : clean new
 
-  -- a session is served by a registry that stands for a state, and leaves one that is clean
+  -- a registry that represents a state serves a session, and is clean afterwards
   pub record IsServedFrom (s : Standing) (old : D) (asked : Session) (before written : List ℕ) (new : D) : Type 0 where
     pub stood : stands old s
     pub served : session.IsServed (Calls clean stands) asked old before written new
     pub is_clean : clean new
 
--- two registries stand for states that differ in the turns of captures in flight alone
+-- two registries represent states that differ only in the turns of captures in flight
 pub record LeaveTheSame {D : Type 0} (stands : D → Standing → Type 0) (one other : D) : Type 0 where
   pub first : Standing
   pub second : Standing
@@ -46,8 +46,8 @@ pub record LeaveTheSame {D : Type 0} (stands : D → Standing → Type 0) (one o
   pub second_stands : stands other second
   pub same : forget first ≡ forget second
 
--- What two sessions have written are answers, and how they ended; where the sessions are equal after striking, what is left of the
--- answers is alike, and they leave the same.
+-- Two sessions have written answers, and how they ended. Where the sessions are equal after striking, what is left of
+-- the answers is alike, and they leave the same.
 pub record AreServedAlike {D : Type 0} (stands : D → Standing → Type 0) (asked other : Session) (before written ahead told : List ℕ)
     (new last : D) : Type 0 where
   pub answers : List Answer

@@ -1,4 +1,4 @@
--- What captures and due lists say of records.
+-- What captures and due lists say about records.
 use Rattle.std.specs.Prelude.{◌≡◌, ℕ, ◌<◌, ◌≤◌, List, [], ◌∷◌, ◌++◌, map, false, Option, Some, All, Contains}
 use Rattle.std.specs.List.{AllZip}
 use Rattle.class_plan.specs.Plans.{Listing}
@@ -21,14 +21,16 @@ pub record EndsWithinBudget (p : Program) (c : Facts) (o : Outcome) : Type 0 whe
   pub within : steps ≤ p.budget
   pub outcome : HasOutcome p c steps o
 
--- a line tells a record: its number, its class, and the day that comes the class's period after its own, if the period ends
+-- the line of a record: its number, its class, and the day that comes the class's period after its own, if the period
+-- ends
 pub record IsLineOf (plan : Listing) (r : Record) (l : Line) : Type 0 where
   pub number : l.number ≡ r.number
   pub class : l.path ≡ r.path
   pub due : l.due ≡ due_on plan r.path r.day
 
--- A capture of what stood made a live record for each of its classes, and no other: of the message, with the day that stood, and
--- numbered above all earlier ones. The lines tell them in order. Plan and holds are as they were.
+-- A capture of what stood made a live record for each of its classes, and no other. Each is of the message, with the
+-- day that stood, and is numbered above all earlier ones. The lines report them in order. Plan and holds are as they
+-- were.
 pub record IsMadeWhole (old : Archive) (stood : Stood) (o : Outcome) (lines : List Line) (new : Archive) : Type 0 where
   pub records : List Record
   pub added : new.records ≡ old.records ++ records
@@ -41,7 +43,7 @@ pub record IsMadeWhole (old : Archive) (stood : Stood) (o : Outcome) (lines : Li
   pub plan : new.plan ≡ old.plan
   pub holds : new.holds ≡ old.holds
 
--- what a finish answers, and leaves: the records of the capture's own outcome, whose fault it tells
+-- what a finish answers and leaves: the records of the outcome of the capture alone, whose fault it answers
 pub record FilesAlone (old : Archive) (stood : Stood) (fault : Option ℕ) (lines : List Line) (new : Archive) : Type 0 where
   pub outcome : Outcome
   pub alone : IsAlone stood outcome

@@ -4,7 +4,7 @@ use Rattle.record_store.specs.Archive.{Archive}
 use Rattle.filing_commands.specs.Answers.{Answer}
 use Rattle.filing_commands.specs.Standing.{Command, Standing, Step, opening}
 
--- commands may be answered so, one after the other, and leave that
+-- commands with their answers, one after the other, and the state that they leave
 abbrev pub Run : Standing → List Command → List Answer → Standing → Type 0
 Run s [] [] new = new ≡ s
 Run s (c ∷ commands) (a ∷ answers) new = (mid : Standing) × Step s c a mid × Run mid commands answers new

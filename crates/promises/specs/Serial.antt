@@ -1,5 +1,5 @@
--- The serial session: a session without its turns and without the commands that were given up. Each capture is whole at its
--- finish, and there is no machine, step or half-done capture.
+-- The serial session: a session without its turns and without the commands that were given up. Each capture is whole at
+-- its finish, and there is no machine, step or half-done capture.
 use Rattle.std.specs.Prelude.{◌≡◌, ℕ, ◌+◌, List, [], ◌∷◌, ◌++◌, length, map, Bool, true, false, ◌==◌, ◌||◌, if◌then◌else◌, Option, Some, None}
 use Rattle.record_store.specs.Archive.{Archive}
 use Rattle.filing_commands.specs.Answers.{Answer, begun, refused}
@@ -60,14 +60,14 @@ abbrev pub SerialFinish : Serial → (t : ℕ) → Option Stood → Answer → S
 SerialFinish s t None a new = (a ≡ refused 91 None) × (new ≡ s)
 SerialFinish s t (Some stood) a new = (b : Archive) × Files s.office.archive stood a b × (new ≡ giving_up s t a b)
 
--- a command of the serial session may be answered so, and leaves that
+-- a command of the serial session, an answer that it may have, and the state that it leaves
 abbrev pub SerialStep : Serial → Command → Answer → Serial → Type 0
 SerialStep s (plain c) a new = (b : Office) × OfficeRule s.office c a b × (new ≡ record s { office = b })
 SerialStep s (begin officer moment message) a new = SerialBegin s officer moment message a new
 SerialStep s (turn t k) a new = ⊥
 SerialStep s (finish t) a new = SerialFinish s t (stood_of t s.tickets) a new
 
--- want of memory, a refusal of the database, and the refusal of a capture that has not come to its end
+-- no memory (99), a refusal of the database (89), and the refusal of a capture that has not come to its end (92)
 abbrev pub is_passing : Answer → Bool
 is_passing (refused n at) = (n == 89) || ((n == 92) || (n == 99))
 is_passing _ = false
@@ -77,7 +77,7 @@ abbrev pub is_struck : Command → Answer → Bool
 is_struck (turn t k) a = true
 is_struck _ a = is_passing a
 
--- commands are answered so, one after the other, and leave that; none of them is struck
+-- commands with their answers, one after the other, none of them struck, and the state that they leave
 abbrev pub SerialRun : Serial → List Command → List Answer → Serial → Type 0
 SerialRun s [] [] new = new ≡ s
 SerialRun s (c ∷ commands) (a ∷ answers) new = (mid : Serial) × (is_struck c a ≡ false) × SerialStep s c a mid × SerialRun mid commands answers new

@@ -1,4 +1,4 @@
-//! What is promised of images and of the scripts that are compiled to them, each law on a function with nothing to do.
+//! Promises about images and the scripts that are compiled to them, each the contract of a function without code.
 
 ghost use Rattle.std.specs.Prelude.{◌≡◌, ◌≢◌, ℕ, List, Some};
 ghost use Rattle.sieve_syntax.specs.Tree.{CommandTrees};
@@ -12,9 +12,9 @@ ghost use Rattle.filing_commands.specs.Parts.{IsGood, IsGoodImage, RefusesImage}
 ghost use Rattle.promises.specs.Records.{EndsWithinBudget, IsFaultAlone};
 ghost use Rattle.promises.specs.Images.{Compiles};
 
-/// Whatever octets are offered: they are the image of one program at most, and where that may run
-/// - no run of it goes wrong, whatever the message is and whichever classes are open;
-/// - each run ends after at most as many steps as the image's budget says, and with one outcome.
+/// Any octets are the image of at most one program. Where that program may run:
+/// - no run of it traps, whatever the message is and whichever classes are open;
+/// - each run ends within the image's budget of steps, and with one outcome.
 pub fn accepted_images_run_to_their_end()
     ensures program { (octets : List ℕ) (p q : Program) → IsGoodImage octets p → IsGoodImage octets q → p ≡ q }
     ensures never_traps { (octets : List ℕ) (p : Program) (c : Facts) (n : ℕ) → IsGoodImage octets p → after_steps p c n ≢ Trap }
@@ -22,14 +22,15 @@ pub fn accepted_images_run_to_their_end()
     ensures once { (p : Program) (c : Facts) (o x : Outcome) → EndsWithinBudget p c o → EndsWithinBudget p c x → o ≡ x }
 {}
 
-/// Octets that may run are refused by no number, and others by one at most; want of memory (99) aside.
+/// Octets that may run are refused by no number, and others by at most one, apart from 99 (no memory).
 pub fn images_are_refused_by_one_number()
     ensures accepted { (octets : List ℕ) (p : Program) (n : ℕ) → IsGoodImage octets p → RefusesImage octets n → n ≡ 99 }
     ensures refused { (octets : List ℕ) (m n : ℕ) → RefusesImage octets m → RefusesImage octets n → m ≢ 99 → n ≢ 99 → m ≡ n }
 {}
 
-/// What a script is compiled to ends, in every case and within its budget, with the outcome that the script means together with
-/// all that it includes. A text is one script at most, and what it means by a fault is the default class alone.
+/// The program that a script is compiled to ends in every case within its budget. Its outcome is the one that the
+/// script means together with all that it includes. A text is at most one script. An outcome with a fault is the
+/// default class alone.
 pub fn scripts_capture_what_they_mean()
     ensures text { (text : List ℕ) (t u : CommandTrees) → IsGood text t → IsGood text u → t ≡ u }
     ensures runs { (lib : Library) (name : List ℕ) (script : Commands) (p : Program) (c : Facts)

@@ -1,4 +1,4 @@
-//! Laws of whole sessions, each on a function with nothing to do.
+//! Laws of whole sessions, each the contract of a function without code.
 
 ghost use Rattle.std.specs.Prelude.{◌≡◌, ◌≢◌, ◌≤◌, ℕ, List, Option, Some, All};
 ghost use Rattle.sieve_meaning.specs.Outcome.{Outcome};
@@ -12,33 +12,34 @@ ghost use Rattle.promises.specs.Beginnings.{HasBegun};
 ghost use Rattle.promises.specs.Runs.{IsReached, Run};
 ghost use Rattle.promises.specs.Serial.{SerialRun, forget, kept_answers, kept_commands};
 
-/// A session is the serial one, whatever turns are granted in it: the commands that are struck do nothing, and the others are
-/// answered as if each capture were made whole at its finish.
+/// Whatever turns are granted in it, a session is the serial one. The commands that are struck do nothing, and the
+/// others are answered as if each capture were made whole at its finish.
 pub fn turns_do_not_matter()
     ensures { (s : Standing) (commands : List Command) (answers : List Answer) (new : Standing) → Run s commands answers new
         → SerialRun (forget s) (kept_commands commands answers) (kept_answers commands answers) (forget new) }
 {}
 
-/// Two sessions that are equal after striking have the same answers, but for offsets and for 20 in the place of 21, and leave
-/// the same archive, scripts and programs, and the same tickets with what stood at their beginnings. They begin in one state, or
-/// in two that differ in the turns of their captures in flight alone.
+/// Two sessions that are equal after striking have the same answers, except for offsets and for 20 in the place of 21.
+/// They leave the same archive, scripts and programs, and the same tickets with what stood at their beginnings. Both
+/// begin in one state, or in two that differ only in the turns of their captures in flight.
 pub fn equal_after_striking()
     ensures { (s t : Standing) (commands others : List Command) (answers replies : List Answer) (x y : Standing) → forget s ≡ forget t
         → Run s commands answers x → Run t others replies y → kept_commands commands answers ≡ kept_commands others replies
         → AllAlike (kept_answers commands answers) (kept_answers others replies) × (forget x ≡ forget y) }
 {}
 
-/// A refusal changes nothing. Where it is for want of memory (99), a TURN keeps the turns that were made before, and that is all.
+/// A refusal changes nothing, with one exception: a TURN that is refused with 99 (no memory) keeps the turns that were
+/// made before.
 pub fn refusals_change_nothing()
     ensures unchanged { (s : Standing) (c : Command) (n : ℕ) (at : Option ℕ) (new : Standing) → Step s c (refused n at) new → n ≢ 99 → new ≡ s }
     ensures no_memory { (s : Standing) (c : Command) (at : Option ℕ) (new : Standing) → Step s c (refused 99 at) new → forget new ≡ forget s }
 {}
 
-/// Of a session that begins with an archive:
-/// - what stood at the BEGIN of a capture in flight stands for it still: the officer's program, the library, the message, the open
-///   classes and the day of the moment;
-/// - for each capture in flight an image is pinned that means, in every case, what stood, and that may run;
-/// - the run of what is pinned takes at most as many steps as the budget that BEGIN told;
+/// In a session that begins with an archive:
+/// - what stood at the BEGIN of a capture in flight still holds for it: the officer's program, the library, the
+///   message, the open classes and the day of the moment;
+/// - for each capture in flight an image is pinned that may run, and that means in every case what stood;
+/// - the run of what is pinned takes at most as many steps as the budget that BEGIN answered;
 /// - it ends with the outcome of the capture alone.
 pub fn captures_are_pinned()
     ensures stood { (archive : Archive) (commands : List Command) (answers : List Answer) (s : Standing) (t : ℕ) (f : Flight)

@@ -1,20 +1,20 @@
-//! What Mailfile promises, each promise the contract of a function with nothing to do.
+//! What Mailfile promises. Each promise is the contract of a function without code. To know what is promised, read this
+//! crate and the definitions that its contracts cite.
 //!
-//! There is no code here: whoever asks what is promised reads this crate, and the definitions that its contracts cite.
-//!
-//! - `images`: an image that is accepted runs to its end without a trap and within its budget, and a compiled script captures
-//!   what the script means.
-//! - `records`: a capture makes a record in each class of its outcome and in no other; each line of a record tells the day that
-//!   comes its class's period after the day of the capture; a due list is whole.
-//! - `laws`: the turns of captures do not matter; what is refused changes nothing; what stood at the beginning of a capture
-//!   stands for it to its end.
-//! - `turns`: what a session tells of its captures in flight and of their tickets.
+//! - `images`: an image that is accepted runs to its end without a trap and within its budget, and a compiled script
+//!   captures what the script means.
+//! - `records`: a capture makes a record in each class of its outcome and in no other. Each line of a record gives its
+//!   due day, which comes the period of its class after the day of the capture. A due list is whole.
+//! - `laws`: the turns of captures do not matter. What is refused changes nothing. What stood at the beginning of a
+//!   capture holds for it to its end.
+//! - `turns`: what a session answers about its captures in flight and their tickets.
 //! - `lines`: the law of turns over the lines and octets that a session reads and writes.
 //!
-//! Those of sessions speak of states of an office and of the steps that commands make between them (`Standing` and `Step` of
-//! `filing_commands`). Each call of a desk makes such a step, by its contract (`Calls`), and what a session reads and writes is
-//! such a run (`serve` and `sessions_refine_states` of `filing_session`), while the disk returns what was written to it.
-//! `specs/Serial` says what is struck of a list of commands, and `specs/Alike` which answers say the same.
+//! The laws of sessions are about states of an office and the steps that commands make between them (`Standing` and
+//! `Step` of `filing_commands`). While the disk returns what was written to it, each call of a desk makes such a step,
+//! by its contract (`Calls`). What a session reads and writes is then a run of such steps (`serve` and
+//! `sessions_refine_states` of `filing_session`). `specs/Serial` defines what is struck of a list of commands, and
+//! `specs/Alike` which answers say the same.
 #![tactic(auto)]
 
 mod images;

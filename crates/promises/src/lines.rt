@@ -1,4 +1,4 @@
-//! The law over the lines that a session reads, on a function with nothing to do.
+//! The law of turns over the lines that a session reads, as the contract of a function without code.
 
 ghost use Rattle.std.specs.Prelude.{◌≡◌, ℕ, List};
 ghost use Rattle.filing_commands.specs.Answers.{Answer};
@@ -10,10 +10,10 @@ ghost use Rattle.promises.specs.Serial.{forget};
 
 use filing_commands::Registry;
 
-/// Two sessions of lines that are equal after striking are answered alike, offsets and 20 in the place of 21 aside, and leave the
-/// same archive, scripts, programs and tickets. They begin at registries that stand for one state, or for two that differ in the
-/// turns of their captures in flight alone. The same holds of the octets that `serve` reads and writes: what it has written are
-/// answers to the lines of what it has read.
+/// Two sessions of lines that are equal after striking are answered alike, except for offsets and for 20 in the place
+/// of 21. They leave the same archive, scripts, programs and tickets. They begin at registries that represent one
+/// state, or two states that differ only in the turns of their captures in flight. The same holds for the octets that
+/// `serve` reads and writes: it has written answers to the lines that it has read.
 pub fn equal_lines_after_striking<R: Registry>()
     ensures lines { (s t : Standing) (old new first last : R) (items others : List Item) (answers replies : List Answer)
         → forget s ≡ forget t

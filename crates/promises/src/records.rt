@@ -1,4 +1,4 @@
-//! What the commands say of captures and records, each law on a function with nothing to do.
+//! Laws of what the commands answer about captures and records, each the contract of a function without code.
 
 ghost use Rattle.std.specs.Prelude.{◌≡◌, ℕ, List, Option, Some, All};
 ghost use Rattle.sieve_meaning.specs.Outcome.{Outcome};
@@ -12,9 +12,9 @@ ghost use Rattle.filing_commands.specs.Office.{IsFiled, due, file, try_image};
 ghost use Rattle.filing_commands.specs.Standing.{Flight, Standing, Step, finish, flight_of, plain};
 ghost use Rattle.promises.specs.Records.{FilesAlone, IsDueLine, IsFaultAlone, EndsWithinBudget};
 
-/// FILE answers the outcome of the script in the message's case, with the global scripts to include and the open classes of the
-/// plan; TRY that of the image's run, which ends within its budget. After a fault it is the default class alone. Nothing is
-/// changed.
+/// FILE answers the outcome of the script in the message's case, with the global scripts to include and the open
+/// classes of the plan. TRY answers the outcome of the image's run, which ends within its budget. An outcome with a
+/// fault is the default class alone. Neither command changes anything.
 pub fn dry_runs_store_nothing()
     ensures file { (s : Standing) (script message : List ℕ) (o : Outcome) (new : Standing)
         → Step s (plain (file script message)) (captured o) new → IsFiled s.office script message o × IsFaultAlone o × (new ≡ s) }
@@ -24,17 +24,18 @@ pub fn dry_runs_store_nothing()
         × IsFaultAlone o × (new ≡ s) }
 {}
 
-/// FINISH makes one record for each class of the capture's outcome alone, with the day of the moment of its BEGIN; a capture that
-/// ended in a fault is in the default class alone. Each line that is answered tells one of the records, with the due day that comes
-/// the period of its class after that day, in the plan as it is.
+/// FINISH makes one record for each class of the outcome of the capture alone, with the day of the moment of its BEGIN.
+/// A capture that ended in a fault is in the default class alone. Each line that is answered gives one of the records
+/// and its due day. That day comes the period of the record's class after the day of the capture, in the plan as it is.
 pub fn finished_captures_are_whole()
     ensures { (s : Standing) (t : ℕ) (f : Flight) (fault : Option ℕ) (lines : List Line) (new : Standing)
         → Step s (finish t) (filed fault lines) new → flight_of t s.flights ≡ Some f
         → FilesAlone s.office.archive f.stood fault lines new.office.archive }
 {}
 
-/// DUE answers the due list of the day, and changes nothing: each line is that of a live record without a hold, whose due day, which
-/// comes the period of its class after the day of its capture in the plan as it is now, is not later.
+/// DUE answers the due list of the day, and changes nothing. Each line is that of a live record without a hold whose
+/// due day is not later. The due day comes the period of the record's class after the day of its capture, in the plan
+/// as it is now.
 pub fn due_lists_are_whole()
     ensures { (s : Standing) (day : ℕ) (lines : List Line) (new : Standing) → Step s (plain (due day)) (listed lines) new
         → (lines ≡ due_list s.office.archive day) × All (IsDueLine s.office.archive day) lines × (new ≡ s) }

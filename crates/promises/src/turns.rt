@@ -1,4 +1,4 @@
-//! Laws of turns and tickets, each on a function with nothing to do.
+//! Laws of turns and tickets, each the contract of a function without code.
 
 ghost use Rattle.std.specs.Prelude.{◌≡◌, ◌≤◌, ◌<◌, ◌↔◌, ℕ, List, length, Option, Some, None};
 ghost use Rattle.record_store.specs.Archive.{Archive, Line};
@@ -9,11 +9,11 @@ ghost use Rattle.promises.specs.Beginnings.{tickets_given, AreNumbersUpTo, MayBe
 ghost use Rattle.promises.specs.Runs.{IsReached, Run};
 ghost use Rattle.promises.specs.Turns.{AllGrant, HasEnded, TellsTurns};
 
-/// Of a session that begins with an archive:
-/// - the turns of a capture in flight are the sum of those that the TURNs of its ticket granted, where one that was answered 99
-///   granted fewer than it asked for;
-/// - a TURN is answered `ended N` where the turns so far, its own among them, reach the length N of the run of what is pinned, and
-///   else `running` with the turns so far, 99 aside;
+/// In a session that begins with an archive:
+/// - the turns of a capture in flight are the sum of those that the TURNs of its ticket granted; one that was answered
+///   99 granted fewer than it asked for;
+/// - a TURN is answered `ended N` where the turns so far, its own among them, reach the length N of the run of what is
+///   pinned; else it is answered `running` with the turns so far, or 99;
 /// - a FINISH of a capture in flight is refused with 92 exactly where its turns do not reach that length;
 /// - a capture that was granted as many turns as its budget has come to its end.
 pub fn turns_add_up()
@@ -27,8 +27,8 @@ pub fn turns_add_up()
         → f.pinned.budget ≤ f.granted → HasEnded f }
 {}
 
-/// A TURN, and a FINISH, is refused with 91 exactly where its ticket is not in flight. A FINISH that makes the records of a capture
-/// gives the ticket up: it is not in flight any more.
+/// A TURN or a FINISH is refused with 91 exactly where its ticket is not in flight. A FINISH that makes the records of
+/// a capture gives the ticket up: it is not in flight any more.
 pub fn tickets_are_looked_up_exactly()
     ensures turn { (s : Standing) (t count : ℕ) (a : Answer) (new : Standing)
         → Step s (turn t count) a new → (a ≡ refused 91 None) ↔ (flight_of t s.flights ≡ None) }
@@ -38,10 +38,10 @@ pub fn tickets_are_looked_up_exactly()
         → IsReached s → Step s (finish t) (filed fault lines) new → flight_of t new.flights ≡ None }
 {}
 
-/// Of a session that begins with an archive:
+/// In a session that begins with an archive:
 /// - the tickets given are 1, 2 and so on, each once and in order, up to the last one;
-/// - a BEGIN is refused with 90 exactly where sixty-four captures are in flight, and neither its moment is later than 2199 (94) nor
-///   its message too long (95);
+/// - a BEGIN is refused with 90 exactly where sixty-four captures are in flight, and neither its moment is later than
+///   2199 (94) nor its message too long (95);
 /// - it is refused with 97 exactly where ticket 4,294,967,295 was given, and none of 94, 95 and 90 holds.
 pub fn beginnings_are_refused_exactly()
     ensures tickets { (archive : Archive) (commands : List Command) (answers : List Answer) (s : Standing)

@@ -48,7 +48,7 @@ texts-classes p root classes h = ap (map cleared) (sym h.same_classes) ∙ class
 abbrev parsed : Listed → Row
 parsed c = record { path = c.path; is_open = c.is_open; schedule = c.schedule >>= schedule_of_bytes }
 
--- what the rules of texts say
+-- the schedules of texts, by their rows
 record AreParsed (cs : List Listed) (rs : List Rule) : Type 0 where
   rules : own_rules (map parsed cs) ≡ rs
   texts : map text_row (map parsed cs) ≡ cs
@@ -83,7 +83,7 @@ listed_paths : (rows : List Row) → map (λ (l : Listed). l.path) (map listed_r
 listed_paths [] = refl
 listed_paths (r ∷ rs) = ap (λ z. r.path ∷ z) (listed_paths rs)
 
--- rows that list the same classes and have the same schedules are the same
+-- plans' classes that are listed alike and have the same schedules are equal
 same_rows : (xs ys : List Row) → IsStrictlySortedBy (slice_cmp nat_cmp) (paths_of xs) → map listed_row xs ≡ map listed_row ys → own_rules xs ≡ own_rules ys → xs ≡ ys
 same_rows xs ys sorted listed rules =
     let paths : paths_of xs ≡ paths_of ys = sym (listed_paths xs) ∙ ap (map (λ (l : Listed). l.path)) listed ∙ listed_paths ys in

@@ -1,4 +1,4 @@
--- The rows that the judge takes are an archive's, and no others.
+-- The rows that are accepted are those of an archive, and no others.
 use Rattle.std.proofs.Common.{◌≡◌, ℕ, ◌≤◌, nat_le, Bool, true, false, ◌&&◌, List, [], ◌∷◌, map, nat_cmp, refl, ap, sym, ◌∙◌, inl, inr, arith}
 use Rattle.std.proofs.lemmas.Bool.{cases_Bool}
 use Rattle.std.proofs.lemmas.Bool.Decides.{nat_tests}
@@ -68,7 +68,7 @@ all_held : (L : List ℕ) (R : List Record) → ((n : ℕ) → is_one_of L n ≡
 all_held L R same [] e = refl
 all_held L R same (h ∷ hs) e = rw (same h.record ∙ e.0) (all_held L R same hs e.1)
 
--- ---- what rows of an archive pass
+-- ---- the rows of an archive pass
 
 pub rows-sound : (p : Listing) (rs : List RecordRow) (ms : List ℕ) (hs : List Named) → AreRows p (map record_of rs) ms hs → list_all (λ r. is_sound p (record_of r)) rs ≡ true
 rows-sound p rs ms hs h = all_sound p rs (recursion_from_All (IsSound p) (map record_of rs) h.records)
@@ -88,7 +88,7 @@ rows-named p rs ms hs K sorted same h = (bytes_eq-Decides K ms).1 (sorted-same K
 pub rows-held : (p : Listing) (rs : List Record) (ms : List ℕ) (hs : List HoldRow) (L : List ℕ) → ((n : ℕ) → is_one_of L n ≡ is_live rs n) → AreRows p rs ms (map named_of hs) → list_all (λ h. is_one_of L h.record) hs ≡ true
 rows-held p rs ms hs L same h = all_held L rs same hs (recursion_from_All (λ (h : Named). is_live rs h.number ≡ true) (map named_of hs) h.held)
 
--- ---- what passes is an archive's
+-- ---- rows that pass are an archive's
 
 pub passed-rows : (p : Listing) (rs : List RecordRow) (ms : List ℕ) (hs : List HoldRow) (K L : List ℕ) → ((m : ℕ) → is_one_of K m ≡ is_named (map record_of rs) m) → ((n : ℕ) → is_one_of L n ≡ is_live (map record_of rs) n)
     → list_all (λ r. is_sound p (record_of r)) rs ≡ true → rises_from 0 (map (λ (r : RecordRow). r.number) rs) ≡ true → rises_from 0 ms ≡ true → rises_after (map named_of hs) ≡ true → bytes_eq K ms ≡ true → list_all (λ h. is_one_of L h.record) hs ≡ true

@@ -13,7 +13,7 @@ use Rattle.record_rows.specs.Merge.{own_in, rest_in, merged}
 use Rattle.record_rows.specs.Tests.{rises_after}
 use Rattle.record_rows.proofs.Merged.{merged-more}
 
--- ---- holds that rise
+-- ---- holds in order
 
 short_rises : (xs : List HoldRow) → length xs ≤ 1 → rises_after (map named_of xs) ≡ true
 short_rises [] h = refl
@@ -29,7 +29,6 @@ drop_one : (xs : List ScheduleRow) → drop 1 (map rule_of xs) ≡ map rule_of (
 drop_one [] = refl
 drop_one (x ∷ xs) = refl
 
--- a schedule that was taken
 pub rest-taken : (o : Option Schedule) (rules : List ScheduleRow) (place next : ℕ) → is_some o ≡ true → next ≡ place + 1 → rest_in o (map rule_of (drop place rules)) ≡ map rule_of (drop next rules)
 rest-taken None rules place next some at = absurd (cc)
 rest-taken (Some s) rules place next some at = drop_one (drop place rules) ∙ ap (map rule_of) (drop-drop 1 place rules) ∙ ap (λ k. map rule_of (drop k rules)) (sym at)
@@ -55,7 +54,7 @@ merged-next ps p rules place next o cs i d whole h own tail same so =
     merged-more ps p (map rule_of (drop place rules)) (map rule_of (drop next rules)) (listed_of (get_or cs i d)) (map listed_of (drop (i + 1) cs)) o whole own tail same
     (ap (λ z. map part_row ps ++ merged (map rule_of (drop place rules)) (map listed_of z)) (sym (drop_more cs i d h)) ∙ so)
 
--- ---- classes that are told
+-- ---- classes as a plan answers them
 
 pub told-are : (xs : List Told) → map told_listed xs ≡ map listed_row (map told_row xs)
 told-are [] = refl

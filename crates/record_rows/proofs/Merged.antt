@@ -1,4 +1,4 @@
--- The classes of a plan, with their schedules, come back from its rows.
+-- The classes of a plan, with their schedules, are read back from its rows.
 use Rattle.std.proofs.Common.{◌≡◌, ℕ, ◌==◌, Bool, true, false, List, [], ◌∷◌, ◌++◌, map, Option, Some, None, Ordering, Less, nat_cmp, is_eq, refl, ap, sym, ◌∙◌, append_assoc}
 use Rattle.std.proofs.lemmas.List.{map-append}
 use Rattle.std.proofs.lemmas.Map.Text.{is_eq-slice_cmp}
@@ -68,7 +68,6 @@ merged-rows (r ∷ rs) h =
     ∙ ap (λ z. r ∷ merged z (map listed_row rs)) rest
     ∙ ap (λ z. r ∷ z) (merged-rows rs h.1)
 
--- one more class
 pub merged-more : (xs : List Part) (p : Part) (rules rest : List Rule) (c : Listed) (cs : List Listed) (o : Option Schedule) (whole : List Row) → o ≡ own_in rules c.path → rest_in o rules ≡ rest
     → part_row p ≡ record { path = c.path; is_open = c.is_open; schedule = o } → map part_row xs ++ merged rules (c ∷ cs) ≡ whole → map part_row (xs ++ p ∷ []) ++ merged rest cs ≡ whole
 merged-more xs p rules rest c cs o whole own tail same so =

@@ -5,7 +5,7 @@ use Rattle.std.proofs.lemmas.List.{drop_more, drop_all}
 use Rattle.std.specs.Bool.{Decides}
 use Rattle.std.specs.Cmp.Lexicographic.{pointwise}
 
--- lists of unlike lengths differ
+-- lists that are equal pair by pair have the same length
 pub pairs-length : {A B C : Type 0} (f : A → C) (g : B → C) (E : C → C → Bool) (xs : List A) (ys : List B) → pointwise E (map f xs) (map g ys) ≡ true → length xs ≡ length ys
 pairs-length f g E [] [] e = refl
 pairs-length f g E [] (y ∷ ys) e = absurd (cc)
@@ -26,7 +26,7 @@ head_is : {C : Type 0} (x y : C) (b : Bool) → (b ≡ true → x ≡ y) → (xs
 head_is x y true one xs ys r rest e = λ i. one refl i ∷ rest e i
 head_is x y false one xs ys r rest e = absurd (cc)
 
--- where a test tells the pairs that are equal, it tells the lists
+-- a test that decides whether pairs are equal decides it for the lists
 pub pairs-decide : {A B C : Type 0} (f : A → C) (g : B → C) (E : C → C → Bool) → ((a : A) (b : B) → Decides (E (f a) (g b)) (f a ≡ g b)) → (xs : List A) (ys : List B) → Decides (pointwise E (map f xs) (map g ys)) (map f xs ≡ map g ys)
 pairs-decide f g E tells [] [] = (λ _. refl, λ _. refl)
 pairs-decide f g E tells [] (y ∷ ys) = (λ e. absurd (cc), λ e. absurd (cc))

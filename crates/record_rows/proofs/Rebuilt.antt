@@ -74,7 +74,7 @@ class_decides q o b = (
   λ e. rw ((bytes_eq-Decides q b.path).1 (ap (λ (l : Listed). l.path) e), (booleans_Decides o b.is_open).1 (ap (λ (l : Listed). l.is_open) e), ap (λ (l : Listed). is_none l.schedule) (sym e)) refl,
 )
 
--- rows that are compared with those of a plan tell whether they are its rows
+-- the comparison with the rows of a plan decides whether the rows are the plan's
 pub rows-decide : (p : Listing) (own : List ScheduleRow) (told : List Told) (rules : List ScheduleRow) (classes : List ClassRow) (b : Bool) → map rule_of own ≡ rules_of p → map told_row told ≡ p.rows
     → b ≡ (pointwise same_rule (map rule_of own) (map rule_of rules) && pointwise same_class (map told_listed told) (map listed_of classes)) → Decides b (HasRows p (map rule_of rules) (map listed_of classes))
 rows-decide p own told rules classes b own_are told_are_rows is =

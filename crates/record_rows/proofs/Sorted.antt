@@ -1,4 +1,4 @@
--- Numbers and holds that rise are sorted, and sorted numbers are told by what is among them.
+-- Numbers and holds that ascend are sorted; sorted lists with the same members are equal.
 use Rattle.std.proofs.Common.{◌≡◌, ℕ, ◌+◌, ◌<◌, ◌≤◌, ◌==◌, nat_le, nat_lt, Bool, true, false, ◌||◌, if◌then◌else◌, List, [], ◌∷◌, inl, inr, Ordering, Less, Equal, Greater, nat_cmp, refl, ap, sym, ◌∙◌, arith}
 use Rattle.std.proofs.lemmas.Bool.{cases_Bool, cases_order}
 use Rattle.std.proofs.lemmas.Bool.Decides.{nat_tests}

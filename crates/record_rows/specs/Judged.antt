@@ -9,7 +9,7 @@ use Rattle.class_plan.specs.Plans.{Listing, has}
 use Rattle.record_tables.specs.Rows.{Record}
 use Rattle.record_tables.specs.Reads.{Named}
 
--- a live record has a number
+-- a live record has this number
 abbrev pub is_of_live : (Record → ℕ) → List Record → ℕ → Bool
 is_of_live f rs n = list_any (λ (r : Record). not r.destroyed && (f r == n)) rs
 
@@ -29,7 +29,7 @@ is_one_of ns n = list_any (λ k. k == n) ns
 abbrev pub hold_cmp : Named → Named → Ordering
 hold_cmp x y = ordering_then (nat_cmp x.number y.number) (slice_cmp nat_cmp x.name y.name)
 
--- what is kept of a record: its numbers, the day of its capture, of 1970 to 2199, and its class
+-- what holds of a record: its numbers, the day of its capture, of 1970 to 2199, and its class
 pub record IsSound (p : Listing) (r : Record) : Type 0 where
   pub number : 1 ≤ r.number
   pub message : (1 ≤ r.message) × (r.message ≤ r.number)

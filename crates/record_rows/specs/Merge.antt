@@ -18,11 +18,11 @@ unit_at n = if n == 1 then Days else if n == 2 then Months else Years
 abbrev pub action_at : ℕ → Action
 action_at n = if n == 1 then Review else if n == 2 then Transfer else Destroy
 
--- the schedule of a row that is one's
+-- the schedule of a row, as far as the row is a schedule's
 abbrev pub schedule_in : Rule → Schedule
 schedule_in r = if r.unit == 0 then Permanent else After r.count (unit_at r.unit) (action_at r.action) (r.year_end == 1)
 
--- the schedule that the first row gives to a path
+-- the schedule of the first row, where it has this path
 abbrev pub own_in : List Rule → List ℕ → Option Schedule
 own_in [] q = None
 own_in (r ∷ rs) q = if bytes_eq q r.path then Some (schedule_in r) else None

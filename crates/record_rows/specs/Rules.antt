@@ -73,7 +73,7 @@ pub record HasRows (p : Listing) (rules : List Rule) (classes : List Listed) : T
   pub same_rules : rules_of p ≡ rules
   pub same_classes : classes_of p ≡ classes
 
--- the rows are those of no plan
+-- no plan has these rows
 abbrev pub HasNoPlan : List Rule → List Listed → Type 0
 HasNoPlan rules classes = (p : Listing) → IsPlan p → HasRows p rules classes → ⊥
 
@@ -82,10 +82,10 @@ HasNoPlan rules classes = (p : Listing) → IsPlan p → HasRows p rules classes
 abbrev pub same_rule : Rule → Rule → Bool
 same_rule a b = bytes_eq a.path b.path && (a.count == b.count) && (a.unit == b.unit) && (a.action == b.action) && (a.year_end == b.year_end)
 
--- the same class, which states no schedule
+-- the same class, and the second row states no schedule
 abbrev pub same_class : Listed → Listed → Bool
 same_class a b = bytes_eq a.path b.path && beq a.is_open b.is_open && is_none b.schedule
 
--- the row of a class that a plan tells
+-- the row of a class, as a plan answers it
 abbrev pub told_listed : Told → Listed
 told_listed c = listed_row (told_row c)

@@ -1,4 +1,4 @@
--- Tests that the judge of rows computes.
+-- The tests by which rows are judged.
 use Rattle.std.specs.Prelude.{ℕ, ◌+◌, ◌==◌, nat_le, nat_lt, Bool, true, ◌&&◌, if◌then◌else◌, List, [], ◌∷◌}
 use Rattle.std.specs.Ordering.{nat_cmp, is_lt}
 use Rattle.std.specs.Cmp.Lexicographic.{slice_cmp}
@@ -9,7 +9,7 @@ use Rattle.record_tables.specs.Reads.{Named}
 abbrev pub is_sound : Listing → Record → Bool
 is_sound p r = nat_le 1 r.number && nat_le 1 r.message && nat_le r.message r.number && nat_le r.day 84005 && has p.rows r.path
 
--- each number is at least the first, and above those before it
+-- each number is at least the given one, and above those before it
 abbrev pub rises_from : ℕ → List ℕ → Bool
 rises_from n [] = true
 rises_from n (x ∷ xs) = nat_le n x && rises_from (x + 1) xs

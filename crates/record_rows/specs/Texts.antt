@@ -1,5 +1,5 @@
--- The rows of version 1, in which schedules are texts: that of the root is a setting, and those of the classes stand with
--- them.
+-- The rows of version 1, in which schedules are texts: that of the root is a setting, and those of the classes are in
+-- the rows of the classes.
 use Rattle.std.specs.Prelude.{◌≡◌, ℕ, List, [], ◌∷◌, map, Option, Some, None, option_map}
 use Rattle.class_plan.specs.Plans.{Row, Listing, IsPlan}
 use Rattle.class_plan.specs.Texts.{◌>>=◌, schedule_of_bytes, text_of}
@@ -15,7 +15,7 @@ pub record HasTexts (p : Listing) (root : List ℕ) (classes : List Listed) : Ty
   pub same_root : text_of p.root ≡ root
   pub same_classes : map text_row p.rows ≡ classes
 
--- they are those of no plan
+-- no plan has these rows
 abbrev pub HasNoTexts : List ℕ → List Listed → Type 0
 HasNoTexts root classes = (p : Listing) → IsPlan p → HasTexts p root classes → ⊥
 
@@ -25,7 +25,7 @@ HasNoTexts root classes = (p : Listing) → IsPlan p → HasTexts p root classes
 abbrev pub cleared : Listed → Listed
 cleared c = record { path = c.path; is_open = c.is_open; schedule = None }
 
--- the row of the schedule of a text, if a class has one, before others; None where the text is no schedule's
+-- the row of the schedule of a class's text, if it has one, before others; None where the text is no schedule's
 abbrev pub with_text : List ℕ → Option (List ℕ) → Option (List Rule) → Option (List Rule)
 with_text q None rest = rest
 with_text q (Some t) rest = do

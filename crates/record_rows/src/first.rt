@@ -10,8 +10,8 @@ use class_plan::{Plan, Schedule, schedule_of_text};
 use record_tables::rows::{ClassRow, ScheduleRow};
 use std::alloc::{AllocError, Global};
 
-/// The rows of the schedules that classes have as texts, after that of the root; `None` where a text is no
-/// schedule's.
+/// The row of the root's schedule, and after it those of the schedules that classes have as texts. `None` where a text
+/// is no schedule's.
 fn rules_after(
     alloc: Global,
     root: Schedule,
@@ -33,10 +33,10 @@ fn rules_after(
     Ok(Some(rules))
 }
 
-/// The rows of version 2 for the schedules whose texts version 1 has: that of the root, and one for each class
+/// The rows of version 2 for the schedules that version 1 has as texts: that of the root, and one for each class
 /// that has a text. `None` where a text is no schedule's.
 ///
-/// Refuses for want of memory only.
+/// The only refusal is no memory (99).
 pub fn rules_of_texts(
     alloc: Global,
     root: &[u8],
@@ -50,9 +50,9 @@ pub fn rules_of_texts(
     }
 }
 
-/// The rows of version 2 for classes of version 1.
+/// The rows of version 2 for classes of version 1, without the texts of their schedules.
 ///
-/// Refuses for want of memory only.
+/// The only refusal is no memory (99).
 pub fn classes_without_texts(
     alloc: Global,
     classes: &[ClassRow],
@@ -72,9 +72,9 @@ pub fn classes_without_texts(
 }
 
 /// The plan of the rows of version 1: the text of the root's schedule, and the classes in byte order of their
-/// paths, with the texts of their own schedules. `None` where these are the rows of no plan.
+/// paths, with the texts of their own schedules. `None` where no plan has these rows.
 ///
-/// Refuses for want of memory only.
+/// The only refusal is no memory (99).
 pub fn plan_of_texts(
     alloc: Global,
     root: &[u8],

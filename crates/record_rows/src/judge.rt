@@ -17,7 +17,7 @@ use std::collections::BTreeSet;
 /// The last capture day, 2199-12-31, in days since 1970-01-01.
 const LAST_CAPTURE_DAY: u32 = 84_005;
 
-/// Whether what is kept of a record may be.
+/// Whether the row of a record, by itself, is one of an archive with the plan.
 fn is_sound(plan: &Plan, row: &RecordRow) -> bool
     ensures { result ≡ is_sound plan.now (record_of row.now) }
 {
@@ -28,14 +28,12 @@ fn is_sound(plan: &Plan, row: &RecordRow) -> bool
         && plan.contains(row.path.as_slice())
 }
 
-/// Whether what is kept of each record may be.
 fn are_sound(plan: &Plan, records: &[RecordRow]) -> bool
     ensures { result ≡ list_all (λ r. is_sound plan.now (record_of r)) records.now }
 {
     records.iter().all(|record| is_sound(plan, record))
 }
 
-/// Whether the numbers of records rise.
 fn do_records_rise(records: &[RecordRow]) -> bool
     ensures { result ≡ rises_from 0 (map (λ r. r.number) records.now) }
 {
@@ -49,7 +47,7 @@ fn do_records_rise(records: &[RecordRow]) -> bool
     true
 }
 
-/// Whether numbers rise.
+/// Whether each number is above the one before it.
 fn do_rise(numbers: &[u32]) -> bool
     ensures { result ≡ rises_from 0 numbers.now }
 {
@@ -74,7 +72,7 @@ fn is_before(one: &HoldRow, other: &HoldRow) -> bool
     }
 }
 
-/// Whether the holds rise.
+/// Whether each hold comes after the one before it.
 fn do_holds_rise(holds: &[HoldRow]) -> bool
     ensures { result ≡ rises_after (map named_of holds.now) }
 {
@@ -99,7 +97,6 @@ fn named_messages(alloc: Global, records: &[RecordRow]) -> Result<BTreeSet<u32>,
     Ok(named)
 }
 
-/// The numbers of the live records.
 fn live_numbers(alloc: Global, records: &[RecordRow]) -> Result<BTreeSet<u32>, AllocError>
     ensures { IfOk result (λ s. (n : ℕ) → is_one_of s.keys n ≡ is_live (map record_of records.now) n) }
 {
@@ -130,14 +127,13 @@ fn has_just(set: &BTreeSet<u32>, numbers: &[u32]) -> bool
     place == numbers.len()
 }
 
-/// Whether a hold is of one of these records.
+/// Whether a hold is on one of these records.
 fn is_of(hold: &HoldRow, live: &BTreeSet<u32>) -> bool
     ensures { result ≡ is_one_of live.now.keys hold.now.record }
 {
     live.contains(&hold.record)
 }
 
-/// Whether each hold is of one of these records.
 fn are_of(holds: &[HoldRow], live: &BTreeSet<u32>) -> bool
     ensures { result ≡ list_all (λ h. is_one_of live.now.keys h.record) holds.now }
 {
@@ -145,12 +141,15 @@ fn are_of(holds: &[HoldRow], live: &BTreeSet<u32>) -> bool
 }
 
 /// Whether the records, the numbers of the messages, and the holds are those of an archive with the plan:
-/// numbers from 1 on; each record's path is a class, its day one of 1970 to 2199, its message not above its
-/// own number; a message is there exactly where a live record names it; each hold names a live record. The
-/// records and the messages come in the order of their numbers, and the holds in that of their records and
-/// then of their names, each once.
 ///
-/// Refuses for want of memory only.
+/// - each record has a number from 1 on, a message from 1 up to that number, a class of the plan as its path, and
+///   a capture day of 1970 to 2199, in days since 1970-01-01;
+/// - a message is there exactly where a live record names it;
+/// - each hold names a live record;
+/// - the records and the messages come in the order of their numbers, and the holds by record and then in byte
+///   order of their names, each once.
+///
+/// The only refusal is no memory (99).
 pub fn are_rows_of(
     alloc: Global,
     plan: &Plan,

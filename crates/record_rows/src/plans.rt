@@ -1,4 +1,4 @@
-//! The plan of rows.
+//! The plan that has some rows.
 ghost use Rattle.std.specs.Prelude.{◌≡◌, ◌<◌, IfOk, IfSome, IfNone, OnSome, length, map};
 ghost use Rattle.std.specs.Bool.{Decides};
 ghost use Rattle.std.specs.Cmp.Lexicographic.{pointwise};
@@ -13,7 +13,7 @@ use class_plan::{Action, Plan, PlanFault, Schedule, Unit};
 use record_tables::rows::{ClassRow, ScheduleRow};
 use std::alloc::{AllocError, Global};
 
-/// The unit of a number that is one's.
+/// The unit of a number: years for any but 1 and 2.
 fn unit_of(number: u32) -> Unit
     ensures { result ≡ unit_at number }
 {
@@ -24,7 +24,7 @@ fn unit_of(number: u32) -> Unit
     }
 }
 
-/// The action of a number that is one's.
+/// The action of a number: destroy for any but 1 and 2.
 fn action_of(number: u32) -> Action
     ensures { result ≡ action_at number }
 {
@@ -35,7 +35,7 @@ fn action_of(number: u32) -> Action
     }
 }
 
-/// The schedule of a row that is one's.
+/// The schedule of a row, as far as the row is a schedule's.
 fn schedule_in(rule: &ScheduleRow) -> Schedule
     ensures { result ≡ schedule_in (rule_of rule.now) }
 {
@@ -50,7 +50,7 @@ fn schedule_in(rule: &ScheduleRow) -> Schedule
     }
 }
 
-/// The schedule that the first of some rows gives to a path.
+/// The schedule of the first row, where it has this path.
 fn own_in(rules: &[ScheduleRow], path: &[u8]) -> Option<Schedule>
     ensures own { result ≡ own_in (map rule_of rules.now) path.now }
     ensures some { OnSome result (0 < length rules.now) }
@@ -65,7 +65,7 @@ fn own_in(rules: &[ScheduleRow], path: &[u8]) -> Option<Schedule>
     }
 }
 
-/// The classes, each with the schedule of its path where that comes next among the rules.
+/// The classes, each with the schedule of its path where that is the next of the rules.
 fn parts_of(
     alloc: Global,
     rules: &[ScheduleRow],
@@ -86,7 +86,6 @@ fn parts_of(
     Ok(parts)
 }
 
-/// Whether two rows of schedules are the same.
 fn is_same_rule(one: &ScheduleRow, other: &ScheduleRow) -> bool
     ensures { result ≡ same_rule (rule_of one.now) (rule_of other.now) }
 {
@@ -97,7 +96,7 @@ fn is_same_rule(one: &ScheduleRow, other: &ScheduleRow) -> bool
         && one.year_end == other.year_end
 }
 
-/// Whether a row is that of a class that a plan tells.
+/// Whether a row is that of a class, as a plan answers it.
 fn is_class_row(class: &(&[u8], bool, Option<Schedule>), row: &ClassRow) -> bool
     ensures { result ≡ same_class (told_listed class.now) (listed_of row.now) }
 {
@@ -119,7 +118,7 @@ fn are_same_rules(rules: &[ScheduleRow], others: &[ScheduleRow]) -> bool
     true
 }
 
-/// Whether these are the rows of the classes that a plan tells, in the same order.
+/// Whether the rows are those of the classes, as a plan answers them, in the same order.
 fn are_class_rows(classes: &[(&[u8], bool, Option<Schedule>)], rows: &[ClassRow]) -> bool
     ensures { result ≡ pointwise same_class (map told_listed classes.now) (map listed_of rows.now) }
 {
@@ -134,7 +133,7 @@ fn are_class_rows(classes: &[(&[u8], bool, Option<Schedule>)], rows: &[ClassRow]
     true
 }
 
-/// Whether these are the rows of a plan.
+/// Whether these are the rows of the plan.
 fn has_rows(
     alloc: Global,
     plan: &Plan,
@@ -148,10 +147,10 @@ fn has_rows(
     Ok(are_same_rules(own.as_slice(), rules) && are_class_rows(told.as_slice(), classes))
 }
 
-/// The plan of the rows of its schedules, of which that of the root, with the empty path, comes first, and
-/// of its classes, both in byte order of the paths. `None` where these are the rows of no plan.
+/// The plan that has these rows of schedules and of classes, both in byte order of the paths. The root's schedule
+/// has the empty path, and so comes first. `None` where no plan has these rows.
 ///
-/// Refuses for want of memory only.
+/// The only refusal is no memory (99).
 pub fn plan_of_rows(
     alloc: Global,
     rules: &[ScheduleRow],

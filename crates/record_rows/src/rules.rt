@@ -30,7 +30,7 @@ fn action_number(action: Action) -> u32
     }
 }
 
-/// The row of a schedule: of a permanent one all numbers are 0.
+/// The row of a schedule; all numbers are 0 where it is permanent.
 pub(crate) fn rule_row(path: Vec<u8>, schedule: Schedule) -> ScheduleRow
     ensures { rule_of result ≡ rule_at path.items schedule }
 {
@@ -76,7 +76,6 @@ fn rules_from(
     Ok(rules)
 }
 
-/// The rows of classes.
 fn classes_from(
     alloc: Global,
     classes: &[(&[u8], bool, Option<Schedule>)],
@@ -98,7 +97,7 @@ fn classes_from(
 /// The rows of a plan's schedules: that of the root, whose path is empty, and one for each class that has
 /// a schedule of its own, in byte order of the paths.
 ///
-/// Refuses for want of memory only.
+/// The only refusal is no memory (99).
 pub fn rules_of(alloc: Global, plan: &Plan) -> Result<Vec<ScheduleRow>, AllocError>
     ensures { IfOk result (λ v. map rule_of v.items ≡ rules_of plan.now) }
 {
@@ -108,7 +107,7 @@ pub fn rules_of(alloc: Global, plan: &Plan) -> Result<Vec<ScheduleRow>, AllocErr
 
 /// The rows of a plan's classes, in byte order of the paths.
 ///
-/// Refuses for want of memory only.
+/// The only refusal is no memory (99).
 pub fn classes_of(alloc: Global, plan: &Plan) -> Result<Vec<ClassRow>, AllocError>
     ensures { IfOk result (λ v. map listed_of v.items ≡ classes_of plan.now) }
 {

@@ -14,7 +14,7 @@ use Rattle.record_store.specs.Adoption.{Finds, FindsRows, FindsSecond, FindsFirs
 use Rattle.record_store.specs.Stores.{StoresArchive}
 use Rattle.record_store.proofs.AdoptReads.{archive_common, first_common}
 
--- what is known of a layout that was found
+-- the layout of each schema that a store creates
 pub record Lays (schema : Schema) (l : Layout) : Type 0 where
   pub empty : schema ≡ no_schema → l ≡ Empty
   pub first : schema ≡ first_schema → l ≡ First
@@ -89,7 +89,7 @@ pub first_reads : (db : Database) (l : Layout) → Lays db.schema l → IsFirst 
 first_reads db l lays is (inl h) = absurd (first_not_second l is (lays.second h.4.stored.schema))
 first_reads db l lays is (inr h) = h
 
--- ---- what a store left
+-- ---- the rows that a store leaves
 
 pub rows_left : (db : Database) (a : Archive) → StoresArchive db a → FindsRows db a
 rows_left db a h = inl (record { tables = h.tables; stored = h.stored; keyed = h.keyed; keeps = h.keeps })

@@ -45,7 +45,7 @@ sees_then g Are old mid new one kept two = record {
       (λ clean db none are. none (subst (λ (d : Database). Are d.schema) (sym (kept (two.falls clean) are).0.now_is) are)) one.survives two.survives;
 }
 
--- what is read of some tables may be read of more
+-- what holds of a read under a condition on the schema holds under a stronger one
 pub sees_as : {S : Type 0} (g : Ghosts S) (Are More : Schema → Type 0) (old new : Held S) → ((schema : Schema) → More schema → Are schema) → Sees g Are old new → Sees g More old new
 sees_as g Are More old new to one = record {
   idle = one.idle;
@@ -165,7 +165,7 @@ first_found db a h = record {
   holds = h.keeps.holds;
 }
 
--- what reads alone leave, in a row
+-- two reads in a row, each of which changes nothing, change nothing
 pub kept_then : {S : Type 0} (g : Ghosts S) (Are : Schema → Type 0) (old mid new : Held S) → (HasCleanDisk (state g mid) → Are (state g old).now.schema → IsUnchanged (state g old) (state g mid))
     → (HasCleanDisk (state g new) → HasCleanDisk (state g mid)) → (HasCleanDisk (state g new) → Are (state g mid).now.schema → IsUnchanged (state g mid) (state g new))
     → HasCleanDisk (state g new) → Are (state g old).now.schema → IsUnchanged (state g old) (state g new)

@@ -1,4 +1,4 @@
--- The rows that the judge takes are those of an archive, and what a store keeps beside them.
+-- The accepted rows are those of an archive, and what a store keeps beside them.
 use Rattle.std.proofs.Common.{◌≡◌, ◌+◌, ◌-◌, ◌==◌, ◌&&◌, ◌||◌, ◌<◌, ◌≤◌, ◌^◌, ◌⊎◌, inl, inr, ℕ, max, Bool, true, false, not, cond, List, [], ◌∷◌, map, filter, Option, Some, None, is_some, unwrap_or, refl, sym, ap, subst, ◌∙◌, arith, IsPermutation}
 use Rattle.std.proofs.lemmas.Bool.{cases_Bool}
 use Rattle.std.proofs.lemmas.Bool.Decides.{nat_tests}
@@ -184,7 +184,7 @@ apart_tallied f n (x ∷ xs) h =
     let other : (f x == n) ≡ false = grind (arith, nat_tests) in
     rw other (let rest = apart_tallied f n xs h.1 in let step : 0 + tally (λ (k : ℕ). k == n) (map f xs) ≡ 0 = omega (arith, rest) in step)
 
--- a number that is among numbers that rise is there once
+-- a number among ascending numbers is there once
 once_tallied : {X : Type 0} (f : X → ℕ) (n : ℕ) (xs : List X) → IsAscending (λ x y. f x < f y) xs → is_one_of (map f xs) n ≡ true → tally (λ (k : ℕ). k == n) (map f xs) ≡ 1
 once_tallied f n [] up e = absurd (cc)
 once_tallied f n (x ∷ xs) up e = go (f x == n) refl e (once_tallied f n xs up.1)
@@ -214,7 +214,7 @@ others_are a is rs ms m records messages =
           omega (arith, zero)
     ]
 
--- ---- an archive's numbers have 32 bits
+-- ---- an archive's numbers fit in 32 bits
 
 pub records_fit : (a : Archive) → IsArchive a → AllByRecursion FitsRecord a.records
 records_fit a is =

@@ -25,7 +25,7 @@ use Rattle.record_store.specs.declared.overview.Overview.{Overview}
 use Rattle.record_store.specs.declared.store.Store.{Store}
 use Rattle.record_store.proofs.StoreLemmas.{listed-numbered, rules-numbered, same_list, stores_laid}
 
--- a refusal is handed on as it is
+-- a refusal is passed on unchanged
 pub handed_on : {T : Type 0} (r : Result T Fault) (f : Fault) → IsErrAnd r (λ e. e ≡ f) → r ≡ Err NoArchive → f ≡ NoArchive
 handed_on r f h is =
     let p = err_from_is_err_and r h in
@@ -40,7 +40,7 @@ pub same_text : (s t : List ℕ) → first_pairs s ≡ first_pairs t → s ≡ t
 unfolding first_value
 same_text s t e = ap first_value e
 
--- the due days are put in place of those that were there
+-- the due days replace those that were there
 pub stores_settled : (was db : Database) (a : Archive) (rules : List Rule) (classes : List Listed) (dues : List Due) → FindsSecond was a → rules ≡ rules_of a.plan → classes ≡ classes_of a.plan → dues ≡ due_rows a
     → IsRevised rules classes dues was db → StoresArchive db a
 stores_settled was db a rules classes dues h same_rules same_classes same_dues turns =
@@ -60,7 +60,6 @@ stores_settled was db a rules classes dues h same_rules same_classes same_dues t
       dues = same_dues;
     }
 
--- version 1 is moved over
 pub stores_moved : (was db : Database) (a : Archive) (rules : List Rule) (classes : List Listed) (dues : List Due) → FindsFirst was a → rules ≡ rules_of a.plan → classes ≡ classes_of a.plan → dues ≡ due_rows a
     → IsMoved rules classes dues was db → StoresArchive db a
 stores_moved was db a rules classes dues h same_rules same_classes same_dues moved =

@@ -9,7 +9,7 @@ use Rattle.record_store.specs.Stores.{StandsFor, Becomes, Leaves, LeavesAll, Lea
 use Rattle.record_store.specs.declared.fault.StoreFault.{StoreFault}
 use Rattle.record_store.specs.declared.store.Store.{Store}
 
--- the command is done
+-- the command is carried out
 pub obeys_allowed : {S : Type 0} (g : Ghosts S) (old mid new : Store S) (command : Archive → Result Archive StoreFault) (Allowed : Archive → Type 0) (change : Archive → Archive)
     → ((a : Archive) → StandsFor g old a → StandsFor g mid a × (HasCleanDisk (state g mid.conn) → Allowed a × (command a ≡ Ok (change a))))
     → ((a : Archive) → StandsFor g mid a → Allowed a → StandsFor g new (change a))
@@ -20,7 +20,7 @@ obeys_allowed g old mid new command Allowed change judged made falls clean a s =
     let allowed = j.1 (falls clean) in
     (subst (Becomes g new) (sym allowed.1) (made a j.0 allowed.0), tt)
 
--- what a crash leaves of it
+-- what a crash leaves of the command
 pub leaves_allowed : {S : Type 0} (g : Ghosts S) (old mid new : Store S) (command : Archive → Result Archive StoreFault) (Allowed : Archive → Type 0) (change : Archive → Archive)
     → ((a : Archive) → StandsFor g old a → StandsFor g mid a × (HasCleanDisk (state g mid.conn) → Allowed a × (command a ≡ Ok (change a))))
     → LeavesAll g old mid → (HasCleanDisk (state g mid.conn) → IsTrue (state g mid.conn).is_open) → LeavesAllowed g mid new Allowed change → Leaves g old new command

@@ -18,7 +18,7 @@ use Rattle.record_store.proofs.HoldLemmas.{tally-append}
 use Rattle.record_store.specs.Captures.{with_records, with_more_dues, with_captured, AreAfter, ArePast, lines_of, due_before, dues_told}
 use Rattle.record_store.specs.Stores.{StoresArchive, has_due, due_row, due_rows, live_count}
 
--- ---- lists that rise
+-- ---- lists that ascend
 
 all_append : {X : Type 0} (P : X → Type 0) (xs ys : List X) → AllByRecursion P xs → AllByRecursion P ys → AllByRecursion P (xs ++ ys)
 all_append P [] ys h k = k
@@ -74,7 +74,6 @@ lines-push p n day (r ∷ qs) q =
     ap (λ l. record { number = n; path = r; due = due_on p r day } ∷ l)
     (lines-push p (n + 1) day qs q ∙ ap (λ k. lines_of p (n + 1) day qs ++ record { number = k; path = q; due = due_on p q day } ∷ []) k)
 
--- one more line
 pub lines_next : {V W : Type 0} (f : V → List ℕ) (view : W → Line) (p : Listing) (n day : ℕ) (vs : List V) (v : V) (i : ℕ) (ls : List W) (l : W) → i < length vs → v ≡ get_or vs i v
     → map view ls ≡ lines_of p n day (map f (take i vs)) → view l ≡ record { number = n + i; path = f v; due = due_on p (f v) day } → map view (ls ++ l ∷ []) ≡ lines_of p n day (map f (take (i + 1) vs))
 lines_next f view p n day vs v i ls l low is so_far new =
@@ -107,7 +106,7 @@ records-push n m day (p ∷ qs) q =
     ap (λ l. record { number = n; message = m; path = p; day = day; destroyed = false } ∷ l)
     (records-push (n + 1) m day qs q ∙ ap (λ k. records_of (n + 1) m day qs ++ record { number = k; message = m; path = q; day = day; destroyed = false } ∷ []) k)
 
--- the numbers from one on, so many
+-- the numbers of new records: from the given one on, one for each path
 below_all : (n m day : ℕ) (qs : List (List ℕ)) → AllByRecursion (λ (r : Record). (n ≤ r.number) × (r.number < n + length qs)) (records_of n m day qs)
 below_all n m day [] = tt
 below_all n m day (q ∷ qs) = ((omega arith, omega arith), all_weaker _ (λ (r : Record). (n ≤ r.number) × (r.number < n + length (q ∷ qs))) (λ r h. (omega (arith, h.0), omega (arith, h.1))) _ (below_all (n + 1) m day qs))
@@ -142,7 +141,7 @@ puts_capture a b c d n m rs ds one two three =
 
 -- ---- the archive
 
--- a number above all
+-- the next number is not below the first, and is above those of all records
 least : (n : ℕ) (rs : List Record) → n ≤ past_all n rs
 least n [] = omega arith
 least n (r ∷ rs) = omega (arith, least (max n (r.number + 1)) rs)
@@ -202,7 +201,7 @@ any_right p (x ∷ xs) ys h = go (p x) (any_right p xs ys h)
 same_number : (n : ℕ) → (n == n) ≡ true
 same_number n = grind arith
 
--- what is said of the messages of an archive, by the records that name them
+-- what holds of the messages of an archive, by the records that name them
 named_below : (rs : List Record) (m n : ℕ) → AllByRecursion (λ (r : Record). r.message < n) rs → is_named rs m ≡ true → m < n
 named_below [] m n all h = absurd (true≢false (sym h))
 named_below (r ∷ rs) m n all h = go (is_live r) (r.message == m) refl h (named_below rs m n all.1)

@@ -40,7 +40,7 @@ none = record { plan = plan; messages = []; records = dead 1 (codes "tax") ∷ d
 abbrev filed : Archive
 filed = record { plan = plan; messages = only; records = live 1 (codes "finance") ∷ live 2 (codes "unfiled") ∷ []; holds = [] }
 
--- the message stays with the first destruction and goes with the second
+-- the message stays after the first destruction and is removed with the second
 destroyed_are : (archive.destroy two 1 110 ≡ Ok one) × (archive.destroy one 2 110 ≡ Ok none) × (archive.destroy two 1 109 ≡ Err fault.NotDue) × (archive.destroy filed 1 200 ≡ Err fault.NotForDestruction) × (archive.destroy filed 2 200 ≡ Err fault.NotForDestruction)
 destroyed_are = (refl, refl, refl, refl, refl)
 

@@ -27,7 +27,7 @@ is_trouble-fault_of e = refl
 becomes : {S : Type 0} (g : Ghosts S) (new : Store S) (r : Result Archive StoreFault) (b : Archive) → r ≡ Ok b → StandsFor g new b → Becomes g new r
 becomes g new r b e s = subst (Becomes g new) (sym e) s
 
--- the command is done
+-- the command is carried out
 pub obeys_done : {S : Type 0} (g : Ghosts S) (old mid new : Store S) (command : Archive → Result Archive StoreFault) (change : Archive → Archive)
     → ((a : Archive) → StandsFor g old a → StandsFor g mid a × (HasCleanDisk (state g mid.conn) → command a ≡ Ok (change a)))
     → ((a : Archive) → StandsFor g mid a → command a ≡ Ok (change a) → StandsFor g new (change a))
@@ -38,7 +38,7 @@ obeys_done g old mid new command change judged made falls clean a s =
     let e = j.1 (falls clean) in
     (becomes g new (command a) (change a) e (made a j.0 e), tt)
 
--- what a crash leaves of it
+-- what a crash leaves of the command
 pub leaves_done : {S : Type 0} (g : Ghosts S) (old mid new : Store S) (command : Archive → Result Archive StoreFault) (change : Archive → Archive)
     → ((a : Archive) → StandsFor g old a → StandsFor g mid a × (HasCleanDisk (state g mid.conn) → command a ≡ Ok (change a)))
     → LeavesAll g old mid → (HasCleanDisk (state g mid.conn) → IsTrue (state g mid.conn).is_open) → LeavesMade g mid new command change → Leaves g old new command
@@ -65,7 +65,7 @@ pub leaves_then : {S : Type 0} (g : Ghosts S) (old mid new : Store S) → ((a : 
     → LeavesAll g old mid → (HasCleanDisk (state g mid.conn) → IsTrue (state g mid.conn).is_open) → LeavesAll g mid new → LeavesAll g old new
 leaves_then g old mid new kept looked opened last = leaves_on g old mid new kept looked (λ clean _. opened clean) last
 
--- the same store after it was only looked at
+-- the same store after a look at its tables
 pub stands_looked : {S : Type 0} (g : Ghosts S) (old new : Store S) (a : Archive) → StandsFor g old a → Looks g old.conn new.conn → new.plan ≡ old.plan → new.next ≡ old.next
     → ((n : ℕ) → count_at new.held n ≡ count_at old.held n) → ((m : ℕ) → count_at new.others m ≡ count_at old.others m) → StandsFor g new a
 stands_looked g old new a s looks plan next held others = record {
@@ -86,7 +86,7 @@ leaves_looked g old new a s looks = survives_weaker (state g old.conn) (state g 
 
 -- ---- a transaction
 
--- the store after a transaction that was made
+-- the store after a transaction that succeeded
 pub stands_turned : {S : Type 0} (g : Ghosts S) (old new : Store S) (a b : Archive) (Allows : Tables → Type 0) (change : Tables → Tables) → StandsFor g old a → IsArchive b
     → new.conn.in_transaction ≡ false → new.plan ≡ b.plan → new.next ≡ next_number b
     → ((n : ℕ) → count_at new.held n ≡ hold_count b n) → ((m : ℕ) → count_at new.others m ≡ live_count b m - 1)

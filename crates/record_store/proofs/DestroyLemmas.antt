@@ -39,7 +39,7 @@ and_false : (b : Bool) → (b && false) ≡ false
 and_false true = refl
 and_false false = refl
 
--- ---- lists of which each element is tested in two ways
+-- ---- lists whose elements are tested in two ways
 
 any-map : {X Y : Type 0} (p : Y → Bool) (q : X → Bool) (f : X → Y) → ((x : X) → q x ≡ p (f x)) → (xs : List X) → list_any q xs ≡ list_any p (map f xs)
 any-map p q f same [] = refl
@@ -59,7 +59,7 @@ tally_same_on p q (x ∷ xs) h = let one = h.0 in let more = tally_same_on p q x
 
 -- ---- a record among others
 
--- the records with the one of a number destroyed
+-- the records, with the one of this number destroyed
 abbrev gone : ℕ → List Record → List Record
 gone n rs = update_where (has_number n) destroyed rs
 
@@ -74,7 +74,7 @@ same_place : (b : Bool) (x : Record) → (gone_if b x).number ≡ x.number
 same_place true x = refl
 same_place false x = refl
 
--- each record with the number is the one that is found by it
+-- each record with the number is the one found by it
 only_one : (n : ℕ) (r : Record) (rs : List Record) → IsAscending (λ (x y : Record). x.number < y.number) rs → find (has_number n) rs ≡ Some r → AllByRecursion (λ (x : Record). (x.number == n) ≡ true → x ≡ r) rs
 only_one n r [] up at = tt
 only_one n r (x ∷ rs) up at = go (x.number == n) refl at (only_one n r rs up.1)
@@ -99,14 +99,14 @@ other_is n m x = go (x.number == n)
     go true = never (is_live x) (x.message == m)
     go false = ap (λ c. is_live x && c) (and_true (x.message == m))
 
--- the messages that live records name after it
+-- the messages that live records name after the destruction
 named_after : (n m : ℕ) (rs : List Record) → list_any (is_other n m) rs ≡ is_named (gone n rs) m
 named_after n m rs = any-map (λ (x : Record). is_live x && (x.message == m)) (is_other n m) (λ (x : Record). gone_if (x.number == n) x) (other_is n m) rs
 
 counted_after : (n m : ℕ) (rs : List Record) → tally (is_other n m) rs ≡ tally (λ (x : Record). is_live x && (x.message == m)) (gone n rs)
 counted_after n m rs = tally-map (λ (x : Record). is_live x && (x.message == m)) (is_other n m) (λ (x : Record). gone_if (x.number == n) x) (other_is n m) rs
 
--- a record of another message is of no matter
+-- a record of another message does not matter
 other_message : (n m : ℕ) (r : Record) → (r.message == m) ≡ false → (x : Record) → ((x.number == n) ≡ true → x ≡ r) → is_other n m x ≡ (is_live x && (x.message == m))
 other_message n m r apart x same = go (x.number == n) refl
   where
@@ -124,7 +124,7 @@ others_same n m r apart rs only = all_weaker (λ (x : Record). (x.number == n) �
 same_message : (m : ℕ) → (m == m) ≡ true
 same_message m = grind arith
 
--- of the message's live records one is the record itself
+-- one of the message's live records is the record itself
 one_more : (n : ℕ) (r : Record) (rs : List Record) → IsAscending (λ (x y : Record). x.number < y.number) rs → find (has_number n) rs ≡ Some r → r.destroyed ≡ false
     → tally (λ (x : Record). is_live x && (x.message == r.message)) rs ≡ 1 + tally (is_other n r.message) rs
 one_more n r [] up at live = absurd cc
@@ -167,7 +167,7 @@ own_number a n r free = is_number r.number n (found_passes (has_number n) a.reco
 pub free_itself : (a : Archive) (n : ℕ) (r : Record) → IsFree a n r → IsFree a r.number r
 free_itself a n r free = subst (λ k. IsFree a k r) (sym (own_number a n r free)) free
 
--- the live records of each message after it
+-- the live records of each message after the destruction
 pub count_destroyed : (a : Archive) (r : Record) → IsArchive a → IsFree a r.number r → (m : ℕ) → live_count (without a r) m - 1 ≡ (live_count a m - 1) - only_at r.message 1 m
 count_destroyed a r is free m = go (m == r.message) refl
   where
@@ -223,7 +223,7 @@ all_passed Q P p (x ∷ xs) h all = go (p x) refl (all_passed Q P p xs h all.1)
     go true e more = (h x all.0 e, more)
     go false e more = more
 
--- a message is there still that another one's leaving does not touch
+-- a message stays where another one is removed
 still_there : (k m : ℕ) → (k == m) ≡ false → (ms : List Message) → has_message ms k ≡ true → has_message (delete_where (λ (x : Message). x.number == m) ms) k ≡ true
 still_there k m apart [] h = absurd (true≢false (sym h))
 still_there k m apart (x ∷ ms) h = go (x.number == m) (x.number == k) refl refl h (still_there k m apart ms)
@@ -246,7 +246,7 @@ module _ (a : Archive) (r : Record) (is : IsArchive a) (free : IsFree a r.number
   only : AllByRecursion (λ (x : Record). (x.number == r.number) ≡ true → x ≡ r) a.records
   only = only_one r.number r a.records is.in_order free.found
 
-  -- a message that live records name is named still, where it is not the record's own, or another record shares it
+  -- a message stays named where it is not the record's own, or another record shares it
   still_named : (k : ℕ) → is_named a.records k ≡ true → ((k == r.message) ≡ true → is_shared a r ≡ true) → is_named (gone r.number a.records) k ≡ true
   still_named k named shared = go (k == r.message) refl shared
     where
@@ -301,7 +301,7 @@ module _ (a : Archive) (r : Record) (is : IsArchive a) (free : IsFree a r.number
       go true e = all_of (λ (x : Record). is_shared a r ≡ false → is_other r.number r.message x ≡ false) (λ x h. absurd (true≢false (sym e ∙ h))) a.records
       go false e = all_weaker (λ (x : Record). is_other r.number r.message x ≡ false) (λ (x : Record). is_shared a r ≡ false → is_other r.number r.message x ≡ false) (λ x h _. h) a.records (none_other e)
 
-  -- a hold of another record names a live one still
+  -- a hold on another record still names a live one
   held_point : (k : ℕ) → (k == r.number) ≡ false → (x : Record) → (is_live x && has_number k x) ≡ (is_live (gone_if (x.number == r.number) x) && has_number k (gone_if (x.number == r.number) x))
   held_point k apart x = go (x.number == r.number) refl
     where
@@ -355,7 +355,7 @@ dues_without a n (x ∷ rs) = go (has_due a x) (x.number == n) refl refl (dues_w
         ∙ ap (λ l. due_row a x ∷ l) more ∙ sym (ap (λ c. map (due_row a) (cond c (x ∷ filter (has_due a) (gone n rs)) (filter (has_due a) (gone n rs)))) is)
     go false false is same more = more ∙ sym (ap (λ c. map (due_row a) (cond c (x ∷ filter (has_due a) (gone n rs)) (filter (has_due a) (gone n rs)))) is)
 
--- the message that goes, if one goes, is the record's, and no other live record has it
+-- the message that is removed, if any, is the record's, and no other live record has it
 abbrev pub Goes : Archive → Record → Option ℕ → Type 0
 Goes a r None = is_shared a r ≡ true
 Goes a r (Some m) = (m ≡ r.message) × (is_shared a r ≡ false)
@@ -430,7 +430,7 @@ may_go a n day r at live free e = rw (at, live, free) (go (destroys (schedule_at
 pub destroyed_archive : (a : Archive) (n : ℕ) (r : Record) → IsArchive a → IsFree a n r → IsArchive (without a r)
 destroyed_archive a n r is free = destroyed_is_archive a r is (free_itself a n r free)
 
--- the message goes where the store counts no further live record of it
+-- the message is removed where the store counts no further live record of it
 goes : (a : Archive) (r : Record) (k : ℕ) (last : Option ℕ) → IsArchive a → IsFree a r.number r → k ≡ live_count a r.message - 1 → MatchOption last (0 < k) (λ m. (m ≡ r.message) × (k ≡ 0)) → Goes a r last
 goes a r k None is free counted some = is_kept a r k is free counted some
 goes a r k (Some m) is free counted none = (none.0, is_last a r k is free counted none.1)

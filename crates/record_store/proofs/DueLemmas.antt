@@ -1,4 +1,4 @@
--- The due list is what the stored due days tell, in their order.
+-- The due list is that of the stored due days, in their order.
 use Rattle.std.proofs.Common.{◌≡◌, ◌<◌, ◌≤◌, ◌+◌, ◌==◌, ℕ, zero, suc, pos, Bool, true, false, not, ◌&&◌, ◌||◌, cond, List, [], ◌∷◌, ◌++◌, length, map, filter, flat_map, Option, Some, None, is_some, unwrap_or, refl, sym, ap, ap₂, append_assoc, ◌∙◌, arith, Ordering, Less, Equal, Greater, is_gt, is_eq, int_cmp, int_eq, int_le, nat_le, nat_cmp, true≢false}
 use Rattle.std.proofs.lemmas.List.{map-append}
 use Rattle.record_store.specs.Counts.{tally}
@@ -79,7 +79,7 @@ module _ {X : Type 0} (cmp : X → X → Ordering) (total : IsTotalOrder cmp) wh
         go Equal e more = absurd (true≢false (sym (ap is_eq e) ∙ apart.0))
         go Greater e more = later (u y) e more
 
-    -- what is left out may be left out before or after
+    -- filtering before sorting or after it gives the same
     pub filter-sort_by : (xs : List X) → IsUntied xs → filter u (sort_by cmp xs) ≡ sort_by cmp (filter u xs)
     filter-sort_by [] apart = refl
     filter-sort_by (x ∷ xs) apart = go (u x) refl (filter-sort_by xs apart.1)
@@ -165,7 +165,7 @@ there_is true true None day h = absurd (true≢false (sym h))
 there_is true false None day h = absurd (true≢false (sym h))
 there_is false held None day h = absurd (true≢false (sym h))
 
--- THE DUE LIST: what the due records up to a day tell in their order, those that are held left out
+-- THE DUE LIST: the lines of the due records up to a day, in their order, without those that are held
 pub due_list_is : (a : Archive) → IsArchive a → (day : ℕ) → map told (filter (λ d. not (is_held a d.number)) (due_records a day)) ≡ due_list a day
 due_list_is a is day =
     let D = due_row a in
@@ -224,7 +224,7 @@ free_if p (x ∷ xs) h = go (p x) h (free_if p xs)
 positive : (k : ℕ) → (suc k == 0) ≡ false
 positive k = grind arith
 
--- the store's counts tell which records are held
+-- the store's counts decide which records are held
 unheld_is : (a : Archive) (n k : ℕ) → k ≡ hold_count a n → (k == 0) ≡ not (is_held a n)
 unheld_is a n zero is = sym (ap not (free_if (λ (h : Hold). h.number == n) a.holds (let count : 0 ≡ tally (λ (h : Hold). h.number == n) a.holds = is in omega (arith, count))))
 unheld_is a n (suc k) is = positive k ∙ sym (ap not (held_if (λ (h : Hold). h.number == n) a.holds (let count : suc k ≡ tally (λ (h : Hold). h.number == n) a.holds = is in omega (arith, count))))

@@ -45,7 +45,7 @@ any_found p q (y ∷ xs) x e h = go (p y) refl e (λ e. any_found p q xs x e h)
 
 -- ---- a hold is placed
 
--- what stands where a hold may be placed
+-- what holds where a hold may be placed
 pub record MayHold (a : Archive) (name : List ℕ) (n : ℕ) : Type 0 where
   pub at : Record
   pub found : record_at a n ≡ Some at
@@ -146,7 +146,7 @@ any-map : {X Y : Type 0} (p : Y → Bool) (q : X → Bool) (f : X → Y) → ((x
 any-map p q f same [] = refl
 any-map p q f same (x ∷ xs) = λ i. same x i || any-map p q f same xs i
 
--- the tables tell whether a hold is there
+-- the tables decide whether a hold is there
 pub hold_told : (name : List ℕ) (n : ℕ) (a : Archive) (db : Database) (s : StoresArchive db a) → has_hold_of name n s.tables ≡ is_held_by a name n
 hold_told name n a db s = any-map (is_hold name n) (tables.is_hold name n) hold_of (same_hold name n) s.tables.holds ∙ ap (list_any (is_hold name n)) s.keeps.holds
 

@@ -16,7 +16,7 @@ found_body (m ∷ ms) n = go (m.number == n) (found_body ms n)
     go true more = refl
     go false more = more
 
--- the tables tell a message
+-- the message in the tables is the archive's
 pub body_told : (n : ℕ) (a : Archive) (db : Database) (s : StoresArchive db a) → body_with n s.tables ≡ body_of a.messages n
 body_told n a db s = found_body s.tables.messages n ∙ ap (λ ms. body_of ms n) s.keeps.messages
 

@@ -1,4 +1,4 @@
--- Another plan: the rows of it, and the due days by it.
+-- Another plan: its rows, and the due days by it.
 use Rattle.std.proofs.Common.{◌≡◌, ◌<◌, ◌+◌, ◌-◌, ℕ, zero, suc, pos, slice_get, Bool, true, false, not, cond, ◌&&◌, is_some, unwrap_or, List, [], ◌∷◌, ◌++◌, map, filter, take, length, get_or, Option, Some, None, Ok, refl, sym, ap, subst, ◌∙◌, arith, rules, IsTrue}
 use Rattle.std.specs.Str.{bytes_eq}
 use Rattle.std.specs.List.{AllByRecursion, list_all}
@@ -86,7 +86,7 @@ common_schema schema is = record { foreign = scheduled is.foreign; is = is.is }
 pub common_of : (db : Database) (t : Tables) → Stores db t → StoresCommon db t
 common_of db t s = record { schema = common_schema db.schema s.schema; messages = s.messages; records = s.records; holds = s.holds; settings = s.settings; classes = s.classes }
 
--- a read of them is a look at ours
+-- a read of the common tables is a look at an archive's
 pub looks_common : {S : Type 0} (g : Ghosts S) (old new : Held S) → (old.in_transaction ≡ false → new.in_transaction ≡ false) → (HasCleanDisk (state g new) → HasCleanDisk (state g old))
     → (old.in_transaction ≡ false → (IsTrue (state g old).is_open → HasCommonTables (state g old).now.schema) → HasCleanDisk (state g new) → IsTrue (state g new).is_open
     → IsTrue (state g old).is_open × ((state g new).now ≡ (state g old).now))
@@ -117,7 +117,7 @@ dues_next p f vs v i low is =
     let next : map f (take (i + 1) vs) ≡ map f (take i vs) ++ f v ∷ [] = ap (map f) (take_more vs i v low) ∙ map-append f (take i vs) _ ∙ ap (λ x. map f (take i vs) ++ f x ∷ []) (sym is) in
     sym (ap (dues_in p) next ∙ ap (map (due_row (alone p))) (filter-append (has_due (alone p)) (map f (take i vs)) (f v ∷ [])) ∙ map-append (due_row (alone p)) (filter (has_due (alone p)) (map f (take i vs))) (filter (has_due (alone p)) (f v ∷ [])))
 
--- ---- a due day after the last of those that rise
+-- ---- a due day after the last of those that ascend
 
 below_last : {V : Type 0} (f : V → Due) (vs : List V) (v : V) (n i : ℕ) → AreAscending (map f vs) → i + 1 ≡ length vs → Some v ≡ slice_get vs i → (f v).number < n → AllByRecursion (λ (d : Due). d.number < n) (map f vs)
 below_last f [] v n i up long at low = tt
@@ -166,7 +166,7 @@ one_with_day p r day live h =
 
 -- ---- the command
 
--- the plan may take the place of the store's, and the due days are those by it
+-- the plan may replace the store's, and the due days are those by it
 pub judged_revision : {S : Type 0} (g : Ghosts S) (old mid : Store S) (p q : Listing) (rows : List Record) (ds : List Due) → keeps old.plan p ≡ true → q ≡ p → ds ≡ dues_in q rows
     → ((a : Archive) → StandsFor g old a → StandsFor g mid a × (HasCleanDisk (state g mid.conn) → rows ≡ a.records))
     → (a : Archive) → StandsFor g old a → StandsFor g mid a × (HasCleanDisk (state g mid.conn) → IsRevision a q ds × (revise a p ≡ Ok (with_plan a q)))

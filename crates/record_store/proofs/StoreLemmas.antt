@@ -1,4 +1,4 @@
--- A store over tables that were just laid.
+-- A store over tables that were just created.
 use Rattle.std.proofs.Common.{◌≡◌, ℕ, ℤ, ◌+ℤ◌, pos, List, [], ◌∷◌, map, false, refl, ap, subst, IsPermutation, arith}
 use Rattle.std.proofs.lemmas.List.Sorted.{IsPermutation-refl}
 use Rattle.class_plan.specs.Plans.{first_plan, IsPlan}
@@ -27,7 +27,7 @@ rules-numbered id (r ∷ rs) = ap (λ l. r ∷ l) (rules-numbered (id +ℤ pos 1
 pub same_list : {X : Type 0} (xs ys : List X) → xs ≡ ys → IsPermutation xs ys
 same_list xs ys e = subst (IsPermutation xs) e (IsPermutation-refl xs)
 
--- the tables as they are laid keep the empty archive
+-- the tables as they are created keep the empty archive
 pub stores_laid : (old db : Database) → old.schema ≡ no_schema → IsLaid (rules_of first_plan) (classes_of first_plan) old db → StoresArchive db empty_archive
 stores_laid old db empty laid =
     let made = laid.stored empty in

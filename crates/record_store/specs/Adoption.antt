@@ -1,4 +1,4 @@
--- What a database holds of an archive when a store is opened over it, and what is read of it.
+-- What a database holds of an archive when a store is opened over it, and what is read from it.
 use Rattle.std.specs.Prelude.{◌<◌, ◌^◌, ◌≡◌, ◌≢◌, ◌⊎◌, ℕ, ◌-◌, false, List, [], ◌∷◌, map, codes, IsPermutation}
 use Rattle.std.specs.List.{AllByRecursion}
 use Rattle.sqlite.specs.Store.{Ghosts}
@@ -64,7 +64,7 @@ FindsRows db a = FindsSecond db a ⊎ FindsFirst db a
 abbrev pub AreOnce : List Hold → Type 0
 AreOnce hs = IsAscending (λ (x y : Hold). is_hold x.name x.number y ≡ false) hs
 
--- the plan is one, and each hold is there once, as the keys of the tables have it
+-- the plan is valid, and each hold is there once, as the keys of the table ensure
 pub record IsKeyed (a : Archive) : Type 0 where
   pub plan : IsPlan a.plan
   pub once : AreOnce a.holds
@@ -78,7 +78,7 @@ pub record FindsCommon (db : Database) (a : Archive) : Type 0 where
   pub records : tables.records ≡ a.records
   pub holds : map hold_of tables.holds ≡ a.holds
 
--- there is no table, as of the empty archive before it is laid
+-- there is no table, as before the empty archive is created
 abbrev pub FindsNothing : Database → Archive → Type 0
 FindsNothing db a = (db.schema ≡ no_schema) × (a ≡ empty_archive)
 
@@ -97,7 +97,7 @@ pub record HasArchive (db : Database) : Type 0 where
 
 -- ---- rows of any kind
 
--- rows of version 2, whatever they say; each key is there once
+-- rows of version 2, whatever they contain; each key is there once
 pub record ReadsSecond (db : Database) (t : Tables) (ps : List Pair) (rs : List Rule) (cs : List Listed) : Type 0 where
   pub stored : Stores db t
   pub keyed : AreKeyed t
@@ -106,7 +106,7 @@ pub record ReadsSecond (db : Database) (t : Tables) (ps : List Pair) (rs : List 
   pub classes : AreListed t cs
   pub holds : AreOnce (map hold_of t.holds)
 
--- rows of version 1, whatever they say; each key is there once
+-- rows of version 1, whatever they contain; each key is there once
 pub record ReadsFirst (db : Database) (t : Tables) (ps : List Pair) (cs : List Listed) : Type 0 where
   pub stored : StoresFirst db t
   pub keyed : AreKeyed t
@@ -120,7 +120,7 @@ HasRows db =
     ((t : Tables) × (ps : List Pair) × (rs : List Rule) × (cs : List Listed) × ReadsSecond db t ps rs cs)
     ⊎ ((t : Tables) × (ps : List Pair) × (cs : List Listed) × ReadsFirst db t ps cs)
 
--- a schema as a store lays it, in version 1 or 2, or none yet
+-- a schema as a store creates it, in version 1 or 2, or none yet
 abbrev pub IsLaidSchema : Schema → Type 0
 IsLaidSchema schema = (schema ≡ no_schema) ⊎ (schema ≡ first_schema) ⊎ (schema ≡ dated_schema) ⊎ IsArchiveSchema schema
 
@@ -142,7 +142,7 @@ pub record TellsPlan (r : PlanRows) (p : Listing) : Type 0 where
   pub rules : map rule_of r.rules.items ≡ rules_of p
   pub classes : map listed_of r.classes.items ≡ classes_of p
 
--- what is read of rows that may be no plan's
+-- what is read from rows that may be no plan's
 pub record ShowsPlan (r : PlanRows) (ps : List Pair) (rs : List Rule) (cs : List Listed) : Type 0 where
   pub settings : ps ≡ record { key = codes "version"; value = codes "2" } ∷ []
   pub rules : map rule_of r.rules.items ≡ rs
@@ -152,7 +152,7 @@ pub record ShowsTexts (r : TextRows) (ps : List Pair) (cs : List Listed) : Type 
   pub settings : ps ≡ first_pairs r.root.items
   pub classes : map listed_of r.classes.items ≡ cs
 
--- the rows that were judged are an archive's, and the numbers of the records have 32 bits
+-- the accepted rows are an archive's, and the numbers of the records fit in 32 bits
 pub record IsJudged (p : Listing) (r : ArchiveRows) : Type 0 where
   pub rows : AreRows p (map record_of r.records.items) r.messages.items (map named_of r.holds.items)
   pub small : AllByRecursion (λ (x : Record). x.number < 2 ^ 32) (map record_of r.records.items)
@@ -172,13 +172,14 @@ pub record IsOverview (f : Overview) (a : Archive) : Type 0 where
 
 -- ---- calls
 
--- Reads outside a transaction, of tables that are there: they change nothing, and a crash leaves what it might have left before.
+-- Reads outside a transaction, of tables that are there, change nothing; a crash leaves what it might have left
+-- before them.
 pub record Sees {S : Type 0} (g : Ghosts S) (Are : Schema → Type 0) (old new : Held S) : Type 0 where
   pub idle : IsIdle g old new
   pub falls : Falls g old new
   pub still : IsStill g old new (Are (state g old).now.schema)
   pub survives : CommitsNothingOf g old new (Are (state g old).now.schema)
 
--- a crash leaves what it might have left before, or tables that keep each archive of these
+-- a crash leaves what it might have left before, or tables that keep each of these archives
 abbrev pub LeavesArchive : {S : Type 0} → Ghosts S → (old new : Held S) → (Archive → Type 0) → Type 0
 LeavesArchive g old new Is = Survives (state g old) (state g new) (λ (trees : Trees). (db : Database) × ((a : Archive) → Is a → StoresArchive db a) × (trees ≡ db.trees))

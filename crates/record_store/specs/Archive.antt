@@ -23,19 +23,19 @@ pub record Hold : Type 0 where
   pub name : List ℕ
   pub number : ℕ
 
--- a plan, the stored messages and the records, each in the order of their numbers, and the holds in the order in which they
--- were placed, which no answer depends on
+-- a plan; the stored messages and the records, each in the order of their numbers; and the holds in the order in
+-- which they were placed, on which no answer depends
 pub record Archive : Type 0 where
   pub plan : Listing
   pub messages : List Message
   pub records : List Record
   pub holds : List Hold
 
--- the archive that nothing was captured in
+-- the archive in which nothing was captured
 abbrev pub empty_archive : Archive
 empty_archive = record { plan = first_plan; messages = []; records = []; holds = [] }
 
--- a record as it is told: its number, its path, and the number of its due day, if it has one
+-- a record as it is answered: its number, its path, and the number of its due day, if it has one
 pub record Line : Type 0 where
   pub number : ℕ
   pub path : List ℕ
@@ -152,7 +152,7 @@ is_shared a r = list_any (λ (x : Record). is_live x && ((x.message == r.message
 abbrev pub messages_without : Archive → Record → List Message
 messages_without a r = if is_shared a r then a.messages else delete_where (λ (m : Message). m.number == r.message) a.messages
 
--- the record stays as a number, a path and a day, and the message goes with its last live record
+-- the record's number, path and day stay, and the message is removed with its last live record
 abbrev pub without : Archive → Record → Archive
 without a r = record a { messages = messages_without a r; records = update_where (has_number r.number) destroyed a.records }
 
@@ -216,7 +216,7 @@ is_named rs m = list_any (λ (r : Record). is_live r && (r.message == m)) rs
 abbrev pub has_message : List Message → ℕ → Bool
 has_message ms n = list_any (λ (m : Message). m.number == n) ms
 
--- what is kept of a record
+-- what holds of each record
 pub record IsRecord (a : Archive) (r : Record) : Type 0 where
   pub number : (1 ≤ r.number) × (r.number < 2 ^ 32)
   pub message : (1 ≤ r.message) × (r.message ≤ r.number)
@@ -229,7 +229,7 @@ pub record IsArchive (a : Archive) : Type 0 where
   pub records : All (IsRecord a) a.records
   pub in_order : IsAscending (λ (x y : Record). x.number < y.number) a.records
   pub messages : IsAscending (λ (x y : Message). x.number < y.number) a.messages
-  -- no message is there that no live record names
+  -- each message is named by a live record
   pub named : All (λ (m : Message). is_named a.records m.number ≡ true) a.messages
   -- each hold names a live record
   pub held : All (λ (h : Hold). list_any (λ (r : Record). is_live r && has_number h.number r) a.records ≡ true) a.holds

@@ -17,7 +17,7 @@ with_more_dues ds t = record t { dues = t.dues ++ ds }
 abbrev pub with_captured : Message → List Record → List Due → Tables → Tables
 with_captured m rs ds t = record t { messages = t.messages ++ m ∷ []; records = t.records ++ rs; dues = t.dues ++ ds }
 
--- the due days of the table with these after them rise
+-- the due days of the table, with these after them, ascend
 abbrev pub AreAfter : List Due → Tables → Type 0
 AreAfter ds t = AreAscending (t.dues ++ ds)
 
@@ -34,7 +34,7 @@ abbrev pub due_before : ℕ → Option ℕ → List Due → List Due
 due_before n None ds = ds
 due_before n (Some day) ds = record { number = n; day = day } ∷ ds
 
--- the due days that lines tell
+-- the due days of lines
 abbrev pub dues_told : List Line → List Due
 dues_told [] = []
 dues_told (l ∷ ls) = due_before l.number l.due (dues_told ls)

@@ -15,19 +15,19 @@ pub record IsFree (a : Archive) (n : ℕ) (r : Record) : Type 0 where
   pub live : r.destroyed ≡ false
   pub free : is_held a n ≡ false
 
--- what the plan says against the destruction of a record by a day
+-- the plan's refusal, if any, of the destruction of a record by a day
 abbrev pub against_destruction : Listing → ℕ → Record → Option StoreFault
 against_destruction p day r =
     if not (destroys (schedule_at p r.path)) then Some fault.NotForDestruction
     else if not (is_by day (due_on p r.path r.day)) then Some fault.NotDue
     else None
 
--- without a message, if there is one to go
+-- without the message, if one is given
 abbrev pub without_body : Option ℕ → Tables → Tables
 without_body None t = t
 without_body (Some m) t = without_message m t
 
--- the record is destroyed and has no due day, and a message goes, if there is one to go
+-- the record is destroyed and has no due day, and the message is removed, if one is given
 abbrev pub with_destruction : ℕ → Option ℕ → Tables → Tables
 with_destruction n last t = without_body last (with_destroyed n (without_due n t))
 

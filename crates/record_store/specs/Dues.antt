@@ -1,4 +1,4 @@
--- The records that are due, and the lines that they tell.
+-- The records that are due, and their lines.
 use Rattle.std.specs.Prelude.{ℕ, List, filter, Some}
 use Rattle.sqlite_keyed.specs.Lists.{sort_by}
 use Rattle.record_tables.specs.Reads.{due_cmp, is_by}

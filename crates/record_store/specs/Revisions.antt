@@ -11,11 +11,11 @@ use Rattle.record_store.specs.Stores.{due_rows}
 abbrev pub with_plan : Archive → Listing → Archive
 with_plan a p = record a { plan = p }
 
--- the due days by a plan of those records that are live and have one
+-- the due days by a plan, of the records that are live and have one
 abbrev pub dues_in : Listing → List Record → List Due
 dues_in p rs = due_rows (record { plan = p; messages = []; records = rs; holds = [] })
 
--- a plan that drops no path of an archive's, and the due days by it
+-- a plan that drops no path of an archive's plan, and the due days by it
 pub record IsRevision (a : Archive) (p : Listing) (ds : List Due) : Type 0 where
   pub kept : keeps a.plan p ≡ true
   pub dues : ds ≡ dues_in p a.records

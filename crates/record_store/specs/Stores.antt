@@ -1,4 +1,4 @@
--- How tables keep an archive, and which archive a store stands for.
+-- How tables keep an archive, and which archive a store represents.
 use Rattle.std.specs.Prelude.{◌≡◌, ◌-◌, ◌==◌, ℕ, ℤ, pos, negsuc, Bool, true, false, ◌&&◌, unsigned_abs, List, [], ◌∷◌, map, filter, is_some, option_map, unwrap_or, codes, Result, Ok, Err, IsTrue, IsPermutation, All}
 use Rattle.std.specs.List.Sorted.{IsStrictlySortedBy}
 use Rattle.std.specs.Ordering.{nat_cmp}
@@ -36,7 +36,7 @@ due_row a r = record { number = r.number; day = unwrap_or (due_of a r) 0 }
 abbrev pub due_rows : Archive → List Due
 due_rows a = map (due_row a) (filter (has_due a) a.records)
 
--- the tables keep the archive, the due days left aside
+-- the tables keep the archive; nothing is said about the due days
 pub record Keeps (t : Tables) (a : Archive) : Type 0 where
   pub messages : t.messages ≡ a.messages
   pub records : t.records ≡ a.records
@@ -55,16 +55,17 @@ pub record StoresArchive (db : Database) (a : Archive) : Type 0 where
 
 -- ---- a store
 
--- the live records of a message
+-- the number of live records of a message
 abbrev pub live_count : Archive → ℕ → ℕ
 live_count a m = tally (λ (r : Record). is_live r && (r.message == m)) a.records
 
--- how many holds keep a record
+-- the number of holds that keep a record
 abbrev pub hold_count : Archive → ℕ → ℕ
 hold_count a n = tally (λ (h : Hold). h.number == n) a.holds
 
--- While the disk is clean and the connection open, the rows are those of the archive. Beside the connection the store keeps the
--- plan, the next number, how many holds each record has, and how many live records each message has beyond the first.
+-- While the disk is clean and the connection open, the rows are those of the archive. Beside the connection the store
+-- keeps the plan, the next number, the number of holds on each record, and that of each message's live records beyond
+-- the first.
 pub record StandsFor {S : Type 0} (g : Ghosts S) (store : Store S) (a : Archive) : Type 0 where
   pub idle : store.conn.in_transaction ≡ false
   pub plan : store.plan ≡ a.plan
@@ -74,7 +75,7 @@ pub record StandsFor {S : Type 0} (g : Ghosts S) (store : Store S) (a : Archive)
   pub archive : IsArchive a
   pub rows : HasCleanDisk (state g store.conn) → IsTrue (state g store.conn).is_open → StoresArchive (state g store.conn).now a
 
--- a refusal that comes from the world and not from the archive: of `sqlite`, or for want of memory
+-- a refusal that comes from the world and not from the archive: of `sqlite` (89), or for no memory (99)
 abbrev pub is_trouble : StoreFault → Bool
 is_trouble (fault.Sqlite e) = true
 is_trouble fault.NoMemory = true
@@ -84,19 +85,19 @@ abbrev pub Becomes : {S : Type 0} → Ghosts S → Store S → Result Archive St
 Becomes g new (Ok b) = StandsFor g new b
 Becomes g new (Err f) = ⊥
 
--- A call is a command of the archive: it is done and answered so, or refused and nothing has changed, by the command's own
--- refusal or by the world's.
+-- A call carries out a command of the archive. Where it succeeds, the store represents the command's archive, and the
+-- answer is right. Where it is refused, nothing has changed, and the refusal is the command's or the world's.
 abbrev pub Obeys : {S X : Type 0} → Ghosts S → (old new : Store S) → Result X StoreFault → (Archive → Result Archive StoreFault) → (Archive → X → Type 0) → Type 0
 Obeys g old new (Ok x) command Answers = (a : Archive) → StandsFor g old a → Becomes g new (command a) × Answers a x
 Obeys g old new (Err f) command Answers = (a : Archive) → StandsFor g old a → StandsFor g new a × (is_trouble f ≡ false → command a ≡ Err f)
 
--- The same of a call that looks at the tables first: it goes by what the disk returns, so it is the archive's command while that
--- is what was written.
+-- The same for a call that reads the tables first. It relies on what the disk returns, so it carries out the
+-- archive's command while the disk is clean.
 abbrev pub ObeysRows : {S X : Type 0} → Ghosts S → (old new : Store S) → Result X StoreFault → (Archive → Result Archive StoreFault) → (Archive → X → Type 0) → Type 0
 ObeysRows g old new (Ok x) command Answers = HasCleanDisk (state g new.conn) → (a : Archive) → StandsFor g old a → Becomes g new (command a) × Answers a x
 ObeysRows g old new (Err f) command Answers = (a : Archive) → StandsFor g old a → StandsFor g new a × (is_trouble f ≡ false → HasCleanDisk (state g new.conn) → command a ≡ Err f)
 
--- A call reads: the store stands for the same archive, and while the disk is clean the answer is the archive's.
+-- A call reads: the store represents the same archive, and while the disk is clean the answer is the archive's.
 abbrev pub Tells : {S X : Type 0} → Ghosts S → (old new : Store S) → Result X StoreFault → (Archive → X → Type 0) → (Archive → StoreFault → Type 0) → Type 0
 Tells g old new (Ok x) Answers Refuses = (a : Archive) → StandsFor g old a → StandsFor g new a × (HasCleanDisk (state g new.conn) → Answers a x)
 Tells g old new (Err f) Answers Refuses = (a : Archive) → StandsFor g old a → StandsFor g new a × (is_trouble f ≡ false → HasCleanDisk (state g new.conn) → Refuses a f)
@@ -104,27 +105,28 @@ Tells g old new (Err f) Answers Refuses = (a : Archive) → StandsFor g old a �
 abbrev pub Quietly : {X : Type 0} → Archive → X → Type 0
 Quietly a x = Unit {0}
 
--- what a crash in a call on an open connection may leave: what it might leave before, or the archive that the command makes
+-- what a crash in a call on an open connection may leave: what a crash might have left before it, or the command's
+-- archive
 abbrev pub Leaves : {S : Type 0} → Ghosts S → (old new : Store S) → (Archive → Result Archive StoreFault) → Type 0
 Leaves g old new command = (a : Archive) → StandsFor g old a → IsTrue (state g old.conn).is_open → Survives (state g old.conn) (state g new.conn)
     (λ (trees : Trees). (db : Database) × (b : Archive) × (command a ≡ Ok b) × StoresArchive db b × (trees ≡ db.trees))
 
--- what a crash in a call that reads on an open connection may leave: what it might leave before
+-- what a crash in a call that reads on an open connection may leave: what a crash might have left before it
 abbrev pub LeavesAll : {S : Type 0} → Ghosts S → (old new : Store S) → Type 0
 LeavesAll g old new = (a : Archive) → StandsFor g old a → Survives (state g old.conn) (state g new.conn) (λ _. IsTrue (state g old.conn).is_open → ⊥)
 
--- what a crash in the doing of a command on an open connection may leave: what it might leave before, or where the command is
--- one of the archive's, the archive that it makes
+-- what a crash may leave while a command is carried out on an open connection: what a crash might have left before
+-- it, or the changed archive, where the archive's command makes that change
 abbrev pub LeavesMade : {S : Type 0} → Ghosts S → (old new : Store S) → (Archive → Result Archive StoreFault) → (Archive → Archive) → Type 0
 LeavesMade g old new command change = (a : Archive) → StandsFor g old a → Survives (state g old.conn) (state g new.conn)
     (λ (trees : Trees). (db : Database) × (IsTrue (state g old.conn).is_open → command a ≡ Ok (change a) → StoresArchive db (change a)) × (trees ≡ db.trees))
 
--- the same of a change that more is asked of than the command says
+-- the same for a change that is allowed by a condition in place of the command
 abbrev pub LeavesAllowed : {S : Type 0} → Ghosts S → (old new : Store S) → (Archive → Type 0) → (Archive → Archive) → Type 0
 LeavesAllowed g old new Allowed change = (a : Archive) → StandsFor g old a → Survives (state g old.conn) (state g new.conn)
     (λ (trees : Trees). (db : Database) × (IsTrue (state g old.conn).is_open → Allowed a → StoresArchive db (change a)) × (trees ≡ db.trees))
 
--- no fault of the disk is forgotten
+-- a disk that is clean after the call was clean before it
 abbrev pub Falls : {S : Type 0} → Ghosts S → (old new : Store S) → Type 0
 Falls g old new = HasCleanDisk (state g new.conn) → HasCleanDisk (state g old.conn)
 

@@ -28,7 +28,7 @@ use record_tables::stored_dues::are_dues;
 use sqlite::{Alter, Connection, Error};
 use std::alloc::Global;
 
-/// What is read of a database.
+/// What is read from a database.
 #[derive(Drop)]
 struct Contents {
     /// The rows of the plan in version 2.
@@ -36,7 +36,7 @@ struct Contents {
     overview: Overview,
 }
 
-/// Puts the due days in place of those that are stored, where they are others.
+/// Replaces the stored due days where they differ from these.
 fn settle_dues<S: Alter>(
     conn: &mut Connection<S>,
     plan: &PlanRows,
@@ -77,7 +77,7 @@ fn move_over<S: Alter>(
     Ok(())
 }
 
-/// Reads version 2: the rows of its plan in version 2, and what a store keeps beside the connection.
+/// Reads version 2: the rows of its plan, and what a store keeps beside the connection.
 fn read_second<S: Alter>(alloc: Global, conn: &mut Connection<S>) -> Result<Contents, Fault>
     ensures sound { HasCleanDisk (state S.Store conn.new) → IfOk result (λ r. (t : Tables) (ps : List Pair) (rs : List Rule) (cs : List Listed) → ReadsSecond (state S.Store conn.old).now t ps rs cs → HasArchive (state S.Store conn.old).now) }
     ensures found { HasCleanDisk (state S.Store conn.new) → IfOk result (λ r. (a : Archive) → FindsSecond (state S.Store conn.old).now a → IsKeyed a → TellsPlan r.plan_rows a.plan × IsOverview r.overview a) }
@@ -96,7 +96,7 @@ fn read_second<S: Alter>(alloc: Global, conn: &mut Connection<S>) -> Result<Cont
     })
 }
 
-/// Reads version 1: the rows of its plan in version 2, and what a store keeps beside the connection.
+/// Reads version 1: the rows that its plan has in version 2, and what a store keeps beside the connection.
 fn read_first<S: Alter>(alloc: Global, conn: &mut Connection<S>) -> Result<Contents, Fault>
     ensures sound { HasCleanDisk (state S.Store conn.new) → IfOk result (λ r. (t : Tables) (ps : List Pair) (cs : List Listed) → ReadsFirst (state S.Store conn.old).now t ps cs → HasArchive (state S.Store conn.old).now) }
     ensures found { HasCleanDisk (state S.Store conn.new) → IfOk result (λ r. (a : Archive) → FindsFirst (state S.Store conn.old).now a → IsKeyed a → TellsPlan r.plan_rows a.plan × IsOverview r.overview a) }
@@ -116,7 +116,7 @@ fn read_first<S: Alter>(alloc: Global, conn: &mut Connection<S>) -> Result<Conte
     })
 }
 
-/// Reads version 2, and sets its due days right.
+/// Reads version 2, and corrects its due days.
 fn settle_second<S: Alter>(alloc: Global, conn: &mut Connection<S>) -> Result<Overview, Fault>
     requires { conn.old.in_transaction ≡ false }
     ensures idle { conn.new.in_transaction ≡ false }
@@ -148,7 +148,7 @@ fn settle_first<S: Alter>(alloc: Global, conn: &mut Connection<S>) -> Result<Ove
     Ok(contents.overview)
 }
 
-/// The refusal that a fault is.
+/// The store's refusal for a fault of a read.
 fn refusal_of(fault: Fault) -> StoreFault
     ensures no_archive { result ≡ StoreFault.NoArchive → fault ≡ Fault.NoArchive }
     ensures trouble { is_trouble result ≡ false → result ≡ StoreFault.NoArchive }
@@ -160,7 +160,6 @@ fn refusal_of(fault: Fault) -> StoreFault
     }
 }
 
-/// The store over a connection, with what it keeps beside it.
 fn store_over<S: Alter>(alloc: Global, conn: Connection<S>, overview: Overview) -> Store<S>
     ensures conn { result.conn ≡ conn }
     ensures plan { result.plan ≡ overview.plan }
@@ -186,7 +185,6 @@ fn store_over<S: Alter>(alloc: Global, conn: Connection<S>, overview: Overview) 
 }
 
 impl<S: Alter> Store<S> {
-    /// The store over version 2.
     fn adopt_second(
         alloc: Global,
         mut conn: Connection<S>,
@@ -211,7 +209,6 @@ impl<S: Alter> Store<S> {
         }
     }
 
-    /// The store over version 1.
     fn adopt_first(
         alloc: Global,
         mut conn: Connection<S>,
@@ -236,11 +233,14 @@ impl<S: Alter> Store<S> {
         }
     }
 
-    /// The store over a database: an empty one is laid, as by `create`; version 2 is taken; version 1, with or without due days, is
-    /// moved over to version 2 in one transaction. 88 where the tables or their rows are not an archive's. A refusal, 88, 89 or
-    /// 99, hands the connection back, and the database is as it was. Tables of other names count for nothing.
+    /// The store over a database. In an empty one the tables are created, as by `create`. Version 2 is taken over,
+    /// and its due days are replaced where they are wrong. Version 1, with or without due days, is moved over to
+    /// version 2 in one transaction. Tables of other names are ignored.
     ///
-    /// Time and memory grow with the rows of the tables, messages counted by their numbers alone.
+    /// Refused with 88 where the tables or their rows are not an archive's, with 89 (`sqlite`) or with 99 (no
+    /// memory). A refusal returns the connection and leaves the database as it was.
+    ///
+    /// Time and memory grow with the rows of the tables; of messages only the numbers are read.
     pub fn adopt(
         alloc: Global,
         conn: Connection<S>,

@@ -22,7 +22,7 @@ use std::alloc::{AllocError, Global};
 /// One above the greatest number of a record.
 const NUMBERS: u64 = 1 << 32;
 
-/// The number of a day of 1970 to 9999.
+/// The number of a day of 1970 to 9999, in days since 1970-01-01.
 pub(crate) fn number_of(day: Date) -> u32
     requires { IsBetween (pos 0) (pos 2932896) (epoch_day day) }
     ensures { result ≡ number_of_day day }
@@ -30,7 +30,7 @@ pub(crate) fn number_of(day: Date) -> u32
     day_number(day) as u32
 }
 
-/// Adds the due day that a line tells, if it tells one.
+/// Adds the due day of a line, if it has one.
 fn push_due(dues: &mut Vec<DueRow>, line: &Line) -> Result<(), AllocError>
     requires { HasDueDay line.now }
     ensures { OnOk result (map due_of dues.new.items ≡ map due_of dues.old.items ++ due_before (line_view line.now).number (line_view line.now).due []) }
@@ -45,7 +45,7 @@ fn push_due(dues: &mut Vec<DueRow>, line: &Line) -> Result<(), AllocError>
     Ok(())
 }
 
-/// The due days that lines tell.
+/// The due days of lines.
 fn due_rows(alloc: Global, lines: &[Line]) -> Result<Vec<DueRow>, AllocError>
     requires { All HasDueDay lines.now }
     ensures { IfOk result (λ v. map due_of v.items ≡ dues_told (map line_view lines.now)) }
@@ -87,7 +87,7 @@ impl<S: Alter> Store<S> {
         Ok(lines)
     }
 
-    /// Stores a message and its records, which have room.
+    /// Stores a message and its records, for which there are numbers left.
     fn place_capture(
         &mut self,
         first: u32,
@@ -127,8 +127,11 @@ impl<S: Alter> Store<S> {
         }
     }
 
-    /// Stores a message, and a record of it for each path, numbered upwards in their order; answers a line for each record, with
-    /// the due date by the plan. Nothing is stored where there is no path. 87 where a number would pass 4,294,967,295.
+    /// Stores a message, and a record of it for each path, numbered upwards in their order. Answers a line for each
+    /// record, with the due date by the plan. Nothing is stored where there is no path.
+    ///
+    /// Refused with 87 where a number would pass 4,294,967,295, with 89 (`sqlite`) or with 99 (no memory). A refusal
+    /// changes nothing.
     ///
     /// The caller gives a day of 1970 to 2199, and paths of classes in byte order, each once.
     pub fn capture(

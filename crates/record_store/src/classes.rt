@@ -17,7 +17,7 @@ use class_plan::{Plan, PlanFault};
 use record_tables::writes::insert_class;
 use sqlite::{Alter, Connection, Error};
 
-/// Adds an open class in one transaction: all or nothing, also over a crash.
+/// Adds an open class in one transaction: all or nothing, even in a crash.
 fn put_class<S: Alter>(conn: &mut Connection<S>, path: &[u8]) -> Result<(), Error>
     requires idle { conn.old.in_transaction ≡ false }
     ensures idle { conn.new.in_transaction ≡ false }
@@ -33,7 +33,7 @@ fn put_class<S: Alter>(conn: &mut Connection<S>, path: &[u8]) -> Result<(), Erro
     Ok(())
 }
 
-/// Adds an open class to a plan: 52, 53, 54 and 56.
+/// Adds an open class to a plan; refused with 52, 53, 54 or 56.
 fn plan_class(plan: &mut Plan, path: &[u8]) -> Result<(), StoreFault>
     ensures ok { OnOk result (added plan.old path.now ≡ Ok plan.new) }
     ensures err { IfErr result (λ f. is_trouble f ≡ false → (a : Archive) → archive.plan_answer a (added plan.old path.now) ≡ Err f) }
@@ -48,8 +48,16 @@ fn plan_class(plan: &mut Plan, path: &[u8]) -> Result<(), StoreFault>
 }
 
 impl<S: Alter> Store<S> {
-    /// Adds an open class without a schedule of its own; no due date changes. 52 where the path is not well made, 53 where its
-    /// parent is no class, 54 where it is a class, 56 where there are 4,096 classes; the smallest of these.
+    /// Adds an open class without a schedule of its own; no due date changes.
+    ///
+    /// Refused with 89 (`sqlite`) or 99 (no memory), or else with the smallest that holds:
+    ///
+    /// - 52: the path is not well made;
+    /// - 53: its parent is no class;
+    /// - 54: the path is a class already;
+    /// - 56: there are 4,096 classes already.
+    ///
+    /// A refusal changes nothing.
     pub fn add_class(&mut self, path: &[u8]) -> Result<(), StoreFault>
         ensures obeys { Obeys S.Store self.old self.new result (λ a. archive.add_class a path.now) Quietly }
         ensures dues { OnOk result ((a : Archive) → StandsFor S.Store self.old a

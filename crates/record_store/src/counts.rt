@@ -30,7 +30,8 @@ impl Counts {
         }
     }
 
-    /// Counts a number so many times more.
+    /// Counts a number `by` times more. Refused for no memory (99), also where the count would pass 2^64 - 1; the
+    /// counts are then unchanged.
     pub fn add(&mut self, number: u32, by: u64) -> Result<(), AllocError>
         ensures ok { OnOk result ((n : ℕ) → count_at self.new n ≡ count_at self.old n + only_at number by n) }
         ensures err { OnErr result ((n : ℕ) → count_at self.new n ≡ count_at self.old n) }
@@ -47,7 +48,7 @@ impl Counts {
         }
     }
 
-    /// Counts a number so many times less, and no less than not at all.
+    /// Counts a number `by` times less, down to 0 at most.
     pub fn take(&mut self, number: u32, by: u64)
         ensures { (n : ℕ) → count_at self.new n ≡ count_at self.old n - only_at number by n }
     {

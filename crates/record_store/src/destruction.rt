@@ -1,4 +1,4 @@
-//! Destruction: a record that is due for it stays as a number, a path and a day.
+//! Destruction: the number, the path and the day of a destroyed record stay.
 
 ghost use Rattle.std.specs.Prelude.{◌≡◌, ◌<◌, pos, true, false, Ok, Err, Some, None, IsTrue, IfErr, OnOk, OnErr, MatchOption};
 ghost use Rattle.jiff.specs.Words.{IsBetween, epoch_day};
@@ -23,7 +23,7 @@ use record_tables::rows::RecordRow;
 use record_tables::writes::{delete_due, delete_message, set_destroyed};
 use sqlite::{Alter, Connection, Error, Transaction};
 
-/// Takes a message out, if there is one to go.
+/// Removes the message, if one is given.
 fn delete_body<S: Alter>(tx: &mut Transaction<'_, S>, last: Option<u32>) -> Result<(), Error>
     ensures same_reference { tx.new.conn.ghost_name ≡ tx.old.conn.ghost_name }
     ensures ok { OnOk result (PutsIn S.Store tx.old.conn.now tx.new.conn.now Always (without_body last)) }
@@ -36,7 +36,7 @@ fn delete_body<S: Alter>(tx: &mut Transaction<'_, S>, last: Option<u32>) -> Resu
     }
 }
 
-/// Marks a record destroyed, and takes its due day out, and a message, if there is one to go.
+/// Marks a record as destroyed, and removes its due day and the message, if one is given.
 fn delete_record<S: Alter>(
     tx: &mut Transaction<'_, S>,
     number: u32,
@@ -53,7 +53,7 @@ fn delete_record<S: Alter>(
     Ok(())
 }
 
-/// Destroys a record in one transaction: all or nothing, also over a crash.
+/// Destroys a record in one transaction: all or nothing, even in a crash.
 fn put_destruction<S: Alter>(
     conn: &mut Connection<S>,
     number: u32,
@@ -86,7 +86,7 @@ fn destroys(schedule: Option<Schedule>) -> bool
     )
 }
 
-/// Whether a day has come.
+/// Whether there is a due day, and it is not after a day.
 fn is_by(day: u32, due: Option<u32>) -> bool
     ensures { result ≡ archive.is_by day due }
 {
@@ -96,7 +96,7 @@ fn is_by(day: u32, due: Option<u32>) -> bool
     }
 }
 
-/// Whether the plan lets a record go by a day: 83 and 82 in this order.
+/// Whether the plan destroys a record by a day; refused with the first of 83 and 82, in this order.
 fn judge_plan(plan: &Plan, row: &RecordRow, day: u32) -> Result<(), StoreFault>
     ensures ok { OnOk result (against_destruction plan.now day (record_of row.now) ≡ None) }
     ensures err { IfErr result (λ f. is_trouble f ≡ false → against_destruction plan.now day (record_of row.now) ≡ Some f) }
@@ -115,7 +115,7 @@ fn judge_plan(plan: &Plan, row: &RecordRow, day: u32) -> Result<(), StoreFault>
 }
 
 impl<S: Alter> Store<S> {
-    /// The record that may be destroyed by a day: 80, 84, 81, 83 and 82 in this order.
+    /// The record, if it may be destroyed by a day; refused with the first of 80, 84, 81, 83 and 82, in this order.
     fn judge_destruction(&mut self, number: u32, day: u32) -> Result<RecordRow, StoreFault>
         ensures tells { Tells S.Store self.old self.new result
             (λ a r. IsFree a number (record_of r) × (archive.destroy a number day ≡ Ok (archive.without a (record_of r))))
@@ -137,7 +137,7 @@ impl<S: Alter> Store<S> {
         }
     }
 
-    /// The message, where one live record has it and no other.
+    /// The message, if only one live record has it.
     fn last_body(&self, message: u32) -> Option<u32>
         ensures { MatchOption result (0 < count_at self.now.others message) (λ m. (m ≡ message) × (count_at self.now.others message ≡ 0)) }
     {
@@ -169,9 +169,18 @@ impl<S: Alter> Store<S> {
         }
     }
 
-    /// Destroys a record that is due by a day: it stays as a number, a path and a day, and its message goes with the last live
-    /// record of it. 80 where there is no such record, 84 where it is destroyed, 81 where a hold keeps it, 83 where its
-    /// schedule's action is not to destroy, 82 where it is due later than the day; the first of these in this order.
+    /// Destroys a record that is due by a day. Its number, path and day stay; its message is removed with the last
+    /// live record of it.
+    ///
+    /// Refused with 89 (`sqlite`) or 99 (no memory), or else with the first that holds, in this order:
+    ///
+    /// - 80: there is no such record;
+    /// - 84: it is destroyed;
+    /// - 81: a hold keeps it;
+    /// - 83: its schedule's action is not to destroy;
+    /// - 82: it is due after the day.
+    ///
+    /// A refusal changes nothing.
     ///
     /// The caller gives a day of 1970 to 9999.
     pub fn destroy(&mut self, number: u32, day: Date) -> Result<(), StoreFault>

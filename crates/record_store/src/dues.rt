@@ -18,7 +18,6 @@ use record_tables::fault::Fault;
 use record_tables::rows::DueRecordRow;
 use sqlite::Alter;
 
-/// The line of a record that is due.
 fn line_of(due: DueRecordRow) -> Result<Line, StoreFault>
     ensures line { IfOk result (λ l. line_view l ≡ told (due_record_of due)) }
     ensures trouble { IfErr result (λ f. is_trouble f ≡ true) }
@@ -63,6 +62,8 @@ impl<S: Alter> Store<S> {
     }
 
     /// The due list of a day: the live records without a hold that are due by it, by due date and then by number.
+    ///
+    /// The only refusals are 89 (`sqlite`) and 99 (no memory).
     ///
     /// The caller gives a day of 1970 to 9999.
     pub fn due(&mut self, day: Date) -> Result<Vec<Line>, StoreFault>

@@ -11,39 +11,39 @@ use std::alloc::{AllocError, AllocFailed};
 /// Why a call of the store is refused.
 #[derive(Clone, Copy, Debug, PartialEq, Eq)]
 pub enum StoreFault {
-    /// 52, 53, 54, 56, 57: the plan's.
+    /// 52, 53, 54, 56 or 57: a refusal of the plan.
     Plan(PlanFault),
-    /// 80: there is no such record.
+    /// 80: there is no record with the number.
     NoRecord,
     /// 81: a hold keeps the record.
     Held,
     /// 82: the record is due later.
     NotDue,
-    /// 83: the schedule's action is not to destroy.
+    /// 83: the action of the record's schedule is not to destroy.
     NotForDestruction,
     /// 84: the record is destroyed.
     Destroyed,
-    /// 85: there is no such hold.
+    /// 85: there is no hold of the name on the record.
     NoHold,
-    /// 86: that hold is there.
+    /// 86: there is already a hold of the name on the record.
     HoldThere,
-    /// 87: the numbers are used up.
+    /// 87: the numbers of records are used up.
     Full,
-    /// 88: the tables are no archive.
+    /// 88: the tables are not an archive's.
     NoArchive,
-    /// 89: `sqlite` refused.
+    /// 89: `sqlite` refused, with this error.
     Sqlite(Error),
-    /// 99: there was no memory.
+    /// 99: no memory.
     NoMemory,
 }
 
 impl StoreFault {
-    /// A transaction goes on, which no caller can bring about.
+    /// A transaction is open, which no caller can bring about.
     pub(crate) const BUSY: StoreFault = StoreFault::Sqlite(Error::SqliteFailure(
         ErrorCode::TransactionState,
     ));
 
-    /// A row is gone or has changed that was written, which a clean disk never shows.
+    /// A row that was written is gone or has changed, which a clean disk never shows.
     pub(crate) const LOST: StoreFault = StoreFault::Sqlite(Error::SqliteFailure(
         ErrorCode::DatabaseCorrupt,
     ));

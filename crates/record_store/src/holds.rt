@@ -13,7 +13,7 @@ use crate::transactions::{end_hold, put_hold};
 use sqlite::Alter;
 
 impl<S: Alter> Store<S> {
-    /// Whether a record may be held by that name: 80, 84 and 86 in this order.
+    /// Whether a record may be held by that name; refused with the first of 80, 84 and 86, in this order.
     fn judge_hold(&mut self, name: &[u8], number: u32) -> Result<(), StoreFault>
         ensures tells { Tells S.Store self.old self.new result (λ a _. archive.hold a name.now number ≡ Ok (archive.with_hold a name.now number)) (λ a f. archive.hold a name.now number ≡ Err f) }
         ensures falls { Falls S.Store self.old self.new }
@@ -30,7 +30,6 @@ impl<S: Alter> Store<S> {
         Ok(())
     }
 
-    /// Places a hold that may be placed.
     fn place_hold(&mut self, name: &[u8], number: u32) -> Result<(), StoreFault>
         ensures ok { OnOk result ((a : Archive) → StandsFor S.Store self.old a → archive.hold a name.now number ≡ Ok (archive.with_hold a name.now number) → StandsFor S.Store self.new (archive.with_hold a name.now number)) }
         ensures err { OnErr result ((a : Archive) → StandsFor S.Store self.old a → StandsFor S.Store self.new a) }
@@ -53,7 +52,10 @@ impl<S: Alter> Store<S> {
         }
     }
 
-    /// Holds a record by a name: 80 where there is no such record, 84 where it is destroyed, 86 where that hold is there.
+    /// Places a hold of that name on a record, which keeps it from destruction.
+    ///
+    /// Refused with 80 where there is no such record, 84 where it is destroyed, 86 where that hold is there already,
+    /// 89 (`sqlite`) or 99 (no memory). A refusal changes nothing.
     pub fn hold(&mut self, name: &[u8], number: u32) -> Result<(), StoreFault>
         ensures obeys { ObeysRows S.Store self.old self.new result (λ a. archive.hold a name.now number) Quietly }
         ensures falls { Falls S.Store self.old self.new }
@@ -64,7 +66,7 @@ impl<S: Alter> Store<S> {
         Ok(())
     }
 
-    /// Whether a hold of that name may end: 80 and 85 in this order.
+    /// Whether a hold of that name may end; refused with the first of 80 and 85, in this order.
     fn judge_release(&mut self, name: &[u8], number: u32) -> Result<(), StoreFault>
         ensures tells { Tells S.Store self.old self.new result (λ a _. archive.release a name.now number ≡ Ok (archive.without_hold a name.now number)) (λ a f. archive.release a name.now number ≡ Err f) }
         ensures falls { Falls S.Store self.old self.new }
@@ -79,7 +81,6 @@ impl<S: Alter> Store<S> {
         }
     }
 
-    /// Ends a hold that may end.
     fn end_hold(&mut self, name: &[u8], number: u32) -> Result<(), StoreFault>
         ensures ok { OnOk result ((a : Archive) → StandsFor S.Store self.old a → archive.release a name.now number ≡ Ok (archive.without_hold a name.now number) → StandsFor S.Store self.new (archive.without_hold a name.now number)) }
         ensures err { OnErr result ((a : Archive) → StandsFor S.Store self.old a → StandsFor S.Store self.new a) }
@@ -99,7 +100,10 @@ impl<S: Alter> Store<S> {
         }
     }
 
-    /// Ends a hold: 80 where there is no such record, 85 where that hold is not there.
+    /// Ends the hold of that name on a record.
+    ///
+    /// Refused with 80 where there is no such record, 85 where there is no such hold, 89 (`sqlite`) or 99 (no
+    /// memory). A refusal changes nothing.
     pub fn release(&mut self, name: &[u8], number: u32) -> Result<(), StoreFault>
         ensures obeys { ObeysRows S.Store self.old self.new result (λ a. archive.release a name.now number) Quietly }
         ensures falls { Falls S.Store self.old self.new }

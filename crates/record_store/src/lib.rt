@@ -1,4 +1,4 @@
-//! An archive of messages and records.
+//! An archive of messages and records, kept in a database.
 #![tactic(auto)]
 
 mod adopt;

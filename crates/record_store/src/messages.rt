@@ -1,4 +1,4 @@
-//! Messages of records.
+//! The messages of records.
 
 ghost use Rattle.std.specs.Prelude.{◌≡◌, option_map, Ok, Err, Some, None, IsTrue, OnOk};
 ghost use Rattle.sqlite.specs.State.{HasCleanDisk};
@@ -13,7 +13,6 @@ use record_tables::lookup::message_body;
 use sqlite::Alter;
 
 impl<S: Alter> Store<S> {
-    /// The octets of the message with a number.
     fn body_of(&mut self, message: u32) -> Result<Option<Vec<u8>>, StoreFault>
         ensures tells { Tells S.Store self.old self.new result (λ a b. option_map (λ v. v.items) b ≡ archive.body_of a.messages message) (λ a f. ⊥) }
         ensures falls { Falls S.Store self.old self.new }
@@ -25,7 +24,9 @@ impl<S: Alter> Store<S> {
         }
     }
 
-    /// The message of a record: 80 where there is no such record, 84 where it is destroyed.
+    /// The octets of a record's message.
+    ///
+    /// Refused with 80 where there is no such record, 84 where it is destroyed, 89 (`sqlite`) or 99 (no memory).
     pub fn message(&mut self, number: u32) -> Result<Vec<u8>, StoreFault>
         ensures tells { Tells S.Store self.old self.new result (λ a body. archive.message a number ≡ Ok (Some body.items)) (λ a f. archive.message a number ≡ Err f) }
         ensures falls { Falls S.Store self.old self.new }

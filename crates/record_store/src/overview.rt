@@ -60,7 +60,7 @@ pub(crate) fn archive_rows<S: Alter>(
     })
 }
 
-/// What a store over rows with a plan keeps beside the connection, where they are an archive's.
+/// What a store keeps beside the connection, by the rows and their plan; refused where they are not an archive's.
 pub(crate) fn gather(alloc: Global, plan: Plan, rows: &ArchiveRows) -> Result<Overview, Fault>
     ensures found { IfOk result (λ f. (a : Archive) → plan ≡ a.plan → IsKeyed a → TellsRows rows.now a → IsOverview f a) }
     ensures sound { IfOk result (λ f. IsJudged plan rows.now) }

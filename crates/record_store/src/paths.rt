@@ -1,4 +1,4 @@
-//! What a capture asks of its paths.
+//! What a capture requires of its paths.
 
 ghost use Rattle.std.specs.Prelude.{◌≡◌, map, IsTrue, ◌↔◌};
 ghost use Rattle.std.specs.List.{list_all};
@@ -10,7 +10,7 @@ ghost use Rattle.record_store.specs.Stores.{AreClasses};
 
 use class_plan::Plan;
 
-/// Whether paths rise in byte order, so that none comes twice.
+/// Whether paths are in byte order, each once.
 fn do_rise(paths: &[Vec<u8>]) -> bool
     ensures { IsTrue result ↔ IsStrictlySortedBy (slice_cmp nat_cmp) (map (λ p. p.items) paths.now) }
 {
@@ -29,7 +29,8 @@ fn are_listed(plan: &Plan, paths: &[Vec<u8>]) -> bool
     paths.iter().all(|path| plan.contains(path.as_slice()))
 }
 
-/// Whether paths are classes of a plan in byte order, each once, as [`Store::capture`](crate::Store::capture) asks.
+/// Whether paths are classes of a plan, in byte order, each once, as [`Store::capture`](crate::Store::capture)
+/// requires.
 pub fn are_classes(plan: &Plan, paths: &[Vec<u8>]) -> bool
     ensures { IsTrue result ↔ AreClasses plan.now (map (λ p. p.items) paths.now) }
 {

@@ -19,8 +19,8 @@ pub(crate) const LAST_CAPTURE_DAY: u32 = 84_005;
 /// The refusal of records that no archive has.
 const CORRUPT: Error = Error::SqliteFailure(ErrorCode::DatabaseCorrupt);
 
-/// The day on which a record of a class falls due that was captured on a day, both in days since 1970-01-01: `None` where the
-/// class's schedule is permanent, and where the path is no class.
+/// The due day of a record that was captured on a day in the class of a path, both in days since 1970-01-01. `None`
+/// where the class's schedule is permanent, and where the path is no class.
 ///
 /// The caller gives a day of 1970 to 2199.
 pub(crate) fn due_day_of(plan: &Plan, path: &[u8], day: u32) -> Option<u32>
@@ -32,7 +32,7 @@ pub(crate) fn due_day_of(plan: &Plan, path: &[u8], day: u32) -> Option<u32>
     Some(number_of(due))
 }
 
-/// Whether a number comes after those of these records.
+/// Whether a record's number is above those of these due days.
 fn is_after(dues: &[DueRow], number: u32) -> bool
     requires { AreAscending (map due_of dues.now) }
     ensures { result ≡ true → AllByRecursion (λ d. d.number < number) (map due_of dues.now) }
@@ -43,7 +43,7 @@ fn is_after(dues: &[DueRow], number: u32) -> bool
     }
 }
 
-/// Adds a due day after those of records with smaller numbers.
+/// Adds a due day; refused where its record's number is not above those before it.
 fn push_in_order(dues: &mut Vec<DueRow>, due: DueRow) -> Result<(), Error>
     requires { AreAscending (map due_of dues.old.items) }
     ensures items { OnOk result (dues.new.items ≡ dues.old.items ++ due ∷ []) }
@@ -81,8 +81,8 @@ fn push_due_row(dues: &mut Vec<DueRow>, plan: &Plan, row: &RecordRow) -> Result<
     }
 }
 
-/// The due days of the live records by a plan, in the order of the records. Records that are out of order, or were captured after
-/// 2199, are refused as a database that is corrupt, as no archive has them.
+/// The due days of the live records by a plan, in the order of the records. No archive has records that are out of
+/// order or were captured after 2199, so they are refused as those of a corrupt database.
 pub(crate) fn due_rows_by(
     alloc: Global,
     plan: &Plan,

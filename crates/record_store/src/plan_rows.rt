@@ -28,7 +28,6 @@ pub(crate) struct PlanRows {
     pub(crate) classes: Vec<ClassRow>,
 }
 
-/// Whether a setting is this one.
 pub(crate) fn is_setting(setting: &SettingRow, key: &[u8], value: &[u8]) -> bool
     ensures { IsTrue result ↔ (pair_of setting.now ≡ record { key = key.now; value = value.now }) }
 {
@@ -65,7 +64,7 @@ pub(crate) fn plan_rows<S: Alter>(
     Ok(PlanRows { rules, classes })
 }
 
-/// The plan of rows.
+/// The plan that has these rows; refused as no archive where there is none.
 pub(crate) fn plan_in(alloc: Global, rows: &PlanRows) -> Result<Plan, Fault>
     ensures plan { IfOk result (λ p. (q : Listing) → IsPlan q → TellsPlan rows.now q → p ≡ q) }
     ensures sound { IfOk result (λ p. IsPlan p × TellsPlan rows.now p) }
@@ -77,7 +76,6 @@ pub(crate) fn plan_in(alloc: Global, rows: &PlanRows) -> Result<Plan, Fault>
     }
 }
 
-/// The rows of a plan.
 pub(crate) fn rows_of_plan(alloc: Global, plan: &Plan) -> Result<PlanRows, AllocError>
     ensures { IfOk result (λ r. TellsPlan r plan.now) }
 {

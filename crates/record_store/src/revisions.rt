@@ -23,7 +23,7 @@ use record_tables::renew::replace_plan;
 use record_tables::rows::{DueRow, RecordRow};
 use sqlite::Alter;
 
-/// Why a read was refused of tables that are an archive's: a row that is none of those is lost.
+/// The refusal for a failed read of an archive's tables; a row that is not an archive's counts as lost.
 fn read_fault(fault: Fault) -> StoreFault
     ensures { is_trouble result ≡ true }
 {
@@ -35,7 +35,7 @@ fn read_fault(fault: Fault) -> StoreFault
 }
 
 impl<S: Alter> Store<S> {
-    /// The new plan, if it drops no path of the plan (57).
+    /// The new plan; refused with 57 where it drops a path of the present one.
     fn judge_revision(&self, plan: Plan) -> Result<Plan, StoreFault>
         ensures { MatchResult result (λ p. (keeps self.now.plan plan ≡ true) × (p ≡ plan)) (λ f. is_trouble f ≡ false → (keeps self.now.plan plan ≡ false) × (f ≡ StoreFault.Plan PathDropped)) }
     {
@@ -71,7 +71,7 @@ impl<S: Alter> Store<S> {
         }
     }
 
-    /// Puts a plan in place of the plan, with the due days by it.
+    /// Replaces the plan, and the due days by it.
     fn place_plan(&mut self, plan: Plan, dues: &[DueRow]) -> Result<(), StoreFault>
         requires { AreAscending (map due_of dues.now) }
         ensures ok { OnOk result ((a : Archive) → StandsFor S.Store self.old a → IsRevision a plan (map due_of dues.now) → StandsFor S.Store self.new (with_plan a plan)) }
@@ -94,7 +94,10 @@ impl<S: Alter> Store<S> {
         }
     }
 
-    /// Takes over a new plan: from then on each due date is that by the new plan. 57 where it drops a path of the plan.
+    /// Replaces the plan; from then on each due date is that by the new plan.
+    ///
+    /// Refused with 57 where the new plan drops a path of the present one, with 89 (`sqlite`) or with 99 (no memory).
+    /// A refusal changes nothing.
     pub fn revise(&mut self, plan: Plan) -> Result<(), StoreFault>
         ensures obeys { ObeysRows S.Store self.old self.new result (λ a. archive.revise a plan) Quietly }
         ensures falls { Falls S.Store self.old self.new }

@@ -20,7 +20,7 @@ use record_tables::rows::RecordRow;
 use sqlite::{Alter, Connection};
 use std::alloc::Global;
 
-/// A record as it is told: its number, its class, and the date on which it falls due.
+/// A record as it is answered: its number, the path of its class, and the date on which it falls due, or `None`.
 #[derive(Debug, Drop)]
 pub struct Line {
     pub number: u32,
@@ -28,7 +28,7 @@ pub struct Line {
     pub due: Option<Date>,
 }
 
-/// A store of an archive.
+/// An archive in a database, with the plan and counts that are kept beside the connection.
 #[derive(Drop)]
 pub struct Store<S: Alter> {
     pub(crate) alloc: Global,
@@ -40,8 +40,9 @@ pub struct Store<S: Alter> {
 }
 
 impl<S: Alter> Store<S> {
-    /// The store over a database without tables, which lays them: an archive with the plan of `Plan::new` and no record. A refusal,
-    /// 99 or 89, hands the connection back, and the database is as it was.
+    /// Creates the tables in a database that has none: an archive with the plan of `Plan::new` and no record.
+    ///
+    /// A refusal, 89 (`sqlite`) or 99 (no memory), returns the connection and leaves the database as it was.
     pub fn create(
         alloc: Global,
         mut conn: Connection<S>,
@@ -78,7 +79,7 @@ impl<S: Alter> Store<S> {
         }
     }
 
-    /// The record with a number (80).
+    /// The record with a number; refused with 80 where there is none.
     pub(crate) fn record_at(&mut self, number: u32) -> Result<RecordRow, StoreFault>
         ensures tells { Tells S.Store self.old self.new result (λ a r. archive.record_at a number ≡ Some (record_of r)) (λ a f. (f ≡ StoreFault.NoRecord) × (archive.record_at a number ≡ None)) }
         ensures falls { Falls S.Store self.old self.new }
@@ -105,7 +106,7 @@ impl<S: Alter> Store<S> {
         }
     }
 
-    /// The plan.
+    /// The archive's present plan.
     pub fn plan(&self) -> &Plan
         ensures value { result.now ≡ self.now.plan }
         ensures stands { (a : Archive) → StandsFor S.Store self.now a → result.now ≡ a.plan }
@@ -113,7 +114,7 @@ impl<S: Alter> Store<S> {
         &self.plan
     }
 
-    /// The connection, given back.
+    /// Ends the store and returns its connection.
     pub fn into_connection(self) -> Connection<S>
         ensures { result ≡ self.conn }
     {

@@ -9,7 +9,7 @@ use crate::counts::Counts;
 use record_tables::rows::{HoldRow, RecordRow};
 use std::alloc::{AllocError, Global};
 
-/// One above the greatest number, and 1 where there is none.
+/// One above the greatest number of a record; 1 where there is none.
 pub(crate) fn next_after(records: &[RecordRow]) -> u64
     ensures next { result ≡ past_all 1 (map record_of records.now) }
     ensures small { result ≤ 2 ^ 32 }
@@ -21,7 +21,7 @@ pub(crate) fn next_after(records: &[RecordRow]) -> u64
     next
 }
 
-/// How many holds each record has.
+/// The number of holds on each record.
 pub(crate) fn held_counts(alloc: Global, holds: &[HoldRow]) -> Result<Counts, AllocError>
     ensures { IfOk result (λ c. (n : ℕ) → count_at c n ≡ tally (λ h. h.record == n) holds.now) }
 {
@@ -32,7 +32,7 @@ pub(crate) fn held_counts(alloc: Global, holds: &[HoldRow]) -> Result<Counts, Al
     Ok(counts)
 }
 
-/// How many live records each message has.
+/// The number of live records of each message.
 fn live_counts(alloc: Global, records: &[RecordRow]) -> Result<Counts, AllocError>
     ensures { IfOk result (λ c. (m : ℕ) → count_at c m ≡ tally (λ r. not r.destroyed && (r.message == m)) records.now) }
 {
@@ -45,7 +45,7 @@ fn live_counts(alloc: Global, records: &[RecordRow]) -> Result<Counts, AllocErro
     Ok(counts)
 }
 
-/// Counts each number once less for each time that it is among these.
+/// Takes 1 from a number's count for each time that the number appears here.
 fn take_each(counts: &mut Counts, numbers: &[u32])
     ensures { (n : ℕ) → count_at counts.new n ≡ count_at counts.old n - tally (λ k. k == n) numbers.now }
 {
@@ -54,7 +54,7 @@ fn take_each(counts: &mut Counts, numbers: &[u32])
     }
 }
 
-/// How many live records each message has beyond the first, of messages that each have one.
+/// The number of live records of each message beyond the first; the caller gives messages that each have one.
 pub(crate) fn other_counts(
     alloc: Global,
     records: &[RecordRow],

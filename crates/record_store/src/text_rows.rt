@@ -35,7 +35,7 @@ fn has_key(setting: &SettingRow, key: &[u8]) -> bool
     setting.key.as_slice() == key
 }
 
-/// Whether two settings are those of version 1, with the root's text of the first.
+/// Whether two settings are those of version 1, of which the first has the text of the root's schedule.
 fn are_first(root: &SettingRow, version: &SettingRow) -> bool
     ensures { IsTrue result ↔ (((pair_of root.now).key ≡ codes "root") × (pair_of version.now ≡ record { key = codes "version"; value = codes "1" })) }
 {
@@ -74,7 +74,7 @@ pub(crate) fn text_rows<S: Alter>(
     Ok(TextRows { root, classes })
 }
 
-/// The plan of texts.
+/// The plan that has these rows; refused as no archive where there is none.
 pub(crate) fn plan_in_texts(alloc: Global, texts: &TextRows) -> Result<Plan, Fault>
     ensures plan { IfOk result (λ p. (q : Listing) → IsPlan q → TellsTexts texts.now q → p ≡ q) }
     ensures sound { IfOk result (λ p. IsPlan p × TellsTexts texts.now p) }

@@ -1,4 +1,4 @@
-//! Changes of the tables, each one transaction: all or nothing, also over a crash.
+//! Changes of the tables, each one transaction: all or nothing, even in a crash.
 
 ghost use Rattle.std.specs.Prelude.{◌≡◌, ◌+◌, ◌≤◌, ◌^◌, length, map, IsTrue, OnOk, OnErr, false};
 ghost use Rattle.sqlite.specs.State.{HasCleanDisk, KeepsCommit, Survives};
@@ -13,7 +13,6 @@ use record_tables::rows::DueRow;
 use record_tables::writes::{delete_hold, insert_due, insert_hold, insert_message, insert_record};
 use sqlite::{Alter, Connection, Error, Transaction};
 
-/// Adds a hold.
 pub(crate) fn put_hold<S: Alter>(
     conn: &mut Connection<S>,
     name: &[u8],
@@ -34,7 +33,6 @@ pub(crate) fn put_hold<S: Alter>(
     Ok(())
 }
 
-/// Takes a hold away.
 pub(crate) fn end_hold<S: Alter>(
     conn: &mut Connection<S>,
     name: &[u8],
@@ -76,7 +74,6 @@ fn insert_records<S: Alter>(
     Ok(())
 }
 
-/// Adds due days of new records.
 fn insert_due_days<S: Alter>(tx: &mut Transaction<'_, S>, dues: &[DueRow]) -> Result<(), Error>
     ensures same_reference { tx.new.conn.ghost_name ≡ tx.old.conn.ghost_name }
     ensures ok { HasCleanDisk (state S.Store tx.new.conn.now) → IsTrue (state S.Store tx.old.conn.now).in_transaction

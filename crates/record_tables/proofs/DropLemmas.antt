@@ -1,4 +1,4 @@
--- What a DROP of the table of due days leaves.
+-- What is left after a DROP of the table of due days.
 use Rattle.std.proofs.Common.{◌≡◌, ◌⊎◌, inl, inr, ℕ, List, [], ◌∷◌, None, Ok, IsTrue, true, false, refl, sym, ap, subst, ◌∙◌, codes}
 use Rattle.sqlite.specs.Tree.{Trees}
 use Rattle.sqlite.specs.Command.TheVariants.{DropTable}
@@ -29,7 +29,7 @@ pub drop_last_is : Means archive_schema drop_dues (DropTable 6)
 unfolding understood everything
 drop_last_is = record { is = refl; plain = (refl, refl) }
 
--- without the due days the schema is that before them, so they may be laid again in their place
+-- without the due days, the schema is that from before their creation, so they may be created again in their place
 pub left_is : without_table dated_schema 8 ≡ first_schema
 unfolding everything
 left_is = refl
@@ -88,7 +88,7 @@ drops_last old new count inside h = record {
   is_open = h.1.is_open ∙ sym h.1.was_open;
 }
 
--- the table of due days is laid again, empty, beside the rows of the others
+-- the table of due days is created again, empty, beside the rows of the others
 pub emptied : (old mid new : State) → Drops old mid archive_schema schema_6 → Lays mid new schema_6 (due_table ∷ []) archive_schema → Empties old new
 emptied old mid new d l = record {
   stored = λ t s keyed has.
@@ -111,7 +111,7 @@ emptied old mid new d l = record {
   is_open = l.is_open ∙ d.is_open;
 }
 
--- the due days go and the plan's rows come
+-- the due days are removed, and the plan's rows are written
 pub renewed : (old mid new : State) (change : Tables → Tables) → ((t : Tables) → change (without_dues t) ≡ change t) → TellsAlone old.now.schema true → Empties old mid → Puts mid new Always change → Puts old new Always change
 renewed old mid new change same tells e p = record {
   stored = λ t s keyed allowed.
@@ -122,7 +122,7 @@ renewed old mid new change same tells e p = record {
   is_open = p.is_open ∙ e.is_open;
 }
 
--- the rows of version 1 stay where the later tables are laid after its due days went
+-- the rows of version 1 stay where its due days are dropped and the later tables created
 pub widened : (old mid new : State) (t : Tables) → Drops old mid dated_schema first_schema → Lays mid new first_schema (schedule_table ∷ due_table ∷ []) archive_schema → old.now.schema ≡ dated_schema → StoresFirst old.now t → Stores new.now t
 widened old mid new t d l has s =
     let k = d.kept has in
@@ -138,7 +138,7 @@ widened old mid new t d l has s =
     } in
     laid_beside mid new t l (d.schema has) first
 
--- version 1 has its due days or has them not, as it is told
+-- version 1 has due days, or has none, as the flag says
 pub told_without : {P : Type 0} (db : Database) (t : Tables) → StoresFirst db t → TellsDues db.schema false → (db.schema ≡ first_schema → P) → P
 told_without {P} db t s tells go = by_schema s.schema
   where

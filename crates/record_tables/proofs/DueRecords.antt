@@ -120,7 +120,7 @@ filter_both p false d (r ∷ rs) = go (p r) (filter_both p false d rs)
     go true more = more
     go false more = more
 
--- the pairs that are asked for are the due days up to the day, each with its record
+-- the pairs that the query selects are the due days up to the day, each with its record
 asked_is : (day : ℕ) (rs : List Record) (ds : List Due) → filter (is_asked day) (pairs ds rs) ≡ joined rs (filter (is_by day) ds)
 asked_is day rs [] = refl
 asked_is day rs (d ∷ ds) =
@@ -150,7 +150,7 @@ shown_joined rs ds =
     ∙ flat_map_same_on _ _ (λ d. map-map (λ (a : Pair). shown_due_record (due_record a.0 a.1)) (beside d) (filter (is_of d) rs) ∙ sym (map-map shown_due_record (due_record d) (filter (is_of d) rs))) ds
     ∙ sym (map-flat_map shown_due_record _ ds)
 
--- the due records are answered in the order of their days, and on a day in that of their numbers
+-- the due records are answered by their days, and on the same day by their numbers
 pub shows_due_records : (old new : State) (rows : List Row) (day : ℕ) (t : Tables) → Stores old.now t → AreKeyed t → Shown select_due_records (Int (pos day) ∷ []) old new rows → rows ≡ map shown_due_record (due_records_by day t)
 shows_due_records old new rows day t s keyed h =
     let f = s.schema.foreign in

@@ -94,7 +94,7 @@ is_dated schema r h e = of_dated r (subst (λ s. IsLayout s r) e h)
 pub is_second : (schema : Schema) (r : Layout) → IsLayout schema r → IsArchiveSchema schema → r ≡ Second
 is_second schema r h s = of_second s.foreign r (subst (λ x. IsLayout x r) s.is h)
 
--- of version 1, whether `due_day` is lacking tells whether it has due days
+-- version 1 has due days exactly where `due_day` is not lacking
 pub tells : (schema : Schema) (b : Bool) → (IsTrue b ↔ Lacks schema (codes "due_day")) → TellsDues schema (not b)
 tells schema true h = record { without = λ e. refl; with_them = λ e. absurd (dated_due (subst (λ s. Lacks s (codes "due_day")) e (h.0 refl))) }
 tells schema false h = record { without = λ e. absurd (let lacks = h.1 (subst (λ s. Lacks s (codes "due_day")) (sym e) first_lacks.1) in cc); with_them = λ e. refl }

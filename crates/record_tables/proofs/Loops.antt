@@ -23,7 +23,7 @@ puts_then a b c A B f h fits one two = record {
   is_open = two.is_open ∙ one.is_open;
 }
 
--- the same tables, said in another way
+-- the same change of the tables, in another form
 pub puts_as : (a b : State) (A B : Tables → Type 0) (f h : Tables → Tables) → ((t : Tables) → B t → A t) → ((t : Tables) → B t → f t ≡ h t) → Puts a b A f → Puts a b B h
 puts_as a b A B f h fits same one = record {
   stored = λ t s keyed allowed. let to = one.stored t s keyed (fits t allowed) in subst (StoresKeyed b.now) (same t allowed) to;
@@ -107,7 +107,7 @@ none_yet_schedules a = nothing_yet a HasNoSchedules (with_schedules []) (λ t h.
 
 -- ---- a whole transaction
 
--- what a crash may leave of one
+-- what a crash may leave of a whole transaction
 pub survives_whole : {S : Type 0} (g : Ghosts S) (old last new : Held S) (A : Tables → Type 0) (f : Tables → Tables)
     → (HasCleanDisk (state g last) → Turns (state g old).now (state g last).now A f)
     → Survives (state g (record old { in_transaction = true })) (state g last) (λ _. ⊥) → Survives (state g last) (state g new) (λ db. db ≡ (state g last).now.trees)
@@ -115,7 +115,7 @@ pub survives_whole : {S : Type 0} (g : Ghosts S) (old last new : Held S) (A : Ta
 survives_whole g old last new A f ran inside ends =
     survives_then (state g old) (state g last) (state g new) _ _ _ (λ _ db none. absurd none) (λ clean db is. (_, ran (omega (arith, ends.clean)), is)) (survives_begin g old (state g last) _ inside) ends
 
--- the same, of what holds of the database when the transaction ends
+-- the same, for what holds of the database at the transaction's end
 pub survives_good : {S : Type 0} (g : Ghosts S) (old last new : Held S) (Good : Database → Type 0)
     → (HasCleanDisk (state g last) → Good (state g last).now)
     → Survives (state g (record old { in_transaction = true })) (state g last) (λ _. ⊥) → Survives (state g last) (state g new) (λ db. db ≡ (state g last).now.trees)

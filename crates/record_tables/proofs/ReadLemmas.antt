@@ -58,7 +58,7 @@ shows_numbers old new rows t s keyed h =
     let all = answer_by_keys Texts.numbers_query db [] source (λ _. true) (λ r. refl) (λ r. r) (λ (m : Message). shown_number m.number) (λ r. refl) refl refl (λ x y. last_key (value_cmp-Int (message_key x) (message_key y))) rows answer in
     sym (map-id rows) ∙ all ∙ ap (map (λ (m : Message). shown_number m.number)) (unfiltered t.messages refl) ∙ sym (map-map shown_number (λ (m : Message). m.number) t.messages)
 
--- an answer in an order that leaves no tie among these values
+-- an answer in an order that has no ties among these values
 module _ {X Y : Type 0} (q : Query) (db : Trees) (params : Row) (key : X → ℤ) (to_row : X → Row) (tree : ℕ) (xs : List X) (stored : db tree ≡ map to_row xs) (in_order : IsKeyedBy key xs)
     (from : q.from ≡ Rattle.sqlite.specs.Query.inner tree Rattle.sqlite.specs.Query.end) (free : q.filter ≡ []) (no_group : q.group ≡ None) (no_distinct : q.distinct ≡ false)
     (view : X → Y) (out : Y → Output) (outs : (x : X) → output q (params ∷ to_row x ∷ []) ≡ out (view x)) where
@@ -159,7 +159,7 @@ failed_still sql params old new e (inr h) = go h.0.returning h.2
     go (Some what) (inl it) = inl it.1
     go (Some what) (inr it) = inr it.3
 
--- outside a transaction, what is seen is then as before
+-- outside a transaction, the visible database is then as before
 pub still_seen : (old new : State) → (IsTrue old.is_open → old.now ≡ old.committed) → IsUnchanged old new ⊎ IsRolledBack old new → IsTrue new.is_open → IsTrue old.is_open × (new.now ≡ old.now)
 still_seen old new settled (inl h) is_open = (h.0.was_open, h.0.now_is)
 still_seen old new settled (inr h) is_open = let was = h.was_open is_open in (was, (h.undone is_open).0 ∙ sym (settled was))

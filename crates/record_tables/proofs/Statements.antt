@@ -497,7 +497,7 @@ drops_hold old new name n count inside h = record {
 abbrev asked : ℕ → Record → Bool
 asked n r = int_eq (pos r.number) (pos n)
 
--- the row that the query gives of it
+-- the row of it that the query gives
 abbrev given_row : Record → Row
 given_row r = Int (pos r.number) ∷ Int (pos r.number) ∷ Null ∷ Int (pos r.message) ∷ Text r.path ∷ Int (pos r.day) ∷ Int (pos 1) ∷ []
 

@@ -1,4 +1,4 @@
--- What each text of SQL means under the tables.
+-- The meaning of each SQL text under the tables.
 use Rattle.std.proofs.Common.{◌≡◌, ℕ, ℤ, pos, negsuc, List, [], ◌∷◌, codes, false, true, Some, None, Ok, refl}
 use Rattle.sqlite.specs.declared.types.Value.TheVariants.{Null, Int, Text}
 use Rattle.sqlite.specs.Schema.{Schema}

@@ -1,4 +1,4 @@
--- What is read of shown rows is what they show.
+-- The values read from rows are those that the rows show.
 use Rattle.std.proofs.Common.{◌≡◌, ◌≢◌, ◌<◌, ◌+◌, ◌++◌, ℕ, ℤ, zero, suc, pos, List, [], ◌∷◌, Bool, true, false, Option, Some, None, map, filter, length, take, get_or, Result, Ok, Err, refl, sym, ap, subst, ◌∙◌, arith, IfOk, IfErr, OnOk, OnErr, IsErrAnd}
 use Rattle.std.proofs.lemmas.List.{take_more}
 use Rattle.std.proofs.lemmas.Result.{err_from_is_err_and}
@@ -37,7 +37,7 @@ not_none : (e : Error) → fault_of e ≡ NoArchive → ⊥
 not_none (SqliteFailure OutOfMemory) h = cc
 not_none e h = cc
 
--- an error of sqlite is never that there is no archive
+-- an error of sqlite is never the refusal `NoArchive`
 pub never_none : {T : Type 0} (r : Result T Fault) (e : Error) → IsErrAnd r (λ f. f ≡ fault_of e) → r ≡ Err NoArchive → ⊥
 never_none r e h is =
     let p = err_from_is_err_and r h in
@@ -52,7 +52,6 @@ zip_push P [] (b ∷ ys) x y h p = absurd h
 zip_push P (a ∷ xs) [] x y h p = absurd h
 zip_push P (a ∷ xs) (b ∷ ys) x y h p = (h.0, zip_push P xs ys x y h.1 p)
 
--- one more row is read
 pub zip_next : {A C : Type 0} (P : A → C → Type 0) (xs : List A) (ys : List C) (x : A) (y : C) (i : ℕ) → i < length xs → x ≡ get_or xs i x → AllZip P (take i xs) ys → P x y
     → AllZip P (take (i + 1) xs) (ys ++ y ∷ [])
 zip_next P xs ys x y i low is h p = rw (take_more xs i x low, ← is) (zip_push P (take i xs) ys x y h p)

@@ -10,7 +10,7 @@ use Rattle.sqlite.specs.Effect.{Database}
 use Rattle.sqlite_trees.specs.Tree.{IsAscending}
 use Rattle.record_tables.specs.Rows.{Tables, Message, Record, Hold, Setting, Class, Schedule, Due, Stores, StoresKeyed, AreKeyed, hold_key, setting_key, class_key, schedule_key}
 
--- a statement in a transaction, which goes on
+-- a statement in a transaction, which continues
 pub record Puts (old new : State) (Allows : Tables → Type 0) (change : Tables → Tables) : Type 0 where
   pub stored : (t : Tables) → Stores old.now t → AreKeyed t → Allows t → StoresKeyed new.now (change t)
   pub committed : new.committed ≡ old.committed
@@ -93,7 +93,7 @@ without_due n t = record t { dues = delete_where (λ (d : Due). int_eq (pos d.nu
 
 -- ---- whole transactions
 
--- what a transaction makes of the database
+-- what a whole transaction makes of the database
 pub record Turns (old new : Database) (Allows : Tables → Type 0) (change : Tables → Tables) : Type 0 where
   pub stored : (t : Tables) → Stores old t → AreKeyed t → Allows t → StoresKeyed new (change t)
 
@@ -103,7 +103,7 @@ pub record Listed : Type 0 where
   pub is_open : Bool
   pub schedule : Option (List ℕ)
 
--- the classes in this order, from a rowid on
+-- the classes in this order, with rowids from this one on
 abbrev pub numbered : ℤ → List Listed → List Class
 numbered id [] = []
 numbered id (c ∷ cs) = record { id = id; path = c.path; is_open = c.is_open; schedule = c.schedule } ∷ numbered (id +ℤ pos 1) cs
@@ -114,7 +114,7 @@ with_dues ds t = record t { dues = ds }
 abbrev pub with_classes : List Listed → Tables → Tables
 with_classes cs t = record t { classes = numbered (pos 1) cs }
 
--- the schedules in this order, from a rowid on
+-- the schedules in this order, with rowids from this one on
 abbrev pub numbered_schedules : ℤ → List Rule → List Schedule
 numbered_schedules id [] = []
 numbered_schedules id (r ∷ rs) = schedule_at id r ∷ numbered_schedules (id +ℤ pos 1) rs
@@ -146,6 +146,6 @@ HasNoSchedules t = t.schedules ≡ []
 abbrev pub HasNoDues : Tables → Type 0
 HasNoDues t = t.dues ≡ []
 
--- the records rise
+-- the record numbers ascend
 abbrev pub AreAscending : List Due → Type 0
 AreAscending = IsAscending (λ (a b : Due). a.number < b.number)

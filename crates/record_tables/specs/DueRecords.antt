@@ -36,7 +36,7 @@ pub record ReadsDueRecord (row : Row) (d : DueRecord) : Type 0 where
   pub day : column row 1 ≡ Int (pos d.day)
   pub path : column row 2 ≡ Words d.path
 
--- the numbers have 32 bits
+-- the numbers fit in 32 bits
 pub record FitsDueRecord (d : DueRecord) : Type 0 where
   pub number : d.number < 2 ^ 32
   pub day : d.day < 2 ^ 32

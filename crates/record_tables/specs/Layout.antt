@@ -1,4 +1,4 @@
--- Which version of a store a schema has the tables of, wherever they stand among others.
+-- Which version's tables a schema has, wherever they stand among others.
 use Rattle.std.specs.Prelude.{◌≡◌, ℕ, List, Option, Some, None, option_and_then, slice_get, codes}
 use Rattle.sqlite.specs.Table.{Table}
 use Rattle.sqlite.specs.Schema.{Schema}
@@ -25,7 +25,7 @@ HasTable schema table = IsTableIfAny table (table_of schema table.name)
 abbrev pub Lacks : Schema → List ℕ → Type 0
 Lacks schema name = table_of schema name ≡ None
 
--- none of our names is taken
+-- no table has one of the archive's names
 pub record HasNone (schema : Schema) : Type 0 where
   pub messages : Lacks schema (codes "message")
   pub records : Lacks schema (codes "record")

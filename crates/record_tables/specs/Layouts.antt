@@ -1,4 +1,4 @@
--- Tables as they are laid.
+-- What creating the tables makes of a database.
 use Rattle.std.specs.Prelude.{◌≡◌, ℕ, Bool, true, false, List, [], ◌∷◌, IsTrue, Result, Ok, OnOk, Some, slice_get}
 use Rattle.std.specs.List.{AllByRecursion}
 use Rattle.sqlite.specs.Table.{Table}
@@ -23,13 +23,13 @@ use Rattle.record_tables.specs.Changes.{Listed, Rule, with_version, with_plan, w
 abbrev pub AreEmpty : List Table → Trees → Type 0
 AreEmpty tables trees = AllByRecursion (λ (t : Table). trees t.tree ≡ []) tables
 
--- a transaction that goes on
+-- a transaction that continues
 pub record GoesOn (old new : State) : Type 0 where
   pub committed : new.committed ≡ old.committed
   pub mode : new.in_transaction ≡ old.in_transaction
   pub is_open : new.is_open ≡ old.is_open
 
--- statements that lay these tables, empty, beside those that are there
+-- statements that create these tables, empty, beside those that are there
 pub record Lays (old new : State) (before : Schema) (laid : List Table) (after : Schema) : Type 0 where
   pub schema : old.now.schema ≡ before → new.now.schema ≡ after
   pub empty : old.now.schema ≡ before → AreEmpty laid new.now.trees
@@ -41,7 +41,7 @@ pub record Lays (old new : State) (before : Schema) (laid : List Table) (after :
 abbrev pub no_rows : Tables
 no_rows = record { messages = []; records = []; holds = []; settings = []; classes = []; schedules = []; dues = [] }
 
--- the same, said of a call in a transaction
+-- the same for a call in a transaction
 module _ {S : Type 0} (g : Ghosts S) (old new : Held S) where
   abbrev pub LaysIn : Schema → List Table → Schema → Type 0
   LaysIn before laid after = HasCleanDisk (state g new) → IsTrue (state g old).in_transaction → Lays (state g old) (state g new) before laid after
@@ -49,7 +49,7 @@ module _ {S : Type 0} (g : Ghosts S) (old new : Held S) where
   abbrev pub GoesOnIn : {T E : Type 0} → Result T E → Type 0
   GoesOnIn result = HasCleanDisk (state g new) → IsTrue (state g old).in_transaction → OnOk result (GoesOn (state g old) (state g new))
 
--- the table of due days is dropped, which stands after these others
+-- the table of due days, which follows these others, is dropped
 pub record Drops (old new : State) (before after : Schema) : Type 0 where
   pub schema : old.now.schema ≡ before → new.now.schema ≡ after
   pub kept : old.now.schema ≡ before → KeepsRows after.tables old.now.trees new.now.trees
@@ -57,35 +57,35 @@ pub record Drops (old new : State) (before after : Schema) : Type 0 where
   pub mode : new.in_transaction ≡ old.in_transaction
   pub is_open : new.is_open ≡ old.is_open
 
--- whether version 1 has due days
+-- the flag says whether version 1 has due days
 pub record TellsDues (schema : Schema) (has_dues : Bool) : Type 0 where
   pub without : schema ≡ first_schema → has_dues ≡ false
   pub with_them : schema ≡ dated_schema → has_dues ≡ true
 
--- in version 2 without other tables all due days are gone, and nothing else
+-- in version 2 without other tables, all due days are removed, and nothing else
 pub record Empties (old new : State) : Type 0 where
   pub stored : (t : Tables) → Stores old.now t → AreKeyed t → old.now.schema ≡ archive_schema → StoresKeyed new.now (without_dues t)
   pub committed : new.committed ≡ old.committed
   pub mode : new.in_transaction ≡ old.in_transaction
   pub is_open : new.is_open ≡ old.is_open
 
--- where it is told so, there are the tables of version 2 alone
+-- where the flag is true, a schema of version 2 has no other tables
 abbrev pub TellsAlone : Schema → Bool → Type 0
 TellsAlone schema is_alone = is_alone ≡ true → IsArchiveSchema schema → schema ≡ archive_schema
 
--- the tables are laid where there were none, and have this plan and no other row
+-- the tables are created where there were none, and have this plan and no other row
 pub record IsLaid (schedules : List Rule) (classes : List Listed) (old new : Database) : Type 0 where
   pub stored : old.schema ≡ no_schema → StoresKeyed new (with_version (with_plan schedules classes [] no_rows))
 
--- the rows of version 1 stand in the tables of version 2, whose schedules and due days are none
+-- the rows of version 1 are in the tables of version 2, which have no schedules and no due days
 pub record IsWidened (old new : Database) : Type 0 where
   pub stored : (t : Tables) → StoresFirst old t → Stores new t
 
--- the rows of version 1 are those of version 2, with this plan and these due days in place of the plan that was there
+-- the rows of version 1 are now in version 2, where this plan and these due days replace the plan that was there
 pub record IsMoved (schedules : List Rule) (classes : List Listed) (dues : List Due) (old new : Database) : Type 0 where
   pub stored : (t : Tables) → StoresFirst old t → AreKeyed t → StoresKeyed new (with_version (with_plan schedules classes dues t))
 
--- the text makes this table
+-- the text creates this table
 pub record Defines (schema : Schema) (text : List ℕ) (table : Table) : Type 0 where
   pub creates : command_of (understood schema text) ≡ CreateTable
   pub whole : statement_of text (understood schema text) ≡ text
@@ -93,7 +93,7 @@ pub record Defines (schema : Schema) (text : List ℕ) (table : Table) : Type 0 
   pub defined : table_defined_by text ≡ Ok table
   pub uncounted : lacks_sequence (created schema table) ≡ false
 
--- the text makes this index of the table at a place
+-- the text creates this index of the table at a place
 pub record DefinesIndex (schema : Schema) (text : List ℕ) (at : ℕ) (table : Table) (index : Index) : Type 0 where
   pub creates : command_of (understood schema text) ≡ CreateIndex at
   pub whole : statement_of text (understood schema text) ≡ text

@@ -1,4 +1,4 @@
--- Rows that are looked up by their keys, and what a look leaves of a connection.
+-- Rows that are looked up by their keys, and the connection after a look.
 use Rattle.std.specs.Prelude.{◌≡◌, ◌==◌, ℕ, ℤ, pos, Bool, false, not, List, Option, option_map, find, IsTrue}
 use Rattle.std.specs.Ordering.{int_eq}
 use Rattle.std.specs.List.{list_any}
@@ -20,8 +20,8 @@ body_with n t = option_map (λ (m : Message). m.body) (find (λ (m : Message). m
 abbrev pub has_hold_of : List ℕ → ℕ → Tables → Bool
 has_hold_of name n t = list_any (is_hold name n) t.holds
 
--- A look at the tables outside a transaction changes nothing, and ends none; no fault of the disk is forgotten, and where the
--- tables are ours a crash leaves what it might have left before.
+-- A look at the tables outside a transaction changes nothing and opens no transaction. A disk that is clean after it
+-- was clean before. In an archive's tables, a crash leaves what it might have left before the look.
 pub record Looks {S : Type 0} (g : Ghosts S) (old new : Held S) : Type 0 where
   pub idle : old.in_transaction ≡ false → new.in_transaction ≡ false
   pub falls : HasCleanDisk (state g new) → HasCleanDisk (state g old)

@@ -25,7 +25,7 @@ pub record ReadsRecord (row : Row) (r : Record) : Type 0 where
   pub day : column row 3 ≡ Int (pos r.day)
   pub destroyed : column row 4 ≡ Int (as_flag r.destroyed)
 
--- the numbers have 32 bits
+-- the numbers fit in 32 bits
 pub record FitsRecord (r : Record) : Type 0 where
   pub number : r.number < 2 ^ 32
   pub message : r.message < 2 ^ 32
@@ -75,7 +75,7 @@ pub record ReadsClass (row : Row) (c : Listed) : Type 0 where
 abbrev pub listed : Class → Listed
 listed c = record { path = c.path; is_open = c.is_open; schedule = c.schedule }
 
--- the classes of the table are these, which are in byte order of their paths
+-- these are the classes of the table, in byte order of their paths
 pub record AreListed (t : Tables) (cs : List Listed) : Type 0 where
   pub same : IsPermutation (map listed t.classes) cs
   pub in_order : IsAscending (λ (x y : Listed). slice_cmp nat_cmp x.path y.path ≡ Less) cs
@@ -101,7 +101,7 @@ pub record FitsRule (r : Rule) : Type 0 where
 abbrev pub rule : Schedule → Rule
 rule s = record { path = s.path; count = s.count; unit = s.unit; action = s.action; year_end = s.year_end }
 
--- the schedules of the table are these, which are in byte order of their paths
+-- these are the schedules of the table, in byte order of their paths
 pub record AreRules (t : Tables) (rs : List Rule) : Type 0 where
   pub same : IsPermutation (map rule t.schedules) rs
   pub in_order : IsAscending (λ (x y : Rule). slice_cmp nat_cmp x.path y.path ≡ Less) rs
@@ -130,7 +130,7 @@ FitsHold h = h.number < 2 ^ 32
 abbrev pub named_cmp : Named → Named → Ordering
 named_cmp x y = ordering_then (int_cmp (pos x.number) (pos y.number)) (slice_cmp nat_cmp x.name y.name)
 
--- the holds of the table are these, which are in order
+-- these are the holds of the table, in order
 pub record AreNamed (t : Tables) (hs : List Named) : Type 0 where
   pub same : IsPermutation (map named t.holds) hs
   pub in_order : IsAscending (λ (x y : Named). named_cmp x y ≡ Less) hs

@@ -118,7 +118,7 @@ pub record Stores (db : Database) (t : Tables) : Type 0 where
   pub schedules : db.trees 8 ≡ map schedule_row t.schedules
   pub dues : db.trees 10 ≡ map due_row t.dues
 
--- the rows of the five tables that both versions have; the others are not spoken of
+-- the rows of the five tables that both versions have; nothing is said about other tables
 pub record StoresCommon (db : Database) (t : Tables) : Type 0 where
   pub schema : HasCommonTables db.schema
   pub messages : db.trees 0 ≡ map message_row t.messages
@@ -138,7 +138,7 @@ pub record StoresFirst (db : Database) (t : Tables) : Type 0 where
   pub schedules : t.schedules ≡ []
   pub dues : t.dues ≡ []
 
--- the rowids rise, so each comes once
+-- the rowids ascend, so each appears once
 pub record AreKeyed (t : Tables) : Type 0 where
   pub messages : IsKeyedBy message_key t.messages
   pub records : IsKeyedBy record_key t.records

@@ -1,4 +1,4 @@
--- The schemas on the way to that of version 2, as the statements that lay the tables make them.
+-- The schemas on the way to that of version 2, as the statements that create the tables make them.
 use Rattle.std.specs.Prelude.{List, [], ◌∷◌}
 use Rattle.sqlite.specs.Table.{Table}
 use Rattle.sqlite.specs.Schema.{Schema}

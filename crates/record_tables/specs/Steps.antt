@@ -1,4 +1,5 @@
--- What calls on a connection promise, of its state before and after. A disk is clean that gave no error and returned what was written.
+-- What calls on a connection promise about its state before and after. A disk is clean where it gave no error and
+-- returned what was written.
 use Rattle.std.specs.Prelude.{◌≡◌, false, IsTrue, Result, OnOk, OnErr}
 use Rattle.sqlite.specs.Store.{Ghosts}
 use Rattle.sqlite.specs.Tree.{Trees}
@@ -13,7 +14,7 @@ module _ {S : Type 0} (g : Ghosts S) (old new : Held S) where
   abbrev pub Inside : Type 0 → Type 0
   Inside P = HasCleanDisk (state g new) → IsTrue (state g old).in_transaction → P
 
-  -- in a transaction that goes on, the rows are changed so
+  -- in a transaction that continues, the rows are changed by this change
   abbrev pub PutsIn : (Tables → Type 0) → (Tables → Tables) → Type 0
   PutsIn Allows change = Inside (Puts (state g old) (state g new) Allows change)
 
@@ -25,7 +26,7 @@ module _ {S : Type 0} (g : Ghosts S) (old new : Held S) where
   abbrev pub CommitsNothing : Type 0
   CommitsNothing = Survives (state g old) (state g new) (λ _. ⊥)
 
-  -- nor of a read of tables that are there
+  -- a crash leaves nothing of a read of tables that are there
   abbrev pub CommitsNothingOf : Type 0 → Type 0
   CommitsNothingOf Are = Survives (state g old) (state g new) (λ _. Are → ⊥)
 
@@ -37,7 +38,7 @@ module _ {S : Type 0} (g : Ghosts S) (old new : Held S) where
   abbrev pub IsCommitted : {T E : Type 0} → Result T E → Type 0
   IsCommitted result = HasCleanDisk (state g new) → OnOk result ((state g new).committed ≡ (state g new).now)
 
-  -- where it succeeds, it makes such a database of the one before
+  -- where it succeeds, the databases before and after are related in this way
   abbrev pub Makes : {T E : Type 0} → Result T E → (Database → Database → Type 0) → Type 0
   Makes result Good = HasCleanDisk (state g new) → OnOk result (Good (state g old).now (state g new).now)
 
@@ -53,7 +54,8 @@ module _ {S : Type 0} (g : Ghosts S) (old new : Held S) where
   abbrev pub ReadsAlone : {T E : Type 0} → Result T E → Type 0 → Type 0
   ReadsAlone result Are = HasCleanDisk (state g new) → Are → OnOk result (IsUnchanged (state g old) (state g new))
 
-  -- outside a transaction a read of tables that are there, also one that fails, shows the rows of before, while the connection is open
+  -- outside a transaction, a read of tables that are there leaves the rows unchanged while the connection is open,
+  -- also where the read fails
   abbrev pub IsStill : Type 0 → Type 0
   IsStill Are = old.in_transaction ≡ false → (IsTrue (state g old).is_open → Are) → HasCleanDisk (state g new) → IsTrue (state g new).is_open
       → IsTrue (state g old).is_open × ((state g new).now ≡ (state g old).now)

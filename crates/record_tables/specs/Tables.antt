@@ -93,7 +93,7 @@ due_index_at tree table = record { name = codes "due_by_day"; tree = tree; table
 abbrev pub due_index : Index
 due_index = due_index_at 11 10
 
--- what a schema has after the tables that are spoken of
+-- what a schema has after the tables in question
 pub record Foreign : Type 0 where
   pub tables : List Table
   pub indexes : List Index
@@ -139,7 +139,7 @@ first_schema = common_beside none
 abbrev pub dated_schema : Schema
 dated_schema = common_beside dated
 
--- no table of these has a foreign key
+-- none of these tables has a foreign key
 abbrev pub HasNoReferences : Foreign → Type 0
 HasNoReferences f = AllByRecursion (λ (t : Table). t.references ≡ []) f.tables
 

@@ -1,4 +1,4 @@
--- Rows of the code as plain ones.
+-- The rows of the code as plain rows.
 use Rattle.std.specs.Prelude.{option_map}
 use Rattle.record_tables.specs.declared.rows.RecordRow.{RecordRow}
 use Rattle.record_tables.specs.declared.rows.HoldRow.{HoldRow}

@@ -10,7 +10,7 @@ use sqlite::Row;
 use sqlite::types::ValueRef;
 use std::alloc::Global;
 
-/// The number in a column: exactly where it is one, and below 2^32.
+/// The number in a column, exactly where the column holds one from 0 to 2^32 - 1.
 pub(crate) fn number_at(row: &Row, at: usize) -> Result<u32, Fault>
     ensures number { IfOk result (λ n. column row.now at ≡ Int (pos n)) }
     ensures none { IfErr result (λ f. (f ≡ Fault.NoArchive) × ((n : ℕ) → n < 2 ^ 32 → column row.now at ≡ Int (pos n) → ⊥)) }
@@ -24,7 +24,7 @@ pub(crate) fn number_at(row: &Row, at: usize) -> Result<u32, Fault>
     }
 }
 
-/// The truth in a column: exactly where it is 0 or 1.
+/// The boolean in a column, exactly where the column holds 0 or 1.
 pub(crate) fn flag_at(row: &Row, at: usize) -> Result<bool, Fault>
     ensures flag { IfOk result (λ b. column row.now at ≡ Int (as_flag b)) }
     ensures none { IfErr result (λ f. (f ≡ Fault.NoArchive) × ((b : Bool) → column row.now at ≡ Int (as_flag b) → ⊥)) }
@@ -36,7 +36,7 @@ pub(crate) fn flag_at(row: &Row, at: usize) -> Result<bool, Fault>
     }
 }
 
-/// The text in a column: exactly where it is one.
+/// The text in a column, exactly where the column holds one.
 pub(crate) fn text_at(alloc: Global, row: &Row, at: usize) -> Result<Vec<u8>, Fault>
     ensures text { IfOk result (λ t. column row.now at ≡ Words t.items) }
     ensures none { IfErr result (λ f. f ≢ Fault.NoMemory → (f ≡ Fault.NoArchive) × ((t : List ℕ) → column row.now at ≡ Words t → ⊥)) }
@@ -47,7 +47,7 @@ pub(crate) fn text_at(alloc: Global, row: &Row, at: usize) -> Result<Vec<u8>, Fa
     }
 }
 
-/// Whether a column is NULL.
+/// Whether a column is NULL or missing.
 pub(crate) fn is_null_at(row: &Row, at: usize) -> bool
     ensures { IsTrue result ↔ (column row.now at ≡ Null) }
 {

@@ -1,4 +1,4 @@
-//! The tables, laid in a database that has none, and laid beside those of version 1.
+//! Creating the tables: in a database that has none, and beside those of version 1.
 
 ghost use Rattle.std.specs.Prelude.{◌≡◌, ◌∷◌, [], OnOk, OnErr, false, true, map, ℕ, IsTrue, Bool, ◌↔◌};
 ghost use Rattle.sqlite.specs.Schema.{Schema};
@@ -43,7 +43,7 @@ fn define_index<S: Alter>(tx: &mut Transaction<'_, S>, text: &str) -> Result<(),
     Ok(())
 }
 
-/// Lays the table of due days and its index.
+/// Creates the table of due days and its index.
 fn lay_dues<S: Alter>(tx: &mut Transaction<'_, S>) -> Result<(), Error>
     ensures same_reference { tx.new.conn.ghost_name ≡ tx.old.conn.ghost_name }
     ensures ok { OnOk result (LaysIn S.Store tx.old.conn.now tx.new.conn.now schema_6 (due_table ∷ []) archive_schema) }
@@ -58,7 +58,7 @@ fn lay_dues<S: Alter>(tx: &mut Transaction<'_, S>) -> Result<(), Error>
     Ok(())
 }
 
-/// Lays the tables that version 1 has not, or not in this place.
+/// Creates the tables that version 1 lacks, or has in another place.
 fn lay_later<S: Alter>(tx: &mut Transaction<'_, S>) -> Result<(), Error>
     ensures same_reference { tx.new.conn.ghost_name ≡ tx.old.conn.ghost_name }
     ensures ok { OnOk result (LaysIn S.Store tx.old.conn.now tx.new.conn.now first_schema (schedule_table ∷ due_table ∷ []) archive_schema) }
@@ -73,7 +73,7 @@ fn lay_later<S: Alter>(tx: &mut Transaction<'_, S>) -> Result<(), Error>
     Ok(())
 }
 
-/// Lays all tables in a database that has none.
+/// Creates all tables in a database that has none.
 fn lay_tables<S: Alter>(tx: &mut Transaction<'_, S>) -> Result<(), Error>
     ensures same_reference { tx.new.conn.ghost_name ≡ tx.old.conn.ghost_name }
     ensures ok { OnOk result (LaysIn S.Store tx.old.conn.now tx.new.conn.now no_schema archive_tables archive_schema) }
@@ -104,7 +104,7 @@ fn lay_tables<S: Alter>(tx: &mut Transaction<'_, S>) -> Result<(), Error>
     Ok(())
 }
 
-/// Puts version 2's row of `meta` and the rows of a plan in tables that are there.
+/// Writes version 2's row of `meta`, the rows of a plan and the due days to tables that are there.
 fn fill<S: Alter>(
     tx: &mut Transaction<'_, S>,
     schedules: &[ScheduleRow],
@@ -138,7 +138,9 @@ fn lay_all<S: Alter>(
     Ok(())
 }
 
-/// Lays the tables of version 2 with a plan in a database that has none: all or nothing, also over a crash.
+/// Creates the tables of version 2, with a plan, in a database that has none: all or nothing, even in a crash.
+///
+/// Refused with the error of `sqlite` alone. The connection has no open transaction, before and after.
 pub fn lay<S: Alter>(
     conn: &mut Connection<S>,
     schedules: &[ScheduleRow],
@@ -170,7 +172,7 @@ fn drop_dues<S: Alter>(tx: &mut Transaction<'_, S>) -> Result<(), Error>
     Ok(())
 }
 
-/// Takes all due days out of version 2, by a table that is laid in place of theirs: a deletion takes out row by row.
+/// Removes all due days of version 2 by creating their table anew, as a deletion would remove them row by row.
 pub(crate) fn empty_dues<S: Alter>(tx: &mut Transaction<'_, S>) -> Result<(), Error>
     ensures same_reference { tx.new.conn.ghost_name ≡ tx.old.conn.ghost_name }
     ensures ok { OnOk result (Inside S.Store tx.old.conn.now tx.new.conn.now (Empties (state S.Store tx.old.conn.now) (state S.Store tx.new.conn.now))) }
@@ -182,7 +184,7 @@ pub(crate) fn empty_dues<S: Alter>(tx: &mut Transaction<'_, S>) -> Result<(), Er
     Ok(())
 }
 
-/// Lays the later tables beside those of version 1, whose due days, where it has them, go.
+/// Creates the later tables beside those of version 1, and drops the due days that version 1 may have.
 fn lay_beside<S: Alter>(tx: &mut Transaction<'_, S>, has_dues: bool) -> Result<(), Error>
     requires { TellsDues (state S.Store tx.old.conn.now).now.schema has_dues }
     ensures same_reference { tx.new.conn.ghost_name ≡ tx.old.conn.ghost_name }
@@ -221,8 +223,10 @@ fn move_all<S: Alter>(
     Ok(())
 }
 
-/// Moves a database of version 1 over to version 2, with these rows of its plan and these due days: all or nothing, also
-/// over a crash.
+/// Moves a database of version 1 over to version 2, with these rows of its plan and these due days: all or nothing,
+/// even in a crash. The due days come in the order of their records.
+///
+/// Refused with the error of `sqlite` alone. The connection has no open transaction, before and after.
 pub fn move_first<S: Alter>(
     conn: &mut Connection<S>,
     schedules: &[ScheduleRow],

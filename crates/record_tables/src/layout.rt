@@ -14,7 +14,7 @@ use sqlite_value::value::Value;
 /// Which version's tables a database has.
 #[derive(Clone, Copy, Debug, PartialEq, Eq)]
 pub enum Layout {
-    /// None of them.
+    /// None: no table has one of the archive's names.
     Empty,
     /// Version 1, without due days.
     First,
@@ -22,7 +22,7 @@ pub enum Layout {
     FirstWithDues,
     /// Version 2.
     Second,
-    /// Some of them, or with other columns.
+    /// Some of a version's tables, or tables with other columns or keys.
     Other,
 }
 
@@ -356,7 +356,7 @@ fn has_common(schema: &Schema) -> bool
         && has_class_table(schema)
 }
 
-/// Whether a table of due days is there: of version 1, whether it has due days.
+/// Whether there is a table of due days, which says of version 1 whether it has due days.
 pub(crate) fn has_dues(schema: &Schema) -> bool
     ensures { TellsDues schema.now result }
 {
@@ -391,8 +391,9 @@ fn judge(schema: &Schema) -> Layout
     }
 }
 
-/// Which version's tables a schema has, by their names, columns and keys. Tables of other names count for nothing, wherever
-/// they stand; where some of ours are there and some not, or one has other columns, it is `Other`.
+/// Which version's tables a schema has, by their names, columns and keys. Tables of other names are ignored, wherever
+/// they stand. The answer is `Other` where only some of a version's tables are there, or one has other columns or
+/// keys.
 pub fn layout_of(schema: &Schema) -> Layout
     ensures is { IsLayout schema.now result }
     ensures empty { schema.now ≡ no_schema → result ≡ Layout.Empty }

@@ -1,4 +1,4 @@
-//! Rows that are looked up by their keys.
+//! Rows that are looked up by their keys. A refusal is the error of `sqlite`. Outside a transaction nothing changes.
 
 ghost use Rattle.std.specs.Prelude.{◌≡◌, option_map, IfOk, OnOk, IsTrue, Ok, Some, None};
 ghost use Rattle.sqlite.specs.State.{HasCleanDisk, Shown};
@@ -15,7 +15,6 @@ use crate::rows::RecordRow;
 use sqlite::types::{ToSql, ValueRef};
 use sqlite::{Alter, Connection, Error, Row};
 
-/// The rows that a query of the tables answers.
 fn look<S: Alter>(
     conn: &mut Connection<S>,
     sql: &str,
@@ -48,7 +47,7 @@ fn record_in(row: &Row) -> Result<RecordRow, Error>
     })
 }
 
-/// The record with a number.
+/// The record with a number, live or destroyed; `None` where there is none.
 pub fn record_by_number<S: Alter>(
     conn: &mut Connection<S>,
     number: u32,
@@ -68,7 +67,7 @@ pub fn record_by_number<S: Alter>(
     }
 }
 
-/// The octets of the message with a number.
+/// The octets of the message with a number; `None` where there is none.
 pub fn message_body<S: Alter>(
     conn: &mut Connection<S>,
     number: u32,
@@ -88,7 +87,7 @@ pub fn message_body<S: Alter>(
     }
 }
 
-/// Whether a hold of that name keeps the record.
+/// Whether there is a hold of that name on the record with a number.
 pub fn has_hold<S: Alter>(conn: &mut Connection<S>, name: &[u8], number: u32) -> Result<bool, Error>
     ensures there { HasCleanDisk (state S.Store conn.new) → IfOk result (λ b. (t : Tables) → Stores (state S.Store conn.old).now t → AreKeyed t → b ≡ has_hold_of name.now number t) }
     ensures open { HasCleanDisk (state S.Store conn.new) → OnOk result (IsTrue (state S.Store conn.old).is_open × IsTrue (state S.Store conn.new).is_open) }

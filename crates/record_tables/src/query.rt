@@ -11,7 +11,7 @@ ghost use Rattle.record_tables.specs.Steps.{CommitsNothingOf, IsStill, Falls, Is
 use sqlite::types::ValueRef;
 use sqlite::{Alter, Connection, Error, Row};
 
-/// The rows that a text asks for. It is plain under the tables, as all of ours are.
+/// The rows that a query answers. One that is plain under the tables, as every query of this crate is, changes nothing.
 pub(crate) fn rows_of<S: Alter>(
     conn: &mut Connection<S>,
     text: &str,

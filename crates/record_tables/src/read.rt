@@ -1,4 +1,7 @@
-//! Reads of the tables, as typed rows. A column of another kind, or a number of 2^32 or more, is refused as no archive.
+//! Reads of the tables, as typed rows.
+//!
+//! A column of another kind, or a number of 2^32 or more, is refused as no archive. The other refusals are no memory
+//! and the errors of `sqlite`.
 
 ghost use Rattle.std.specs.Prelude.{◌≡◌, List, map, IsTrue, Err, IfOk, OnOk};
 ghost use Rattle.std.specs.List.{AllByRecursion};
@@ -18,7 +21,7 @@ use crate::typed::rows_in;
 use sqlite::{Alter, Connection};
 use std::alloc::Global;
 
-/// Every record, by its number.
+/// All records, in the order of their numbers.
 pub fn records<S: Alter>(alloc: Global, conn: &mut Connection<S>) -> Result<Vec<RecordRow>, Fault>
     ensures all { HasCleanDisk (state S.Store conn.new) → IfOk result (λ all. (t : Tables) → StoresCommon (state S.Store conn.old).now t → AreKeyed t → map record_of all.items ≡ t.records) }
     ensures none { HasCleanDisk (state S.Store conn.new) → result ≡ Err Fault.NoArchive → (t : Tables) → StoresCommon (state S.Store conn.old).now t → AreKeyed t → AllByRecursion FitsRecord t.records → ⊥ }
@@ -37,7 +40,7 @@ pub fn records<S: Alter>(alloc: Global, conn: &mut Connection<S>) -> Result<Vec<
     rows_in(alloc, rows.as_slice())
 }
 
-/// The number of every message, in order.
+/// The numbers of all messages, in order.
 pub fn message_numbers<S: Alter>(alloc: Global, conn: &mut Connection<S>) -> Result<Vec<u32>, Fault>
     ensures all { HasCleanDisk (state S.Store conn.new) → IfOk result (λ all. (t : Tables) → StoresCommon (state S.Store conn.old).now t → AreKeyed t → all.items ≡ numbers_of t) }
     ensures none { HasCleanDisk (state S.Store conn.new) → result ≡ Err Fault.NoArchive → (t : Tables) → StoresCommon (state S.Store conn.old).now t → AreKeyed t → AllByRecursion FitsNumber (numbers_of t) → ⊥ }
@@ -52,7 +55,7 @@ pub fn message_numbers<S: Alter>(alloc: Global, conn: &mut Connection<S>) -> Res
     rows_in(alloc, rows.as_slice())
 }
 
-/// Every hold, by its record and then by its name.
+/// All holds, by record and then in byte order of their names.
 pub fn holds<S: Alter>(alloc: Global, conn: &mut Connection<S>) -> Result<Vec<HoldRow>, Fault>
     ensures all { HasCleanDisk (state S.Store conn.new) → IfOk result (λ all. (t : Tables) → (hs : List Named) → AreNamed t hs → StoresCommon (state S.Store conn.old).now t → AreKeyed t → map named_of all.items ≡ hs) }
     ensures none { HasCleanDisk (state S.Store conn.new) → result ≡ Err Fault.NoArchive → (t : Tables) → (hs : List Named) → AreNamed t hs → StoresCommon (state S.Store conn.old).now t → AreKeyed t → AllByRecursion FitsHold hs → ⊥ }
@@ -71,7 +74,7 @@ pub fn holds<S: Alter>(alloc: Global, conn: &mut Connection<S>) -> Result<Vec<Ho
     rows_in(alloc, rows.as_slice())
 }
 
-/// Every setting, by its key.
+/// All settings, in byte order of their keys.
 pub fn settings<S: Alter>(alloc: Global, conn: &mut Connection<S>) -> Result<Vec<SettingRow>, Fault>
     ensures all { HasCleanDisk (state S.Store conn.new) → IfOk result (λ all. (t : Tables) → (ps : List Pair) → ArePaired t ps → StoresCommon (state S.Store conn.old).now t → AreKeyed t → map pair_of all.items ≡ ps) }
     ensures none { HasCleanDisk (state S.Store conn.new) → result ≡ Err Fault.NoArchive → (t : Tables) → (ps : List Pair) → ArePaired t ps → StoresCommon (state S.Store conn.old).now t → AreKeyed t → ⊥ }
@@ -86,7 +89,7 @@ pub fn settings<S: Alter>(alloc: Global, conn: &mut Connection<S>) -> Result<Vec
     rows_in(alloc, rows.as_slice())
 }
 
-/// Every class, by its path.
+/// All classes, in byte order of their paths.
 pub fn classes<S: Alter>(alloc: Global, conn: &mut Connection<S>) -> Result<Vec<ClassRow>, Fault>
     ensures all { HasCleanDisk (state S.Store conn.new) → IfOk result (λ all. (t : Tables) → (cs : List Listed) → AreListed t cs → StoresCommon (state S.Store conn.old).now t → AreKeyed t → map listed_of all.items ≡ cs) }
     ensures none { HasCleanDisk (state S.Store conn.new) → result ≡ Err Fault.NoArchive → (t : Tables) → (cs : List Listed) → AreListed t cs → StoresCommon (state S.Store conn.old).now t → AreKeyed t → ⊥ }
@@ -105,7 +108,7 @@ pub fn classes<S: Alter>(alloc: Global, conn: &mut Connection<S>) -> Result<Vec<
     rows_in(alloc, rows.as_slice())
 }
 
-/// Every schedule, by its path.
+/// All schedules, in byte order of their paths; that of the whole plan has the empty path.
 pub fn schedules<S: Alter>(
     alloc: Global,
     conn: &mut Connection<S>,

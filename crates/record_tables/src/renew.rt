@@ -1,4 +1,4 @@
-//! A plan and the due days by it, put in place of those that are there.
+//! Replacing the rows of the plan, and the due days by it.
 
 ghost use Rattle.std.specs.Prelude.{◌≡◌, OnOk, false, map};
 ghost use Rattle.record_tables.specs.Changes.{Always, HasNoClasses, HasNoSchedules, HasNoDues, IsPastDues, AreAscending, with_due, with_dues, with_class, with_classes, with_schedules, with_version, with_plan, IsRevised};
@@ -40,7 +40,7 @@ fn insert_dues<S: Alter>(tx: &mut Transaction<'_, S>, dues: &[DueRow]) -> Result
     Ok(())
 }
 
-/// Puts these due days in place of those that are there.
+/// Replaces the due days with these.
 fn renew_dues<S: Alter>(tx: &mut Transaction<'_, S>, dues: &[DueRow]) -> Result<(), Error>
     requires { AreAscending (map due_of dues.now) }
     ensures same_reference { tx.new.conn.ghost_name ≡ tx.old.conn.ghost_name }
@@ -125,7 +125,7 @@ fn renew_schedules<S: Alter>(
     Ok(())
 }
 
-/// Puts version 2's row of `meta` in place of the rows that are there.
+/// Replaces the rows of `meta` with that of version 2.
 pub(crate) fn put_version<S: Alter>(tx: &mut Transaction<'_, S>) -> Result<(), Error>
     ensures same_reference { tx.new.conn.ghost_name ≡ tx.old.conn.ghost_name }
     ensures ok { OnOk result (PutsIn S.Store tx.old.conn.now tx.new.conn.now Always with_version) }
@@ -155,7 +155,8 @@ pub(crate) fn put_plan<S: Alter>(
     Ok(())
 }
 
-/// Puts the rows of a plan and the due days by it in place of those that are there, where it is told whether there are other tables.
+/// Replaces the rows of the plan and the due days. `is_alone` says that the database has no tables but those of
+/// version 2.
 fn renew_plan<S: Alter>(
     tx: &mut Transaction<'_, S>,
     is_alone: bool,
@@ -180,8 +181,10 @@ fn renew_plan<S: Alter>(
     }
 }
 
-/// Puts the rows of a plan in place of those that are there, and the due days by it: all or nothing, also over
-/// a crash. The schedules and the classes come in any order, the due days in the order of their records.
+/// Replaces the rows of the plan, and the due days by it: all or nothing, even in a crash. The schedules and the
+/// classes come in any order, the due days in the order of their records.
+///
+/// Refused with the error of `sqlite` alone. The connection has no open transaction, before and after.
 pub fn replace_plan<S: Alter>(
     conn: &mut Connection<S>,
     schedules: &[ScheduleRow],

@@ -1,10 +1,10 @@
 //! Rows of the tables, as they are read and written.
 
-/// A row of the table `record`.
+/// A row of the table `record`: a record of a message, live or destroyed.
 #[derive(Debug, Drop)]
 pub struct RecordRow {
     pub number: u32,
-    /// The number of the message that it is a record of.
+    /// The number of its message.
     pub message: u32,
     /// The path of its class.
     pub path: Vec<u8>,
@@ -13,21 +13,21 @@ pub struct RecordRow {
     pub destroyed: bool,
 }
 
-/// A row of the table `hold`.
+/// A row of the table `hold`: a hold of that name on the record with that number.
 #[derive(Debug, Drop)]
 pub struct HoldRow {
     pub name: Vec<u8>,
     pub record: u32,
 }
 
-/// A row of the table `meta`.
+/// A row of the table `meta`: a setting, as a key and its value.
 #[derive(Debug, Drop)]
 pub struct SettingRow {
     pub key: Vec<u8>,
     pub value: Vec<u8>,
 }
 
-/// A row of the table `class`.
+/// A row of the table `class`: a class of the plan.
 #[derive(Debug, Drop)]
 pub struct ClassRow {
     pub path: Vec<u8>,
@@ -36,22 +36,22 @@ pub struct ClassRow {
     pub schedule: Option<Vec<u8>>,
 }
 
-/// A row of the table `schedule`.
+/// A row of the table `schedule`: the schedule of a class, or of the whole plan.
 #[derive(Debug, Drop)]
 pub struct ScheduleRow {
-    /// The path of the class; of the whole plan the empty text.
+    /// The path of the class; empty for the schedule of the whole plan.
     pub path: Vec<u8>,
-    /// How many units; 0 for permanent.
+    /// The number of units; 0 for permanent.
     pub count: u32,
     /// 0 permanent, 1 days, 2 months, 3 years.
     pub unit: u32,
     /// 0 permanent, 1 review, 2 transfer, 3 destroy.
     pub action: u32,
-    /// 1 where the due date is put off to the end of its year, otherwise 0.
+    /// 1 where the due date moves to the end of its year, otherwise 0.
     pub year_end: u32,
 }
 
-/// A row of the table `due_day`.
+/// A row of the table `due_day`: the day on which a record falls due.
 #[derive(Clone, Copy, Debug)]
 pub struct DueRow {
     pub record: u32,
@@ -59,7 +59,7 @@ pub struct DueRow {
     pub day: u32,
 }
 
-/// A record that has a due day, as a query joins it.
+/// A record with its due day, as a query joins them.
 #[derive(Debug, Drop)]
 pub struct DueRecordRow {
     pub record: u32,

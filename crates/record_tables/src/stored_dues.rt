@@ -1,4 +1,4 @@
-//! Whether due days are those that are stored.
+//! A comparison of due days with those that are stored.
 
 ghost use Rattle.std.specs.Prelude.{◌≡◌, map, IsTrue, IfOk, OnOk};
 ghost use Rattle.std.specs.Bool.{Decides};
@@ -32,7 +32,7 @@ fn shows_due(row: &Row, due: &DueRow) -> bool
     is_number_at(row, 0, due.record) && is_number_at(row, 1, due.day)
 }
 
-/// Whether rows show these due days, in this order.
+/// Whether the rows are those of these due days, in this order.
 fn show_dues(rows: &[Row], dues: &[DueRow]) -> bool
     ensures { result ≡ pointwise shows_due rows.now (map due_of dues.now) }
 {
@@ -47,7 +47,10 @@ fn show_dues(rows: &[Row], dues: &[DueRow]) -> bool
     true
 }
 
-/// Whether the stored due days are these, in the order of their records. Whatever the table has in its columns is looked at.
+/// Whether the stored due days are these, in the order of their records. All rows are compared, whatever their
+/// columns hold.
+///
+/// Refused with the error of `sqlite` alone.
 pub fn are_dues<S: Alter>(conn: &mut Connection<S>, dues: &[DueRow]) -> Result<bool, Error>
     ensures are { HasCleanDisk (state S.Store conn.new) → IfOk result (λ b. (t : Tables) → Stores (state S.Store conn.old).now t → AreKeyed t → Decides b (t.dues ≡ map due_of dues.now)) }
     ensures same { ReadsAlone S.Store conn.old conn.new result (IsArchiveSchema (state S.Store conn.old).now.schema) }

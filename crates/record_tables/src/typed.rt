@@ -1,4 +1,4 @@
-//! Rows that a query answers, as rows of their tables.
+//! The rows of a query's answer, read as rows of their tables.
 
 ghost use Rattle.std.specs.Prelude.{◌≡◌, ◌≢◌, ℕ, List, pos, IfOk, IfErr};
 ghost use Rattle.std.specs.List.{AllZip, AllByRecursion};
@@ -15,13 +15,13 @@ use crate::rows::{ClassRow, HoldRow, RecordRow, ScheduleRow, SettingRow};
 use sqlite::Row;
 use std::alloc::Global;
 
-/// A value that a row shows.
+/// A value that is read from a row.
 pub(crate) trait FromRow: Drop {
     ghost reads: { List Value → Self → Type 0 };
 
     ghost is_readable: { List Value → Type 0 };
 
-    /// Reads it: exactly where the columns have the right kinds, and numbers below 2^32.
+    /// Reads the value, exactly where each column has the right kind, and each number is below 2^32.
     fn from_row(alloc: Global, row: &Row) -> Result<Self, Fault>
         ensures ok { IfOk result (λ x. reads row.now x) }
         ensures none { IfErr result (λ f. f ≢ Fault.NoMemory → (f ≡ Fault.NoArchive) × (is_readable row.now → ⊥)) };
@@ -124,7 +124,7 @@ impl FromRow for ScheduleRow {
     }
 }
 
-/// Reads each row: exactly where each can be read.
+/// Reads all rows, exactly where each can be read.
 pub(crate) fn rows_in<T: FromRow>(alloc: Global, rows: &[Row]) -> Result<Vec<T>, Fault>
     ensures all { IfOk result (λ all. AllZip T.reads rows.now all.items) }
     ensures none { IfErr result (λ f. f ≢ Fault.NoMemory → (f ≡ Fault.NoArchive) × (AllByRecursion T.is_readable rows.now → ⊥)) }

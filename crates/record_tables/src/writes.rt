@@ -1,4 +1,7 @@
-//! One statement at a time, in a transaction.
+//! Writes of the tables, one statement each, in a transaction of the caller's.
+//!
+//! A refusal is the error of `sqlite`; on a clean disk it keeps what was committed. A crash leaves nothing of a
+//! statement, as none of them commits.
 
 ghost use Rattle.std.specs.Prelude.{◌≡◌, option_map, OnOk, false};
 ghost use Rattle.sqlite.specs.Values.{bound_value};
@@ -22,7 +25,7 @@ fn text_or_null<'a>(text: Option<&'a [u8]>) -> ValueRef<'a>
     }
 }
 
-/// Adds a message.
+/// Adds a message with its octets. The caller gives a number above those of all messages.
 pub fn insert_message<S: Alter>(
     tx: &mut Transaction<'_, S>,
     number: u32,
@@ -40,7 +43,8 @@ pub fn insert_message<S: Alter>(
     Ok(())
 }
 
-/// Adds a live record.
+/// Adds a live record, captured on a day in days since 1970-01-01. The caller gives a number above those of all
+/// records.
 pub fn insert_record<S: Alter>(
     tx: &mut Transaction<'_, S>,
     number: u32,
@@ -65,7 +69,7 @@ pub fn insert_record<S: Alter>(
     Ok(())
 }
 
-/// Adds a due day.
+/// Adds the due day of a record, in days since 1970-01-01. The caller gives a record after all those with due days.
 pub fn insert_due<S: Alter>(tx: &mut Transaction<'_, S>, number: u32, day: u32) -> Result<(), Error>
     ensures same_reference { tx.new.conn.ghost_name ≡ tx.old.conn.ghost_name }
     ensures ok { OnOk result (PutsIn S.Store tx.old.conn.now tx.new.conn.now (IsPastDues number) (with_due (record { number = number; day = day }))) }
@@ -79,7 +83,7 @@ pub fn insert_due<S: Alter>(tx: &mut Transaction<'_, S>, number: u32, day: u32) 
     Ok(())
 }
 
-/// Adds a hold.
+/// Adds a hold of that name on a record, under the next rowid.
 pub fn insert_hold<S: Alter>(
     tx: &mut Transaction<'_, S>,
     name: &[u8],
@@ -97,7 +101,7 @@ pub fn insert_hold<S: Alter>(
     Ok(())
 }
 
-/// Adds a setting.
+/// Adds a setting, a row of `meta`, under the next rowid.
 pub fn insert_setting<S: Alter>(
     tx: &mut Transaction<'_, S>,
     key: &[u8],
@@ -115,7 +119,7 @@ pub fn insert_setting<S: Alter>(
     Ok(())
 }
 
-/// Adds a class.
+/// Adds a class under the next rowid; version 1 alone has the text of a schedule here.
 pub fn insert_class<S: Alter>(
     tx: &mut Transaction<'_, S>,
     path: &[u8],
@@ -138,7 +142,7 @@ pub fn insert_class<S: Alter>(
     Ok(())
 }
 
-/// Adds a schedule.
+/// Adds the schedule of a class or of the whole plan, under the next rowid.
 pub fn insert_schedule<S: Alter>(
     tx: &mut Transaction<'_, S>,
     schedule: &ScheduleRow,
@@ -161,7 +165,7 @@ pub fn insert_schedule<S: Alter>(
     Ok(())
 }
 
-/// Takes all due days out.
+/// Removes all due days.
 pub fn clear_dues<S: Alter>(tx: &mut Transaction<'_, S>) -> Result<(), Error>
     ensures same_reference { tx.new.conn.ghost_name ≡ tx.old.conn.ghost_name }
     ensures ok { OnOk result (PutsIn S.Store tx.old.conn.now tx.new.conn.now Always without_dues) }
@@ -172,7 +176,7 @@ pub fn clear_dues<S: Alter>(tx: &mut Transaction<'_, S>) -> Result<(), Error>
     Ok(())
 }
 
-/// Takes all classes out.
+/// Removes all classes.
 pub fn clear_classes<S: Alter>(tx: &mut Transaction<'_, S>) -> Result<(), Error>
     ensures same_reference { tx.new.conn.ghost_name ≡ tx.old.conn.ghost_name }
     ensures ok { OnOk result (PutsIn S.Store tx.old.conn.now tx.new.conn.now Always without_classes) }
@@ -183,7 +187,7 @@ pub fn clear_classes<S: Alter>(tx: &mut Transaction<'_, S>) -> Result<(), Error>
     Ok(())
 }
 
-/// Takes all schedules out.
+/// Removes all schedules, that of the whole plan too.
 pub fn clear_schedules<S: Alter>(tx: &mut Transaction<'_, S>) -> Result<(), Error>
     ensures same_reference { tx.new.conn.ghost_name ≡ tx.old.conn.ghost_name }
     ensures ok { OnOk result (PutsIn S.Store tx.old.conn.now tx.new.conn.now Always without_schedules) }
@@ -194,7 +198,7 @@ pub fn clear_schedules<S: Alter>(tx: &mut Transaction<'_, S>) -> Result<(), Erro
     Ok(())
 }
 
-/// Takes all settings out.
+/// Removes all settings, the rows of `meta`.
 pub fn clear_settings<S: Alter>(tx: &mut Transaction<'_, S>) -> Result<(), Error>
     ensures same_reference { tx.new.conn.ghost_name ≡ tx.old.conn.ghost_name }
     ensures ok { OnOk result (PutsIn S.Store tx.old.conn.now tx.new.conn.now Always without_settings) }
@@ -205,7 +209,7 @@ pub fn clear_settings<S: Alter>(tx: &mut Transaction<'_, S>) -> Result<(), Error
     Ok(())
 }
 
-/// Takes the due day of a record out.
+/// Removes the due day of a record; where it has none, nothing changes.
 pub fn delete_due<S: Alter>(tx: &mut Transaction<'_, S>, number: u32) -> Result<(), Error>
     ensures same_reference { tx.new.conn.ghost_name ≡ tx.old.conn.ghost_name }
     ensures ok { OnOk result (PutsIn S.Store tx.old.conn.now tx.new.conn.now Always (without_due number)) }
@@ -216,7 +220,7 @@ pub fn delete_due<S: Alter>(tx: &mut Transaction<'_, S>, number: u32) -> Result<
     Ok(())
 }
 
-/// Takes a message out.
+/// Removes the message with a number; where there is none, nothing changes.
 pub fn delete_message<S: Alter>(tx: &mut Transaction<'_, S>, number: u32) -> Result<(), Error>
     ensures same_reference { tx.new.conn.ghost_name ≡ tx.old.conn.ghost_name }
     ensures ok { OnOk result (PutsIn S.Store tx.old.conn.now tx.new.conn.now Always (without_message number)) }
@@ -227,7 +231,7 @@ pub fn delete_message<S: Alter>(tx: &mut Transaction<'_, S>, number: u32) -> Res
     Ok(())
 }
 
-/// Takes a hold out.
+/// Removes the hold of that name on a record; where there is none, nothing changes.
 pub fn delete_hold<S: Alter>(
     tx: &mut Transaction<'_, S>,
     name: &[u8],
@@ -245,7 +249,7 @@ pub fn delete_hold<S: Alter>(
     Ok(())
 }
 
-/// Notes that a record is destroyed.
+/// Marks the record with a number as destroyed; where there is none, nothing changes.
 pub fn set_destroyed<S: Alter>(tx: &mut Transaction<'_, S>, number: u32) -> Result<(), Error>
     ensures same_reference { tx.new.conn.ghost_name ≡ tx.old.conn.ghost_name }
     ensures ok { OnOk result (PutsIn S.Store tx.old.conn.now tx.new.conn.now Always (with_destroyed number)) }

@@ -13,22 +13,22 @@ hex_value b =
     else if is_between 97 102 b then b - 87
     else 0
 
--- what an octet behind a backslash stands for: `n`, `r` and `s` for LF, CR and a space, and another one for itself
+-- what an octet after a backslash means: `n`, `r` and `s` are LF, CR and a space, and any other octet is itself
 abbrev pub escaped : ℕ → ℕ
 escaped b = if b == 110 then 10 else if b == 114 then 13 else if b == 115 then 32 else b
 
 abbrev mutual
-  -- the octets that a text stands for
+  -- the octets that a text with escapes means
   pub unescaped : List ℕ → List ℕ
   unescaped [] = []
   unescaped (b ∷ bs) = if b == 92 then behind_backslash bs else b ∷ unescaped bs
 
-  -- and a text behind a backslash
+  -- and a text after a backslash
   pub behind_backslash : List ℕ → List ℕ
   behind_backslash [] = []
   behind_backslash (b ∷ bs) = if b == 120 then behind_x bs else escaped b ∷ unescaped bs
 
-  -- and behind `\x`: two digits
+  -- and after `\x`: two digits
   pub behind_x : List ℕ → List ℕ
   behind_x [] = []
   behind_x (high ∷ []) = []

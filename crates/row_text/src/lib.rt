@@ -1,7 +1,7 @@
-//! Texts of tables, as tests keep them: octets that a line can't have are written with a backslash.
+//! Texts of tables, as tests keep them: octets that a line cannot hold are written with a backslash.
 //!
-//! `\n`, `\r` and `\s` (a space) are octets, `\xHH` is the octet of two hexadecimal digits, and a backslash before another
-//! octet is left out. `specs/Escapes` says the same.
+//! `\n`, `\r` and `\s` (a space) are octets, and `\xHH` is the octet of two hexadecimal digits. A backslash before any
+//! other octet is dropped. `specs/Escapes` defines the same.
 #![tactic(auto)]
 
 ghost use Rattle.std.specs.Prelude.{◌≡◌, ◌∷◌, ◌++◌, ◌<◌, ◌≤◌, [], length, IfNone, IfSome, IfOk, OnOk};
@@ -22,7 +22,7 @@ pub fn hex_value(octet: u8) -> u8
     }
 }
 
-/// What an octet behind a backslash stands for.
+/// The octet that an escape of one octet means: `n`, `r` or `s`, or the octet itself.
 fn escaped(octet: u8) -> u8
     ensures { result ≡ escaped_of octet }
 {
@@ -34,7 +34,7 @@ fn escaped(octet: u8) -> u8
     }
 }
 
-/// The octet that a text begins with, and the text behind it.
+/// The octet that a text begins with, and the text after it; `None` at the end, and at an escape that is cut off.
 fn next_octet(text: &[u8]) -> Option<(u8, &[u8])>
     ensures none { IfNone result (unescaped text.now ≡ []) }
     ensures some { IfSome result (λ r. unescaped text.now ≡ r.0 ∷ unescaped r.1.now) }
@@ -51,8 +51,8 @@ fn next_octet(text: &[u8]) -> Option<(u8, &[u8])>
     }
 }
 
-/// The octets that a text with escapes stands for. An escape that the text breaks off is left out. The only error is
-/// want of memory.
+/// The octets that a text with escapes means. An escape that is cut off at the end is left out. Fails only if memory
+/// runs out.
 pub fn octets_of(alloc: Global, text: &str) -> Result<Vec<u8>, AllocError>
     ensures { IfOk result (λ v. v.items ≡ unescaped text.now) }
 {

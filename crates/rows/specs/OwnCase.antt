@@ -1,4 +1,4 @@
--- What the tests' own case stands for.
+-- What the tests' own case represents.
 use Rattle.std.specs.Prelude.{map, length, ◌==◌}
 use Rattle.sieve_meaning.specs.Case.{Facts, Field}
 use Rattle.rows.specs.declared.runs.OwnCase.{OwnCase}

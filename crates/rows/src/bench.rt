@@ -1,6 +1,11 @@
-//! Measures the parts of Mailfile on inputs that it makes. Each measure is run once on a small input, and what it answered is told;
-//! or each is run so often on an input of so many octets and on one of half as many, and the least time of each is told, beside that
-//! of a plain pass over the same input; or the memory of a case is told, each in a process of its own; or the times of the store are.
+//! Measures the parts of Mailfile on inputs that it makes, in one of these ways:
+//!
+//! - each measure is run once on a small input, and its answer is reported;
+//! - each measure is run a number of rounds on an input of a given size and on one of half that size. The least time of
+//!   each is reported, beside that of a plain pass over the same input;
+//! - the memory of a case is reported, each in a process of its own;
+//! - the times of the store are reported.
+//!
 //! `./bench` at the top of the repository runs the built program and writes the table.
 
 mod baselines;
@@ -25,10 +30,10 @@ use std::env;
 use std::rt::{Clock, Env};
 use timing::{Timing, answer_of, timing_of};
 
-/// The octets of an input where none are asked for.
+/// The octets of an input where the command line gives none.
 const FEW_OCTETS: usize = 4_096;
 
-/// The octets of an input and the rounds that the command line asks for, if it has both.
+/// The octets of an input and the rounds that the command line gives, if it has both.
 pub fn asked_for(rt: &(impl Env + Alloc)) -> Result<Option<(usize, u32)>> {
     let mut words = env::args(rt)?;
     let _ = words.next();
@@ -37,7 +42,7 @@ pub fn asked_for(rt: &(impl Env + Alloc)) -> Result<Option<(usize, u32)>> {
     Ok(octets.zip(rounds))
 }
 
-/// Which row of the memory of cases the command line asks for, if it has one.
+/// The row of the memory of cases that the command line gives, if it has one.
 pub fn memory_asked_for(rt: &(impl Env + Alloc)) -> Result<Option<usize>> {
     let mut words = env::args(rt)?;
     let _ = words.next();
@@ -49,8 +54,9 @@ pub fn memory_asked_for(rt: &(impl Env + Alloc)) -> Result<Option<usize>> {
     }
 }
 
-/// Tells what a row took: its title, what was asked, the octets and nanoseconds of a run, those of a run on half as
-/// much, the name and nanoseconds of the plain pass, what one run answered, and what all did, with tabs between them.
+/// Reports what a row took, with tabs between the parts: its title, the requirement, the octets and nanoseconds of a
+/// run, and those of a run on half as much. Then follow the name and nanoseconds of the plain pass, what one run
+/// answered, and what all did.
 fn tell(rt: &impl Print, row: &Row, whole: Timing, half: Timing) -> Result<()> {
     let (title, baseline) = (row.title, row.baseline.name());
     let (word, number) = match row.asked {
@@ -69,7 +75,7 @@ fn tell(rt: &impl Print, row: &Row, whole: Timing, half: Timing) -> Result<()> {
     Ok(())
 }
 
-/// Tells what each measure answers on a small input.
+/// Reports what each measure answers on a small input.
 pub fn tell_answers(rt: &(impl Print + AllocGlobal)) -> Result<()> {
     for row in &ROWS {
         let (title, answer) = (row.title, answer_of(rt.alloc(), row, FEW_OCTETS)?);
@@ -79,7 +85,7 @@ pub fn tell_answers(rt: &(impl Print + AllocGlobal)) -> Result<()> {
     captures::tell_answers(rt)
 }
 
-/// Tells what each measure takes, in so many rounds, on an input of so many octets and on one of half as many.
+/// Reports the time of each measure, in `rounds` rounds, on an input of `octets` octets and on one of half as many.
 pub fn tell_times<R: Clock + Print + AllocGlobal>(
     rt: &R,
     octets: usize,

@@ -1,4 +1,4 @@
-//! What the compiler answers, where scripts include others, and what the runs of their images capture.
+//! The calls of the compiler, with scripts that include others, and what the runs of their images capture.
 
 use crate::images::over_budget;
 use crate::messages::{octet_case, whole_case};
@@ -55,7 +55,7 @@ pub fn keep(
     Ok(set(alloc, library, location, name, text)??)
 }
 
-/// The location of a word.
+/// The location that a word names.
 fn location_of(word: &[u8]) -> Location {
     if word == b"personal".as_slice() {
         Location::Personal
@@ -87,7 +87,7 @@ pub fn find(alloc: Global, library: &Library, location: &[u8], name: &[u8]) -> R
     Ok(format!(in alloc; "{count} commands")?.into_bytes())
 }
 
-/// A budget, and behind it the fault of a run, if there is one, and the classes.
+/// A budget, then the fault of a run, if there is one, and the classes.
 fn told(alloc: Global, budget: u32, outcome: &Outcome) -> Result<Vec<u8>> {
     let mut out = format!(in alloc; "budget {budget}:")?.into_bytes();
     if let Some(fault) = outcome.fault {
@@ -103,7 +103,7 @@ fn told(alloc: Global, budget: u32, outcome: &Outcome) -> Result<Vec<u8>> {
     Ok(out)
 }
 
-/// The program of a script that is known by a personal name, unless that is empty, or by which number it is refused.
+/// The program of a script that is known by a personal name, unless that is empty, or the number that refuses it.
 fn program(
     alloc: Global,
     library: &Library,
@@ -122,7 +122,7 @@ fn program(
     }
 }
 
-/// The budget of a script's image, and how many instructions it has, or by which number the script is refused.
+/// The budget of a script's image, and how many instructions it has, or the number that refuses the script.
 pub fn size(alloc: Global, library: &Library, script: &[u8], known_as: &[u8]) -> Result<Vec<u8>> {
     let program = match program(alloc, library, script, known_as)? {
         Ok(program) => program,
@@ -132,8 +132,8 @@ pub fn size(alloc: Global, library: &Library, script: &[u8], known_as: &[u8]) ->
     Ok(format!(in alloc; "budget {budget}, {count} instructions")?.into_bytes())
 }
 
-/// The budget of a script's image, and what the image's run captures in the case of a message, whole and octet by octet, or by
-/// which number the script is refused.
+/// The budget of a script's image, and what the image's run captures in the case of a message, whole and octet by
+/// octet; or the number that refuses the script.
 pub fn compile(
     alloc: Global,
     library: &Library,
@@ -157,7 +157,7 @@ const MESSAGES: [&[u8]; 3] = [
     b"From: a\r\nSubject: b\r\nSubject: c\r\n\r\nbody",
 ];
 
-/// How many changes of a script's image in one octet run over their budget on some messages.
+/// How many changes of a script's image in one octet exceed their budget on some messages.
 pub fn edits(alloc: Global, library: &Library, script: &[u8], known_as: &[u8]) -> Result<Vec<u8>> {
     match program(alloc, library, script, known_as)? {
         Ok(program) => {

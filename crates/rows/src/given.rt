@@ -10,14 +10,14 @@ use std::alloc::Global;
 /// What a row is given.
 #[derive(Drop)]
 pub struct Given {
-    /// What stands before its first text.
+    /// The octets before its first text.
     pub front: Vec<u8>,
     /// The scripts that can be included.
     pub library: Library,
 }
 
 impl Given {
-    /// Nothing.
+    /// No octets and no scripts.
     pub fn new(alloc: Global) -> Given {
         Given {
             front: Vec::new(alloc),
@@ -25,7 +25,7 @@ impl Given {
         }
     }
 
-    /// Keeps the script of a line, behind what stands before its text.
+    /// Keeps the script of a line, whose text follows the octets in `front`.
     fn keep(&mut self, alloc: Global, location: Location, line: &str) -> Result<()> {
         let (name, text) = read_script(alloc, self.front.as_slice(), line)?;
         self.front.clear();
@@ -38,7 +38,7 @@ impl Given {
         )
     }
 
-    /// Takes a line that prepares rows, or is passed over; false where the line is a row itself.
+    /// Takes a line that prepares rows or is ignored; false where the line is a row itself.
     pub fn takes(&mut self, alloc: Global, line: &str) -> Result<bool> {
         if let Some(more) = line.strip_prefix("more ") {
             add_more(alloc, &mut self.front, more)?;

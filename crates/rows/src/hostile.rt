@@ -1,6 +1,7 @@
-//! Inputs that are changed, cut and put together by chance, from a seed: images, scripts, messages, plans and sessions. Each is
-//! handed to the public calls, and it is told how many of each kind were accepted, and refused by which number. An image that is
-//! accepted is run on three messages, and must keep to its budget. `./hostile` at the top of the repository plays a million.
+//! Inputs that are changed, cut and joined by chance, from a seed: images, scripts, messages, plans and sessions. Each
+//! is passed to the public calls. The report says how many of each kind were accepted, and how many were refused by
+//! which number. An image that is accepted is run on three messages, and must keep to its budget. `./hostile` at the
+//! top of the repository plays a million.
 
 mod changes;
 mod commands;
@@ -16,7 +17,7 @@ use std::env;
 use std::rt::Env;
 use tally::{Kind, Tally};
 
-/// The seed and the number of inputs that the command line asks for, if it does.
+/// The seed and the number of inputs that the command line gives, if it does.
 pub fn asked_for(rt: &(impl Env + Alloc)) -> Result<Option<(u64, u32)>> {
     let mut words = env::args(rt)?;
     let _ = words.next();
@@ -29,7 +30,8 @@ pub fn asked_for(rt: &(impl Env + Alloc)) -> Result<Option<(u64, u32)>> {
     Ok(seed.zip(count))
 }
 
-/// The kind of the next input: of twenty, eight images, five scripts, three messages, three plans and a session.
+/// The kind of the next input. Of twenty inputs eight are images, five scripts, three messages, three plans and one a
+/// session.
 fn next_kind(chance: &mut Chance) -> Kind {
     match chance.below(20) {
         0..=7 => Kind::Image,
@@ -40,7 +42,8 @@ fn next_kind(chance: &mut Chance) -> Kind {
     }
 }
 
-/// Makes so many inputs by a seed, and tells what became of them: a line for each kind and answer, with its number.
+/// Makes `count` inputs from a seed, and reports the results: a line for each kind and answer, with how often it was
+/// given.
 pub fn tell(rt: &(impl Print + AllocGlobal), seed: u64, count: u32) -> Result<()> {
     let mut chance = Chance::new(seed);
     let mut tally = Tally::new(rt.alloc());

@@ -1,4 +1,4 @@
-//! What images answer.
+//! The calls of images.
 
 use crate::messages::whole_case;
 use crate::runs::outcome_of;
@@ -26,7 +26,7 @@ pub fn image(alloc: Global, octets: &[u8]) -> Result<Vec<u8>> {
     )?.into_bytes())
 }
 
-/// The octets of an image with budget 1 of so many STOP.
+/// The octets of an image with budget 1 and `count` STOP instructions.
 pub fn stops(alloc: Global, count: &[u8]) -> Result<Vec<u8>> {
     let count: usize = str::from_utf8(count)?.parse().context("a number is wrong")?;
     let stop = Instruction { op: 20, a: 0, b: 0 };
@@ -37,7 +37,7 @@ pub fn stops(alloc: Global, count: &[u8]) -> Result<Vec<u8>> {
     }
 }
 
-/// How many octets the image of one text of so many octets and one STOP has.
+/// How many octets an image has with one text of `size` octets and one STOP.
 pub fn long_text(alloc: Global, size: &[u8]) -> Result<Vec<u8>> {
     let size: usize = str::from_utf8(size)?.parse().context("a number is wrong")?;
     let mut texts = Vec::new(alloc);
@@ -53,7 +53,7 @@ pub fn long_text(alloc: Global, size: &[u8]) -> Result<Vec<u8>> {
     }
 }
 
-/// The program of some octets, or by which number they are refused, as an image or by the verifier.
+/// The program of some octets, or the number that refuses them, as an image or by the verifier.
 fn verified(alloc: Global, octets: &[u8]) -> Result<Verified, u8> {
     match decode(alloc, octets) {
         Err(fault) => Err(fault.number()),
@@ -64,7 +64,7 @@ fn verified(alloc: Global, octets: &[u8]) -> Result<Verified, u8> {
     }
 }
 
-/// By which number octets are refused, as an image or by the verifier; 0 where their image may run.
+/// The number that refuses octets, as an image or by the verifier; 0 where their image may run.
 fn refusal(alloc: Global, octets: &[u8]) -> u8 {
     match verified(alloc, octets) {
         Err(number) => number,
@@ -72,7 +72,7 @@ fn refusal(alloc: Global, octets: &[u8]) -> u8 {
     }
 }
 
-/// What becomes of octets that may be an image, where that is run in some cases.
+/// The result for octets that may be an image, where the image is run in some cases.
 #[derive(Clone, Copy, PartialEq)]
 pub enum Verdict {
     /// By this number.
@@ -83,7 +83,7 @@ pub enum Verdict {
     OverBudget,
 }
 
-/// What becomes of octets that may be an image.
+/// The result for octets that may be an image, which is run in these cases.
 pub fn judge_image(alloc: Global, octets: &[u8], cases: &[WholeCase]) -> Result<Verdict> {
     let program = match verified(alloc, octets) {
         Ok(program) => program,
@@ -102,7 +102,7 @@ fn others(octet: u8) -> [u8; 3] {
     [0, 255, octet.wrapping_add(1)]
 }
 
-/// How many changes of an image in one octet run over their budget.
+/// How many changes of an image in one octet exceed their budget.
 fn count_over(alloc: Global, octets: &[u8], place: usize, cases: &[WholeCase]) -> Result<usize> {
     let mut changed = Vec::from_slice(alloc, octets)?;
     let mut count = 0usize;
@@ -117,8 +117,8 @@ fn count_over(alloc: Global, octets: &[u8], place: usize, cases: &[WholeCase]) -
     Ok(count)
 }
 
-/// How many changes of an image in one octet, to 0, to 255 and to the next one, run over their budget on some messages; the others
-/// are refused, or keep to it.
+/// How many changes of an image in one octet, to 0, to 255 and to the next one, exceed their budget on some messages.
+/// The others are refused, or keep to it.
 pub fn over_budget(alloc: Global, octets: &[u8], messages: &[&'static [u8]]) -> Result<Vec<u8>> {
     let mut cases = Vec::new(alloc);
     for message in messages {
@@ -139,7 +139,7 @@ pub fn verify(alloc: Global, octets: &[u8]) -> Result<Vec<u8>> {
     }
 }
 
-/// Adds by which numbers an image is refused with another octet in a place.
+/// Adds the numbers that refuse an image with another octet in a place.
 fn add_changes(refusals: &mut Vec<u8>, alloc: Global, octets: &[u8], place: usize) -> Result<()> {
     let mut changed = Vec::from_slice(alloc, octets)?;
     for value in 0..=255u8 {
@@ -167,7 +167,6 @@ pub fn changes(alloc: Global, octets: &[u8]) -> Result<Vec<u8>> {
     Ok(out)
 }
 
-/// What a run captured.
 fn captured(alloc: Global, outcome: &Outcome) -> Result<Vec<u8>> {
     let mut out = Vec::new(alloc);
     for class in outcome.classes.as_slice() {

@@ -1,6 +1,7 @@
-//! Makes scripts with others that they can include, and messages, by chance, the same in each run, and tells how many of them
-//! have the same outcome by the script's image (`filing_gen`, `filing_machine`) and by its tree (`plain_evaluator`); each other
-//! one is shown. What follows counts the outcomes of each kind, so that it shows that each kind was met.
+//! Makes scripts with others that they can include, and messages, by chance, the same in each run. It reports how many
+//! of them have the same outcome by the script's image (`filing_gen`, `filing_machine`) and by its tree
+//! (`plain_evaluator`), and shows each other one. Then it counts the outcomes of each kind, which shows that each kind
+//! was met.
 
 pub mod chance;
 pub mod libraries;
@@ -25,13 +26,13 @@ use std::alloc::Global;
 /// How many scripts and messages are made.
 const PAIRS: usize = 600;
 
-/// What the choices begin with.
+/// The seed of the choices.
 const SEED: u64 = 5228;
 
 /// A message without a field.
 const NO_FIELD: &[u8] = b"\r\n";
 
-/// The kinds of outcomes, and how each is told.
+/// The kinds of outcomes, and how each is reported.
 const KINDS: [(Kind, &str); 8] = [
     (Kind::Fault(1), "fault 1, a class that is not open"),
     (Kind::Fault(2), "fault 2, a script that is missing"),
@@ -43,7 +44,6 @@ const KINDS: [(Kind, &str); 8] = [
     (Kind::FiledInSeveral, "several classes"),
 ];
 
-/// The library of some scripts.
 fn library_of(alloc: Global, scripts: &[Included]) -> Result<Library> {
     let mut library = Library::new(alloc);
     for script in scripts {
@@ -146,7 +146,7 @@ fn compare_image(
     show(rt, made, by_image.as_str(), by_tree)
 }
 
-/// Adds how a script goes with a message.
+/// Adds the outcome of a script for a message.
 fn compare_linked(
     rt: &(impl Print + AllocGlobal),
     tally: &mut Tally,
@@ -167,7 +167,7 @@ fn compare_linked(
     Ok(())
 }
 
-/// Adds how a pair goes.
+/// Adds the outcome of a pair.
 fn compare(rt: &(impl Print + AllocGlobal), tally: &mut Tally, made: &Made) -> Result<()> {
     let main = checked(rt.alloc(), made.text.as_bytes())?;
     let library = library_of(rt.alloc(), made.scripts.as_slice())?;
@@ -180,7 +180,7 @@ fn compare(rt: &(impl Print + AllocGlobal), tally: &mut Tally, made: &Made) -> R
     compare_linked(rt, tally, made, script)
 }
 
-/// Makes all pairs, and tells how they went.
+/// Makes all pairs, and reports how they went.
 pub fn compare_all(rt: &(impl Print + AllocGlobal)) -> Result<()> {
     let mut chance = Chance::new(SEED);
     let mut tally = Tally::new(rt.alloc());

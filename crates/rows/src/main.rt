@@ -1,11 +1,11 @@
-//! Plays a table of calls (`src/row.rt`) and one of sessions (`src/sessions.rt`), compares the outcomes of scripts that are made by
-//! chance (`src/made.rt`), and plays sessions with their turns shuffled (`src/shuffled.rt`). Standard input has the calls and, after
-//! a line `[sessions]`, the sessions. Then each measure is run once (`src/bench.rt`). With words on its command line the program
-//! does another thing alone:
+//! Plays a table of calls (`src/row.rt`) and one of sessions (`src/sessions.rt`). It compares the outcomes of scripts
+//! that are made by chance (`src/made.rt`), and plays sessions with their turns shuffled (`src/shuffled.rt`). Standard
+//! input has the calls and, after a line `[sessions]`, the sessions. Then each measure is run once (`src/bench.rt`).
+//! With words on its command line the program does one other thing alone:
 //!
-//! - `rows OCTETS ROUNDS` tells times, `rows memory INDEX` memory, `rows store RECORDS HOLDS ROUNDS PATH WORDS` times of the store,
-//!   and `rows captures ROUNDS FOLDER` what captures in flight take;
-//! - `rows hostile SEED COUNT` hands hostile inputs to the calls (`src/hostile.rt`);
+//! - `rows OCTETS ROUNDS` reports times, `rows memory INDEX` memory, `rows store RECORDS HOLDS ROUNDS PATH WORDS` times
+//!   of the store, and `rows captures ROUNDS FOLDER` what captures in flight take;
+//! - `rows hostile SEED COUNT` passes hostile inputs to the calls (`src/hostile.rt`);
 //! - `rows failing` lets reads, writes and files fail (`src/trials.rt`, `src/stops.rt`).
 #![tactic(auto)]
 
@@ -89,7 +89,7 @@ fn answer(alloc: Global, library: &mut Library, row: &Row) -> Result<Vec<u8>> {
     }
 }
 
-/// Whether a row's call is answered as the row says; if not, this is told.
+/// Whether a row's call is answered as the row says; if not, this is reported.
 fn judge(rt: &(impl Print + AllocGlobal), given: &mut Given, line: &str) -> Result<bool> {
     let row = read_row(rt.alloc(), given.front.as_slice(), line)?;
     let mut found = answer(rt.alloc(), &mut given.library, &row)?;
@@ -104,7 +104,7 @@ fn judge(rt: &(impl Print + AllocGlobal), given: &mut Given, line: &str) -> Resu
     Ok(false)
 }
 
-/// Makes the calls of a table, and tells how many are answered as it says.
+/// Makes the calls of a table, and reports how many are answered as it says.
 fn play_calls(rt: &(impl Print + AllocGlobal), table: &str) -> Result<()> {
     let mut given = Given::new(rt.alloc());
     let mut right = 0u64;

@@ -1,4 +1,4 @@
-//! What matching answers.
+//! The calls of matching.
 
 use crate::call::Call;
 use crate::told::word;
@@ -42,7 +42,7 @@ pub fn matched(
     word(alloc, if answer { "true" } else { "false" })
 }
 
-/// The letters that a number's digits stand for, of so many bits each.
+/// The letters that the digits of a number represent, of `bits` bits each.
 fn spelled(number: u16, bits: u32, letters: &[u8; 4]) -> [u8; 5] {
     let mut text = [b'a'; 5];
     let mut rest = number;

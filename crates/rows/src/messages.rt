@@ -1,4 +1,4 @@
-//! What readers of messages answer.
+//! The calls of the readers of messages.
 
 use crate::told::{size, word};
 use anyhow::{Result, bail};
@@ -70,7 +70,7 @@ pub fn fields(alloc: Global, message: &[u8]) -> Result<Vec<u8>> {
     Ok(whole)
 }
 
-/// A fault, and whether it is met again.
+/// A fault, and whether the reader refuses for good.
 fn told_fault(alloc: Global, fault: HeadFault, is_for_good: bool) -> Result<Vec<u8>> {
     match (fault, is_for_good) {
         (HeadFault::TooLong, true) => word(alloc, "too long, for good"),
@@ -149,8 +149,8 @@ pub fn octet_case(alloc: Global, message: &[u8]) -> Result<WholeCase> {
     Ok(case)
 }
 
-/// What a case knows: the message's octets, how many fields it has, whether a path is open, and the values of the fields that
-/// have a name.
+/// What a case knows: the message's octets, how many fields it has, whether a path is open, and the values of the
+/// fields that have a name.
 fn known(alloc: Global, case: &WholeCase, path: &[u8], name: &[u8]) -> Result<Vec<u8>> {
     let (size, count, is_open) = (case.size(), case.field_count(), case.is_open(path));
     let mut out = format!(in alloc; "{size} {count} {is_open}")?.into_bytes();

@@ -17,7 +17,8 @@ fn is_kept(mut desk: Desk<MemStore>, ticket: u32, message: &[u8]) -> bool {
     matches!(store.message(1), Ok(kept) if kept.as_slice() == message) && store.message(2).is_err()
 }
 
-/// What BEGIN answers to a message in pieces of one octet, for an officer without a program at the first moment.
+/// The answer of `begin_pieces` to a message in pieces of one octet, for an officer without a program at the first
+/// moment.
 pub fn begin(alloc: Global, message: &[u8]) -> Result<Vec<u8>> {
     let Some(mut desk) = desk_in_memory(alloc) else {
         bail!("there is no desk");

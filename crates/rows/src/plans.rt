@@ -1,4 +1,4 @@
-//! What plans and dates answer. A date is told by its day number, which counts from 1970-01-01.
+//! The calls of plans and dates. A date is given by its day number, which counts from 1970-01-01.
 
 use crate::told::{refused, word};
 use anyhow::{Context, Result, bail};
@@ -38,7 +38,8 @@ fn plan_of(alloc: Global, text: &[u8]) -> Result<Plan> {
     Ok(plan)
 }
 
-/// The classes of a plan's copy once it was revised by another plan, or the number of classes of one that drops a class.
+/// The classes of a plan's copy after it was revised by another plan. Where that one drops a class, the answer is how
+/// many classes it has.
 pub fn revise(alloc: Global, old: &[u8], new: &[u8]) -> Result<Vec<u8>> {
     let mut plan = plan_of(alloc, old)?.copy()?;
     if let Err(back) = plan.revise(plan_of(alloc, new)?) {
@@ -48,7 +49,7 @@ pub fn revise(alloc: Global, old: &[u8], new: &[u8]) -> Result<Vec<u8>> {
     classes(alloc, &plan)
 }
 
-/// The plan of a class `a` and one of this path, open or not, that is reviewed after so many years.
+/// The plan of a class `a` and one of this path, open or not, that is reviewed after this number of years.
 pub fn parts(alloc: Global, path: &[u8], state: &[u8], years: &[u8]) -> Result<Vec<u8>> {
     let count: u32 = str::from_utf8(years)?.parse().context("a number is wrong")?;
     let after = Schedule::After {
@@ -67,7 +68,7 @@ pub fn parts(alloc: Global, path: &[u8], state: &[u8], years: &[u8]) -> Result<V
     }
 }
 
-/// A date as it is told.
+/// A date as an answer.
 fn told(alloc: Global, date: Option<Date>) -> Result<Vec<u8>> {
     match date {
         Some(date) => {
@@ -78,7 +79,6 @@ fn told(alloc: Global, date: Option<Date>) -> Result<Vec<u8>> {
     }
 }
 
-/// The date of a text.
 fn date_in(text: &[u8]) -> Result<Date> {
     let text = str::from_utf8(text)?;
     let Ok(date) = text.parse() else {

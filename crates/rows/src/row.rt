@@ -1,23 +1,23 @@
-//! The table. Each row is a call and what it is to answer:
+//! The table. Each row is a call and its expected answer:
 //!
 //!     CALL FIRST|SECOND|THIRD => ANSWER
 //!
-//! A call that takes fewer texts leaves the others out, and an empty answer is `nothing`. Other lines prepare the rows that
-//! follow:
+//! A call that takes fewer texts leaves the others out, and an empty answer is `nothing`. Other lines prepare the rows
+//! that follow:
 //!
 //! - `more N TEXT` puts N times TEXT before the first text of the next row or script;
 //! - `personal NAME TEXT` and `global NAME TEXT` keep a script in a location, in the place of one of that name;
 //! - `forget` takes all scripts out.
 //!
-//! In texts and answers `\n`, `\r`, `\s` (a space) and `\xHH` are octets, and a backslash before another octet is left out
-//! (`row_text`). Empty lines and those that begin with `#` are passed over.
+//! In texts and answers `\n`, `\r`, `\s` (a space) and `\xHH` are octets, and a backslash before another octet is left
+//! out (`row_text`). Empty lines and those that begin with `#` are ignored.
 
 use crate::call::Call;
 use anyhow::{Context, Result};
 use row_text::octets_of;
 use std::alloc::{AllocError, Global};
 
-/// A call, its texts, and what it is to answer.
+/// A call, its texts, and the expected answer.
 #[derive(Drop)]
 pub struct Row {
     call: Call,
@@ -48,7 +48,7 @@ impl Row {
         self.third.as_slice()
     }
 
-    /// What it is to answer.
+    /// The expected answer.
     pub fn wanted(&self) -> &[u8] {
         self.wanted.as_slice()
     }
@@ -62,20 +62,20 @@ pub fn add_more(alloc: Global, front: &mut Vec<u8>, more: &str) -> Result<()> {
     Ok(front.extend_from_slice(texts.as_slice())?)
 }
 
-/// The octets of a text behind others.
+/// The octets of a text after others.
 fn behind(alloc: Global, front: &[u8], text: &str) -> Result<Vec<u8>, AllocError> {
     let mut whole = Vec::from_slice(alloc, front)?;
     whole.extend_from_slice(octets_of(alloc, text)?.as_slice())?;
     Ok(whole)
 }
 
-/// The name of a script and its text, with what stands before that.
+/// The name and the text of a script, the text after the octets in `front`.
 pub fn read_script(alloc: Global, front: &[u8], line: &str) -> Result<(Vec<u8>, Vec<u8>)> {
     let (name, text) = line.split_once(' ').unwrap_or((line, ""));
     Ok((octets_of(alloc, name)?, behind(alloc, front, text)?))
 }
 
-/// Reads a row, with what stands before its first text.
+/// Reads a row, whose first text follows the octets in `front`.
 pub fn read_row(alloc: Global, front: &[u8], line: &str) -> Result<Row> {
     let (word, rest) = line.split_once(' ').context("a row has no text")?;
     let call = Call::of(word).context("there is no such call")?;

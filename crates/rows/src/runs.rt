@@ -77,7 +77,6 @@ fn stepped<C: Case>(alloc: Global, program: &Verified, case: &C) -> Result<Outco
     Ok(machine.outcome()?)
 }
 
-/// Whether two outcomes are the same.
 fn are_same(one: &Outcome, other: &Outcome) -> bool {
     let (ones, others) = (one.classes.as_slice(), other.classes.as_slice());
     one.fault == other.fault

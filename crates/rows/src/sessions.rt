@@ -1,21 +1,20 @@
-//! The table of sessions, each at a desk of its own. A line is a word, a space and what belongs to it:
+//! The table of sessions, each at a new desk. A line is a word, a space and what belongs to it:
 //!
 //! - `case NAME` begins a case;
 //! - `send TEXT` is input;
 //! - `times N TEXT` is input, N times;
-//! - `count A B TEXT` is input for each number from A to B, which stands in place of `{}`;
+//! - `count A B TEXT` is input for each number from A to B, which is written in place of `{}`;
 //! - `script TEXT` and `more N TEXT` make a script, the second by adding TEXT N times;
-//! - `global NAME TEXT` keeps a global script under a name, with the line that tells its length;
+//! - `global NAME TEXT` keeps a global script under a name, with the line that gives its length;
 //! - `image HEX` is an image in the place of a script, its octets as two hexadecimal digits each, apart or not;
-//! - `message TEXT` files that message by the script, or tries the image on it, with the line that tells their lengths, and
-//!   `messages N TEXT` one of TEXT N times;
-//! - `want TEXT` is a line that is to be answered, and `wants N TEXT` N such lines; one that ends with `*` tells only what the line
-//!   begins with;
-//! - `cut` has the case also played cut after each octet (`src/trials.rt`); then each line of input is one command.
+//! - `message TEXT` files that message by the script, or tries the image on it, with the line that gives their lengths;
+//! - `messages N TEXT` does so for a message of N times TEXT;
+//! - `want TEXT` is an expected line of the answers, and `wants N TEXT` is N such lines; one that ends with `*` gives
+//!   only the beginning of the line;
+//! - `cut` lets the case also be cut after each octet (`src/trials.rt`); then each line of input is one command.
 //!
-//! In TEXT `\n`, `\r`, `\s` (a space) and `\xHH` are octets, and a backslash before another octet is left out (`row_text`).
-//! Empty lines and those that begin with `#` are passed over, and so is
-//! what stands before the first case.
+//! In TEXT `\n`, `\r`, `\s` (a space) and `\xHH` are octets, and a backslash before another octet is left out
+//! (`row_text`). Empty lines and those that begin with `#` are ignored, and so is all that comes before the first case.
 
 use crate::desks::desk_in_memory;
 use crate::trials::cut_anywhere;
@@ -26,7 +25,7 @@ use row_text::{hex_value, octets_of};
 use std::alloc::{AllocError, Global};
 use std::{io, str};
 
-/// A session and the lines that it is to be answered.
+/// A session and the lines that are expected as its answers.
 #[derive(Drop)]
 pub struct Case {
     pub name: String,
@@ -56,13 +55,11 @@ impl Case {
         })
     }
 
-    /// Adds a line of input.
     fn send(&mut self, octets: &[u8]) -> Result<(), AllocError> {
         self.input.extend_from_slice(octets)?;
         Ok(self.ends.push(self.input.len())?)
     }
 
-    /// Adds to the script.
     fn extend_program(&mut self, octets: &[u8]) -> Result<(), AllocError> {
         self.program.extend_from_slice(octets)
     }
@@ -91,7 +88,7 @@ impl Case {
     }
 }
 
-/// The octets of hexadecimal digits; spaces between them are passed over.
+/// The octets of hexadecimal digits; spaces between them are ignored.
 fn hex_octets(alloc: Global, text: &str) -> Result<Vec<u8>, AllocError> {
     let mut octets = Vec::new(alloc);
     let mut high: Option<u8> = None;
@@ -107,7 +104,7 @@ fn hex_octets(alloc: Global, text: &str) -> Result<Vec<u8>, AllocError> {
     Ok(octets)
 }
 
-/// A number, and the text after it.
+/// Reads a number, and the text after it.
 fn numbered(text: &str) -> Result<(usize, &str)> {
     let (number, rest) = text
         .split_once(' ')
@@ -115,7 +112,7 @@ fn numbered(text: &str) -> Result<(usize, &str)> {
     Ok((number.parse().context("a number is wrong")?, rest))
 }
 
-/// The octets of a text, as often as the number before it says.
+/// The octets of a text, repeated as often as the number before it says.
 fn repeated(alloc: Global, text: &str) -> Result<Vec<u8>> {
     let (times, text) = numbered(text)?;
     Ok(octets_of(alloc, text)?.as_slice().repeat(alloc, times)?)
@@ -135,7 +132,7 @@ fn count(alloc: Global, octets: &mut Vec<u8>, first: usize, last: usize, text: &
     Ok(())
 }
 
-/// Adds a line that is to be answered, so many times.
+/// Adds an expected line, `times` times.
 fn want(alloc: Global, case: &mut Case, times: usize, text: &str) -> Result<(), AllocError> {
     let mut line = octets_of(alloc, text)?;
     line.push(b'\n')?;
@@ -155,7 +152,7 @@ fn read_octets(alloc: Global, case: &mut Case, word: &str, text: &str) -> Result
     Ok(true)
 }
 
-/// Reads a line that has octets and how often they come; false where its word takes something else.
+/// Reads a line that has octets and how often they are repeated; false where its word takes something else.
 fn read_repeated(alloc: Global, case: &mut Case, word: &str, text: &str) -> Result<bool> {
     if word != "times" && word != "more" && word != "messages" {
         return Ok(false);
@@ -169,7 +166,7 @@ fn read_repeated(alloc: Global, case: &mut Case, word: &str, text: &str) -> Resu
     Ok(true)
 }
 
-/// Reads a line that tells what is to be answered; false where its word takes something else.
+/// Reads a line that gives expected answers; false where its word takes something else.
 fn read_wanted(alloc: Global, case: &mut Case, word: &str, text: &str) -> Result<bool> {
     match word {
         "want" => want(alloc, case, 1, text)?,
@@ -206,7 +203,6 @@ fn read_other(alloc: Global, case: &mut Case, word: &str, text: &str) -> Result<
     }
 }
 
-/// Reads a line of a case.
 fn read_line(alloc: Global, case: &mut Case, line: &str) -> Result<()> {
     let (word, text) = line.split_once(' ').unwrap_or((line, ""));
     if read_wanted(alloc, case, word, text)?
@@ -218,7 +214,7 @@ fn read_line(alloc: Global, case: &mut Case, line: &str) -> Result<()> {
     read_other(alloc, case, word, text)
 }
 
-/// What a session is answered, or none where there is no desk or a fault.
+/// The output of a session; none where there is no desk or a fault.
 fn play(alloc: Global, input: &[u8]) -> Option<MemorySink> {
     let mut desk = desk_in_memory(alloc)?;
     let mut sink = MemorySink::new(alloc);
@@ -226,12 +222,12 @@ fn play(alloc: Global, input: &[u8]) -> Option<MemorySink> {
     Some(sink)
 }
 
-/// Octets as text, for a message.
+/// Octets as text, for a report.
 fn shown(octets: &[u8]) -> &str {
     str::from_utf8(octets).unwrap_or("(not UTF-8)")
 }
 
-/// Whether a line is answered as it is wanted.
+/// Whether a line of the answers is the expected one.
 fn is_wanted(answered: &str, wanted: &str) -> bool {
     match wanted.strip_suffix('*') {
         Some(front) => answered.starts_with(front),
@@ -239,7 +235,7 @@ fn is_wanted(answered: &str, wanted: &str) -> bool {
     }
 }
 
-/// Whether all lines are answered as they are wanted.
+/// Whether all lines of the answers are the expected ones.
 fn are_wanted(answered: &str, wanted: &str) -> bool {
     answered.lines().count() == wanted.lines().count()
         && answered
@@ -248,7 +244,7 @@ fn are_wanted(answered: &str, wanted: &str) -> bool {
             .all(|(answered, wanted)| is_wanted(answered, wanted))
 }
 
-/// Plays a case, and tells how it went.
+/// Plays a case, and reports how it went.
 fn judge(rt: &(impl Print + AllocGlobal), case: &Case) -> io::Result<()> {
     let name = case.name.as_str();
     let Some(sink) = play(rt.alloc(), case.input.as_slice()) else {
@@ -273,7 +269,7 @@ fn read_case(alloc: Global, text: &str) -> Result<Case> {
     Ok(case)
 }
 
-/// Plays all cases, and tells how each went.
+/// Plays all cases, and reports how each went.
 pub fn play_all(rt: &(impl Print + AllocGlobal), table: &str) -> Result<()> {
     for text in table.split("\ncase ").skip(1) {
         let case = read_case(rt.alloc(), text)?;

@@ -1,6 +1,6 @@
-//! Sessions of sixty-four captures in flight that are made by chance, each played twice: with its turns shuffled, and in serial
-//! order, where all turns of a capture stand before its finish. What is left of the answers without those to turns and to early
-//! finishes is to be the same, and so are the archives.
+//! Sessions of sixty-four captures in flight that are made by chance. Each is played twice: with its turns shuffled,
+//! and in serial order, where all turns of a capture come before its finish. Without the answers to turns and to early
+//! finishes both outputs are the same, and so are the archives.
 
 use crate::desks::desk_in_memory;
 use crate::made::chance::Chance;
@@ -22,7 +22,7 @@ const SESSIONS: u64 = 4;
 /// How many captures are in flight at once.
 const CAPTURES: u64 = 64;
 
-/// What the first second after 2199 is, in seconds since 1970-01-01T00:00:00Z.
+/// The first second after 2199, in seconds since 1970-01-01T00:00:00Z.
 const MOMENTS: u64 = 7_258_118_400;
 
 /// The officers, each with a script of its own.
@@ -107,7 +107,8 @@ fn turn(
     pair.shuffle(format!(in alloc; "TURN {ticket} {count}\n")?.as_str())
 }
 
-/// Begins a capture. In the shuffled session one in four is told to finish at once, which is refused, and another capture may go on.
+/// Begins a capture. In the shuffled session one in four gets a FINISH at once, which is refused, and another capture
+/// may make turns.
 fn begin(
     alloc: Global,
     chance: &mut Chance,
@@ -124,7 +125,7 @@ fn begin(
     turn(alloc, chance, pair, 1, ticket)
 }
 
-/// Ends a capture. In the shuffled session others go on before it does.
+/// Ends a capture. In the shuffled session others make turns before it does.
 fn finish(
     alloc: Global,
     chance: &mut Chance,
@@ -137,7 +138,6 @@ fn finish(
     pair.send(format!(in alloc; "TURN {ticket} 60000\nFINISH {ticket}\n")?.as_str())
 }
 
-/// Makes a session.
 fn make(alloc: Global, chance: &mut Chance) -> Result<Pair, AllocError> {
     let mut pair = Pair::new(alloc);
     let length = PLAN.len();
@@ -155,7 +155,7 @@ fn make(alloc: Global, chance: &mut Chance) -> Result<Pair, AllocError> {
     Ok(pair)
 }
 
-/// What a session was answered, and the messages of the records that it left.
+/// The answers of a session, and the messages of the records that it left.
 #[derive(Drop)]
 struct Played {
     answers: Vec<u8>,
@@ -209,7 +209,7 @@ fn kept(alloc: Global, answers: &[u8]) -> Result<String> {
     Ok(kept)
 }
 
-/// Plays a session in both orders, and tells how it went.
+/// Plays a session in both orders, and reports how it went.
 fn compare(rt: &(impl Print + AllocGlobal), pair: &Pair) -> Result<()> {
     let alloc = rt.alloc();
     let shuffled = play(alloc, &pair.shuffled)?;
@@ -228,7 +228,7 @@ fn compare(rt: &(impl Print + AllocGlobal), pair: &Pair) -> Result<()> {
     Ok(())
 }
 
-/// Makes all sessions, and tells how each went.
+/// Makes all sessions, and reports how each went.
 pub fn compare_all(rt: &(impl Print + AllocGlobal)) -> Result<()> {
     for seed in 1..=SESSIONS {
         let pair = make(rt.alloc(), &mut Chance::new(seed))?;

@@ -1,7 +1,7 @@
-//! Stores in files that stop at a call: from one call on each call of a file fails, for each call of each file in turn. What is
-//! found when the files are opened again is the archive of the commands that were answered, or that with the command in which the
-//! file stopped; so of three records that one capture makes there are none or all three. Each time the files are opened as the
-//! process left them, and once more as a crash of the machine may have left them, which loses what was not synced.
+//! Stores in files that stop at a call: from that call on each call of the file fails. Each call of each file is tried
+//! in turn. The files are then opened again as the process left them, and also as a crash of the machine may have left
+//! them, which loses what was not synced. What is found is the archive of the commands that were answered, or that with
+//! the command in which the file stopped. So of three records that one capture makes there are none or all three.
 
 use crate::desks::store_over;
 use crate::trials::{QUESTIONS, told};
@@ -118,7 +118,7 @@ enum Stopping {
     Database,
 }
 
-/// Files of these octets, of which one stops after so many calls.
+/// Files of these octets, of which one stops after `calls` calls.
 fn fused(
     alloc: Global,
     octets: &Octets,
@@ -136,12 +136,10 @@ fn fused(
     })
 }
 
-/// Whether a file has stopped.
 fn has_stopped(file: &mut Fuse<Memory>) -> bool {
     !file.may_be_used() || file.len().is_err()
 }
 
-/// The octets of two files.
 fn octets_of(alloc: Global, files: &Files<Fuse<Memory>>) -> Result<Octets> {
     Ok(Octets {
         log: Vec::from_slice(alloc, files.log.inner().bytes())?,
@@ -192,12 +190,12 @@ fn files_after(desk: Desk<InFiles>) -> Files<Fuse<Memory>> {
     files_of(desk.into_store().into_connection())
 }
 
-/// Whether a command was answered, and not refused for trouble with the database or for want of memory.
+/// Whether a command was answered, and not refused by the database (89) or for lack of memory (99).
 fn is_answered(reply: &[u8]) -> bool {
     !reply.starts_with(b"refused 89\n") && !reply.starts_with(b"refused 99\n")
 }
 
-/// Plays commands up to the first that is not answered, and tells how many were.
+/// Plays commands up to the first that is not answered, and answers how many were.
 fn play_some(alloc: Global, desk: &mut Desk<InFiles>, commands: &[&'static str]) -> Result<usize> {
     let mut done = 0usize;
     for command in commands {
@@ -248,7 +246,7 @@ fn files_with(alloc: Global, octets: &Octets, commands: &[&'static str]) -> Resu
     octets_of(alloc, &played.files)
 }
 
-/// What the archive of two files tells.
+/// What the archive of two files answers to the questions.
 fn archive_of(alloc: Global, files: Files<Fuse<Memory>>) -> Result<Vec<u8>> {
     match desk_over(alloc, files) {
         Ok(mut desk) => told(alloc, &mut desk, QUESTIONS),
@@ -256,7 +254,7 @@ fn archive_of(alloc: Global, files: Files<Fuse<Memory>>) -> Result<Vec<u8>> {
     }
 }
 
-/// What the archive of some octets tells.
+/// What the archive of the octets of two files answers to the questions.
 fn archive_in(alloc: Global, octets: &Octets) -> Result<Vec<u8>> {
     archive_of(alloc, fused(alloc, octets, Stopping::Neither, 0)?)
 }
@@ -283,7 +281,7 @@ fn files_before(alloc: Global, trial: &Trial) -> Result<Octets> {
     files_with(alloc, &laid, trial.before)
 }
 
-/// What the archive of a trial tells before its commands, and after each of them.
+/// What the archive of a trial answers to the questions before its commands, and after each of them.
 fn archives_of(alloc: Global, octets: &Octets, trial: &Trial) -> Result<Vec<Vec<u8>>> {
     let mut archives = Vec::new(alloc);
     for count in 0..=trial.commands.len() {
@@ -293,7 +291,7 @@ fn archives_of(alloc: Global, octets: &Octets, trial: &Trial) -> Result<Vec<Vec<
     Ok(archives)
 }
 
-/// How often files stopped, and how often the command in which they stopped was found done.
+/// How often files stopped, and how often the command in which they stopped was found to be done.
 #[derive(Clone, Copy)]
 struct Counts {
     stops: u64,
@@ -301,7 +299,6 @@ struct Counts {
 }
 
 impl Counts {
-    /// Adds a stop.
     fn add(&mut self, is_found: bool) {
         self.stops = self.stops.saturating_add(1);
         if is_found {
@@ -329,7 +326,7 @@ fn judge(
     Ok(())
 }
 
-/// Plays a trial over files of which one stops after so many calls; false where nothing stopped.
+/// Plays a trial over files of which one stops after a number of calls; false where nothing stopped.
 fn stop_once(
     alloc: Global,
     counts: &mut Counts,
@@ -369,7 +366,7 @@ fn stop_each(
     bail!("the files stop without an end")
 }
 
-/// Plays all trials over files that stop at each call in turn, and tells how they went.
+/// Plays all trials over files that stop at each call in turn, and reports how they went.
 pub fn stop_all(rt: &(impl Print + AllocGlobal)) -> Result<()> {
     let alloc = rt.alloc();
     for trial in &TRIALS {

@@ -1,4 +1,4 @@
-//! What sessions answer over streams that fail, or that move few octets at once.
+//! The output of sessions over streams that fail, or that move few octets at once.
 
 use crate::desks::desk_in_memory;
 use anyhow::{Result, bail};
@@ -6,7 +6,7 @@ use filing_session::memory::{Hitch, MemorySink, MemorySource};
 use filing_session::{ServeFault, Trouble, serve};
 use std::alloc::Global;
 
-/// Serves at a desk of its own, and tells how the session ended.
+/// Serves at a new desk, and answers how the session ended.
 fn run(
     alloc: Global,
     mut source: MemorySource<'_>,
@@ -18,7 +18,8 @@ fn run(
     Ok(serve(alloc, &mut source, sink, &mut desk))
 }
 
-/// Has reads fail at each place, and be interrupted there so often as is borne, and once more.
+/// Lets reads fail at each place, and be interrupted there 64 times in a row, which ends the session, or 63 times,
+/// which does not.
 fn fail_reads(alloc: Global, input: &[u8], whole: &[u8]) -> Result<()> {
     for place in 0..input.len() {
         for (trouble, times) in [(Trouble::Failed, 1), (Trouble::Interrupted, 64)] {
@@ -45,7 +46,8 @@ const HITCHES: [(Hitch, u64); 3] = [
     (Hitch::Interrupted, 64),
 ];
 
-/// Has writes fail at each place, and be interrupted there so often as is borne, and once more.
+/// Lets writes fail at each place, and be interrupted there 64 times in a row, which ends the session, or 63 times,
+/// which does not.
 fn fail_writes(alloc: Global, input: &[u8], whole: &[u8]) -> Result<()> {
     for place in 0..whole.len() {
         for (hitch, times) in HITCHES {
@@ -76,7 +78,7 @@ fn move_few(alloc: Global, input: &[u8], whole: &[u8]) -> Result<()> {
     Ok(())
 }
 
-/// What a session is answered, also where its streams fail or move few octets at once.
+/// The output of a session, also where its streams fail or move few octets at once.
 pub fn streams(alloc: Global, input: &[u8]) -> Result<Vec<u8>> {
     let mut sink = MemorySink::new(alloc);
     if run(alloc, MemorySource::new(input), &mut sink)? != Ok(()) {

@@ -1,4 +1,4 @@
-//! What the scanner answers.
+//! The calls of the scanner.
 
 use crate::told::{refused_at, word};
 use anyhow::{Result, bail};
@@ -44,7 +44,7 @@ fn token_text(alloc: Global, token: &Token) -> Result<String, AllocError> {
     }
 }
 
-/// Tokens, one behind the other.
+/// Tokens, one after the other.
 fn tokens_text(alloc: Global, tokens: &[Token]) -> Result<Vec<u8>> {
     let mut text = Vec::new(alloc);
     for token in tokens {

@@ -1,9 +1,9 @@
-//! How answers are told.
+//! How answers are written as octets.
 
 use anyhow::Result;
 use std::alloc::Global;
 
-/// A word or some words.
+/// One word or several.
 pub fn word(alloc: Global, text: &str) -> Result<Vec<u8>> {
     Ok(Vec::from_slice(alloc, text.as_bytes())?)
 }
@@ -13,12 +13,12 @@ pub fn refused(alloc: Global, number: u8) -> Result<Vec<u8>> {
     Ok(format!(in alloc; "refused {number}")?.into_bytes())
 }
 
-/// A refusal of a text, with the offset of the octet where it stands.
+/// A refusal of a text, with the offset at which it stands.
 pub fn refused_at(alloc: Global, number: u8, at: usize) -> Result<Vec<u8>> {
     Ok(format!(in alloc; "refused {number} at {at}")?.into_bytes())
 }
 
-/// How large a message is.
+/// The size of a message: its octets and how many fields it has.
 pub fn size(alloc: Global, octets: u64, fields: usize) -> Result<Vec<u8>> {
     Ok(format!(in alloc; "{octets} octets, {fields} fields")?.into_bytes())
 }

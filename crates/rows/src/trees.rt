@@ -1,4 +1,4 @@
-//! What the parser answers, and the rules for its tree.
+//! The calls of the parser, and of the rules for its tree.
 
 use crate::told::{refused, refused_at, word};
 use anyhow::{Result, bail};
@@ -25,7 +25,7 @@ fn write_list(out: &mut Vec<u8>, list: &StringList) -> Result<(), AllocError> {
     out.extend_from_slice(b"]")
 }
 
-/// Writes an argument behind a space.
+/// Writes a space and an argument.
 fn write_argument(alloc: Global, out: &mut Vec<u8>, argument: &Argument) -> Result<(), AllocError> {
     out.push(b' ')?;
     match argument {
@@ -52,7 +52,7 @@ fn write_test(alloc: Global, out: &mut Vec<u8>, test: &Test) -> Result<(), Alloc
     write_tests(alloc, out, &test.tests)
 }
 
-/// Writes the tests of a test or of a command, with a comma behind each of a list.
+/// Writes the tests of a test or of a command, with a comma after each of a list.
 #[cycle(test_writer)]
 fn write_tests(alloc: Global, out: &mut Vec<u8>, tests: &Tests) -> Result<(), AllocError> {
     match tests {
@@ -93,7 +93,7 @@ fn write_command(alloc: Global, out: &mut Vec<u8>, command: &Command) -> Result<
     }
 }
 
-/// The most commands that are written out; of more only the number is told.
+/// The most commands that are written out; of more only the number is written.
 const MOST_SHOWN: usize = 20;
 
 /// A tree as the functions above write it, or how many commands it has.

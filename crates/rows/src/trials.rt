@@ -1,5 +1,5 @@
-//! Sessions that are cut after each octet, and whose reads and writes fail at each, with what the archive tells afterwards: each
-//! time it is that of the commands that were done, which are the first ones of the session.
+//! Sessions that are cut after each octet, and whose reads and writes fail at each octet. Each time the archive
+//! afterwards is that of the commands that were done, which are the first ones of the session.
 
 use crate::desks::desk_in_memory;
 use crate::sessions::{Case, cut_cases};
@@ -12,7 +12,8 @@ use std::alloc::Global;
 use std::env;
 use std::rt::Env;
 
-/// What is asked of an archive to tell it from others: what is due, what the first records are, and which classes there are.
+/// The questions that tell an archive from others: what is due, what the first records are, and which classes there
+/// are.
 pub const QUESTIONS: &[u8] =
     b"DUE 9999-12-31\nDESTROY 1 1970-01-01\nDESTROY 2 1970-01-01\nDESTROY 3 1970-01-01\nCLASS finance\nCLASS tax\n";
 
@@ -37,7 +38,6 @@ pub fn told<S: Alter + Drop>(alloc: Global, desk: &mut Desk<S>, input: &[u8]) ->
     Ok(Vec::from_slice(alloc, sink.as_slice())?)
 }
 
-/// A new desk.
 fn new_desk(alloc: Global) -> Result<Desk<MemStore>> {
     match desk_in_memory(alloc) {
         Some(desk) => Ok(desk),
@@ -45,7 +45,7 @@ fn new_desk(alloc: Global) -> Result<Desk<MemStore>> {
     }
 }
 
-/// What stands after some commands: all that they were answered, and what the archive tells.
+/// The state after some commands: all that they were answered, and what the archive answers to the questions.
 #[derive(Drop)]
 struct Stage {
     end: usize,
@@ -53,7 +53,7 @@ struct Stage {
     archive: Vec<u8>,
 }
 
-/// What stands after the commands of an input.
+/// The stage after the commands of an input.
 fn stage_after(alloc: Global, input: &[u8]) -> Result<Stage> {
     let mut desk = new_desk(alloc)?;
     let said = told(alloc, &mut desk, input)?;
@@ -67,7 +67,7 @@ fn stage_after(alloc: Global, input: &[u8]) -> Result<Stage> {
     })
 }
 
-/// What stands before the commands of a case, and after each of them.
+/// The stages before the commands of a case, and after each of them.
 fn stages_of(alloc: Global, case: &Case) -> Result<Vec<Stage>> {
     let mut stages = Vec::new(alloc);
     stages.push(stage_after(alloc, b"")?)?;
@@ -78,7 +78,7 @@ fn stages_of(alloc: Global, case: &Case) -> Result<Vec<Stage>> {
     Ok(stages)
 }
 
-/// The last stage whose commands stand before a place of the input.
+/// The last stage whose commands end before a place of the input, or at it.
 fn stage_at(stages: &[Stage], place: usize) -> Option<&Stage> {
     stages.iter().rev().find(|stage| stage.end <= place)
 }
@@ -89,7 +89,7 @@ fn stage_said(stages: &[Stage], place: usize) -> Option<&Stage> {
     said.or(stages.last())
 }
 
-/// How a session ended, what was written, and what the archive tells after it.
+/// How a session ended, what was written, and what the archive answers after it.
 #[derive(Drop)]
 struct Played {
     ended: Result<(), ServeFault>,
@@ -98,7 +98,7 @@ struct Played {
 }
 
 impl Played {
-    /// Whether it ended so, with this written and this archive.
+    /// Whether the session ended like this, with these octets written and the archive of this stage.
     fn is(&self, ended: Result<(), ServeFault>, written: &[u8], stage: Option<&Stage>) -> bool {
         let Some(stage) = stage else {
             return false;
@@ -118,7 +118,7 @@ fn play(alloc: Global, mut source: MemorySource<'_>, mut sink: MemorySink) -> Re
     })
 }
 
-/// What is written of a session whose input ends at a place.
+/// The output of a session whose input ends at a place.
 fn cut_replies(alloc: Global, stage: &Stage, place: usize) -> Result<Vec<u8>> {
     let mut replies = Vec::from_slice(alloc, stage.replies.as_slice())?;
     let ending = if stage.end == place { ENDED } else { CUT_OFF };
@@ -126,7 +126,7 @@ fn cut_replies(alloc: Global, stage: &Stage, place: usize) -> Result<Vec<u8>> {
     Ok(replies)
 }
 
-/// Has the input of a case end at each place.
+/// Ends the input of a case at each place in turn.
 pub fn cut_anywhere(alloc: Global, case: &Case) -> Result<()> {
     let (input, stages) = (case.input.as_slice(), stages_of(alloc, case)?);
     for place in 0..=input.len() {
@@ -143,7 +143,7 @@ pub fn cut_anywhere(alloc: Global, case: &Case) -> Result<()> {
     Ok(())
 }
 
-/// What a whole session is answered.
+/// The whole output of a session.
 fn whole_replies(alloc: Global, stages: &[Stage]) -> Result<Vec<u8>> {
     match stages.last() {
         Some(stage) => cut_replies(alloc, stage, stage.end),
@@ -155,7 +155,7 @@ fn whole_replies(alloc: Global, stages: &[Stage]) -> Result<Vec<u8>> {
 const CAPTURE: &[u8] =
     b"SCRIPT ann main 35\nrequire \"fileinto\"; fileinto \"tax\";ACTIVE ann main\nBEGIN ann 1700000000 0\nTURN 1 9\nFINISH 1\n";
 
-/// Whether a desk takes over the plan of a text, which it refuses by 50 to 59 otherwise.
+/// Whether a desk takes over the plan of a text. It refuses it with 50 to 58 otherwise.
 fn takes_over(alloc: Global, desk: &mut Desk<MemStore>, text: &[u8]) -> Result<bool> {
     let length = text.len();
     let mut input = format!(in alloc; "PLAN {length}\n")?.into_bytes();
@@ -167,8 +167,8 @@ fn takes_over(alloc: Global, desk: &mut Desk<MemStore>, text: &[u8]) -> Result<b
     Ok(reply.starts_with(b"ok\n"))
 }
 
-/// How many cuts of a plan are taken over by a desk that has it, and a record under it, and how many are refused. After a refusal, and
-/// after the whole plan again, what is due is as before.
+/// How many cuts of a plan are taken over, and how many are refused, by a desk that has the plan and a record under it.
+/// After a refusal, and after the whole plan again, what is due is as before.
 pub fn plan_cuts(alloc: Global, text: &[u8]) -> Result<Vec<u8>> {
     let mut desk = new_desk(alloc)?;
     let _ = takes_over(alloc, &mut desk, text)?;
@@ -196,7 +196,7 @@ const TROUBLES: [(Trouble, u64, bool); 3] = [
     (Trouble::Interrupted, 63, false),
 ];
 
-/// Has the read at a place of the input meet a trouble.
+/// Lets the read at a place of the input meet each trouble.
 fn fail_read(alloc: Global, input: &[u8], stages: &[Stage], place: usize) -> Result<()> {
     let whole = whole_replies(alloc, stages)?;
     for (trouble, times, is_end) in TROUBLES {
@@ -224,7 +224,7 @@ const HITCHES: [(Hitch, u64, bool); 4] = [
     (Hitch::Interrupted, 63, false),
 ];
 
-/// Has the write at a place of the output meet a hitch.
+/// Lets the write at a place of the output meet each hitch.
 fn fail_write(alloc: Global, input: &[u8], stages: &[Stage], place: usize) -> Result<()> {
     let whole = whole_replies(alloc, stages)?;
     for (hitch, times, is_end) in HITCHES {
@@ -243,7 +243,7 @@ fn fail_write(alloc: Global, input: &[u8], stages: &[Stage], place: usize) -> Re
     Ok(())
 }
 
-/// Has each read and each write of a case meet each trouble, and tells how many did.
+/// Lets each read and each write of a case meet each trouble, and reports how many did.
 fn fail_case(rt: &(impl Print + AllocGlobal), case: &Case) -> Result<()> {
     let (alloc, input) = (rt.alloc(), case.input.as_slice());
     let stages = stages_of(alloc, case)?;
@@ -259,7 +259,7 @@ fn fail_case(rt: &(impl Print + AllocGlobal), case: &Case) -> Result<()> {
     Ok(())
 }
 
-/// Has the reads and writes of the cases that are cut meet each trouble.
+/// Lets the reads and writes of the cases that are cut meet each trouble.
 pub fn fail_cases(rt: &(impl Print + AllocGlobal), table: &str) -> Result<()> {
     for case in cut_cases(rt.alloc(), table)? {
         fail_case(rt, &case)?;

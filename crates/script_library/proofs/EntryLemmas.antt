@@ -1,4 +1,4 @@
--- A shelf as its entries lie in memory, and as a location.
+-- A shelf as its entries in memory, and as a location.
 use Rattle.std.proofs.Common.{◌≡◌, ℕ, ◌<◌, ◌≤◌, List, [], ◌∷◌, ◌++◌, Bool, cond, nat_lt, Some, None, IsSome, option_map, map, length, get_or, set, refl, sym, ap, ◌∙◌, subst, arith, position}
 use Rattle.std.specs.Prelude.{find}
 use Rattle.std.specs.List.{position_or_len, slice_get}
@@ -50,7 +50,7 @@ module _ (name : List ℕ) (items : List Entry) (es : List NamedScript) (view : 
   pub script_at : (i : ℕ) (e : Entry) → At i → e ≡ get_or items i e → Some e.script.value.script ≡ named name es
   script_at i e h is = sym (ap (option_map (λ (x : NamedScript). x.script)) (found_at i e h is))
 
-  -- in the place of another
+  -- in the place of the one that has the name
   pub replaced : (i : ℕ) (e x : Entry) → At i → e ≡ get_or items i e → x.name.items ≡ e.name.items → map entry_of (set items i x) ≡ put (with_script x) es
   replaced i e x h is same =
       let at = placed (is_named name) es i h in

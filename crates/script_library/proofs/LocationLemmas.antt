@@ -1,4 +1,4 @@
--- What stands in a location, and what putting a script there changes.
+-- What a location has at each name, and what putting a script there changes.
 use Rattle.std.proofs.Common.{◌≡◌, ℕ, suc, ◌+◌, ◌<◌, ◌≤◌, List, [], ◌∷◌, ◌++◌, Bool, true, false, not, cond, Some, None, option_map, map, length, set, refl, sym, ap, ◌∙◌, arith, position, length-append}
 use Rattle.std.specs.Prelude.{find}
 use Rattle.std.specs.List.{position_or_len, slice_get}
@@ -74,7 +74,7 @@ put_last x (e ∷ es) h = by (is_named x.name e) h (put_last x es)
     by true k rest = absurd (cc k)
     by false k rest = ap (λ t. e ∷ t) (rest k)
 
--- what is found after
+-- what is found after a script was put at its name
 module _ (x : NamedScript) (n : List ℕ) where
   only : (b : Bool) → option_map (λ (y : NamedScript). y.script) (cond b (Some x) None) ≡ cond b (Some x.script) None
   only true = refl

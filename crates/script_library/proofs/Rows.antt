@@ -1,4 +1,4 @@
--- The definitions on small libraries: each line computes.
+-- Examples of the definitions on small libraries: each equation is computed.
 use Rattle.std.proofs.Common.{◌≡◌, ℕ, List, [], ◌∷◌, true, false, Some, None, codes, refl}
 use Rattle.sieve_syntax.specs.declared.tree.Script.{Script}
 use Rattle.sieve_syntax.specs.View.{tree_of}
@@ -26,11 +26,11 @@ put_new a b c = refl
 put_again : (a b c : Script) → put (entry spam c) (three a b c).personal ≡ entry spam c ∷ entry lists b ∷ []
 put_again a b c = refl
 
--- names are compared octet for octet
+-- names are compared octet by octet
 named_exactly : (a b c : Script) → named (codes "Lists") (three a b c).personal ≡ None
 named_exactly a b c = refl
 
--- one name in both locations
+-- the same name in both locations
 found_personal : (a b c : Script) → (library_of (three a b c)).find (record { global = false; name = lists }) ≡ Some (program_of (tree_of b))
 found_personal a b c = refl
 

@@ -1,4 +1,4 @@
--- What two shelves that are lent hold.
+-- The scripts of two borrowed shelves.
 use Rattle.script_library.specs.declared.shelves.Shelves.{Shelves}
 use Rattle.script_library.specs.Libraries.{Scripts}
 

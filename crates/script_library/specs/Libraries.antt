@@ -1,5 +1,5 @@
--- The scripts that can be included: those of the user and those of the site (RFC 6609, section 3.2, `:personal` and
--- `:global`), each by its name.
+-- The scripts that can be included (RFC 6609, section 3.2), each by its name: those of the user (`:personal`) and those
+-- of the site (`:global`).
 use Rattle.std.specs.Prelude.{◌≡◌, ℕ, ◌≤◌, List, [], ◌∷◌, length, Bool, true, false, if◌then◌else◌, Option, Some, None, option_map, find, refl}
 use Rattle.std.specs.List.{position_or_len}
 use Rattle.std.specs.Str.{bytes_eq}
@@ -12,7 +12,6 @@ use Rattle.sieve_meaning.specs.Reading.{program_of}
 use Rattle.script_library.specs.declared.fault.LibraryFault.{LibraryFault}
 use Rattle.script_library.specs.declared.fault.LibraryFault.TheVariants.{Full, NoMemory}
 
--- a script with its name
 pub record NamedScript : Type 0 where
   pub name : List ℕ
   pub script : Script
@@ -20,11 +19,11 @@ pub record NamedScript : Type 0 where
 abbrev pub is_named : List ℕ → NamedScript → Bool
 is_named name e = bytes_eq e.name name
 
--- entries are stored as pairs
+-- entries are coded as pairs
 abbrev pub entries_code : Coded (List NamedScript)
 entries_code = coded_list (code_by (List ℕ × Script) (coded× (coded_list coded_ℕ) kept.the_row.coded) (λ e. (e.name, e.script)) (λ p. record { name = p.0; script = p.1 }) (λ _. refl))
 
--- A location is a map from names to scripts: the list of its entries. This is the script at a name.
+-- the script at a name; a location is a map from names to scripts, given as the list of its entries
 abbrev pub named : List ℕ → List NamedScript → Option Script
 named name es = option_map (λ e. e.script) (find (is_named name) es)
 
@@ -32,16 +31,16 @@ named name es = option_map (λ e. e.script) (find (is_named name) es)
 abbrev pub place_of : List ℕ → List NamedScript → ℕ
 place_of name es = position_or_len (is_named name) es
 
--- with this script at its name: in the place of the one that was there, or after all others
+-- the location with this script at its name: in the place of the one that has the name, or after all others
 abbrev pub put : NamedScript → List NamedScript → List NamedScript
 put x [] = x ∷ []
 put x (e ∷ es) = if is_named x.name e then x ∷ es else e ∷ put x es
 
--- The one script is found at its name, and at each other name what was found before.
+-- the script is found at its name, and at each other name the one that was found before
 abbrev pub IsFoundIn : NamedScript → (old new : List NamedScript) → Type 0
 IsFoundIn x old new = (name : List ℕ) → named name new ≡ (if bytes_eq x.name name then Some x.script else named name old)
 
--- no name stands twice
+-- no name occurs twice
 abbrev pub EachOnce : List NamedScript → Type 0
 EachOnce [] = Unit {0}
 EachOnce (e ∷ es) = (named e.name es ≡ None) × EachOnce es
@@ -50,12 +49,12 @@ EachOnce (e ∷ es) = (named e.name es ≡ None) × EachOnce es
 abbrev pub most_scripts : ℕ
 most_scripts = 32
 
--- Each name stands once in a location, which has at most thirty-two.
+-- each name occurs once in a location, which has at most thirty-two
 pub record IsLocation (es : List NamedScript) : Type 0 where
   pub once : EachOnce es
   pub few : length es ≤ most_scripts
 
--- a new name in a location of thirty-two
+-- a new name in a location that has thirty-two
 pub record HasNoRoom (es : List NamedScript) (name : List ℕ) : Type 0 where
   pub full : length es ≡ most_scripts
   pub missing : named name es ≡ None
@@ -79,11 +78,12 @@ abbrev pub location_of : (global : Bool) → Scripts → List NamedScript
 location_of true l = l.global
 location_of false l = l.personal
 
--- what an include finds: a global name among the global scripts, another among the personal ones
+-- what an include finds (RFC 6609, section 3.2): a global name among the global scripts, another among the personal
+-- ones
 abbrev pub library_of : Scripts → Library
 library_of l = record { find = λ s. option_map (λ x. program_of (tree_of x)) (named s.name (location_of s.global l)) }
 
--- the numbers by which faults are told
+-- the numbers of the faults
 abbrev pub library_number : LibraryFault → ℕ
 library_number Full = 96
 library_number NoMemory = 99

@@ -12,13 +12,13 @@ pub enum LibraryFault {
     /// 96: the name is new, and its location has thirty-two scripts.
     #[error("the library is full")]
     Full,
-    /// 99: an allocation was refused.
+    /// 99: out of memory.
     #[error("out of memory")]
     NoMemory,
 }
 
 impl LibraryFault {
-    /// The number by which the fault is told: 96 or 99.
+    /// The number of the fault: 96 or 99.
     pub fn number(self) -> u8
         ensures { result ≡ library_number self }
     {

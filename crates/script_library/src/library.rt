@@ -16,8 +16,8 @@ use std::alloc::Global;
 use std::marker::Model;
 use std::rc::Rc;
 
-/// The scripts that can be included, in two locations: those of the user and those that all users share. Contracts see
-/// it as the two maps from names to scripts.
+/// The scripts that can be included (RFC 6609, section 3.2), in two locations: those of the user and those that all
+/// users share. Contracts see it as the two maps from names to scripts.
 #[derive(Drop)]
 pub struct Library {
     personal: Shelf,
@@ -35,7 +35,7 @@ impl Model for Library {
 }
 
 impl Library {
-    /// No script; takes no memory.
+    /// A library without scripts. It allocates nothing.
     pub fn new(alloc: Global) -> Library
         ensures empty { result ≡ no_scripts }
         ensures finds_none { library_of result ≡ no_library }
@@ -46,8 +46,9 @@ impl Library {
         }
     }
 
-    /// Puts a script at a name of the user's own, in the place of one that is there. `Full`, 96, exactly for a new name
-    /// where thirty-two are there; `NoMemory`, 99, only for a new name. The library is then as before.
+    /// Puts a script at a name of the user's own, in the place of the one that has the name. Refuses with `Full` (96)
+    /// exactly where the name is new and thirty-two scripts are there, and with `NoMemory` (99) only for a new name.
+    /// The library is then unchanged.
     pub fn set_personal(&mut self, name: &[u8], script: Rc<Checked>) -> Result<(), LibraryFault>
         ensures ok { OnOk result (self.new ≡ record self.old { personal = put (record { name = name.now; script = script.value.script }) self.old.personal }) }
         ensures found { OnOk result (IsFoundIn (record { name = name.now; script = script.value.script }) self.old.personal self.new.personal) }
@@ -58,8 +59,9 @@ impl Library {
         self.personal.put(name, script)
     }
 
-    /// Puts a script at a name that all users share, in the place of one that is there. `Full`, 96, exactly for a new
-    /// name where thirty-two are there; `NoMemory`, 99, only for a new name. The library is then as before.
+    /// Puts a script at a name that all users share, in the place of the one that has the name. Refuses with `Full`
+    /// (96) exactly where the name is new and thirty-two scripts are there, and with `NoMemory` (99) only for a new
+    /// name. The library is then unchanged.
     pub fn set_global(&mut self, name: &[u8], script: Rc<Checked>) -> Result<(), LibraryFault>
         ensures ok { OnOk result (self.new ≡ record self.old { global = put (record { name = name.now; script = script.value.script }) self.old.global }) }
         ensures found { OnOk result (IsFoundIn (record { name = name.now; script = script.value.script }) self.old.global self.new.global) }
@@ -70,14 +72,14 @@ impl Library {
         self.global.put(name, script)
     }
 
-    /// The script at a name of a location.
+    /// The script at a name of a location, if there is one. Names are compared octet by octet.
     pub fn get(&self, location: Location, name: &[u8]) -> Option<&Checked>
         ensures { option_map (λ c. c.now.script) result ≡ named name.now (location_of (is_global location) self.now) }
     {
         self.shelves().get(location, name)
     }
 
-    /// Its two shelves, as an include looks at them.
+    /// The two shelves, borrowed, as an include looks at them.
     pub fn shelves(&self) -> Shelves<'_>
         ensures { scripts_of result ≡ self.now }
     {

@@ -11,17 +11,15 @@ use std::alloc::Global;
 use std::marker::Model;
 use std::rc::Rc;
 
-/// The most scripts of a shelf.
+/// The most scripts that a shelf holds.
 pub const MAX_SCRIPTS: usize = 32;
 
-/// A script with its name.
 #[derive(Drop)]
 struct Entry {
     name: Vec<u8>,
     script: Rc<Checked>,
 }
 
-/// The place of the name among entries.
 fn place_among(entries: &[Entry], name: &[u8]) -> Option<usize>
     ensures { result ≡ position (λ e. is_named name.now (entry_of e)) entries.now }
 {
@@ -30,8 +28,8 @@ fn place_among(entries: &[Entry], name: &[u8]) -> Option<usize>
         .position(|entry| entry.name.as_slice() == name)
 }
 
-/// Scripts by name, in the order in which the names came: each name once, and at most thirty-two. Contracts see it as the
-/// map from names to scripts. It holds each script once, however often it was handed out.
+/// Scripts by name, in the order in which the names came: each name once, and at most thirty-two. Contracts see it as
+/// the map from names to scripts. It holds each script once, however often it was lent.
 #[derive(Drop)]
 pub struct Shelf {
     alloc: Global,
@@ -54,7 +52,7 @@ impl Model for Shelf {
 }
 
 impl Shelf {
-    /// No script; takes no memory.
+    /// A shelf without scripts. It allocates nothing.
     pub fn new(alloc: Global) -> Shelf
         ensures { result ≡ [] }
     {
@@ -64,7 +62,7 @@ impl Shelf {
         }
     }
 
-    /// How many scripts there are: thirty-two at most.
+    /// How many scripts there are, at most thirty-two.
     pub fn len(&self) -> usize
         ensures count { result ≡ length self.now }
         ensures location { IsLocation self.now }
@@ -72,14 +70,13 @@ impl Shelf {
         self.entries.len()
     }
 
-    /// The place of the name.
     fn place(&self, name: &[u8]) -> Option<usize>
         ensures { result ≡ position (is_named name.now) self.now }
     {
         place_among(&self.entries, name)
     }
 
-    /// The script of the name, with its place among the scripts, from 0.
+    /// The script of a name, if there is one, with its place among the scripts, counted from 0.
     pub fn find(&self, name: &[u8]) -> Option<(usize, &Checked)>
         ensures script { option_map (λ f. f.1.now.script) result ≡ named name.now self.now }
         ensures place { IfSome result (λ f. f.0 ≡ place_of name.now self.now) }
@@ -92,7 +89,7 @@ impl Shelf {
         }
     }
 
-    /// The script of the name.
+    /// The script of a name, if there is one. Names are compared octet by octet.
     pub fn get(&self, name: &[u8]) -> Option<&Checked>
         ensures { option_map (λ c. c.now.script) result ≡ named name.now self.now }
     {
@@ -102,8 +99,9 @@ impl Shelf {
         }
     }
 
-    /// Puts a script at a name, in the place of one that is there. `Full`, 96, exactly for a new name where thirty-two are
-    /// there; `NoMemory`, 99, only for a new name. The shelf is then as before.
+    /// Puts a script at a name, in the place of the one that has the name. Refuses with `Full` (96) exactly where the
+    /// name is new and thirty-two scripts are there, and with `NoMemory` (99) only for a new name. The shelf is then
+    /// unchanged.
     pub fn put(&mut self, name: &[u8], script: Rc<Checked>) -> Result<(), LibraryFault>
         ensures ok { OnOk result (self.new ≡ put (record { name = name.now; script = script.value.script }) self.old) }
         ensures found { OnOk result (IsFoundIn (record { name = name.now; script = script.value.script }) self.old self.new) }

@@ -1,4 +1,4 @@
-//! What an include looks at.
+//! The scripts that an include looks at.
 
 ghost use Rattle.std.specs.Prelude.{◌≡◌, option_map};
 ghost use Rattle.sieve_meaning.specs.Scripts.{is_global};
@@ -9,8 +9,8 @@ use crate::shelf::Shelf;
 use sieve_check::Checked;
 use sieve_meaning::Location;
 
-/// The scripts that can be included, in two locations: those of the user and those that all users share. Both shelves are
-/// borrowed, and no script is copied or counted.
+/// The scripts that can be included (RFC 6609, section 3.2), in two locations: those of the user and those that all
+/// users share. Both shelves are borrowed, and no script is copied or counted.
 #[derive(Clone, Copy, Drop)]
 pub struct Shelves<'a> {
     pub personal: &'a Shelf,
@@ -28,7 +28,7 @@ impl<'a> Shelves<'a> {
         }
     }
 
-    /// The script at a name of a location.
+    /// The script at a name of a location, if there is one.
     pub fn get(self, location: Location, name: &[u8]) -> Option<&'a Checked>
         ensures { option_map (λ c. c.now.script) result ≡ named name.now (location_of (is_global location) (scripts_of self.entry)) }
     {

@@ -17,7 +17,7 @@ pub any_found : (has : Capability → Bool) (get : Findings → Bool) (test : Pi
 any_found has get test turn f [] = sym (or-false (get f))
 any_found has get test turn f (p ∷ ps) = any_found has get test turn (found_with has f p) ps ∙ ap (λ (b : Bool). b || list_any test ps) (turn f p) ∙ or_assoc (get f) (test p) (list_any test ps)
 
--- whether a tag stands behind a positional argument, of which one stands before these pieces or none
+-- whether a tag comes after a positional argument; the flag tells that one came before these pieces
 behind_from : Bool → List PieceWord → Bool
 behind_from true ps = list_any is_tagged ps
 behind_from false ps = tag_behind ps
@@ -46,7 +46,7 @@ pub tag_behind_found : (has : Capability → Bool) (ps : List PieceWord) → (fo
 unfolding behind_from
 tag_behind_found has ps = behind_found has nothing_found ps
 
--- whether there is a second tag, where one stands before these pieces or none
+-- whether there is a second tag; the flag tells that one came before these pieces
 second_from : Bool → List PieceWord → Bool
 second_from true ps = list_any is_tagged ps
 second_from false [] = false

@@ -17,7 +17,7 @@ use Rattle.sieve_check.proofs.Strings.{drop_at}
 pub form_least : (has : Capability → Bool) (form : WordForm) (args : List Argument) (inner : InnerTests) → least (broken_in_form has form args inner) ≡ first_broken (form_rules has form (pieces form.tags args) inner)
 form_least has form args inner = least_is_first 0 (form_rules has form (pieces form.tags args) inner) (omega arith, (omega arith, (omega arith, (omega arith, (omega arith, (omega arith, tt))))))
 
--- of a test that the table has
+-- for a test that the table has
 pub test_least : (has : Capability → Bool) (name : List ℕ) (args : List Argument) (inner : InnerTests) (w : TestWord) → Some w ≡ test_named name → lesser (first_broken (form_rules has w.form (pieces w.form.tags args) inner)) (least (broken_by_inner has inner)) ≡ least (broken_by_test has (test name args inner))
 test_least has name args inner w e =
     ap (λ (o : Option ℕ). lesser o (least (broken_by_inner has inner))) (sym (form_least has w.form args inner))
@@ -47,7 +47,7 @@ judge_turn has items i t f g r whole lt is h eg er =
 pub judge_done : (has : Capability → Bool) (f whole : Option ℕ) → lesser f (least (broken_by_each has [])) ≡ whole → f ≡ whole
 judge_done has f whole h = sym (lesser_none f) ∙ h
 
--- of a command that the table has
+-- for a command that the table has
 pub command_least : (has : Capability → Bool) (begun : Bool) (w : CommandWord) (p : Placed) (place form inside rest all : Option ℕ) → place ≡ first_broken (place_rules begun w p) → form ≡ first_broken (form_rules has w.form (pieces w.form.tags p.args) p.inner) → inside ≡ least (broken_by_inner has p.inner) → rest ≡ lesser form inside → all ≡ lesser place rest → all ≡ least (broken_in_place has begun (Some w) p)
 command_least has begun w p place form inside rest all ep ef ei er ea =
     ea

@@ -1,4 +1,4 @@
--- Scripts with their refusals: the definitions compute them.
+-- Scripts and their refusals, which the definitions compute.
 use Rattle.std.proofs.Common.{◌≡◌, ℕ, List, [], ◌∷◌, Some, None, refl}
 use Rattle.std.specs.Prelude.{codes}
 use Rattle.sieve_syntax.specs.declared.tree.StringList.TheVariants as string_lists
@@ -237,7 +237,8 @@ empty : refusal_of no_commands ≡ None
 unfolding refusal_of refusal_from same_name same_text
 empty = refl
 
--- require ["fileinto", "copy", "include"]; if header :Contains "subject" "invoice" { fileinto :copy "finance"; } ELSIF anyof (size :over 5, not exists ["a", "b"]) { stop; } else { Include :global :once :optional "g"; return; }
+-- require ["fileinto", "copy", "include"]; if header :Contains "subject" "invoice" { fileinto :copy "finance"; } ELSIF
+-- anyof (size :over 5, not exists ["a", "b"]) { stop; } else { Include :global :once :optional "g"; return; }
 filing : refusal_of (command_then (command (codes "require") (many (codes "fileinto") ((codes "copy") ∷ (codes "include") ∷ []) ∷ []) no_tests semicolon) (command_then (command (codes "if") ([]) (one_test (test (codes "header") (marked (codes "Contains") ∷ one (codes "subject") ∷ one (codes "invoice") ∷ []) no_tests)) (block (command_then (command (codes "fileinto") (marked (codes "copy") ∷ one (codes "finance") ∷ []) no_tests semicolon) no_commands))) (command_then (command (codes "ELSIF") ([]) (one_test (test (codes "anyof") ([]) (listed_tests (test (codes "size") (marked (codes "over") ∷ arguments.Number 5 ∷ []) no_tests) (next_test (test (codes "not") ([]) (one_test (test (codes "exists") (many (codes "a") ((codes "b") ∷ []) ∷ []) no_tests))) last_test)))) (block (command_then (command (codes "stop") ([]) no_tests semicolon) no_commands))) (command_then (command (codes "else") ([]) no_tests (block (command_then (command (codes "Include") (marked (codes "global") ∷ marked (codes "once") ∷ marked (codes "optional") ∷ one (codes "g") ∷ []) no_tests semicolon) (command_then (command (codes "return") ([]) no_tests semicolon) no_commands)))) no_commands)))) ≡ None
 unfolding refusal_of refusal_from same_name same_text
 filing = refl

@@ -1,4 +1,4 @@
--- A kind stands twice exactly where it stands again behind its first piece.
+-- A kind occurs twice exactly if it occurs again after its first piece.
 use Rattle.std.proofs.Common.{◌≡◌, ℕ, suc, ◌+◌, Bool, true, false, cond, List, [], ◌∷◌, drop, refl, ap, ◌∙◌, sym, arith}
 use Rattle.std.specs.Prelude.{not}
 use Rattle.std.specs.List.{list_any, prefix_len}

@@ -1,4 +1,4 @@
--- Going over commands, a part after another, and what it says of the refusal.
+-- Going over commands, one part after another, and what it says of the refusal.
 use Rattle.std.proofs.Common.{◌≡◌, ℕ, ◌+◌, ◌<◌, Bool, List, [], ◌∷◌, ◌++◌, length, drop, get_or, map, Option, Some, None, Result, Ok, Err, refl, sym, ap, ◌∙◌}
 use Rattle.sieve_syntax.specs.declared.tree.Argument.{Argument}
 use Rattle.sieve_syntax.specs.declared.tree.Command.{Command}
@@ -50,7 +50,7 @@ module _ (c : Context) (follows : Bool) (name : List ℕ) (args : List Argument)
   abbrev at_row : Option CommandWord → Option ℕ
   at_row o = least (broken_in_place (has_of c.named) c.begun o (head_of follows (command name args inner finish)))
 
-  -- a command that the table doesn't have
+  -- a command that the table does not have
   pub walk_unknown : None ≡ command_named name → Err 32 ≡ walk c (command_in_order follows (command name args inner finish))
   unfolding walk
   walk_unknown e = ap (λ (o : Option CommandWord). unless (at_row o) (walk (context_after c (head_of follows (command name args inner finish))) (ending_in_order finish))) e

@@ -1,4 +1,4 @@
--- What the checker knows of the commands before a command.
+-- What the checker knows from the commands before a command.
 use Rattle.std.specs.Prelude.{ℕ, Bool, true, false, List, [], ◌∷◌, Option, Some, None}
 use Rattle.sieve_check.specs.Tables.{CapabilityWord}
 use Rattle.sieve_check.specs.Lookup.{capability_named}

@@ -1,4 +1,4 @@
--- What the pieces of the code stand for.
+-- What the pieces of the code represent.
 use Rattle.std.specs.Prelude.{List, map}
 use Rattle.std.specs.Option.{option_map}
 use Rattle.sieve_check.specs.Pieces.{PieceWord, tagged, positional, pieces}

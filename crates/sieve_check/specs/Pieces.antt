@@ -9,11 +9,11 @@ use Rattle.sieve_check.specs.Tables.{TagWord}
 use Rattle.sieve_check.specs.Lookup.{tag_named}
 
 pub data PieceWord : Type 0 where
-  -- a tag, with its row if the table has it there, and with the comparator that it names
+  -- a tag, with its row if the table has one for it, and with the comparator that it names
   tagged : (word : Option TagWord) (comparator : Option (List ℕ)) → PieceWord
   positional : Argument → PieceWord
 
--- the string outside brackets that stands first
+-- the string outside brackets that comes first
 abbrev pub string_first : List Argument → Option (List ℕ)
 string_first [] = None
 string_first (arguments.Strings (string_lists.One s) ∷ more) = Some s
@@ -26,7 +26,7 @@ comparator_pieces false w next behind = tagged (Some w) None ∷ behind
 comparator_pieces true w None behind = tagged (Some w) None ∷ behind
 comparator_pieces true w (Some s) behind = tagged (Some w) (Some s) ∷ drop 1 behind
 
--- a tag of the table that names a comparator takes the string directly behind it, if one stands there
+-- a tag of the table that names a comparator takes the string directly after it, if there is one
 abbrev pub tag_pieces : Option TagWord → Option (List ℕ) → List PieceWord → List PieceWord
 tag_pieces None next behind = tagged None None ∷ behind
 tag_pieces (Some w) next behind = comparator_pieces w.names_comparator w next behind

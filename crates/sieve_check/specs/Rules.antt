@@ -23,8 +23,9 @@ use Rattle.sieve_check.specs.Pieces.{PieceWord, tagged, positional, pieces, is_t
 
 -- ---- commands in text order
 
--- A command without the commands of its block: its row, if the table has its name; what stands behind the name;
--- whether it ends with a block; and whether the command directly before it, in the same block, is an `if` or `elsif`.
+-- A command without the commands of its block: its row, if the table has its name; what follows the name; and whether
+-- it ends with a block. The last field says whether the command directly before it, in the same block, is an `if` or
+-- `elsif`.
 pub record Placed : Type 0 where
   pub word : Option CommandWord
   pub args : List Argument
@@ -66,11 +67,11 @@ abbrev pub is_block : EndingTree → Bool
 is_block semicolon = false
 is_block (block cs) = true
 
--- The truth says whether the command directly before, in the same block, is an `if` or `elsif`.
+-- The flag says whether the command directly before, in the same block, is an `if` or `elsif`.
 abbrev pub head_of : Bool → CommandTree → Placed
 head_of follows (command name args inner finish) = record { word = command_named name; args = args; inner = inner; has_block = is_block finish; follows_branch = follows }
 
--- the commands in text order: a command stands before those of its block
+-- the commands in text order: a command comes before those of its block
 abbrev mutual
   pub command_in_order : Bool → CommandTree → List Placed
   command_in_order follows (command name args inner finish) = head_of follows (command name args inner finish) ∷ ending_in_order finish
@@ -90,7 +91,7 @@ argument_strings (arguments.Strings l) = strings_of l
 argument_strings (arguments.Number n) = []
 argument_strings (arguments.Tag name) = []
 
--- each string that stands in arguments
+-- each string in arguments
 abbrev pub strings_in : List Argument → List (List ℕ)
 strings_in = flat_map argument_strings
 
@@ -104,11 +105,11 @@ named_by before c = list_any (λ p. requires p c) before
 
 -- ---- the rules
 
--- 30: a `require` names something that is no capability of this profile (RFC 5228, section 3.2).
+-- 30: a `require` names an unknown capability (RFC 5228, section 3.2).
 abbrev pub names_unknown : List Argument → Bool
 names_unknown args = list_any (λ s. is_none (capability_named s)) (strings_in args)
 
--- 31: a `require` stands behind a command other than `require`, wherever that stands (RFC 5228, section 3.2).
+-- 31: a `require` comes after a command other than `require`, wherever that one is (RFC 5228, section 3.2).
 abbrev pub has_begun : List Placed → Bool
 has_begun = list_any (λ p. not (is_require (role_of p.word)))
 
@@ -126,13 +127,13 @@ piece_lacks has (positional a) = false
 abbrev pub lacks_capability : (Capability → Bool) → WordForm → List PieceWord → Bool
 lacks_capability has form ps = lacks has form.needs || list_any (piece_lacks has) ps
 
--- 35: a tag that the table does not have there, or a tag behind a positional argument (RFC 5228, section 2.6.2).
+-- 35: a tag that the table does not have there, or a tag after a positional argument (RFC 5228, section 2.6.2).
 abbrev pub is_unknown_tag : PieceWord → Bool
 is_unknown_tag (tagged None c) = true
 is_unknown_tag (tagged (Some w) c) = false
 is_unknown_tag (positional a) = false
 
--- whether a tag stands behind those with which the arguments begin
+-- whether a tag comes after those with which the arguments begin
 abbrev pub tag_behind : List PieceWord → Bool
 tag_behind ps = list_any is_tagged (drop (prefix_len is_tagged ps) ps)
 
@@ -157,7 +158,7 @@ has_kind k (tagged None c) = false
 has_kind k (tagged (Some w) c) = same_kind k w.kind
 has_kind k (positional a) = false
 
--- another piece of this kind stands behind the first one
+-- another piece of this kind comes after the first one
 abbrev pub stands_twice : TagKind → List PieceWord → Bool
 stands_twice k [] = false
 stands_twice k (p ∷ ps) = if has_kind k p then list_any (has_kind k) ps else stands_twice k ps
@@ -165,9 +166,9 @@ stands_twice k (p ∷ ps) = if has_kind k p then list_any (has_kind k) ps else s
 abbrev pub has_tag_twice : WordForm → List PieceWord → Bool
 has_tag_twice form ps = list_any (λ w. stands_twice w.kind ps) form.tags
 
--- 37: positional arguments of another number or kind than the table's (RFC 5228, section 2.6.1); a tag that names
--- a comparator without a string outside brackets directly behind it (section 2.7.3); or none of the tags of which
--- one has to be there (section 5.9).
+-- 37: positional arguments of another number or kind than the table's (RFC 5228, section 2.6.1). Or a tag that names a
+-- comparator, without a string outside brackets directly after it (section 2.7.3). Or none of the tags of which one is
+-- required (section 5.9).
 abbrev pub takes : Positional → Argument → Bool
 takes places.OneString (arguments.Strings (string_lists.One s)) = true
 takes places.OneString (arguments.Strings (string_lists.Listed s ss)) = false
@@ -196,7 +197,7 @@ lacks_tag (Some k) ps = not (list_any (has_kind k) ps)
 abbrev pub has_wrong_arguments : WordForm → List PieceWord → Bool
 has_wrong_arguments form ps = not (fits form ps) || (list_any lacks_string ps || lacks_tag form.needs_tag ps)
 
--- 38: a comparator that is none of this profile (RFC 5228, section 2.7.3).
+-- 38: an unknown comparator (RFC 5228, section 2.7.3).
 abbrev pub is_unknown_comparator : PieceWord → Bool
 is_unknown_comparator (tagged w None) = false
 is_unknown_comparator (tagged w (Some s)) = not (list_any (λ t. same_text s t) comparator_table)
@@ -232,7 +233,7 @@ has_wrong_tests wanted inner = not (same_tests wanted (tests_there inner))
 
 -- ---- the numbers of the rules that are broken
 
--- a truth that says whether a rule is broken, and the rule's number
+-- whether a rule is broken, and the rule's number
 abbrev pub Rule : Type 0
 Rule = Bool × ℕ
 
@@ -240,19 +241,19 @@ abbrev pub broken : List Rule → List ℕ
 broken [] = []
 broken (r ∷ rs) = if r.0 then r.1 ∷ broken rs else broken rs
 
--- the rules on what stands behind a name that the table has, without the tests inside
+-- the rules on what follows a name of the table, without the tests inside
 abbrev pub form_rules : (Capability → Bool) → WordForm → List PieceWord → InnerTests → List Rule
 form_rules has form ps inner = (lacks_capability has form ps, 34) ∷ (has_wrong_tag ps, 35) ∷ (has_tag_twice form ps, 36) ∷ (has_wrong_arguments form ps, 37) ∷ (list_any is_unknown_comparator ps, 38) ∷ (has_wrong_tests form.tests inner, 41) ∷ []
 
 abbrev pub broken_in_form : (Capability → Bool) → WordForm → List Argument → InnerTests → List ℕ
 broken_in_form has form args inner = broken (form_rules has form (pieces form.tags args) inner)
 
--- 33: an unknown test (RFC 5228, section 2.10.5). Nothing else of it is judged, and not the tests inside it.
+-- 33: an unknown test (RFC 5228, section 2.10.5). Nothing else of it is judged, nor the tests inside it.
 abbrev pub broken_in_test : (Capability → Bool) → Option TestWord → List Argument → InnerTests → List ℕ → List ℕ
 broken_in_test has None args inner inside = 33 ∷ []
 broken_in_test has (Some w) args inner inside = broken_in_form has w.form args inner ++ inside
 
--- of a test, with the tests inside it at any depth
+-- for a test, with the tests inside it at any depth
 abbrev mutual
   pub broken_by_test : (Capability → Bool) → TestTree → List ℕ
   broken_by_test has (test name args inner) = broken_in_test has (test_named name) args inner (broken_by_inner has inner)
@@ -266,17 +267,17 @@ abbrev mutual
   broken_by_row has last_test = []
   broken_by_row has (next_test t row) = broken_by_test has t ++ broken_by_row has row
 
--- the rules on where a command stands, on what a `require` names and on how a command ends
+-- the rules on the place of a command, on what a `require` names and on how a command ends
 abbrev pub place_rules : Bool → CommandWord → Placed → List Rule
 place_rules begun w p = (is_require w.role && names_unknown p.args, 30) ∷ (is_require w.role && begun, 31) ∷ (lacks_branch w.role p.follows_branch, 39) ∷ (has_wrong_ending w.has_block p.has_block, 40) ∷ []
 
--- 32: an unknown command (RFC 5228, section 2.10.5). Nothing else of it is judged.
--- `has` are the capabilities named before, `begun` says whether a command other than `require` stands before.
+-- 32: an unknown command (RFC 5228, section 2.10.5). Nothing else of it is judged. `has` tells the capabilities named
+-- before, and `begun` whether a command other than `require` comes before.
 abbrev pub broken_in_place : (Capability → Bool) → Bool → Option CommandWord → Placed → List ℕ
 broken_in_place has begun None p = 32 ∷ []
 broken_in_place has begun (Some w) p = broken (place_rules begun w p) ++ (broken_in_form has w.form p.args p.inner ++ broken_by_inner has p.inner)
 
--- the numbers of the rules that a command breaks behind these commands
+-- the numbers of the rules that a command breaks after these commands
 abbrev pub broken_by : List Placed → Placed → List ℕ
 broken_by before p = broken_in_place (named_by before) (has_begun before) p.word p
 

@@ -38,7 +38,7 @@ abbrev pub HasEnding : Bool → EndingTree → Type 0
 HasEnding true finish = (cs : CommandTrees) × (finish ≡ block cs)
 HasEnding false finish = finish ≡ semicolon
 
--- what stands behind a name is what the row of the name has
+-- what follows a name is what the row of the name has
 pub record HasForm (form : WordForm) (args : List Argument) (inner : InnerTests) : Type 0 where
   pub tags : has_wrong_tag (pieces form.tags args) ≡ false
   pub once : has_tag_twice form (pieces form.tags args) ≡ false
@@ -66,7 +66,7 @@ abbrev mutual
   RowShape last_test = Unit {0}
   RowShape (next_test t row) = TestShape t × RowShape row
 
--- the truth says whether the command directly before is an `if` or `elsif`
+-- the flag says whether the command directly before is an `if` or `elsif`
 pub record HasCommandRow (follows : Bool) (name : List ℕ) (args : List Argument) (inner : InnerTests) (finish : EndingTree) : Type 0 where
   pub word : CommandWord
   pub named : command_named name ≡ Some word
@@ -93,7 +93,7 @@ abbrev mutual
 abbrev pub ShapeLaw : Type 0
 ShapeLaw = (tree : CommandTrees) → refusal_of tree ≡ None → CommandsShape false tree
 
--- names that are the same without ASCII case have the same row
+-- names that are equal except for ASCII case have the same row
 abbrev pub NameLaw : Type 0
 NameLaw = (a b : List ℕ) → same_name a b ≡ true → (command_named a ≡ command_named b) × (test_named a ≡ test_named b)
 
@@ -101,14 +101,14 @@ NameLaw = (a b : List ℕ) → same_name a b ≡ true → (command_named a ≡ c
 abbrev pub IfLaw : Type 0
 IfLaw = (follows : Bool) (name : List ℕ) (args : List Argument) (inner : InnerTests) (finish : EndingTree) → same_name name (codes "if") ≡ true → HasCommandRow follows name args inner finish → (args ≡ []) × ((t : TestTree) × (inner ≡ one_test t)) × ((cs : CommandTrees) × (finish ≡ block cs))
 
--- a `fileinto` has one string outside brackets behind its tags, no test, and no block
+-- a `fileinto` has one string outside brackets after its tags, no test, and no block
 abbrev pub FileintoLaw : Type 0
 FileintoLaw = (follows : Bool) (name : List ℕ) (args : List Argument) (inner : InnerTests) (finish : EndingTree) → same_name name (codes "fileinto") ≡ true → HasCommandRow follows name args inner finish → ((s : List ℕ) × (positional_arguments (pieces fileinto_form.tags args) ≡ arguments.Strings (string_lists.One s) ∷ [])) × (inner ≡ no_tests) × (finish ≡ semicolon)
 
--- a `header` has two strings or lists of strings behind its tags, and no test
+-- a `header` has two strings or lists of strings after its tags, and no test
 abbrev pub HeaderLaw : Type 0
 HeaderLaw = (name : List ℕ) (args : List Argument) (inner : InnerTests) → same_name name (codes "header") ≡ true → HasTestRow name args inner → ((names : StringList) × (keys : StringList) × (positional_arguments (pieces header_form.tags args) ≡ arguments.Strings names ∷ arguments.Strings keys ∷ [])) × (inner ≡ no_tests)
 
--- a `size` has one number behind `:over` or `:under`, and no test
+-- a `size` has one number after `:over` or `:under`, and no test
 abbrev pub SizeLaw : Type 0
 SizeLaw = (name : List ℕ) (args : List Argument) (inner : InnerTests) → same_name name (codes "size") ≡ true → HasTestRow name args inner → ((n : ℕ) × (positional_arguments (pieces size_form.tags args) ≡ arguments.Number n ∷ [])) × (list_any (has_kind kinds.SizeLimit) (pieces size_form.tags args) ≡ true) × (inner ≡ no_tests)

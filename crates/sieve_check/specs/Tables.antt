@@ -1,6 +1,6 @@
--- What may stand in a script: the capabilities, and a row for each command and each test. The rows are those of
--- RFC 5228 (sections 3 to 5), RFC 3894 (`:copy`) and RFC 6609 (`include` and `return`, section 3), as far as this
--- profile takes them.
+-- What may occur in a script: the capabilities, and a row for each command and each test. The rows are those of RFC
+-- 5228 (sections 3 to 5), RFC 3894 (`:copy`) and RFC 6609 (`include` and `return`, section 3), as far as this project
+-- supports them.
 use Rattle.std.specs.Prelude.{ℕ, Bool, true, false, List, [], ◌∷◌, Option, Some, None, codes}
 use Rattle.sieve_check.specs.declared.table.Capability.{Capability}
 use Rattle.sieve_check.specs.declared.table.Capability.TheVariants.{Fileinto, Copy, Include, OctetComparator, CasemapComparator}
@@ -18,14 +18,14 @@ pub record CapabilityWord : Type 0 where
   pub text : List ℕ
   pub capability : Capability
 
--- a tag that may stand behind a name: of its kind one tag may be there, once
+-- a tag that may follow a name: at most once, and at most one of its kind
 pub record TagWord : Type 0 where
   pub name : List ℕ
   pub kind : TagKind
   pub needs : Option Capability
   pub names_comparator : Bool
 
--- what stands behind the name of a command or of a test
+-- what follows the name of a command or of a test
 pub record WordForm : Type 0 where
   pub needs : Option Capability
   pub tags : List TagWord
@@ -43,11 +43,11 @@ pub record TestWord : Type 0 where
   pub name : List ℕ
   pub form : WordForm
 
--- RFC 5228, section 6.1, RFC 3894, section 3, and RFC 6609, section 3.2
+-- the capabilities (RFC 5228, section 6.1; RFC 3894, section 3; RFC 6609, section 3.2)
 abbrev pub capability_table : List CapabilityWord
 capability_table = record { text = codes "fileinto"; capability = Fileinto } ∷ record { text = codes "copy"; capability = Copy } ∷ record { text = codes "include"; capability = Include } ∷ record { text = codes "comparator-i;octet"; capability = OctetComparator } ∷ record { text = codes "comparator-i;ascii-casemap"; capability = CasemapComparator } ∷ []
 
--- the comparators, RFC 5228, section 2.7.3
+-- the comparators (RFC 5228, section 2.7.3)
 abbrev pub comparator_table : List (List ℕ)
 comparator_table = codes "i;octet" ∷ codes "i;ascii-casemap" ∷ []
 
@@ -55,7 +55,7 @@ comparator_table = codes "i;octet" ∷ codes "i;ascii-casemap" ∷ []
 abbrev pub plain : List Positional → TestsForm → WordForm
 plain arguments tests = record { needs = None; tags = []; needs_tag = None; positional = arguments; tests = tests }
 
--- a tag of this kind that asks for nothing
+-- a tag of this kind that needs nothing
 abbrev pub tag : List ℕ → TagKind → TagWord
 tag name kind = record { name = name; kind = kind; needs = None; names_comparator = false }
 

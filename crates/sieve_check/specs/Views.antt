@@ -1,4 +1,4 @@
--- What the rows of the code stand for.
+-- What the rows of the code represent.
 use Rattle.std.specs.Prelude.{map}
 use Rattle.sieve_check.specs.Tables.{CapabilityWord, TagWord, WordForm, CommandWord, TestWord}
 use Rattle.sieve_check.specs.declared.table.CapabilityRow.{CapabilityRow}

@@ -1,4 +1,4 @@
--- How the checker goes over a script: what it knows of the commands before a command is a context.
+-- How the checker goes over a script: a context is what it knows from the commands before a command.
 use Rattle.std.specs.Prelude.{ℕ, Bool, true, false, List, [], ◌∷◌, Option, Some, None, Result, Ok, Err, if◌then◌else◌}
 use Rattle.sieve_syntax.specs.declared.tree.Argument.{Argument}
 use Rattle.sieve_check.specs.Context.{nothing_named, has_of, named_after}
@@ -15,7 +15,7 @@ first_broken (r ∷ rs) = if r.0 then Some r.1 else first_broken rs
 abbrev pub start : Context
 start = record { named = nothing_named; begun = false }
 
--- behind a `require`, and behind another command
+-- after a `require`, and after another command
 abbrev pub after_command : Bool → Context → List Argument → Context
 after_command true c args = record { named = named_after c.named (strings_in args); begun = c.begun }
 after_command false c args = record { named = c.named; begun = true }
@@ -31,7 +31,7 @@ abbrev pub unless : Option ℕ → Result Context ℕ → Result Context ℕ
 unless None r = r
 unless (Some n) r = Err n
 
--- the refusal of the first command that breaks a rule, or what is known behind all of them
+-- the refusal of the first command that breaks a rule, or what is known after all of them
 unfoldable pub walk : Context → List Placed → Result Context ℕ
 walk c [] = Ok c
 walk c (p ∷ ps) = unless (judged c p) (walk (context_after c p) ps)

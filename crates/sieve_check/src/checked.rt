@@ -9,7 +9,7 @@ use crate::fault::CheckFault;
 use crate::walk::pass_script;
 use sieve_syntax::Script;
 
-/// A script that breaks no rule. Whoever holds one needs no test of what was checked.
+/// A script that breaks no rule. Its holder need not test again what was checked.
 #[derive(Drop)]
 pub struct Checked {
     script: Script,
@@ -26,9 +26,10 @@ impl Checked {
     }
 }
 
-/// The same script, checked; or the refusal, 30 to 41, of its first faulty command in text order, where a command
-/// stands before those of its block and tests belong to their command: of the rules that this command breaks the one
-/// of the least number (RFC 5228, section 2.10.6). Takes no memory, and time linear in the size of the script.
+/// The same script, checked; or the refusal, 30 to 41, of its first faulty command in text order. A command comes
+/// before those of its block, and tests belong to their command. If the command breaks several rules, the refusal is
+/// that of the least number (RFC 5228, section 2.10.6). Needs no allocation; takes time linear in the size of the
+/// script.
 pub fn check(script: Script) -> Result<Checked, CheckFault>
     ensures ok { IfOk result (λ c. c.script ≡ script) }
     ensures accepted { refusal_of (tree_of script) ≡ None → IsOk result }

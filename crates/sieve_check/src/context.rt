@@ -1,4 +1,4 @@
-//! What is known of the commands before a command.
+//! The context of a command: what is known from the commands before it.
 
 ghost use Rattle.std.specs.Prelude.{◌≡◌};
 ghost use Rattle.std.specs.List.{list_any};
@@ -11,12 +11,12 @@ use crate::named::Named;
 use crate::table::Role;
 use sieve_syntax::{Argument, Arguments, Text};
 
-/// What the commands before a command say.
+/// What is known from the commands before a command.
 #[derive(Clone, Copy)]
 pub struct Context {
-    /// What their `require`s name.
+    /// The capabilities that their `require`s name.
     pub named: Named,
-    /// Whether one of them is no `require`.
+    /// Whether one of them is not a `require`.
     pub begun: bool,
 }
 
@@ -28,14 +28,14 @@ impl Role {
         matches!(self, Role::Require)
     }
 
-    /// Whether another branch may follow.
+    /// Whether another branch may follow the command.
     pub fn is_branch(self) -> bool
         ensures { result ≡ is_branch self }
     {
         matches!(self, Role::If | Role::Elsif)
     }
 
-    /// Whether it goes on with a chain of branches.
+    /// Whether the command continues a chain of branches.
     pub fn goes_on(self) -> bool
         ensures { result ≡ goes_on self }
     {
@@ -50,14 +50,14 @@ fn is_unknown(text: &Text) -> bool
     find_capability(text.as_slice()).is_none()
 }
 
-/// Whether one of these is no capability.
+/// Whether one of these names no capability.
 fn any_is_unknown(texts: &[Text]) -> bool
     ensures { result ≡ list_any (λ s. is_none (capability_named s)) texts.now }
 {
     texts.iter().any(|text| is_unknown(text))
 }
 
-/// Whether a string of the argument is no capability.
+/// Whether a string of the argument names no capability.
 fn argument_names_unknown(argument: &Argument) -> bool
     ensures { result ≡ list_any (λ s. is_none (capability_named s)) (argument_strings argument.now) }
 {
@@ -67,7 +67,7 @@ fn argument_names_unknown(argument: &Argument) -> bool
     }
 }
 
-/// Whether a string of the arguments is no capability.
+/// Whether a string of the arguments names no capability.
 pub fn names_unknown(arguments: &Arguments) -> bool
     ensures { result ≡ names_unknown arguments.now }
 {

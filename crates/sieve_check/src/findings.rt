@@ -19,24 +19,23 @@ use sieve_syntax::Arguments;
 pub struct Findings {
     /// A tag needs a capability that is not named.
     pub lacks_capability: bool,
-    /// A tag is not the form's.
+    /// A tag is not one of the form's.
     pub unknown_tag: bool,
-    /// A tag stands without the string that belongs to it.
+    /// A tag lacks its string.
     pub lacks_string: bool,
-    /// A tag names a comparator that there is not.
+    /// A tag names an unknown comparator.
     pub unknown_comparator: bool,
     /// There is a positional argument.
     pub positional: bool,
-    /// A tag stands after a positional argument.
+    /// A tag comes after a positional argument.
     pub late_tag: bool,
     /// There is a tag.
     pub tag: bool,
-    /// There are two tags.
+    /// There are at least two tags.
     pub two_tags: bool,
 }
 
 impl Findings {
-    /// Of no piece.
     fn nothing() -> Findings
         ensures { result ≡ nothing_found }
     {
@@ -52,7 +51,7 @@ impl Findings {
         }
     }
 
-    /// These, and what one more piece shows.
+    /// These, with what another piece shows.
     fn with(self, named: Named, piece: Piece<'_>) -> Findings
         ensures { result ≡ found_with (has_of named) self (piece_view piece.entry) }
     {
@@ -81,8 +80,8 @@ fn go_over(named: Named, form: &Form, arguments: &Arguments) -> Findings
     found
 }
 
-/// What the pieces of arguments show, behind a name of this form, where these capabilities are named. Fewer than two tags
-/// are none of one kind.
+/// What the pieces of arguments show after a name of this form, given the named capabilities. Fewer than two tags are
+/// never two of one kind.
 pub fn gather(named: Named, form: &Form, arguments: &Arguments) -> Findings
     ensures capability { result.lacks_capability ≡ list_any (piece_lacks (has_of named)) (pieces (form_view form.now).tags arguments.now) }
     ensures tag { (result.unknown_tag || result.late_tag) ≡ has_wrong_tag (pieces (form_view form.now).tags arguments.now) }

@@ -1,4 +1,4 @@
-//! The least rule that a command breaks, its tests at any depth among it.
+//! The least rule that a command breaks, its tests at any depth included.
 
 ghost use Rattle.std.specs.Prelude.{◌≡◌, Some};
 ghost use Rattle.std.specs.Option.{option_map};
@@ -30,7 +30,7 @@ fn lesser(fault: Option<CheckFault>, other: Option<CheckFault>) -> Option<CheckF
     }
 }
 
-/// The first rule on what stands behind a name that is broken, without the tests inside.
+/// The first rule that is broken by what follows a name, without the inner tests.
 fn form_fault(named: Named, form: &Form, arguments: &Arguments, tests: &Tests) -> Option<CheckFault>
     ensures { option_map number_of result ≡ first_broken (form_rules (has_of named) (form_view form.now) (pieces (form_view form.now).tags arguments.now) (inner_of tests.now)) }
 {
@@ -91,7 +91,7 @@ fn is_block(ending: &Ending) -> bool
     matches!(ending, Ending::Block(_))
 }
 
-/// Whether the ending is not the one that the table has.
+/// Whether the ending is not the one of the table's row.
 fn has_wrong_ending(row: &CommandRow, ending: &Ending) -> bool
     ensures { result ≡ has_wrong_ending row.now.has_block (is_block (ending_of ending.now)) }
 {
@@ -102,7 +102,7 @@ fn has_wrong_ending(row: &CommandRow, ending: &Ending) -> bool
     }
 }
 
-/// The first rule that is broken by where a command stands, by what it requires or by how it ends.
+/// The first rule that a command breaks by its place, by what it requires or by how it ends.
 fn place_fault(
     context: Context,
     row: &CommandRow,
@@ -124,7 +124,7 @@ fn place_fault(
     }
 }
 
-/// The least rule that a command of this row breaks, its tests among it, and the commands of its block not.
+/// The least rule that a command of this row breaks, its tests included, without the commands of its block.
 pub fn command_fault(
     context: Context,
     row: &CommandRow,

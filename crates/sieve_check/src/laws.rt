@@ -1,4 +1,4 @@
-//! Laws on scripts without refusal, for whoever reads one. These functions do nothing: their contracts are the laws.
+//! Laws on scripts without refusal, for their readers. The functions do nothing: their contracts are the laws.
 
 ghost use Rattle.sieve_check.specs.Shapes.{ShapeLaw, NameLaw, IfLaw, FileintoLaw, HeaderLaw, SizeLaw};
 
@@ -7,7 +7,7 @@ pub fn shape_law()
     ensures { ShapeLaw }
 {}
 
-/// Names that are the same without ASCII case have the same row.
+/// Names that are equal except for ASCII case have the same row.
 pub fn name_law()
     ensures { NameLaw }
 {}
@@ -17,18 +17,18 @@ pub fn if_law()
     ensures { IfLaw }
 {}
 
-/// A `fileinto` of that shape has one string outside brackets behind its tags, no test, and no block (RFC 5228,
-/// section 4.1).
+/// A `fileinto` of that shape has one string outside brackets after its tags, no test, and no block (RFC 5228, section
+/// 4.1).
 pub fn fileinto_law()
     ensures { FileintoLaw }
 {}
 
-/// A `header` of that shape has two strings or lists of strings behind its tags (RFC 5228, section 5.7).
+/// A `header` of that shape has two strings or lists of strings after its tags, and no test (RFC 5228, section 5.7).
 pub fn header_law()
     ensures { HeaderLaw }
 {}
 
-/// A `size` of that shape has `:over` or `:under`, and one number (RFC 5228, section 5.9).
+/// A `size` of that shape has `:over` or `:under`, one number, and no test (RFC 5228, section 5.9).
 pub fn size_law()
     ensures { SizeLaw }
 {}

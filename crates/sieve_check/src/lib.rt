@@ -1,12 +1,19 @@
-//! Which scripts are well made: `check` accepts a script that keeps the rules of RFC 5228 on commands, tests, tags,
-//! arguments and `require`, with `:copy` (RFC 3894) and `include` and `return` (RFC 6609), and refuses any other by
-//! the number of a rule that it breaks.
+//! Which scripts are well made. `check` accepts a script that keeps the rules of RFC 5228 on commands, tests, tags,
+//! arguments and `require`, with `:copy` (RFC 3894) and `include` and `return` (RFC 6609). It refuses any other by the
+//! number of a rule that it breaks.
 //!
-//! What commands, tests and tags there are stands in one table, in `table.rt`; the definitions have the same table in
-//! `specs/Tables.antt`, and `specs/Rules.antt` has a definition for each rule and the refusal of a script. The modules
-//! from the bottom: `table` and `lookup` (the row of a name), `pieces` (arguments, each tag with its string), `findings`
-//! (what one pass over the pieces shows), `rules` (one function for each rule on what stands behind a name), `named` and `context` (what the commands before say),
-//! `judge` (the least rule that a command breaks), `walk` (the first faulty command), `checked`.
+//! One table, in `table.rt`, lists the commands, tests and tags. The definitions have the same table in
+//! `specs/Tables.antt`. `specs/Rules.antt` has a definition for each rule, and the refusal of a script. The modules,
+//! from the bottom:
+//!
+//! - `table` and `lookup`: the row of a name;
+//! - `pieces`: arguments, each tag with its string;
+//! - `findings`: what one pass over the pieces shows;
+//! - `rules`: one function for each rule on what follows a name;
+//! - `named` and `context`: what is known from the commands before a command;
+//! - `judge`: the least rule that a command breaks;
+//! - `walk`: the first faulty command;
+//! - `checked`: the check, and the scripts that passed it.
 //!
 //! # Adding a command, a test or a tag
 //!

@@ -7,7 +7,7 @@ ghost use Rattle.sieve_check.specs.Views.{command_view, test_view, tag_view, cap
 
 use crate::table::{CapabilityRow, CommandRow, TagRow, TestRow, capabilities, commands, tests};
 
-/// Whether two names are the same, without ASCII case.
+/// Whether two names are equal except for ASCII case.
 #[tactic(auto, unfolding(crate::specs::Lookup::same_name))]
 pub fn is_same_name(name: &[u8], other: &[u8]) -> bool
     ensures { result ≡ same_name name.now other.now }
@@ -23,7 +23,7 @@ pub fn is_same_text(text: &[u8], other: &[u8]) -> bool
     text == other
 }
 
-/// The command of this name.
+/// The row of the command of this name. ASCII case is ignored.
 pub fn find_command(name: &[u8]) -> Option<&'static CommandRow>
     ensures { option_map (λ r. command_view r.now) result ≡ command_named name.now }
 {
@@ -35,7 +35,7 @@ pub fn find_command(name: &[u8]) -> Option<&'static CommandRow>
     None
 }
 
-/// The test of this name.
+/// The row of the test of this name. ASCII case is ignored.
 pub fn find_test(name: &[u8]) -> Option<&'static TestRow>
     ensures { option_map (λ r. test_view r.now) result ≡ test_named name.now }
 {
@@ -47,7 +47,7 @@ pub fn find_test(name: &[u8]) -> Option<&'static TestRow>
     None
 }
 
-/// The tag of this name among these.
+/// The row of the tag of this name among these. ASCII case is ignored.
 pub fn find_tag(name: &[u8], tags: &[TagRow]) -> Option<TagRow>
     ensures { option_map tag_view result ≡ tag_named name.now (map tag_view tags.now) }
 {
@@ -59,7 +59,7 @@ pub fn find_tag(name: &[u8], tags: &[TagRow]) -> Option<TagRow>
     None
 }
 
-/// The capability that these octets name.
+/// The row of the capability that these exact octets name.
 pub fn find_capability(text: &[u8]) -> Option<&'static CapabilityRow>
     ensures { option_map (λ r. capability_view r.now) result ≡ capability_named text.now }
 {

@@ -20,7 +20,7 @@ pub struct Named {
 }
 
 impl Named {
-    /// None yet.
+    /// No capability yet.
     pub fn nothing() -> Named
         ensures { result ≡ nothing_named }
     {

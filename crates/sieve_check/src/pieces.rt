@@ -15,7 +15,7 @@ use sieve_syntax::{Argument, Arguments, StringList};
 /// A tag or a positional argument.
 #[derive(Clone, Copy)]
 pub enum Piece<'a> {
-    /// A tag with its row, if the table has it there, and the comparator that it names.
+    /// A tag with its row, if the table has one for it, and the comparator that it names.
     Tagged(Option<TagRow>, Option<&'a [u8]>),
     Positional(&'a Argument),
 }
@@ -43,7 +43,7 @@ impl<'a> Pieces<'a> {
     }
 }
 
-/// The string outside brackets that stands first, and the arguments behind it.
+/// The string outside brackets that comes first, and the arguments after it.
 fn split_string(arguments: &[Argument]) -> Option<(&[u8], &[Argument])>
     ensures { MatchOption result (string_first arguments.now ≡ None) (λ x. arguments.now ≡ arguments_of.Strings (One x.0.now) ∷ x.1.now) }
 {
@@ -53,7 +53,7 @@ fn split_string(arguments: &[Argument]) -> Option<(&[u8], &[Argument])>
     }
 }
 
-/// The comparator that a tag of this row names, and the arguments behind both.
+/// The comparator that a tag of this row names, and the arguments after both.
 fn split_comparator(row: Option<TagRow>, behind: &[Argument]) -> (Option<&[u8]>, &[Argument])
     ensures { (tags : List TagWord) → tag_pieces (option_map tag_view row) (string_first behind.now) (pieces tags behind.now) ≡ tagged (option_map tag_view row) (option_map (λ t. t.now) result.0) ∷ pieces tags result.1.now }
 {

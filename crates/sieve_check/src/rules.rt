@@ -1,4 +1,4 @@
-//! The rules on what stands behind the name of a command or a test, one function each.
+//! The rules on what follows the name of a command or a test, one function each.
 
 ghost use Rattle.std.specs.Prelude.{◌≡◌, ◌||◌, false, map};
 ghost use Rattle.std.specs.List.{list_any};
@@ -19,7 +19,6 @@ use crate::table::{Capability, Form, Positional, TagKind, TestsForm, comparators
 use sieve_syntax::{Argument, Arguments, StringList, Tests};
 
 impl TagKind {
-    /// Whether two kinds are the same.
     fn is_same(self, other: TagKind) -> bool
         ensures { result ≡ same_kind self other }
     {
@@ -69,7 +68,7 @@ impl<'a> Piece<'a> {
         matches!(self, Piece::Tagged(_, _))
     }
 
-    /// Whether it is a tag that the table does not have here.
+    /// Whether it is a tag that the table does not list for this name.
     pub fn is_unknown_tag(self) -> bool
         ensures { result ≡ is_unknown_tag (piece_view self.entry) }
     {
@@ -86,7 +85,7 @@ impl<'a> Piece<'a> {
         }
     }
 
-    /// Whether it is a tag without the string that belongs to it.
+    /// Whether it is a tag that lacks its string.
     pub fn lacks_string(self) -> bool
         ensures { result ≡ lacks_string (piece_view self.entry) }
     {
@@ -96,7 +95,7 @@ impl<'a> Piece<'a> {
         }
     }
 
-    /// Whether it is a tag with a comparator that there is not.
+    /// Whether it is a tag that names an unknown comparator.
     pub fn is_unknown_comparator(self) -> bool
         ensures { result ≡ is_unknown_comparator (piece_view self.entry) }
     {
@@ -107,7 +106,7 @@ impl<'a> Piece<'a> {
     }
 }
 
-/// Whether these are the octets of a comparator.
+/// Whether these octets name a comparator.
 fn is_comparator(text: &[u8]) -> bool
     ensures { result ≡ list_any (λ t. same_text text.now t) comparator_table }
 {
@@ -164,7 +163,7 @@ fn has_tag(kind: TagKind, form: &Form, arguments: &Arguments) -> bool
     Pieces::new(form, arguments).any(|piece| piece.has_kind(kind))
 }
 
-/// Whether a tag that has to be there is not.
+/// Whether a required tag is missing.
 fn lacks_tag(form: &Form, arguments: &Arguments) -> bool
     ensures { result ≡ lacks_tag (form_view form.now).needs_tag (pieces (form_view form.now).tags arguments.now) }
 {
@@ -182,7 +181,7 @@ impl Findings {
         lacks(named, form.needs) || self.lacks_capability
     }
 
-    /// 35: whether a tag is not the form's, or stands after a positional argument.
+    /// 35: whether a tag is not one of the form's, or comes after a positional argument.
     pub fn has_wrong_tag(self) -> bool
         ensures { result ≡ (self.unknown_tag || self.late_tag) }
     {
@@ -197,7 +196,7 @@ impl Findings {
         self.two_tags && has_tag_twice(form, arguments)
     }
 
-    /// 37: whether the positional arguments are not the form's, or a tag lacks its string, or one is missing.
+    /// 37: whether the positional arguments are not the form's, a tag lacks its string, or a required tag is missing.
     pub fn has_wrong_arguments(self, form: &Form, arguments: &Arguments) -> bool
         requires { self.lacks_string ≡ list_any lacks_string (pieces (form_view form.now).tags arguments.now) }
         ensures { result ≡ has_wrong_arguments (form_view form.now) (pieces (form_view form.now).tags arguments.now) }
@@ -206,7 +205,7 @@ impl Findings {
     }
 }
 
-/// Which tests stand there.
+/// The form of the tests that are there.
 fn tests_there(tests: &Tests) -> TestsForm
     ensures { result ≡ tests_there (inner_of tests.now) }
 {
@@ -218,7 +217,6 @@ fn tests_there(tests: &Tests) -> TestsForm
 }
 
 impl TestsForm {
-    /// Whether two forms are the same.
     fn is_same(self, other: TestsForm) -> bool
         ensures { result ≡ same_tests self other }
     {

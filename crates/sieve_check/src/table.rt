@@ -1,7 +1,7 @@
-//! What may stand in a script, as data: the capabilities, and a row for each command and each test.
+//! What may occur in a script, as data: the capabilities, and a row for each command and each test.
 //!
-//! The definitions have the same tables in `specs/Tables.antt`; the contracts of the `.._table` functions say
-//! that both agree.
+//! The definitions have the same tables in `specs/Tables.antt`. The contracts of the functions at the end of this file
+//! say that both agree.
 
 ghost use Rattle.std.specs.Prelude.{◌≡◌, map};
 ghost use Rattle.sieve_check.specs.Tables.{capability_table, comparator_table, command_table, test_table};
@@ -24,7 +24,7 @@ pub struct CapabilityRow {
     pub capability: Capability,
 }
 
-/// Kinds of tags. Of one kind one tag may stand behind a name, once.
+/// Kinds of tags. At most one tag of each kind may follow a name.
 #[derive(Clone, Copy, PartialEq, Eq)]
 pub enum TagKind {
     Copy,
@@ -36,18 +36,18 @@ pub enum TagKind {
     Optional,
 }
 
-/// A tag that may stand behind a name.
+/// A tag that may follow a name.
 #[derive(Clone, Copy)]
 pub struct TagRow {
-    /// Without the colon, in small letters.
+    /// Without the colon, in lower case.
     pub name: &'static [u8],
     pub kind: TagKind,
     pub needs: Option<Capability>,
-    /// Whether the string directly behind the tag belongs to it and names a comparator.
+    /// Whether the string directly after the tag belongs to it and names a comparator.
     pub names_comparator: bool,
 }
 
-/// What stands at a place of the arguments without a tag.
+/// The kind of a positional argument.
 #[derive(Clone, Copy, PartialEq, Eq)]
 pub enum Positional {
     /// A string outside brackets.
@@ -57,7 +57,7 @@ pub enum Positional {
     OneNumber,
 }
 
-/// Which tests stand behind the arguments.
+/// Which tests follow the arguments.
 #[derive(Clone, Copy, PartialEq, Eq)]
 pub enum TestsForm {
     NoTest,
@@ -67,47 +67,47 @@ pub enum TestsForm {
     TestList,
 }
 
-/// What stands behind the name of a command or of a test.
+/// What follows the name of a command or of a test.
 #[derive(Clone, Copy)]
 pub struct Form {
     pub needs: Option<Capability>,
     pub tags: &'static [TagRow],
-    /// A kind of tags of which one has to be there.
+    /// A kind of tags of which one is required.
     pub needs_tag: Option<TagKind>,
     pub positional: &'static [Positional],
     pub tests: TestsForm,
 }
 
-/// What the rules on the order of commands see of a command.
+/// What the rules on the order of commands need to know of a command.
 #[derive(Clone, Copy, PartialEq, Eq)]
 pub enum Role {
-    /// Stands before all other commands.
+    /// Comes before all other commands.
     Require,
     /// Begins a chain of branches.
     If,
-    /// Stands directly behind an `if` or `elsif`, and another branch may follow.
+    /// Comes directly after an `if` or `elsif`, and another branch may follow.
     Elsif,
-    /// Stands directly behind an `if` or `elsif`, and ends the chain.
+    /// Comes directly after an `if` or `elsif`, and ends the chain.
     Else,
-    /// May stand anywhere.
+    /// May come anywhere.
     Other,
 }
 
 /// A command.
 #[derive(Clone, Copy)]
 pub struct CommandRow {
-    /// In small letters.
+    /// In lower case.
     pub name: &'static [u8],
     pub role: Role,
     pub form: Form,
-    /// Whether it ends with a block, or else with a semicolon.
+    /// Whether it ends with a block; otherwise it ends with a semicolon.
     pub has_block: bool,
 }
 
 /// A test.
 #[derive(Clone, Copy)]
 pub struct TestRow {
-    /// In small letters.
+    /// In lower case.
     pub name: &'static [u8],
     pub form: Form,
 }
@@ -418,7 +418,7 @@ pub fn capabilities() -> &'static [CapabilityRow]
 
 static COMPARATORS: [&[u8]; 2] = [b"i;octet", b"i;ascii-casemap"];
 
-/// The comparators, exact octets (RFC 5228, section 2.7.3).
+/// The comparators, as exact octets (RFC 5228, section 2.7.3).
 pub fn comparators() -> &'static [&'static [u8]]
     ensures { map (λ t. t.now) result.now ≡ comparator_table }
 {

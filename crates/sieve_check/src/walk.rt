@@ -24,7 +24,7 @@ impl Context {
         }
     }
 
-    /// Behind a command with these arguments.
+    /// After a command with these arguments.
     fn after(self, is_require: bool, arguments: &Arguments) -> Context
         ensures { result ≡ after_command is_require self arguments.now }
     {
@@ -42,7 +42,7 @@ impl Context {
     }
 }
 
-/// What is known behind a command and its block, and whether another branch may follow.
+/// What is known after a command and its block, and whether another branch may follow.
 #[cycle(walking)]
 fn pass_command(
     command: &Command,
@@ -63,7 +63,7 @@ fn pass_command(
     Ok((context, row.role.is_branch()))
 }
 
-/// What is known behind the block of a command, if it has one.
+/// What is known after the block of a command, if it has one.
 #[cycle(walking)]
 fn pass_ending(ending: &Ending, context: Context) -> Result<Context, CheckFault>
     ensures { context_view result ≡ walk context (ending_in_order (ending_of ending.now)) }

@@ -1,4 +1,4 @@
--- Places at which a key stands in a value, and texts around it.
+-- Places at which a key occurs in a value, and texts around it.
 use Rattle.std.proofs.Common.{◌≡◌, ℕ, ◌+◌, Bool, Option, None, Some, is_some, IsTrue, ◌↔◌, List, ◌++◌, length, take, drop, refl, sym, ap, ◌∙◌, arith}
 use Rattle.std.proofs.lemmas.List.{take-append-drop, length-append}
 use Rattle.std.proofs.lemmas.List.Prefix.{at_from_reads, at_reads}

@@ -13,7 +13,7 @@ use Rattle.sieve_meaning.specs.Matching.{covers, folded, item_of, items_from, it
 use Rattle.sieve_match.proofs.FoldLemmas.{nil_from_length}
 use Rattle.sieve_match.specs.Steps.{compared, octet_count, Turn, ends, star, goes, stuck, turn_of}
 
--- a place behind the items is in the text
+-- the items match the text from some place on
 abbrev pub SomeTail : Comparator → List Item → List ℕ → Type 0
 SomeTail c is text = (n : ℕ) × Matches c is (drop n text)
 
@@ -22,7 +22,7 @@ pub record Walked (c : Comparator) (after items : List Item) (from rest : List �
   pub ahead : (n : ℕ) → Matches c after (drop n from) → Matches c items (drop n rest)
   pub back : Matches c items rest → Matches c after from
 
--- how many items stand before the next star
+-- how many items come before the next star
 abbrev pub fixed : List Item → ℕ
 fixed [] = 0
 fixed (Octet o ∷ is) = suc (fixed is)
@@ -291,7 +291,7 @@ abbrev pub State : Comparator → List Item → List ℕ → List Item → List 
 State c all value items rest None count = Fresh c all value items rest count
 State c all value items rest (Some s) count = Tried c all value items rest (items_of s.0.now) s.1.now count
 
--- how much of the value is left behind the place of the last try
+-- how much of the value is left after the place of the last try
 abbrev pub left : List ℕ → Option (Bor (List ℕ) × Bor (List ℕ)) → ℕ
 left value None = length value
 left value (Some s) = length s.1.now

@@ -1,4 +1,4 @@
--- A search that is under way, and the comparisons that are left to it.
+-- A search in progress, and the comparisons that are left to it.
 use Rattle.std.proofs.Common.{◌≡◌, ℕ, ◌+◌, Bool, true, false, cond, eqb, List, [], ◌∷◌, length, ◌⊎◌, inl, inr, Option, Some, None, refl, sym, subst, arith}
 use Rattle.std.specs.Borrow.{Bor}
 use Rattle.sieve_meaning.specs.declared.matching.Comparator.{Comparator}
@@ -10,7 +10,7 @@ use Rattle.sieve_match.specs.Steps.{compared, ends, star, goes, stuck, turn_of}
 use Rattle.sieve_match.proofs.FoldLemmas.{nil_from_length}
 use Rattle.sieve_match.proofs.SearchLemmas.{ends_is, star_is}
 
--- what is tried where a try fails: nothing, or the items after the last `*`, one octet after the place of the last try
+-- what is tried if a try fails: nothing, or the items after the last `*`, one octet after the place of the last try
 abbrev pub Again : Type 0
 Again = Option (List Item × List ℕ)
 
@@ -93,8 +93,8 @@ covers_text c items rest e = let p = ends_is c items rest e in rw (p.0, p.1) (re
 reaches_star : (c : Comparator) (items next : List Item) (rest : List ℕ) → turn_of c items rest ≡ star next → EndsTry c items rest (to_star next rest)
 reaches_star c items next rest e = rw (star_is c items rest next e) (record { trial_is = refl; count_is = refl })
 
--- the search is under way: whatever answer and comparisons the rest of it has, the whole has that answer, and those with the
--- ones so far
+-- the search is in progress: whatever the answer and the comparisons of its rest, the whole has that answer, and those
+-- comparisons with the ones so far
 abbrev pub Exact : Comparator → List Item → List ℕ → Again → List Item → List ℕ → ℕ → Type 0
 Exact c all value again items rest count = (answer : Bool) (n : ℕ) → Resumes c again items rest answer n → Search c false all value answer (count + n)
 
@@ -150,7 +150,7 @@ pub Exact-fails_at_end : (c : Comparator) (all : List Item) (value : List ℕ) (
 Exact-fails_at_end c all value items rest after since count more h empty e m =
     fails c all value (Some (after, since)) items rest count more h (subst (λ (xs : List ℕ). AfterMisfit c (Some (after, xs)) false 0) (sym (nil_from_length since empty)) (refl, refl)) e m
 
--- what is tried again, of what the code keeps
+-- what is tried again, from what the code keeps
 abbrev pub again_of : Option (Bor (List ℕ) × Bor (List ℕ)) → Again
 again_of None = None
 again_of (Some s) = Some (items_of s.0.now, s.1.now)

@@ -73,9 +73,9 @@ stands_casemap c key value r is h = rw is (
   λ a. let p = place_from (fold Casemap value) (fold Casemap key) a in h.1 (p.0, stands_from key value p.0 p.1),
 )
 
--- the key stands at no place where its rare octet stands in neither case
+-- the key occurs at no place where its rare octet occurs in neither case
 module _ (key value : List ℕ) (at rare upper lower : ℕ) (inside : rare < length key) (within : at + length key ≤ length value) (is_upper : upper ≡ to_ascii_uppercase (slice_index key rare)) (is_lower : lower ≡ to_ascii_lowercase (slice_index key rare)) where
-  -- the octets of the value at which the rare octet may stand
+  -- the octets of the value at which the rare octet may be
   abbrev ahead : List ℕ
   ahead = take (length value - length key + rare + 1 - (at + rare)) (drop (at + rare) value)
 
@@ -149,6 +149,6 @@ module _ (key value : List ℕ) (p : Plan) (plan : IsPlan (read key) (length key
 pub kept_below : (x : ℕ → ℕ) (m : ℕ) (p : Plan) → IsPlan x m p → 0 < m → p.kept < m
 kept_below x m p plan some = ⊎_elim (λ none. omega (arith, none)) (λ s. omega (arith, s.0, plan.some)) plan.kept
 
--- where each place at which the key could stand was passed over, it stands nowhere
+-- if each place at which the key could be was passed over, it occurs nowhere
 pub stands_nowhere : (key value : List ℕ) (bound : ℕ) → Nowhere (StandsAt value key) 0 bound → length value < bound + length key → IsTrue false ↔ StandsIn value key
 stands_nowhere key value bound h past = (λ e. absurd (false≢true e), λ s. absurd (h s.0 (omega arith) (omega (arith, s.1.fits)) s.1))

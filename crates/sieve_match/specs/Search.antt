@@ -1,13 +1,13 @@
--- What a search for what a pattern covers compares (RFC 5228, section 2.7.1): the tries that it makes, and the comparisons
--- of each.
+-- The comparisons of a search for what a pattern covers (RFC 5228, section 2.7.1): its tries, and the comparisons of
+-- each.
 use Rattle.std.specs.Prelude.{◌≡◌, ℕ, suc, ◌+◌, Bool, true, false, List, [], ◌∷◌, ◌==◌, if◌then◌else◌}
 use Rattle.sieve_meaning.specs.declared.matching.Comparator.{Comparator}
 use Rattle.sieve_meaning.specs.declared.matching.Item.{Item}
 use Rattle.sieve_meaning.specs.declared.matching.Item.TheVariants.{Octet, One, Any}
 use Rattle.sieve_meaning.specs.Matching.{folded}
 
--- how a try goes out: the items cover the text, they fit up to a `*`, with the items after it and the text that is left, or
--- one does not fit
+-- how a try ends: the items cover the text; or they fit up to a `*`, with the items after it and the rest of the text;
+-- or one does not fit
 pub data Trial : Type 0 where
   covered : Trial
   to_star : List Item → List ℕ → Trial
@@ -23,7 +23,7 @@ trial c (One ∷ is) [] = misfit
 trial c (One ∷ is) (b ∷ bs) = trial c is bs
 trial c (Any ∷ is) text = to_star is text
 
--- the comparisons of a try: one for each item that stands for an octet, up to the first that differs from its octet
+-- the comparisons of a try: one for each item that is an octet, up to the first that differs from its octet
 abbrev pub comparisons : Comparator → List Item → List ℕ → ℕ
 comparisons c [] text = 0
 comparisons c (Octet o ∷ is) [] = 0
@@ -32,9 +32,9 @@ comparisons c (One ∷ is) [] = 0
 comparisons c (One ∷ is) (b ∷ bs) = comparisons c is bs
 comparisons c (Any ∷ is) text = 0
 
--- a search, its answer, and its comparisons, which are those of its tries together: what stands before the first `*` is tried
--- at the front of the value alone, and what stands after a `*` at one place after another, from where the items before it
--- ended, up to the first place where it fits; the truth says whether a `*` stands before the items
+-- a search, its answer, and its comparisons, which are those of all its tries. What comes before the first `*` is tried
+-- at the front of the value only. What comes after a `*` is tried at one place after another, from where the items
+-- before it ended, up to the first place where it fits. The flag tells that a `*` comes before the items
 pub data Search (c : Comparator) : Bool → List Item → List ℕ → Bool → ℕ → Type 0 where
   covers_all : (starred : Bool) (items : List Item) (text : List ℕ) → trial c items text ≡ covered → Search c starred items text true (comparisons c items text)
   at_star : (starred : Bool) (items next : List Item) (text rest : List ℕ) (answer : Bool) (n : ℕ) → trial c items text ≡ to_star next rest → Search c true next rest answer n → Search c starred items text answer (comparisons c items text + n)

@@ -29,7 +29,7 @@ turn_view (steps.Star p) = star (items_of p.now)
 turn_view (steps.Goes p t) = goes (items_of p.now) t.now
 turn_view steps.Stuck = stuck
 
--- how many octets the first item compares with the front of a text: one, where it stands for an octet and one is there
+-- how many octets the first item compares with the front of a text: one, if the item is an octet and the text has one
 abbrev pub compared : List Item → List ℕ → ℕ
 compared [] text = 0
 compared (Octet o ∷ is) [] = 0
@@ -37,7 +37,7 @@ compared (Octet o ∷ is) (b ∷ bs) = 1
 compared (One ∷ is) text = 0
 compared (Any ∷ is) text = 0
 
--- how many items of a pattern stand for an octet
+-- how many items of a pattern are octets
 abbrev pub octet_count : List Item → ℕ
 octet_count [] = 0
 octet_count (Octet o ∷ is) = suc (octet_count is)

@@ -12,7 +12,7 @@ use Rattle.sieve_match.specs.declared.two_way.Plan.{Plan}
 unfoldable pub read : List ℕ → ℕ → ℕ
 read text k = folded Casemap (slice_index text k)
 
--- the key stands in the value from a place on
+-- the key occurs in the value at this place
 abbrev pub StandsAt : (value key : List ℕ) → ℕ → Type 0
 StandsAt value key k = OccursIn (read key) (length key) (read value) (length value) k
 
@@ -24,8 +24,8 @@ unfoldable pub Precedes : Order → ℕ → ℕ → Type 0
 Precedes Rising a b = a < b
 Precedes Falling a b = b < a
 
--- a key of m octets x, its cut, and how far a mismatch left of the cut moves the search: by a number below which the
--- key has no period, and where that is its period the octets before the last period are known to fit
+-- a key of m octets x, its cut, and how far a mismatch left of the cut moves the search. Below that number the key has
+-- no period; if the number is its period, the octets before the last period are known to fit
 pub record IsPlan (x : ℕ → ℕ) (m : ℕ) (p : Plan) : Type 0 where
   pub below : p.cut < m
   pub critical : IsCritical x m p.cut

@@ -1,8 +1,8 @@
 //! Comparators and match types (RFC 5228, sections 2.7.1 and 2.7.3; RFC 4790, sections 9.2 and 9.3): whether a key
-//! matches a value. No call takes memory.
+//! matches a value. No call allocates.
 //!
-//! What the answers mean stands in `sieve_meaning`, as relations and as tests that compute the same; each call here
-//! has a clause for either.
+//! `sieve_meaning` defines what the answers mean, as relations and as functions that compute the same. Each call here
+//! has a clause for each of the two.
 //!
 //! - `octets`: octets as they are compared, and `:is`;
 //! - `substring`: `:contains`;

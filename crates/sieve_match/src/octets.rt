@@ -5,7 +5,7 @@ ghost use Rattle.sieve_meaning.specs.Matching.{folded, equals, IsEqualUnder};
 
 use crate::Comparator;
 
-/// An octet as it is compared: `i;ascii-casemap` maps a to z to A to Z, and leaves each other octet.
+/// An octet as it is compared: `i;ascii-casemap` maps a to z to A to Z, and keeps any other octet.
 pub(crate) fn fold(comparator: Comparator, octet: u8) -> u8
     ensures { result ≡ folded comparator octet }
 {
@@ -18,7 +18,7 @@ pub(crate) fn fold(comparator: Comparator, octet: u8) -> u8
     }
 }
 
-/// Whether a key and a value are equal as they are compared: the match type `:is` (RFC 5228, section 2.7.1).
+/// Whether a key and a value compare as equal: the match type `:is` (RFC 5228, section 2.7.1).
 pub fn is(key: &[u8], value: &[u8], comparator: Comparator) -> bool
     ensures answer { IsTrue result ↔ IsEqualUnder comparator key.now value.now }
     ensures test { result ≡ equals comparator key.now value.now }

@@ -7,8 +7,8 @@ use crate::Comparator;
 use crate::two_way::stands_in;
 use memchr::memmem;
 
-/// Whether a value is some text, a key and some text, as they are compared: the match type `:contains`
-/// (RFC 5228, section 2.7.1). Each value contains the empty key.
+/// Whether a key occurs in a value, as octets are compared: the match type `:contains` (RFC 5228, section 2.7.1). Each
+/// value contains the empty key.
 pub fn contains(key: &[u8], value: &[u8], comparator: Comparator) -> bool
     ensures answer { IsTrue result ↔ Contains comparator key.now value.now }
     ensures test { result ≡ contains_under comparator key.now value.now }

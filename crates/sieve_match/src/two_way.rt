@@ -1,11 +1,10 @@
-//! A search for a key under `i;ascii-casemap`, in time linear in key and value and with no memory: Two-Way
-//! (M. Crochemore and D. Perrin, "Two-way string-matching", Journal of the ACM 38, 1991) over octets as they are
-//! compared.
+//! A search for a key under `i;ascii-casemap`, in time linear in key and value and without allocation: Two-Way (M.
+//! Crochemore and D. Perrin, "Two-way string-matching", Journal of the ACM 38, 1991) over octets as they are compared.
 //!
-//! A key is cut at a place where each repeat across the cut is a period of the whole key. The part right of the cut
-//! is compared from the cut on, and then the part left of it. A mismatch on the right moves the search past what was
-//! compared there, and one on the left by the key's period, where what is left of the key is known to fit, or by a
-//! number below which it has no period.
+//! A key is cut at a place where each repeat across the cut is a period of the whole key. The part right of the cut is
+//! compared first, from the cut on, and then the part left of it. A mismatch on the right moves the search past what
+//! was compared there. A mismatch on the left moves it by the key's period where that is known, and a front of the key
+//! is then known to fit. Otherwise it moves it by a number below which the key has no period.
 //!
 //! Where nothing is known of a place, `memchr2` looks for the next place of one octet of the key, in either case.
 
@@ -21,7 +20,7 @@ use memchr::arch::all::packedpair::Pair;
 use memchr::memchr2;
 use std::cmp::Ordering;
 
-/// Whether a key stands somewhere in a value, by octets as they are compared.
+/// Whether a key occurs in a value, as octets are compared.
 pub(crate) fn stands_in(key: &[u8], value: &[u8]) -> bool
     ensures { IsTrue result ↔ StandsIn value.now key.now }
 {
@@ -104,7 +103,7 @@ fn greatest_suffix(key: &[u8], order: Order) -> Suffix
     Suffix { place, period }
 }
 
-/// Whether each octet before the cut is equal to the one that stands a period after it.
+/// Whether each octet before the cut is equal to the one a period after it.
 fn repeats_before(key: &[u8], cut: usize, period: usize) -> bool
     requires { cut + period ≤ length key.now }
     ensures { IsTrue result ↔ ((k : ℕ) → k < cut → read key.now k ≡ read key.now (k + period)) }
@@ -128,8 +127,8 @@ fn rare_place(key: &[u8]) -> usize
     }
 }
 
-/// The first octet place from `start` on at which the key, laid at a place of the value, does not fit; the key's
-/// length where there is none.
+/// The first place in the key, from `start` on, that does not fit, if the key is laid at the place `at` of the value;
+/// the key's length if there is none.
 #[inline(always)]
 fn fits_to(key: &[u8], value: &[u8], at: usize, start: usize) -> usize
     requires within { at + length key.now ≤ length value.now }
@@ -146,7 +145,7 @@ fn fits_to(key: &[u8], value: &[u8], at: usize, start: usize) -> usize
     end
 }
 
-/// Whether the octets of the key from `low` up to `high` fit, where the key is laid at a place of the value.
+/// Whether the octets of the key from `low` up to `high` fit, if the key is laid at the place `at` of the value.
 #[inline(always)]
 fn fits_between(key: &[u8], value: &[u8], at: usize, low: usize, high: usize) -> bool
     requires within { at + length key.now ≤ length value.now }
@@ -166,9 +165,9 @@ fn fits_between(key: &[u8], value: &[u8], at: usize, low: usize, high: usize) ->
 pub(crate) struct Plan {
     /// Where the key is cut.
     cut: usize,
-    /// How far the search moves where the octets right of the cut fit and one left of it does not.
+    /// How far the search moves if the octets right of the cut fit and one left of it does not.
     shift: usize,
-    /// How many octets at the front of the key are known to fit then.
+    /// How many octets at the front of the key are known to fit after that move.
     kept: usize,
     /// The place of a rare octet.
     rare: usize,
@@ -210,7 +209,7 @@ impl Plan {
         }
     }
 
-    /// Whether the key stands somewhere in a value.
+    /// Whether the key occurs in a value.
     fn finds(&self, key: &[u8], value: &[u8]) -> bool
         requires some { 0 < length key.now }
         requires plan { IsPlan (read key.now) (length key.now) self.now }
@@ -237,7 +236,7 @@ impl Plan {
         false
     }
 
-    /// The next place that may hold the key, from `at` on, where its first `known` octets are known to fit at `at`.
+    /// The next place from `at` on that may hold the key, if its first `known` octets are known to fit at `at`.
     #[inline(always)]
     fn next_place(&self, key: &[u8], value: &[u8], at: usize, known: usize) -> Option<usize>
         requires rare { self.now.rare < length key.now }

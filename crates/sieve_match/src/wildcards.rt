@@ -1,7 +1,7 @@
 //! `:matches` (RFC 5228, section 2.7.1): patterns with `*` and `?`.
 //!
-//! The search goes back to the last `*` only: where the items behind it cover some front of what is left, an earlier
-//! `*` has no better place. So each item is compared at most once for each place of the value.
+//! The search goes back to the last `*` only: if the items after it cover some front of the rest, an earlier `*` has no
+//! better place. So each item is compared at most once for each place of the value.
 
 ghost use Rattle.std.specs.Prelude.{◌≡◌, ◌≤◌, ◌+◌, ◌*◌, ◌↔◌, ◌∷◌, ◌==◌, [], length, false, IsTrue, MatchOption};
 ghost use Rattle.sieve_meaning.specs.Matching.{folded, items_of, covers, Matches};
@@ -17,15 +17,15 @@ use sieve_meaning::Item;
 pub(crate) enum Step<'a> {
     /// There is no item, and no octet.
     Ends,
-    /// The item is `*`; with the pattern behind it.
+    /// The item is `*`; with the pattern after it.
     Star(&'a [u8]),
-    /// The item takes an octet; with the pattern and the text behind them.
+    /// The item takes an octet; with the pattern and the text after them.
     Goes(&'a [u8], &'a [u8]),
     /// The item does not fit, or octets are left and no item.
     Stuck,
 }
 
-/// The first item of a pattern, and the pattern behind it.
+/// The first item of a pattern, and the pattern after it.
 #[tactic(auto, unfolding(sieve_meaning::specs::Matching::items_from))]
 fn next_item(pattern: &[u8]) -> Option<(Item, &[u8])>
     ensures { MatchOption result (items_of pattern.now ≡ []) (λ x. items_of pattern.now ≡ x.0 ∷ items_of x.1.now) }
@@ -42,7 +42,7 @@ fn next_item(pattern: &[u8]) -> Option<(Item, &[u8])>
     }
 }
 
-/// Whether an octet of a pattern is equal to one of a value, as they are compared, and one for the comparison: each
+/// Whether an octet of a pattern and one of a value compare as equal, and 1 as the number of comparisons. Each
 /// comparison of `matches_counted` is made here.
 #[inline(always)]
 fn compare(comparator: Comparator, item: u8, octet: u8) -> (bool, u128)
@@ -52,7 +52,7 @@ fn compare(comparator: Comparator, item: u8, octet: u8) -> (bool, u128)
     (fold(comparator, item) == fold(comparator, octet), 1)
 }
 
-/// What the first item does, and how many octets were compared.
+/// What the first item does, and how many octets were compared: 0 or 1.
 fn first_step<'a>(comparator: Comparator, pattern: &'a [u8], text: &'a [u8]) -> (Step<'a>, u128)
     ensures value { turn_view result.0 ≡ turn_of comparator (items_of pattern.now) text.now }
     ensures count { result.1 ≡ compared (items_of pattern.now) text.now }
@@ -78,11 +78,11 @@ fn first_step<'a>(comparator: Comparator, pattern: &'a [u8], text: &'a [u8]) -> 
 /// Whether a pattern covers a whole value, as octets are compared, and how many times an octet of the pattern was
 /// compared with one of the value: the match type `:matches` (RFC 5228, section 2.7.1).
 ///
-/// `*` is zero or more octets, `?` is one octet, and a backslash makes the next octet stand for itself; a last lone
-/// backslash is a backslash. The items before the first `*` are tried at the front of the value alone, and those after a `*`
-/// at one place after another; the comparisons are those of all tries, each of which ends with the first item that does not
-/// fit. For p items and t octets there are at most `(p + 1) * (t + 1)`, and where the pattern covers the value, at least one
-/// for each item that stands for an octet.
+/// `*` matches zero or more octets, and `?` matches one octet. A backslash makes the next octet match itself; a last
+/// lone backslash matches a backslash. The items before the first `*` are tried at the front of the value only, and
+/// those after a `*` at one place after another. Each try ends with the first item that does not fit; the comparisons
+/// of all tries count. For p items and t octets there are at most `(p + 1) * (t + 1)`. If the pattern covers the value,
+/// there is at least one for each item that is an octet.
 pub fn matches_counted(pattern: &[u8], value: &[u8], comparator: Comparator) -> (bool, u128)
     ensures answer { IsTrue result.0 ↔ Matches comparator (items_of pattern.now) value.now }
     ensures test { result.0 ≡ covers comparator (items_of pattern.now) value.now }
@@ -94,7 +94,7 @@ pub fn matches_counted(pattern: &[u8], value: &[u8], comparator: Comparator) -> 
     let mut rest = value;
     let mut count = 0;
 
-    // behind the last `*`: the items, and where the value was tried last
+    // the items after the last `*`, and the value from the place of their last try on
     let mut star: Option<(&[u8], &[u8])> = None;
     'search: loop {
         let (step, compared) = first_step(comparator, items, rest);
@@ -124,7 +124,7 @@ pub fn matches_counted(pattern: &[u8], value: &[u8], comparator: Comparator) -> 
     }
 }
 
-/// Whether a pattern covers a whole value, as octets are compared: what `matches_counted` answers first.
+/// Whether a pattern covers a whole value, as octets are compared: the first answer of `matches_counted`.
 pub fn matches(pattern: &[u8], value: &[u8], comparator: Comparator) -> bool
     ensures answer { IsTrue result ↔ Matches comparator (items_of pattern.now) value.now }
     ensures test { result ≡ covers comparator (items_of pattern.now) value.now }

@@ -1,4 +1,4 @@
--- What the tests of `Matching` compute is what its relations say.
+-- What the functions of `Matching` compute agrees with its relations.
 use Rattle.std.proofs.Common.{◌≡◌, ℕ, zero, suc, Bool, true, false, eqb, List, [], ◌∷◌, ◌++◌, length, take, drop, inl, inr, ◌↔◌, IsTrue, refl, sym, ap, ◌∙◌}
 use Rattle.std.specs.List.{list_any, starts_with}
 use Rattle.std.proofs.lemmas.Bool.{eqb-true, eq-eqb, or_cases, or_left, or_right, and_parts, and_from, false≢true}
@@ -11,7 +11,7 @@ use Rattle.sieve_meaning.specs.declared.matching.Item.{Item}
 use Rattle.sieve_meaning.specs.declared.matching.Item.TheVariants.{Octet, One, Any}
 use Rattle.sieve_meaning.specs.Matching.{folded, fold, IsEqualUnder, Contains, Matches, suffixes, equals, contains, covers}
 
--- a test that some suffix passes, passes at a place
+-- if some suffix passes a test, the suffix from some place passes it
 pub suffix_from_any : (p : List ℕ → Bool) (text : List ℕ) → list_any p (suffixes text) ≡ true → (n : ℕ) × (p (drop n text) ≡ true)
 unfolding suffixes
 suffix_from_any p [] h = elim (or_cases (p []) false h) [ inl e ↦ (0, e) | inr e ↦ absurd (false≢true e) ]

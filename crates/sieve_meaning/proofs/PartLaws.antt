@@ -1,4 +1,4 @@
--- What the parts of branches are to the program, by the words of commands.
+-- The role of the parts of branches in the program, by the words of commands.
 use Rattle.std.proofs.Common.{◌≡◌, ℕ, true, false, List, refl}
 use Rattle.sieve_syntax.specs.declared.tree.Argument.{Argument}
 use Rattle.sieve_meaning.specs.declared.branches.Part.TheVariants.{Branch, Otherwise}

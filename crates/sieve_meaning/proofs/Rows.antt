@@ -1,4 +1,4 @@
--- The definitions on small scripts and patterns, whose answers are known: each line computes.
+-- The definitions on small scripts and patterns with known answers: each line computes.
 use Rattle.std.proofs.Common.{◌≡◌, ℕ, List, [], ◌∷◌, true, false, Some, None, codes, refl}
 use Rattle.std.specs.Str.{bytes_eq}
 use Rattle.sieve_syntax.specs.Tree.{test, no_tests, one_test, CommandTree, command, semicolon, block, CommandTrees, no_commands, command_then as tree_then}
@@ -35,7 +35,7 @@ invoice : contains comparators.Casemap (codes "invoice") (codes "Your INVOICE") 
 unfolding contains suffixes
 invoice = refl
 
--- `if header :contains NAME KEY { COMMAND }` behind `require "fileinto";`
+-- `if header :contains NAME KEY { COMMAND }` after `require "fileinto";`
 abbrev contains_script : List ℕ → List ℕ → CommandTree → CommandTrees
 contains_script name key c =
     tree_then (command (codes "require") (arguments.Strings (string_lists.One (codes "fileinto")) ∷ []) no_tests semicolon)
@@ -54,7 +54,7 @@ message name value = record { size = 25; fields = record { name = name; value = 
 abbrev result : Facts → CommandTrees → Outcome
 result facts tree = outcome facts no_library None (program_of tree)
 
--- a message whose subject has the key goes to the class
+-- a message whose subject contains the key is filed in the class
 files : result (message (codes "Subject") (codes "Your INVOICE")) (contains_script (codes "subject") (codes "invoice") (file_tree (codes "finance"))) ≡ record { classes = (codes "finance") ∷ []; fault = None }
 unfolding command_word test_word string_lists comparator_from suffixes contains outcome
 files = refl
@@ -64,7 +64,7 @@ weighs : linked_weight no_library None (program_of (contains_script (codes "subj
 unfolding command_word test_word string_lists comparator_from
 weighs = refl
 
--- an absent header contains no key, not even the empty one; a present one does
+-- an absent header field contains no key, not even the empty one; a present one does
 absent : result (message (codes "Subject") (codes "a")) (contains_script (codes "x-none") [] discard_tree) ≡ record { classes = unfiled ∷ []; fault = None }
 unfolding command_word test_word string_lists comparator_from suffixes contains outcome
 absent = refl
@@ -73,7 +73,7 @@ present : result (message (codes "X-None") []) (contains_script (codes "x-none")
 unfolding command_word test_word string_lists comparator_from suffixes contains outcome
 present = refl
 
--- a path that is not open is fault 1, and what was filed before is forgotten
+-- a path that is not open is fault 1, and what was filed before is dropped
 closed : result (message [] []) (tree_then (file_tree (codes "finance")) (tree_then (file_tree (codes "nowhere")) no_commands)) ≡ record { classes = unfiled ∷ []; fault = Some 1 }
 unfolding command_word string_lists outcome
 closed = refl

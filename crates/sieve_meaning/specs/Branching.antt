@@ -1,4 +1,4 @@
--- What commands are to the branches before them: an `elsif` or `else` belongs to them where they are open (RFC 5228,
+-- How commands relate to the branches before them: an `elsif` or `else` belongs to them where they are open (RFC 5228,
 -- section 3.1).
 use Rattle.std.specs.Prelude.{Bool, true, false}
 use Rattle.sieve_meaning.specs.declared.words.CommandWord.{CommandWord}
@@ -6,7 +6,7 @@ use Rattle.sieve_meaning.specs.declared.words.CommandWord.TheVariants as words
 use Rattle.sieve_meaning.specs.declared.branches.Part.{Part}
 use Rattle.sieve_meaning.specs.declared.branches.Part.TheVariants.{Branch, Otherwise, Plain}
 
--- what a command is to the branches before it
+-- the part of a command, given whether the branches before it are open
 abbrev pub part_of : CommandWord → (is_open : Bool) → Part
 part_of words.If is_open = Branch
 part_of words.ElsIf true = Branch
@@ -15,7 +15,7 @@ part_of words.Else true = Otherwise
 part_of words.Else false = Plain
 part_of word is_open = Plain
 
--- whether branches are open behind it
+-- whether branches are open after it
 abbrev pub is_branch : Part → Bool
 is_branch Branch = true
 is_branch Otherwise = false

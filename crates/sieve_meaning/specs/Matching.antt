@@ -18,19 +18,19 @@ folded comparators.Casemap b = if nat_le 97 b && nat_le b 122 then b - 32 else b
 abbrev pub fold : Comparator → List ℕ → List ℕ
 fold c text = map (folded c) text
 
--- `:is`: the texts are equal as they are compared
+-- `:is`: the texts compare as equal
 abbrev pub IsEqualUnder : Comparator → (key value : List ℕ) → Type 0
 IsEqualUnder c key value = fold c key ≡ fold c value
 
--- `:contains`: the value is some text, the key, some text
+-- `:contains`: the value is any text, the key, and any text
 abbrev pub Contains : Comparator → (key value : List ℕ) → Type 0
 Contains c key value = (before : List ℕ) × (after : List ℕ) × (fold c value ≡ before ++ (fold c key ++ after))
 
 abbrev pub item_of : ℕ → Item
 item_of b = if b == 42 then Any else if b == 63 then One else Octet b
 
--- the items of a pattern, behind a backslash or not: a backslash makes the next octet stand for itself,
--- and a last lone backslash is a backslash
+-- the items of a pattern; the flag tells that a backslash has just come. A backslash makes the next octet match itself,
+-- and a last lone backslash matches a backslash
 unfoldable pub items_from : Bool → List ℕ → List Item
 items_from false [] = []
 items_from true [] = Octet 92 ∷ []
@@ -50,12 +50,12 @@ Matches c (One ∷ is) [] = ⊥
 Matches c (One ∷ is) (b ∷ bs) = Matches c is bs
 Matches c (Any ∷ is) text = (n : ℕ) × Matches c is (drop n text)
 
--- what is left of a text at each of its places, the end too
+-- the rest of a text from each of its places, the end included
 unfoldable pub suffixes : List ℕ → List (List ℕ)
 suffixes [] = [] ∷ []
 suffixes (b ∷ bs) = (b ∷ bs) ∷ suffixes bs
 
--- the same as tests that compute
+-- the same relations as functions that compute
 
 unfoldable pub equals : Comparator → (key value : List ℕ) → Bool
 equals c key value = bytes_eq (fold c key) (fold c value)

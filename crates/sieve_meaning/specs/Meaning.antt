@@ -39,7 +39,7 @@ and_then (Returns f) go = Returns f
 and_then (Stops f) go = Stops f
 and_then (Faults n f) go = Faults n f
 
--- `fileinto`: only a copy leaves the implicit keep (RFC 3894, section 3); a path that is not open is fault 1
+-- `fileinto`: only a copy leaves the implicit keep in force (RFC 3894, section 3); a path that is not open is fault 1
 abbrev pub filing : Facts → Bool → List ℕ → Filing → Ending
 filing facts copy path f = if facts.is_open path then GoesOn (record f { filed = insert_path path f.filed; cancelled = f.cancelled || not copy }) else Faults 1 f
 
@@ -78,7 +78,7 @@ script_named n = record { global = n.global; name = n.name }
 abbrev pub is_among : List ScriptName → ScriptName → Bool
 is_among names s = list_any (same_script s) names
 
--- an included script that returns has ended
+-- a `return` ends the included script alone (RFC 6609, section 3.3)
 abbrev pub ended : Ending → Ending
 ended (Returns f) = GoesOn f
 ended (GoesOn f) = GoesOn f
@@ -100,13 +100,13 @@ abbrev pub unless_entered : Bool → (Filing → Ending) → Filing → Ending
 unless_entered true go f = GoesOn f
 unless_entered false go f = go f
 
--- An `include` is judged in this order: under `:once` a script that was entered does nothing; a missing one
--- does nothing under `:optional` and is fault 2 otherwise; an active one is fault 3; else it is entered so.
+-- How an `include` is judged, in this order. Under `:once`, a script that was entered before does nothing. A missing
+-- script does nothing under `:optional`, and is fault 2 otherwise. An active script is fault 3. Any other is entered.
 abbrev pub including : Library → (chain : List ScriptName) → (Commands → Filing → Ending) → Included
 including lib chain enter n f = unless_entered (n.once && is_among f.entered (script_named n)) (unless_missing (lib.find (script_named n)) n.optional (λ script. unless_active (is_among chain (script_named n)) (enter script))) f
 
--- An `include` where so many further scripts may be active, behind the active ones that have names. Where
--- none may, entering a script is fault 4.
+-- An `include`, given how many further scripts may be active, and the names of the active ones that have one. If no
+-- further script may be active, entering a script is fault 4.
 abbrev pub included : Facts → Library → ℕ → (chain : List ScriptName) → Included
 included facts lib zero chain n = including lib chain (λ script f. Faults 4 f) n
 included facts lib (suc left) chain n = including lib chain (λ script f. ended (run facts (included facts lib left (script_named n ∷ chain)) script (entering (script_named n) f))) n
@@ -120,7 +120,7 @@ main_names (Some name) = record { global = false; name = name } ∷ []
 abbrev pub opening : Option (List ℕ) → Filing
 opening known_as = record { filed = []; kept = false; cancelled = false; entered = main_names known_as }
 
--- the run of a main script; eight scripts may be active, the main one among them
+-- the run of a main script; eight scripts may be active, the main one included
 abbrev pub meaning : Facts → Library → (known_as : Option (List ℕ)) → Commands → Ending
 meaning facts lib known_as main = run facts (included facts lib 7 (main_names known_as)) main (opening known_as)
 

@@ -14,7 +14,7 @@ pub record Outcome : Type 0 where
 abbrev pub unfiled : List ℕ
 unfiled = codes "unfiled"
 
--- A fault leaves the default class alone. Else the classes are the filed ones, and the default one where the
+-- A fault leaves the default class alone. Otherwise the classes are the filed ones, and the default one too if the
 -- message is kept, explicitly or implicitly (RFC 5228, section 2.10.2).
 abbrev pub outcome_at : Option ℕ → (filed : Paths) → (kept cancelled : Bool) → Outcome
 outcome_at (Some n) filed kept cancelled = record { classes = unfiled ∷ []; fault = Some n }
@@ -29,11 +29,11 @@ outcome_of (Returns f) = outcome_with None f
 outcome_of (Stops f) = outcome_with None f
 outcome_of (Faults n f) = outcome_with (Some n) f
 
--- the greatest weight of a script that is run
+-- the greatest weight of a script that runs
 abbrev pub greatest_weight : ℕ
 greatest_weight = 60000
 
--- a main script that is too heavy is fault 5
+-- a main script above the greatest weight is fault 5
 unfoldable pub outcome : Facts → Library → (known_as : Option (List ℕ)) → Commands → Outcome
 outcome facts lib known_as main =
     if nat_lt greatest_weight (linked_weight lib known_as main) then outcome_at (Some 5) [] false false else outcome_of (meaning facts lib known_as main)

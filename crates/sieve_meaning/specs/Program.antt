@@ -1,4 +1,4 @@
--- Scripts as they are run: each `if` with its branches in one piece, and each argument in its place.
+-- Scripts as they run: each `if` with its branches in one piece, and each argument in its place.
 use Rattle.std.specs.Prelude.{ℕ, List, Bool}
 use Rattle.sieve_meaning.specs.declared.matching.Comparator.{Comparator}
 use Rattle.sieve_meaning.specs.declared.matching.MatchType.{MatchType}
@@ -18,7 +18,7 @@ mutual
     -- `size :over`, `size :under`
     over : ℕ → Test
     under : ℕ → Test
-    -- `header`: how keys match, a name and others, a key and others
+    -- `header`: the match type and comparator, the first name and the others, the first key and the others
     header : MatchType → Comparator → List ℕ → List (List ℕ) → List ℕ → List (List ℕ) → Test
 
   pub data Tests : Type 0 where
@@ -41,7 +41,7 @@ mutual
     discard : Command
     stop : Command
     return : Command
-    -- whether a copy is filed, and where
+    -- `fileinto`: whether it has `:copy`, and its path
     file_into : Bool → List ℕ → Command
     branch : Branches → Command
     include : Include → Command
@@ -50,7 +50,7 @@ mutual
     no_command : Commands
     command_then : Command → Commands → Commands
 
-  -- the first whose test is true, or else a block
+  -- blocks with their tests, of which the first true one runs its block, or else the block of an `else`
   pub data Branches : Type 0 where
     no_branch : Branches
     otherwise : Commands → Branches

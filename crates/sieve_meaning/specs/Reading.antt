@@ -1,5 +1,5 @@
--- From the tree of the grammar to the program that is run. It is said of every tree; the trees that are run
--- are well made, so that each argument that is read here is there.
+-- From the tree of the grammar to the program that runs. The definitions cover every tree. A tree that runs is well
+-- made, so each argument that is read here is there.
 use Rattle.std.specs.Prelude.{ℕ, List, [], ◌∷◌, Bool, true, false, codes, if◌then◌else◌}
 use Rattle.std.specs.List.{list_any}
 use Rattle.std.specs.Str.{bytes_eq}
@@ -29,7 +29,7 @@ is_tag name (arguments.Strings l) = false
 abbrev pub has_tag : List ℕ → List Argument → Bool
 has_tag name args = list_any (is_tag name) args
 
--- the string lists but for the one that follows `:comparator` directly
+-- the string lists, skipping one directly after `:comparator`; the flag tells that the tag has just come
 unfoldable pub string_lists : Bool → List Argument → List StringList
 string_lists behind [] = []
 string_lists true (arguments.Strings l ∷ args) = string_lists false args
@@ -37,11 +37,12 @@ string_lists false (arguments.Strings l ∷ args) = l ∷ string_lists false arg
 string_lists behind (arguments.Number n ∷ args) = string_lists false args
 string_lists behind (arguments.Tag t ∷ args) = string_lists (same_word t (codes "comparator")) args
 
--- the string that follows `:comparator` directly
+-- the comparator of a name: `i;octet` by these exact octets, `i;ascii-casemap` by any others
 abbrev pub comparator_named : List ℕ → Comparator
 comparator_named s = if bytes_eq s (codes "i;octet") then comparators.Octet else comparators.Casemap
 
--- the comparator, behind the tag or not: `i;ascii-casemap` where none is named (RFC 5228, section 2.7.3)
+-- the comparator; the flag tells that `:comparator` has just come. It is `i;ascii-casemap` where none is named (RFC
+-- 5228, section 2.7.3)
 unfoldable pub comparator_from : Bool → List Argument → Comparator
 comparator_from behind [] = comparators.Casemap
 comparator_from true (arguments.Strings l ∷ args) = comparator_named (first_of l)
@@ -78,7 +79,7 @@ first_string (l ∷ more) = first_of l
 
 -- TESTS
 
--- the test of a name, its arguments, its only test and all its tests
+-- the test of this name, from its arguments, its only test and all its tests
 abbrev pub test_named : TestWord → List Argument → Test → Tests → Test
 test_named tests.True args only all = always true
 test_named tests.False args only all = always false
@@ -115,8 +116,7 @@ abbrev mutual
 abbrev pub include_of : List Argument → Include
 include_of args = record { global = has_tag (codes "global") args; once = has_tag (codes "once") args; optional = has_tag (codes "optional") args; name = first_string (string_lists false args) }
 
--- A command before others. An `elsif` or `else` belongs to the `if`
--- before it, and is passed over here.
+-- A command and those after it. An `elsif` or `else` belongs to the `if` before it, and is passed over here.
 abbrev pub command_named : CommandWord → List Argument → Test → Commands → Branches → Commands → Commands
 command_named commands.Require args t inner rest more = command_then require more
 command_named commands.If args t inner rest more = command_then (branch (if_then t inner rest)) more
@@ -130,7 +130,7 @@ command_named commands.FileInto args t inner rest more = command_then (file_into
 command_named commands.Include args t inner rest more = command_then (include (include_of args)) more
 command_named commands.Other args t inner rest more = more
 
--- the branches that begin with a command: those of an `elsif` or `else`, and else none
+-- the branches that a command begins: those of an `elsif` or `else`, and otherwise none
 abbrev pub branch_named : CommandWord → Test → Commands → Branches → Branches
 branch_named commands.ElsIf t inner rest = if_then t inner rest
 branch_named commands.Else t inner rest = otherwise inner
@@ -150,7 +150,7 @@ abbrev mutual
   program_of no_commands = no_command
   program_of (tree_then (command name args inner finish) more) = command_named (command_word name) args (only_in inner) (block_in finish) (branches_of more) (program_of more)
 
-  -- the branches behind an `if` or `elsif`
+  -- the branches after an `if` or `elsif`
   pub branches_of : CommandTrees → Branches
   branches_of no_commands = no_branch
   branches_of (tree_then (command name args inner finish) more) = branch_named (command_word name) (only_in inner) (block_in finish) (branches_of more)

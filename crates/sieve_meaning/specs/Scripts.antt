@@ -1,4 +1,4 @@
--- What the code's names of scripts, and its includes, stand for (RFC 6609, section 3.2).
+-- What the code's script names and includes mean (RFC 6609, section 3.2).
 use Rattle.std.specs.Prelude.{Bool, true, false}
 use Rattle.sieve_meaning.specs.Meaning as meaning
 use Rattle.sieve_meaning.specs.Program as program
@@ -14,6 +14,6 @@ is_global Global = true
 abbrev pub script_of : ScriptName → meaning.ScriptName
 script_of s = record { global = is_global s.location; name = s.name.now }
 
--- what an include asks
+-- what an include requests
 abbrev pub asked : Include → program.Include
 asked i = record { global = is_global i.script.location; once = i.is_once; optional = i.is_optional; name = i.script.name.now }

@@ -7,11 +7,11 @@ use Rattle.sieve_meaning.specs.Matching.{key_matches}
 use Rattle.sieve_meaning.specs.Case.{Facts, is_named}
 use Rattle.sieve_meaning.specs.Program.{Test, always, negated, all_of, any_of, has_all, over, under, header, Tests, no_test, test_then}
 
--- `exists` of one name: some field has it (section 5.5)
+-- `exists` of one name: some field has it (RFC 5228, section 5.5)
 abbrev pub has_field : Facts → List ℕ → Bool
 has_field facts name = list_any (is_named name) facts.fields
 
--- `header`: some field has one of the names, and its value matches some key (section 5.7)
+-- `header`: some field has one of the names, and its value matches some key (RFC 5228, section 5.7)
 abbrev pub header_truth : Facts → MatchType → Comparator → (names keys : List (List ℕ)) → Bool
 header_truth facts m c names keys = list_any (λ f. list_any (λ name. is_named name f) names && list_any (λ key. key_matches m c key f.value) keys) facts.fields
 

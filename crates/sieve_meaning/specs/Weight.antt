@@ -1,9 +1,9 @@
--- How heavy a script is: a bound on the code that it needs, read off its text alone.
+-- The weight of a script: a bound on the code that it needs, computed from its text alone.
 use Rattle.std.specs.Prelude.{ℕ, zero, suc, ◌+◌, ◌*◌, List, ◌∷◌, length, Bool, true, false, Option, Some, None}
 use Rattle.sieve_meaning.specs.Program.{Test, always, negated, all_of, any_of, has_all, over, under, header, Tests, no_test, test_then, Include, Command, require, keep, discard, stop, return, file_into, branch, include, Commands, no_command, command_then, Branches, no_branch, otherwise, if_then}
 use Rattle.sieve_meaning.specs.Meaning.{Library, ScriptName, script_named, is_among, main_names}
 
--- 4 a test at any depth, 2 for each name of a field, 3 for each key
+-- 4 for a test at any depth, 2 for each name of a header field, 3 for each key
 abbrev mutual
   pub test_weight : Test → ℕ
   test_weight (always b) = 4
@@ -19,7 +19,7 @@ abbrev mutual
   tests_weight no_test = 0
   tests_weight (test_then t ts) = test_weight t + tests_weight ts
 
--- 4 a command, those of blocks and each `elsif` and `else` too; an include adds what it is given
+-- 4 for a command, in a block too, and for each `elsif` and `else`; an include adds the weight that is given for it
 abbrev mutual
   pub weight : (Include → ℕ) → Commands → ℕ
   weight inc no_command = 0
@@ -48,8 +48,8 @@ abbrev pub unless_active : Bool → ℕ → ℕ
 unless_active true n = 0
 unless_active false n = n
 
--- An include adds the weight of its script, taken with that script active, where it is there, is not active
--- and so many further scripts may be active.
+-- An include adds the weight of its script, computed with that script active. It adds nothing if the script is missing
+-- or active. The number is how many further scripts may be active; if none may, it adds nothing either.
 abbrev pub included_weight : Library → ℕ → (chain : List ScriptName) → Include → ℕ
 included_weight lib zero chain n = 0
 included_weight lib (suc left) chain n = unless_missing (lib.find (script_named n)) (λ script. unless_active (is_among chain (script_named n)) (weight (included_weight lib left (script_named n ∷ chain)) script))

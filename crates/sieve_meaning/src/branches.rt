@@ -1,22 +1,22 @@
-//! What a command is to the branches before it (RFC 5228, section 3.1).
+//! How a command relates to the branches before it (RFC 5228, section 3.1).
 
 ghost use Rattle.std.specs.Prelude.{◌≡◌};
 ghost use Rattle.sieve_meaning.specs.Branching.{is_branch as is_branch_of, part_of};
 
 use crate::words::CommandWord;
 
-/// What a command is to the branches before it.
+/// The part of a command in a chain of `if`, `elsif` and `else` (RFC 5228, section 3.1).
 #[derive(Clone, Copy, Debug, PartialEq, Eq)]
 pub enum Part {
-    /// An `if`, or an `elsif` behind open branches.
+    /// An `if`, or an `elsif` after open branches.
     Branch,
-    /// An `else` behind open branches.
+    /// An `else` after open branches.
     Otherwise,
-    /// Any other command.
+    /// Any other command, also an `elsif` or `else` where no branches are open.
     Plain,
 }
 
-/// What a command is to the branches before it, which are open or not.
+/// The part of a command, given whether the branches before it are open.
 pub fn part_in(word: CommandWord, is_open: bool) -> Part
     ensures { result ≡ part_of word is_open }
 {
@@ -28,7 +28,7 @@ pub fn part_in(word: CommandWord, is_open: bool) -> Part
     }
 }
 
-/// Whether branches are open behind a command.
+/// Whether branches are open after a command of this part.
 pub fn is_branch(part: Part) -> bool
     ensures { result ≡ is_branch_of part }
 {

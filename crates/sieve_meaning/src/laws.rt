@@ -1,4 +1,4 @@
-//! Laws of the definitions, each on a function with nothing to do.
+//! Laws of the definitions. Each is the contract of a function that does nothing.
 
 ghost use Rattle.std.specs.Prelude.{ℕ, List, IsTrue, ◌↔◌};
 ghost use Rattle.sieve_meaning.specs.Matching.{equals, IsEqualUnder, contains, Contains, covers, Matches};
@@ -6,22 +6,23 @@ ghost use Rattle.sieve_meaning.specs.Parts.{PartLaw};
 ghost use Rattle.sieve_meaning.specs.declared.matching.Comparator.{Comparator};
 ghost use Rattle.sieve_meaning.specs.declared.matching.Item.{Item};
 
-/// The test for `:is` says what the relation says.
+/// What is computed for `:is` agrees with the relation.
 pub fn equality_is_decided()
     ensures { (c : Comparator) (key value : List ℕ) → IsTrue (equals c key value) ↔ IsEqualUnder c key value }
 {}
 
-/// The test for `:contains` says what the relation says.
+/// What is computed for `:contains` agrees with the relation.
 pub fn contains_is_decided()
     ensures { (c : Comparator) (key value : List ℕ) → IsTrue (contains c key value) ↔ Contains c key value }
 {}
 
-/// The test for `:matches` says what the relation says.
+/// What is computed for `:matches` agrees with the relation.
 pub fn pattern_is_decided()
     ensures { (c : Comparator) (items : List Item) (value : List ℕ) → IsTrue (covers c items value) ↔ Matches c items value }
 {}
 
-/// What `branches::part_in` says of a command is how the program has it: begun, gone on with, ended or passed over.
+/// The part that `branches::part_in` gives a command is its role in the program. The command begins branches, continues
+/// them, ends them or is passed over.
 pub fn parts_are_read()
     ensures { PartLaw }
 {}

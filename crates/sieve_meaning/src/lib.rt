@@ -1,19 +1,19 @@
-//! What Sieve scripts mean (RFC 5228, with RFC 3894 and RFC 6609): definitions that several crates speak of.
+//! What Sieve scripts mean (RFC 5228, with RFC 3894 and RFC 6609): definitions that several crates share.
 //!
-//! There is little code here: what more than one crate reads off a tree, and what a run captures. `specs/` has, in the
-//! order of reading:
+//! There is little code here: readings of a tree that more than one crate needs, and the classes that a run captures.
+//! The files of `specs/`, in the order to read them:
 //!
-//! - `Matching`: comparators and match types, as relations and as tests that compute the same;
-//! - `Case`: what a run can learn of a message and of the plan of classes;
+//! - `Matching`: comparators and match types, as relations and as functions that compute the same;
+//! - `Case`: what a run can learn about a message and the plan of classes;
 //! - `Paths`: sets of classes;
-//! - `Program`: scripts as they are run, with each `if` and its branches in one piece;
+//! - `Program`: scripts as they run, with each `if` and its branches in one piece;
 //! - `Reading`: from the tree of the grammar (`sieve_syntax`) to a program;
-//! - `Branching`, `Parts`: what a command of the tree is to the branches before it, and how the program has it;
+//! - `Branching`, `Parts`: how a command of the tree relates to the branches before it, and its place in the program;
 //! - `Truth`, `Meaning`, `Outcome`: tests, runs, and the classes that a run captures;
-//! - `Scripts`: what the code's names of scripts and includes stand for;
-//! - `Weight`: how large the code of a script may be.
+//! - `Scripts`: what the code's script names and includes mean;
+//! - `Weight`: a bound on the size of a script's code.
 //!
-//! `laws` has what is proved of these definitions.
+//! `laws` states what is proved of these definitions.
 #![tactic(auto)]
 
 pub mod branches;

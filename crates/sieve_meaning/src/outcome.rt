@@ -1,4 +1,4 @@
-//! What a run captures.
+//! The classes that a run captures a message in.
 
 ghost use Rattle.std.specs.Prelude.{◌≡◌, [], ◌∷◌, IfOk};
 ghost use Rattle.sieve_meaning.specs.Outcome.{outcome_at, unfiled};
@@ -6,10 +6,10 @@ ghost use Rattle.sieve_meaning.specs.Outcome.{outcome_at, unfiled};
 use crate::paths::Paths;
 use std::alloc::{AllocError, Global};
 
-/// The class that a message is captured in by default.
+/// The default class.
 const UNFILED: &[u8] = b"unfiled";
 
-/// The default class, and no other: what a run captures that ended with a fault. The only error is want of memory.
+/// The default class `unfiled` alone, in which a run that ended with a fault captures. Fails only if memory runs out.
 pub fn default_class_alone(alloc: Global) -> Result<Paths, AllocError>
     ensures { IfOk result (λ p. p ≡ unfiled ∷ []) }
 {
@@ -18,9 +18,10 @@ pub fn default_class_alone(alloc: Global) -> Result<Paths, AllocError>
     Ok(classes)
 }
 
-/// What a run captures that ended so. With a fault it is the default class alone; with none it is the classes that the
-/// run filed into, and the default class too where the message is kept, explicitly or implicitly (RFC 5228, section
-/// 2.10.2). The set is copied only where it is captured. The only error is want of memory.
+/// The classes in which a run captures, by how it ended. With a fault it is the default class alone. Without one it is
+/// the classes that the run filed into, and the default class too if the message is kept (RFC 5228, section 2.10.2).
+/// `kept` is an explicit keep, and `cancelled` cancels the implicit one. `filed` is copied only if there is no fault.
+/// Fails only if memory runs out.
 pub fn captured_classes(
     alloc: Global,
     fault: Option<u8>,

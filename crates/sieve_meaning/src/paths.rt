@@ -7,7 +7,7 @@ use sieve_syntax::Text;
 use std::alloc::{AllocError, Global};
 use std::marker::Model;
 
-/// A set of class paths. Contracts see it as the list of its paths in byte order, each once.
+/// A set of class paths. Contracts see the list of its paths in byte order, each once.
 #[derive(Drop)]
 pub struct Paths {
     items: Vec<Text>,
@@ -24,8 +24,8 @@ impl Model for Paths {
     ghost invariant = { λ p. IsIncreasing p.items.items };
 }
 
-/// Where a path that is missing belongs in byte order; none where it is there. The place is found by halves, so twice as
-/// many paths take one comparison more.
+/// The place where a missing path belongs in byte order; none where the set has the path. It is a binary search:
+/// doubling the paths costs one comparison more.
 fn missing_place(items: &[Text], path: &[u8]) -> Option<usize>
     requires { IsIncreasing items.now }
     ensures there { IfNone result (insert_path path.now items.now ≡ items.now) }
@@ -37,7 +37,6 @@ fn missing_place(items: &[Text], path: &[u8]) -> Option<usize>
     }
 }
 
-/// The same texts again.
 fn copies(alloc: Global, items: &[Text]) -> Result<Vec<Text>, AllocError>
     ensures { IfOk result (λ v. v.items ≡ items.now) }
 {
@@ -49,7 +48,7 @@ fn copies(alloc: Global, items: &[Text]) -> Result<Vec<Text>, AllocError>
 }
 
 impl Paths {
-    /// No path; takes no memory.
+    /// The empty set; needs no allocation.
     pub fn new(alloc: Global) -> Paths
         ensures { result ≡ [] }
     {
@@ -58,7 +57,7 @@ impl Paths {
         }
     }
 
-    /// Adds a path, unless it is there. The only error is want of memory, and the set is then as before.
+    /// Adds a path, unless the set has it. Fails only if memory runs out, and the set is then unchanged.
     pub fn insert(&mut self, alloc: Global, path: &[u8]) -> Result<(), AllocError>
         ensures ok { OnOk result (self.new ≡ insert_path path.now self.old) }
         ensures err { OnErr result (self.new ≡ self.old) }
@@ -71,7 +70,7 @@ impl Paths {
         Ok(())
     }
 
-    /// The same set again; the only error is want of memory. Time and memory are linear in the octets of the paths.
+    /// A copy of the set. Fails only if memory runs out. Time and memory are linear in the octets of the paths.
     pub fn copy(&self, alloc: Global) -> Result<Paths, AllocError>
         ensures { IfOk result (λ p. p ≡ self.now) }
     {
@@ -80,7 +79,7 @@ impl Paths {
         })
     }
 
-    /// The paths in byte order.
+    /// The paths in byte order, each once.
     pub fn as_slice(&self) -> &[Text]
         ensures { result.now ≡ self.now }
     {

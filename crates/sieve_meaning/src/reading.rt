@@ -9,7 +9,6 @@ use crate::scripts::{Include, Location, ScriptName};
 use crate::words::is_word;
 use sieve_syntax::{Argument, StringList};
 
-/// Whether an argument is the tag with a name.
 fn is_tag_named(argument: &Argument, name: &[u8]) -> bool
     ensures { result ≡ is_tag name.now argument.now }
 {
@@ -19,7 +18,7 @@ fn is_tag_named(argument: &Argument, name: &[u8]) -> bool
     }
 }
 
-/// Whether the tag with a name is among the arguments.
+/// Whether the tag with this name is among the arguments. ASCII case is ignored.
 pub fn has_tag(arguments: &[Argument], name: &[u8]) -> bool
     ensures { result ≡ has_tag_of name.now arguments.now }
 {
@@ -28,7 +27,8 @@ pub fn has_tag(arguments: &[Argument], name: &[u8]) -> bool
         .any(|argument| is_tag_named(argument, name))
 }
 
-/// The first string list but for the one that follows `:comparator` directly, and the arguments behind it.
+/// The first string list, skipping one directly after `:comparator`, and the arguments after it; `None` where there is
+/// none.
 #[tactic(auto, unfolding(crate::specs::Reading::string_lists))]
 pub fn next_string_list(arguments: &[Argument]) -> Option<(&StringList, &[Argument])>
     ensures { MatchOption result (string_lists false arguments.now ≡ []) (λ x. string_lists false arguments.now ≡ x.0.now ∷ string_lists false x.1.now) }
@@ -51,7 +51,7 @@ pub fn next_string_list(arguments: &[Argument]) -> Option<(&StringList, &[Argume
     None
 }
 
-/// The first string of the first string list but for the one that follows `:comparator` directly, or no octet.
+/// The first string of the first string list, skipping a list directly after `:comparator`; empty where there is none.
 pub fn first_string(arguments: &[Argument]) -> &[u8]
     ensures { result.now ≡ first_string_of (string_lists false arguments.now) }
 {
@@ -61,7 +61,7 @@ pub fn first_string(arguments: &[Argument]) -> &[u8]
     }
 }
 
-/// The comparator with a name.
+/// The comparator of a name: `i;octet` by these exact octets, `i;ascii-casemap` by any others.
 fn named_comparator(name: &[u8]) -> Comparator
     ensures { result ≡ comparator_named name.now }
 {
@@ -72,7 +72,7 @@ fn named_comparator(name: &[u8]) -> Comparator
     }
 }
 
-/// The comparator that the arguments name: `i;ascii-casemap` where they name none (RFC 5228, section 2.7.3).
+/// The comparator that the arguments name; `i;ascii-casemap` where they name none (RFC 5228, section 2.7.3).
 #[tactic(auto, unfolding(crate::specs::Reading::comparator_from))]
 pub fn comparator(arguments: &[Argument]) -> Comparator
     ensures { result ≡ comparator_from false arguments.now }
@@ -93,7 +93,7 @@ pub fn comparator(arguments: &[Argument]) -> Comparator
     Comparator::Casemap
 }
 
-/// The match type that the arguments name: `:is` where they name none (RFC 5228, section 2.7.1).
+/// The match type that the arguments name; `:is` where they name none (RFC 5228, section 2.7.1).
 pub fn match_type(arguments: &[Argument]) -> MatchType
     ensures { result ≡ match_type_of arguments.now }
 {
@@ -106,7 +106,7 @@ pub fn match_type(arguments: &[Argument]) -> MatchType
     }
 }
 
-/// The first number among the arguments, or 0.
+/// The first number among the arguments; 0 where there is none.
 #[tactic(auto, unfolding(crate::specs::Reading::number_in))]
 pub fn number(arguments: &[Argument]) -> u64
     ensures { result ≡ number_in arguments.now }
@@ -119,7 +119,7 @@ pub fn number(arguments: &[Argument]) -> u64
     0
 }
 
-/// Where the script is that an include names: `:global`, or else personal.
+/// The location that an include names: `:global`, or else personal.
 fn location(arguments: &[Argument]) -> Location
     ensures { is_global result ≡ has_tag_of (codes "global") arguments.now }
 {
@@ -130,7 +130,7 @@ fn location(arguments: &[Argument]) -> Location
     }
 }
 
-/// What an `include` with these arguments asks for (RFC 6609, section 3.2).
+/// What an `include` with these arguments requests (RFC 6609, section 3.2).
 pub fn include(arguments: &[Argument]) -> Include<'_>
     ensures { asked result ≡ include_of arguments.now }
 {

@@ -42,7 +42,7 @@ pub fn is_word(name: &[u8], word: &[u8]) -> bool
     name.eq_ignore_ascii_case(word)
 }
 
-/// Which command a name is.
+/// The command of this name; `Other` where there is none. ASCII case is ignored.
 #[tactic(auto, unfolding(crate::specs::Words::command_word))]
 pub fn command_word(name: &[u8]) -> CommandWord
     ensures { result ≡ command_word_of name.now }
@@ -72,7 +72,7 @@ pub fn command_word(name: &[u8]) -> CommandWord
     }
 }
 
-/// Which test a name is.
+/// The test of this name; `Other` where there is none. ASCII case is ignored.
 #[tactic(auto, unfolding(crate::specs::Words::test_word))]
 pub fn test_word(name: &[u8]) -> TestWord
     ensures { result ≡ test_word_of name.now }

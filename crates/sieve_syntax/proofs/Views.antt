@@ -1,4 +1,4 @@
--- What the cases of the code's trees stand for.
+-- What each case of the code's trees represents.
 use Rattle.std.proofs.Common.{◌≡◌, ◌∙◌, map, Vec, Box, Global}
 use Rattle.sieve_syntax.specs.Tree.{TestTree, test, InnerTests, no_tests, one_test, listed_tests, CommandTree, command, EndingTree, semicolon, block}
 use Rattle.sieve_syntax.specs.View.{tests_step, test_step, list_step, test_of, inner_of, list_of, row_of, ending_step, command_step, command_of, ending_of, commands_of}

@@ -1,4 +1,4 @@
--- Words about the arguments of commands and tests.
+-- The strings of a string list in an argument (RFC 5228, section 2.4.2.1).
 use Rattle.std.specs.Prelude.{ℕ, List, [], ◌∷◌}
 use Rattle.sieve_syntax.specs.declared.tree.StringList.{StringList}
 use Rattle.sieve_syntax.specs.declared.tree.StringList.TheVariants as string_lists

@@ -1,4 +1,4 @@
--- The arguments of a command or test, wherever they lie.
+-- The arguments of a command or test, whatever their layout.
 use Rattle.std.specs.Prelude.{List, [], ◌∷◌}
 use Rattle.sieve_syntax.specs.declared.tree.Argument.{Argument}
 use Rattle.sieve_syntax.specs.declared.tree.Held.{Held}

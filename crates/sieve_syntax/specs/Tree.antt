@@ -1,5 +1,5 @@
--- Trees of scripts, without where they lie in memory, with their one spelling and their two depths.
--- The grammar is that of RFC 5228, section 8.2, written from the tree to its tokens.
+-- Trees of scripts, without their layout in memory, with their only spelling as tokens and their two depths. The
+-- grammar is that of RFC 5228, section 8.2, written from the tree to its tokens.
 use Rattle.std.specs.Prelude.{ℕ, suc, max, List, [], ◌∷◌, ◌++◌}
 use Rattle.sieve_syntax.specs.declared.tree.StringList.{StringList}
 use Rattle.sieve_syntax.specs.declared.tree.StringList.TheVariants as string_lists
@@ -20,7 +20,7 @@ mutual
     one_test : TestTree → InnerTests
     listed_tests : TestTree → TestRow → InnerTests
 
-  -- the tests of a list behind the first one
+  -- the tests of a list after the first one
   pub data TestRow : Type 0 where
     last_test : TestRow
     next_test : TestTree → TestRow → TestRow
@@ -85,7 +85,7 @@ abbrev mutual
   commands_tokens no_commands = []
   commands_tokens (command_then c cs) = command_tokens c ++ commands_tokens cs
 
--- how many tests stand inside one another
+-- how deep tests are nested
 abbrev mutual
   pub test_depth : TestTree → ℕ
   test_depth (test name args inner) = suc (inner_depth inner)
@@ -112,7 +112,7 @@ abbrev mutual
   commands_test_depth no_commands = 0
   commands_test_depth (command_then c cs) = max (command_test_depth c) (commands_test_depth cs)
 
--- how many blocks stand inside one another
+-- how deep blocks are nested
 abbrev mutual
   pub command_block_depth : CommandTree → ℕ
   command_block_depth (command name args inner finish) = ending_block_depth finish

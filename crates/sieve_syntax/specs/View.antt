@@ -1,4 +1,4 @@
--- What the trees of the code stand for.
+-- The trees that the code's trees represent.
 use Rattle.std.specs.Prelude.{List, [], ◌∷◌, map}
 use Rattle.sieve_syntax.specs.Tree.{TestTree, test, InnerTests, no_tests, one_test, listed_tests, TestRow, last_test, next_test, CommandTree, command, EndingTree, semicolon, block, CommandTrees, no_commands, command_then}
 use Rattle.sieve_syntax.specs.declared.tree.Tests.{Tests}

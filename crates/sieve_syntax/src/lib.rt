@@ -1,10 +1,10 @@
-//! Sieve scripts as data (RFC 5228, sections 2 and 8): tokens with the octets that they stand on, and the
-//! tree of commands and tests that the grammar makes of them.
+//! Sieve scripts as data (RFC 5228, sections 2 and 8): tokens with their places in the script, and the tree of commands
+//! and tests that the grammar builds from them.
 //!
-//! The types are shared by the scanner and parser (`sieve_text`), the checker (`sieve_check`) and whatever
-//! reads a checked script. In `specs/`, `Tree` has the same trees without where they lie in memory, their one
-//! spelling as tokens and their two depths; `View` leads from the trees of this crate to those. `Held` and `HeldArguments`
-//! say what texts and arguments hold, wherever it lies.
+//! The scanner and parser (`sieve_text`), the checker (`sieve_check`) and every reader of a checked script share these
+//! types. In `specs/`, `Tree` defines the same trees without their layout in memory, their only spelling as tokens and
+//! their two depths. `View` maps the trees of this crate to those. `Held` and `HeldArguments` define what texts and
+//! arguments hold, whatever their layout.
 #![tactic(auto)]
 
 mod text;

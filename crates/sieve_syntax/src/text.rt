@@ -1,23 +1,22 @@
-//! Octets that a token or a tree owns, and lists of these.
+//! Octets that a token or a tree owns, and lists of such texts.
 
 ghost use Rattle.std.specs.Prelude.{◌≡◌, ◌≤◌, [], length, IfOk};
 
 use std::alloc::{AllocError, Global};
 use std::marker::Model;
 
-/// So many octets lie in the text itself; more are a vector behind a box.
+/// Up to this many octets are stored in the text itself; more are in a boxed vector.
 const FEW: usize = 14;
 
-/// Where the octets of a text lie.
+/// How the octets of a text are stored.
 #[derive(Drop)]
 enum Octets {
-    /// The first ones of the array, so many.
+    /// The length, and an array that begins with the octets.
     Few(u8, [u8; 14]),
     Many(Box<Vec<u8>>),
 }
 
-/// The octets of a name or of a string's value; at most 14 take no memory beside the text. Contracts see it as a list of
-/// octets.
+/// The octets of a name or of a string's value. Up to 14 octets need no allocation. Contracts see a list of octets.
 #[derive(Drop)]
 pub struct Text {
     octets: Octets,
@@ -35,7 +34,7 @@ impl Model for Text {
     ghost invariant = { λ t. IsWithin t.octets };
 }
 
-/// A text of a few octets.
+/// A text of at most 14 octets, stored in place.
 fn few(octets: &[u8]) -> Text
     requires { length octets.now ≤ 14 }
     ensures { result ≡ octets.now }
@@ -48,7 +47,7 @@ fn few(octets: &[u8]) -> Text
 }
 
 impl Text {
-    /// The text of a copy of these octets; the only error is want of memory.
+    /// A text with a copy of these octets. Fails only if memory runs out.
     pub fn from_slice(alloc: Global, octets: &[u8]) -> Result<Text, AllocError>
         ensures { IfOk result (λ t. t ≡ octets.now) }
     {
@@ -61,7 +60,7 @@ impl Text {
         })
     }
 
-    /// The text of these octets; the only error is want of memory.
+    /// A text of these octets. Fails only if memory runs out.
     pub fn from_vec(alloc: Global, octets: Vec<u8>) -> Result<Text, AllocError>
         ensures { IfOk result (λ t. t ≡ octets.items) }
     {
@@ -73,7 +72,7 @@ impl Text {
         })
     }
 
-    /// The octets.
+    /// The octets of the text, in order.
     pub fn as_slice(&self) -> &[u8]
         ensures { result.now ≡ self.now }
     {
@@ -83,7 +82,7 @@ impl Text {
         }
     }
 
-    /// The same octets again; the only error is want of memory.
+    /// A copy of the text. Fails only if memory runs out.
     pub fn copy(&self, alloc: Global) -> Result<Text, AllocError>
         ensures { IfOk result (λ t. t ≡ self.now) }
     {
@@ -91,7 +90,7 @@ impl Text {
     }
 }
 
-/// Texts in order. Contracts see it as a list of lists of octets.
+/// Texts in order. Contracts see a list of lists of octets.
 #[derive(Drop)]
 pub struct Texts {
     items: Box<Vec<Text>>,
@@ -106,7 +105,7 @@ impl Model for Texts {
 }
 
 impl Texts {
-    /// These texts, without the room that none takes; the only error is want of memory.
+    /// These texts, in order, without spare capacity. Fails only if memory runs out.
     pub fn from_vec(alloc: Global, mut items: Vec<Text>) -> Result<Texts, AllocError>
         ensures { IfOk result (λ t. t ≡ items.items) }
     {
@@ -116,7 +115,7 @@ impl Texts {
         })
     }
 
-    /// The texts.
+    /// The texts, in order.
     pub fn as_slice(&self) -> &[Text]
         ensures { result.now ≡ self.now }
     {

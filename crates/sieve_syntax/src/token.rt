@@ -2,7 +2,7 @@
 
 use crate::text::Text;
 
-/// The marks of the grammar.
+/// The marks of the grammar, each of one octet.
 #[derive(Clone, Copy, Debug, PartialEq, Eq)]
 pub enum Mark {
     Semicolon,
@@ -15,14 +15,14 @@ pub enum Mark {
     Comma,
 }
 
-/// What a token is, and what it says.
+/// The kind of a token, with its content.
 #[derive(Drop)]
 pub enum TokenKind {
-    /// A name, as it was written.
+    /// An identifier, as written.
     Identifier(Text),
-    /// The name behind a colon, as it was written.
+    /// The name after a colon, as written.
     Tag(Text),
-    /// A number with its factor multiplied in: at most 2^63 - 1.
+    /// A number with its factor multiplied in: at most 2^63 - 1 (RFC 5228, section 2.4.1).
     Number(u64),
     /// The value of a quoted or multi-line string: at most 65,535 octets.
     StringValue(Text),
@@ -30,7 +30,7 @@ pub enum TokenKind {
     Mark(Mark),
 }
 
-/// A token, and the octets of the script that it stands on: from `start` up to `end`, which is not in it.
+/// A token, and its place in the script as octet offsets: from `start` up to but not including `end`.
 #[derive(Drop)]
 pub struct Token {
     pub kind: TokenKind,

@@ -1,4 +1,4 @@
-//! The tree of a script (RFC 5228, section 8.2). It keeps whether a string or a test stood in brackets.
+//! The tree of a script (RFC 5228, section 8.2). It records whether a string or a test was written in brackets.
 
 ghost use Rattle.std.specs.Prelude.{◌≡◌, [], IfOk};
 ghost use Rattle.sieve_syntax.specs.Arguments.{strings_of, others_of, first_of};
@@ -16,7 +16,7 @@ pub enum StringList {
 }
 
 impl StringList {
-    /// The only or the first string.
+    /// The only string, or the first one of the list.
     pub fn first(&self) -> &Text
         ensures { result.now ≡ first_of self.now }
     {
@@ -36,17 +36,17 @@ impl StringList {
     }
 }
 
-/// What may stand between a name and its tests.
+/// An argument, which comes between a name and its tests (RFC 5228, section 2.6).
 #[derive(Drop)]
 pub enum Argument {
     Strings(StringList),
-    /// At most 2^63 - 1.
+    /// A number with its factor multiplied in: at most 2^63 - 1.
     Number(u64),
-    /// The name behind the colon, as it was written.
+    /// The name after the colon, as written.
     Tag(Text),
 }
 
-/// Where arguments lie.
+/// How arguments are stored.
 #[derive(Drop)]
 enum Held {
     None,
@@ -54,7 +54,7 @@ enum Held {
     Many(Box<Vec<Argument>>),
 }
 
-/// Arguments in order; none take no memory. Contracts see it as a list.
+/// Arguments in order. No arguments need no allocation. Contracts see a list.
 #[derive(Drop)]
 pub struct Arguments {
     held: Held,
@@ -72,14 +72,14 @@ impl Model for Arguments {
 }
 
 impl Arguments {
-    /// No argument; takes no memory.
+    /// No arguments; needs no allocation.
     pub fn none() -> Arguments
         ensures { result ≡ [] }
     {
         Arguments { held: Held::None }
     }
 
-    /// These arguments, without the room that none takes; the only error is want of memory.
+    /// These arguments, in order, without spare capacity. Fails only if memory runs out.
     pub fn from_vec(alloc: Global, mut items: Vec<Argument>) -> Result<Arguments, AllocError>
         ensures { IfOk result (λ a. a ≡ items.items) }
     {
@@ -97,7 +97,7 @@ impl Arguments {
         })
     }
 
-    /// The arguments.
+    /// The arguments, in order.
     pub fn as_slice(&self) -> &[Argument]
         ensures { result.now ≡ self.now }
     {
@@ -109,7 +109,7 @@ impl Arguments {
     }
 }
 
-/// A test: its name as it was written, its arguments, and the tests inside it.
+/// A test: its name as written, its arguments, and its inner tests.
 #[cycle(tests)]
 #[derive(Drop)]
 pub struct Test {
@@ -137,7 +137,7 @@ pub struct TestList {
     pub others: Vec<Test>,
 }
 
-/// A command: its name as it was written, its arguments, its tests, and how it ends.
+/// A command: its name as written, its arguments, its tests, and its ending.
 #[cycle(commands)]
 #[derive(Drop)]
 pub struct Command {
@@ -147,7 +147,7 @@ pub struct Command {
     pub ending: Ending,
 }
 
-/// What a command ends with.
+/// How a command ends: with a semicolon, or with a block of commands.
 #[cycle(commands)]
 #[derive(Drop)]
 pub enum Ending {
@@ -155,7 +155,7 @@ pub enum Ending {
     Block(Box<Vec<Command>>),
 }
 
-/// A whole script.
+/// A whole script: its commands, in order.
 #[derive(Drop)]
 pub struct Script {
     pub commands: Vec<Command>,

@@ -49,7 +49,7 @@ last_gap bs h =
     append_nil [] = refl
     append_nil (b ∷ bs) = ap (λ cs. b ∷ cs) (append_nil bs)
 
--- one token, and what is behind it
+-- one token, and the rest after it
 pub token_cut : (script : List ℕ) (at : ℕ) (t : Token) → token_at script at ≡ Ok (Some t) → IsFirst at (drop at script) t (drop t.end script)
 token_cut script at t e =
     let p = token_parts script at t e in

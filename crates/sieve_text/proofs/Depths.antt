@@ -1,4 +1,4 @@
--- Whether a tree is within a number of tests and a number of blocks inside one another, as a test.
+-- Whether a tree is within a number of nested tests and a number of nested blocks, as a function that computes it.
 use Rattle.std.proofs.Common.{◌≡◌, ℕ, zero, suc, ◌≤◌, ◌<◌, Bool, true, false, refl, ◌⊎◌, inl, inr, arith}
 use Rattle.std.specs.Prelude.{◌&&◌}
 use Rattle.sieve_syntax.specs.Tree.{TestTree, test, InnerTests, no_tests, one_test, listed_tests, TestRow, last_test, next_test, CommandTree, command, EndingTree, semicolon, block, CommandTrees, no_commands, command_then, test_depth, inner_depth, row_depth, command_test_depth, ending_test_depth, commands_test_depth, command_block_depth, ending_block_depth, commands_block_depth}
@@ -112,7 +112,7 @@ is_false : (b : Bool) → (b ≡ true → ⊥) → b ≡ false
 is_false true h = absurd (h refl)
 is_false false h = refl
 
--- a tree that is too deep in tests or in blocks doesn't fit
+-- a tree that is too deep in tests or in blocks does not fit
 pub commands_deep : (cs : CommandTrees) (d b : ℕ) → (d < commands_test_depth cs) ⊎ (b < commands_block_depth cs) → commands_fit cs d b ≡ false
 commands_deep cs d b (inl h) = is_false (commands_fit cs d b) (λ e. let k = commands_depth-fit cs d b e in omega arith)
 commands_deep cs d b (inr h) = is_false (commands_fit cs d b) (λ e. let k = commands_depth-fit cs d b e in omega arith)

@@ -1,4 +1,4 @@
--- A faulty place by the grammar is refused where it stands.
+-- A faulty place by the grammar is refused there.
 use Rattle.std.proofs.Common.{◌≡◌, ℕ, zero, suc, ◌+◌, ◌<◌, ◌≤◌, ◌⊎◌, Bool, true, false, List, [], ◌∷◌, ◌++◌, length, take, drop, nat_lt, Option, Some, None, Result, Ok, Err, refl, sym, ap, ◌∙◌, arith, inl, inr, length-append, append_assoc}
 use Rattle.std.specs.Prelude.{if◌then◌else◌, ◌==◌, ◌&&◌, ◌||◌, codes}
 use Rattle.std.specs.List.{prefix_len, list_all}
@@ -25,7 +25,7 @@ use Rattle.sieve_text.proofs.KindGrammar.{line_rest, line_alone, no_last, dot_li
 use Rattle.sieve_text.proofs.Longest.{t_starts, hash_first, opening_whole, behind_opening, behind_line}
 use Rattle.sieve_text.proofs.KindFound.{number_found, quoted_found, multi_line_found, text_kind, unbound, blanks_read, opening_read, quote_kind, tag_kind}
 
--- the refusal, and where it is told
+-- the refusal, and its place
 abbrev pub IsRefused : List ℕ → ScanRefusal → ℕ → Type 0
 IsRefused bs refusal before = (kind_at bs ≡ Err refusal) × (either_place 0 (text_len bs) refusal ≡ before)
 

@@ -43,7 +43,7 @@ bound_refused : {A B : Type 0} (x : Result A ScanRefusal) (f : A → Result B Sc
 bound_refused (Ok a) f r e = inr (a, refl, e)
 bound_refused {A} {B} (Err s) f r e = inl (ap (λ (q : ScanRefusal). Err q) (same_refusal {A = B} s r e))
 
--- what is to be shown of a refusal where it stands
+-- what is to be shown of a refusal in its place
 abbrev Goal : List ℕ → ScanRefusal → Type 0
 Goal bs r = IsFaultHere r (either_place 0 (text_len bs) r) bs
 
@@ -217,7 +217,7 @@ open_lines_from (suc turns) bs enough h = elim (cases_Bool (is_last_line bs)) [
     some_line [] e h = false≢true e
     some_line (b ∷ bs) e h = omega arith
 
--- the line of "text:" that the script's end leaves open, or where no line end stands
+-- the line of "text:" that the script's end leaves open, or that has no line end
 first_line : (bs word blanks from : List ℕ) (r : ScanRefusal) → bs ≡ word ++ (blanks ++ from) → IsTextColon word → list_all is_blank blanks ≡ true → begins is_blank from ≡ false → text_len bs ≡ length word + length blanks → opening_end_at from ≡ Err r → Goal bs r
 first_line bs word blanks from r whole w all stops place e = elim (went (length from == 0) (refused_as StringNotClosed) _ (Err r) e) [
   | inl h ↦ subst (Goal bs) (same_refusal {A = ℕ} StringNotClosed r h.1) (refl, rw (whole, nil_from_length from (eqb-true (length from) 0 h.0)) (open_opening word blanks [] w all (inl refl)))

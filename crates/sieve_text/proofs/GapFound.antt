@@ -1,4 +1,4 @@
--- A gap by the grammar is as long as what is read as one, where no more of it follows.
+-- A gap by the grammar is as long as the gap that is read, if no more of it follows.
 use Rattle.std.proofs.Common.{◌≡◌, ℕ, zero, suc, ◌+◌, ◌-◌, ◌<◌, ◌≤◌, ◌⊎◌, Bool, true, false, List, [], ◌∷◌, ◌++◌, length, drop, nat_lt, refl, sym, ap, ◌∙◌, arith, inl, inr, length-append, append_assoc}
 use Rattle.std.specs.Prelude.{◌==◌, ◌&&◌, ◌||◌}
 use Rattle.std.specs.List.{prefix_len, list_all}
@@ -18,7 +18,7 @@ exactly p (x ∷ xs) ys h n =
     let r = exactly p xs ys t.1 n in
     rw t.0 (omega arith)
 
--- the octets of a comment, and what is behind it
+-- the octets of a comment, and the rest after it
 after_comment : (comment behind : List ℕ) → begins is_white (comment ++ behind) ≡ false → comment_len (comment ++ behind) ≡ length comment → 0 < length comment → gap_len 0 (comment ++ behind) ≡ length comment + gap_len 0 behind
 after_comment comment behind white long some =
     let l = length-append comment behind in
@@ -31,7 +31,7 @@ hash_long : (text behind : List ℕ) → list_all not_lf text ≡ true → begin
 unfolding comment_len
 hash_long text behind all stops = let e = exactly not_lf text behind all stops in omega arith
 
--- what follows the first octet of a text has no "*/" where the text has none
+-- a text without "*/" has none after its first octet either
 pub closes_rest : (b : ℕ) (bs : List ℕ) → closes (b ∷ bs) ≡ false → closes bs ≡ false
 closes_rest b bs h = elim (cases_Bool (closes bs)) [
   | inl e ↦ absurd (true≢false (or_right ((b == 42) && begins_with 47 bs) (closes bs) e h))

@@ -1,4 +1,4 @@
--- What lies between tokens is a gap.
+-- What comes between tokens is a gap.
 use Rattle.std.proofs.Common.{◌≡◌, ℕ, zero, suc, ◌+◌, ◌<◌, Bool, true, false, List, [], ◌∷◌, ◌++◌, length, take, drop, nat_lt, refl, sym, ap, subst, ◌∙◌, arith, inl, inr, length-append, append_assoc}
 use Rattle.std.specs.Prelude.{◌==◌}
 use Rattle.std.specs.List.{prefix_len, list_all}
@@ -12,7 +12,7 @@ use Rattle.sieve_text.specs.Gaps.{bracketed_len, opens_bracketed, closed_len, co
 use Rattle.sieve_text.specs.TokenGrammar.{closes, Gap, gap_end, gap_white, gap_hash, gap_bracketed}
 use Rattle.sieve_text.proofs.GapLemmas.{gap_none, gap_comment, gap_nothing}
 
--- the front that passes a test passes it all, and what is behind does not begin so
+-- the front that passes a test passes it whole, and the rest after it does not begin with a passing octet
 pub prefix_passes : (p : ℕ → Bool) (bs : List ℕ) → list_all p (take (prefix_len p bs) bs) ≡ true
 prefix_passes p [] = refl
 prefix_passes p (b ∷ bs) = elim (cases_Bool (p b)) [
@@ -27,7 +27,7 @@ prefix_ends p (b ∷ bs) = elim (cases_Bool (p b)) [
   | inr h ↦ rw h h
 ]
 
--- behind a star, or not
+-- after a star, or not
 abbrev pub before : Bool → List ℕ → List ℕ
 before true bs = 42 ∷ bs
 before false bs = bs
@@ -38,7 +38,7 @@ closes_behind b bs h = elim (cases_Bool (b == 42)) [
   | inr e ↦ rw e (rw e at h)
 ]
 
--- no "*/" stands before the one that closes a comment
+-- no "*/" comes before the one that closes a comment
 bracketed_closes : (after_star : Bool) (bs : List ℕ) → bracketed_len after_star bs < length bs → closes (before after_star (take (bracketed_len after_star bs) bs)) ≡ false
 unfolding bracketed_len
 bracketed_closes after_star [] h = absurd (omega arith)
@@ -48,7 +48,7 @@ bracketed_closes true (b ∷ bs) h = elim (cases_Bool (b == 47)) [
 ]
 bracketed_closes false (b ∷ bs) h = closes_behind b (take (bracketed_len (b == 42) bs) bs) (bracketed_closes (b == 42) bs (omega arith))
 
--- a star stands before the slash
+-- a star comes before the slash
 Starred : Bool → List ℕ → Type 0
 Starred after_star bs = (text : List ℕ) × (before after_star bs ≡ text ++ 42 ∷ [])
 
@@ -81,7 +81,7 @@ bracketed_slash true (b ∷ bs) h = elim (cases_Bool (b == 47)) [
 ]
 bracketed_slash false (b ∷ bs) h = bracketed_slash (b == 42) bs (omega arith)
 
--- a comment, and what is behind it
+-- a comment, and the rest after it
 pub record IsComment (bs : List ℕ) : Type 0 where
   pub comment : List ℕ
   pub rest : List ℕ
@@ -149,7 +149,7 @@ comment_sound bs some = elim (cases_Bool (begins_with 35 bs)) [
   ]
 ]
 
--- a gap, and what is behind it
+-- a gap, and the rest after it
 pub record IsGap (bs : List ℕ) : Type 0 where
   pub gap : List ℕ
   pub rest : List ℕ

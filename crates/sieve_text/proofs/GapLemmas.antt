@@ -27,7 +27,7 @@ gap_white (b ∷ bs) = elim (cases_Bool (is_white b)) [
   | inr h ↦ (let p : prefix_len is_white (b ∷ bs) ≡ 0 = rw h refl in rw p (omega arith))
 ]
 
--- no white space stands behind all of it
+-- no white space comes after all of it
 pub white_ends : (bs : List ℕ) → begins is_white (drop (prefix_len is_white bs) bs) ≡ false
 white_ends [] = refl
 white_ends (b ∷ bs) = elim (cases_Bool (is_white b)) [
@@ -66,7 +66,7 @@ gap_comment (b ∷ bs) h some within =
     let d = behind_first (comment_len (b ∷ bs)) b bs some in
     rw d (omega arith)
 
--- and where none stands behind the white space the gap ends
+-- and the gap ends if no comment follows the white space
 pub gap_last : (bs : List ℕ) (white : ℕ) → white ≡ prefix_len is_white bs → comment_len (drop white bs) ≡ 0 → gap_len 0 bs ≡ white
 gap_last bs white w c =
     let g = gap_white bs in

@@ -1,4 +1,4 @@
--- Worked rows of the grammar of tokens.
+-- Worked examples of the grammar of tokens.
 use Rattle.std.proofs.Common.{◌≡◌, ℕ, ◌⊎◌, true, false, List, [], ◌∷◌, ◌++◌, length, refl, sym, ap, arith, inl, inr, ◌∙◌}
 use Rattle.std.specs.Prelude.{codes}
 use Rattle.std.proofs.lemmas.Bool.{true≢false}
@@ -29,7 +29,7 @@ text_foo = no_opening (codes "text:") [] (codes "foo") refl refl (record { some 
 text_end : IsFaultHere StringNotClosed 0 (codes "text: # a")
 text_end = (refl, open_opening (codes "text:") (codes " ") (codes "# a") refl refl (inr (refl, refl)))
 
--- a backslash stands before the octet that it escapes, and none is left over
+-- a backslash comes before the octet that it escapes, and none is left over
 escape_end : IsFaultHere StringNotClosed 0 (codes "\"a\\")
 escape_end = (refl, open_escape (codes "a") (codes "a") (quoted_plain 97 [] [] (λ e. omega arith) (λ e. omega arith) quoted_end))
 
@@ -40,12 +40,12 @@ slash = (refl, (codes "/", refl, refl))
 ten_kilo : Lexeme (kinds.Number 10240) (codes "10K") (codes "x")
 ten_kilo = record { digits = codes "10"; quantifier = codes "K"; factor = 1024; cut = refl; some = omega arith; all = refl; counts = kilo 75 (inl refl); says = refl }
 
--- a quoted string that says a quotation mark, and a line end that it reads as CR LF
+-- a quoted string with a quotation mark, and with a line end that is read as CR LF
 quoted : Lexeme (kinds.StringValue (codes "\"" ++ 13 ∷ 10 ∷ [])) (codes "\"\\\"" ++ 10 ∷ codes "\"") []
 unfolding with_crlf
 quoted = inl (record { body = codes "\\\"" ++ 10 ∷ []; text = codes "\"" ++ 10 ∷ []; cut = refl; spells = quoted_pair 34 (10 ∷ []) (10 ∷ []) (quoted_plain 10 [] [] (λ e. omega arith) (λ e. omega arith) quoted_end); says = refl })
 
--- a leading dot is dropped where another one follows, and a single dot ends the lines
+-- a leading dot is dropped if another one follows, and a single dot ends the lines
 dotted : Lexeme (kinds.StringValue (codes ".a" ++ 13 ∷ 10 ∷ [])) (codes "text:" ++ 10 ∷ (codes "..a" ++ 10 ∷ codes ".")) []
 unfolding with_crlf
 dotted = inr (record {

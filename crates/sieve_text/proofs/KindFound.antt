@@ -1,4 +1,4 @@
--- A token by the grammar, the longest that fits, is what is read where it stands.
+-- A token by the grammar, the longest that fits, is what is read in its place.
 use Rattle.std.proofs.Common.{◌≡◌, ℕ, suc, ◌+◌, ◌*◌, ◌<◌, ◌≤◌, ◌⊎◌, Bool, true, false, List, [], ◌∷◌, ◌++◌, length, map, take, drop, nat_lt, Result, Ok, Err, refl, sym, ap, subst, ◌∙◌, arith, inl, inr, length-append, append_assoc}
 use Rattle.std.specs.Prelude.{if◌then◌else◌, ◌==◌, ◌||◌, ◌&&◌, codes}
 use Rattle.std.specs.List.{prefix_len, list_all}
@@ -48,7 +48,7 @@ x_starts b e = elim (cases_lt b 65) [
 word_start : (b : ℕ) → is_start b ≡ true → is_word b ≡ true
 word_start b h = or_left (is_start b) (is_ascii_digit b) h
 
--- letters in lower case, which stand for octets of names
+-- letters in lower case that are octets of names
 Letters : List ℕ → Type 0
 Letters [] = Unit {0}
 Letters (w ∷ ws) = ((b : ℕ) → to_ascii_lowercase b ≡ w → is_word b ≡ true) × Letters ws
@@ -102,7 +102,7 @@ name_found (b ∷ bs) behind h stops apart = name_kind b (bs ++ behind) plain h.
       | inr e ↦ e
     ]
 
--- the longest name ends where no octet of one stands
+-- the longest name ends where no octet of a name follows
 name_stops : (xs behind : List ℕ) → IsName xs → ((more rest : List ℕ) → xs ++ behind ≡ more ++ rest → IsName more → length more ≤ length xs) → begins is_word behind ≡ false
 name_stops xs [] h longest = refl
 name_stops xs (b ∷ bs) h longest = elim (cases_Bool (is_word b)) [
@@ -164,11 +164,11 @@ factor_none (b ∷ bs) e = elim (cases_Bool ((b == 75) || (b == 107))) [
     one_no_zero : ◌≡◌ {A = ℕ} 1 0 → ⊥
     one_no_zero e = omega arith
 
--- a number stands on no more octets than these
+-- a number has no more octets than these
 abbrev pub IsLongest : List ℕ → List ℕ → Type 0
 IsLongest octets behind = (other : ℕ) (more rest : List ℕ) → octets ++ behind ≡ more ++ rest → IsNumber other more → length more ≤ length octets
 
--- behind digits without a quantifier stands neither a digit nor a quantifier, where they are the longest number
+-- after digits without a quantifier comes neither a digit nor a quantifier, if they are the longest number
 no_digit_after : (ds behind : List ℕ) → 0 < length ds → list_all is_ascii_digit ds ≡ true → IsLongest ds behind → begins is_ascii_digit behind ≡ false
 no_digit_after ds [] some all longest = refl
 no_digit_after ds (b ∷ bs) some all longest = elim (cases_Bool (is_ascii_digit b)) [

@@ -21,7 +21,7 @@ use Rattle.sieve_text.proofs.GapGrammar.{prefix_passes}
 use Rattle.sieve_text.proofs.KindLemmas.{tested, same_kind, no_kind, quoted_parts, lines_parts, multi_line_parts, tag_parts, number_parts, mark_parts, branch, lines, name, digits, colon, quote, one}
 use Rattle.sieve_text.proofs.WithinLemmas.{line_end_within, factor_within, one_more, nothing_here, text_within}
 
--- a token that stands here, and what is behind it
+-- a token that begins here, and the rest after it
 pub record IsSpelled (bs : List ℕ) (k : TokenKind × ℕ) : Type 0 where
   pub octets : List ℕ
   pub behind : List ℕ
@@ -115,7 +115,7 @@ quoted_text (b ∷ c ∷ bs) h = elim (cases_Bool (b == 34)) [
   ])
 ]
 
--- a string that stands here on so many octets, of any length
+-- a string of any length that begins here, with its length as written
 pub record IsString (bs value : List ℕ) (n : ℕ) : Type 0 where
   pub octets : List ℕ
   pub behind : List ℕ
@@ -186,7 +186,7 @@ last_line true (b ∷ bs) h = elim (cases_Bool (is_last_line (b ∷ bs))) [
 ]
 last_line false (b ∷ bs) h = last_line (b == 10) bs (omega arith)
 
--- what a line says
+-- the content of a line
 inside : (content rest : List ℕ) → list_all not_lf content ≡ true → unstuffed false (content ++ 10 ∷ rest) ≡ content ++ 10 ∷ unstuffed true rest
 unfolding unstuffed
 inside [] rest h = refl
@@ -241,7 +241,7 @@ dot_line (b ∷ c ∷ d ∷ bs) rest h =
     let r = and_parts (not_lf d) (list_all not_lf bs) q.1 in
     rw (suc_eqb (suc (length (bs ++ 10 ∷ rest))), not-true (c == 10) q.0, not-true (d == 10) r.0) (other_test (b == 46) (c == 13))
 
--- an LF stands behind a line's octets
+-- an LF comes after a line's octets
 pub at_line_feed : (bs : List ℕ) → prefix_len not_lf bs < length bs → drop (prefix_len not_lf bs) bs ≡ 10 ∷ drop (suc (prefix_len not_lf bs)) bs
 at_line_feed [] h = absurd (omega arith)
 at_line_feed (b ∷ bs) h = elim (cases_Bool (b == 10)) [
@@ -328,7 +328,7 @@ last_sound (b ∷ bs) h =
     empty [] e = (refl, refl)
     empty (b ∷ bs) e = absurd (omega arith)
 
--- the line on which "text:" stands
+-- the line of "text:"
 pub record IsOpening (bs : List ℕ) (n : ℕ) : Type 0 where
   pub comment : List ℕ
   pub end : List ℕ

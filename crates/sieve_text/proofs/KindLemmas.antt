@@ -1,4 +1,4 @@
--- What the token that begins here says, and how many octets it has, by its kind.
+-- The content and the length of the token that begins here, by its kind.
 use Rattle.std.proofs.Common.{◌≡◌, ℕ, suc, ◌+◌, ◌*◌, ◌<◌, ◌≤◌, ◌⊎◌, Bool, true, false, List, ◌∷◌, length, take, drop, nat_lt, Option, Some, None, Result, Ok, Err, refl, inl, inr}
 use Rattle.std.specs.Prelude.{if◌then◌else◌, ◌==◌}
 use Rattle.std.specs.List.{prefix_len}
@@ -112,7 +112,7 @@ pub mark_parts : (m : Option Mark) (k : TokenKind × ℕ) → mark_kind m ≡ Ok
 mark_parts None k e = absurd (no_kind NoToken k e)
 mark_parts (Some mark) k e = (mark, refl, same_kind (kinds.Mark mark, 1) k e)
 
--- the ways to a token
+-- the cases of a token
 pub data Branch (b : ℕ) (bs : List ℕ) (k : TokenKind × ℕ) : Type 0 where
   lines : begins_text (b ∷ bs) ≡ true → multi_line_at (drop 5 (b ∷ bs)) ≡ Ok k → Branch b bs k
   name : begins_text (b ∷ bs) ≡ false → is_start b ≡ true → (kinds.Identifier (take (prefix_len is_word (b ∷ bs)) (b ∷ bs)), prefix_len is_word (b ∷ bs)) ≡ k → Branch b bs k

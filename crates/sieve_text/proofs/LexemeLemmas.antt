@@ -52,7 +52,7 @@ first_within (suc m) bs k h e =
     let d = length-drop (gap_len 0 bs) bs in
     rw e (ap (λ (ts : List TokenKind). k.0 ∷ ts) (enough m (length (drop k.1 rest)) (drop k.1 rest) (omega arith) (omega arith)))
 
--- a token that stands first behind a gap
+-- a token that comes first after a gap
 pub first_in : (bs : List ℕ) (k : TokenKind × ℕ) → kind_at (drop (gap_len 0 bs) bs) ≡ Ok k → kinds_in bs ≡ k.0 ∷ kinds_in (drop k.1 (drop (gap_len 0 bs) bs))
 first_in bs k e = first_within (length bs) bs k (omega arith) e
 
@@ -61,7 +61,7 @@ unfolding kinds_within
 none_within zero bs refusal e = refl
 none_within (suc m) bs refusal e = rw e refl
 
--- none stands there
+-- no token comes there
 pub none_in : (bs : List ℕ) (refusal : ScanRefusal) → kind_at (drop (gap_len 0 bs) bs) ≡ Err refusal → kinds_in bs ≡ []
 none_in bs refusal e = none_within (length bs) bs refusal e
 
@@ -143,7 +143,7 @@ left_first_within (suc m) bs k h e =
     let d = length-drop (gap_len 0 bs) bs in
     rw e (left_enough m (length (drop k.1 rest)) (drop k.1 rest) (omega arith) (omega arith))
 
--- what is left behind a first token
+-- what is left after a first token
 pub left_first : (bs : List ℕ) (k : TokenKind × ℕ) → kind_at (drop (gap_len 0 bs) bs) ≡ Ok k → left_in bs ≡ left_in (drop k.1 (drop (gap_len 0 bs) bs))
 left_first bs k e = left_first_within (length bs) bs k (omega arith) e
 
@@ -151,11 +151,11 @@ left_none_within : (m : ℕ) (bs : List ℕ) (refusal : ScanRefusal) → kind_at
 unfolding left_within
 left_none_within m bs refusal e = rw e refl
 
--- what is left where no token stands first
+-- what is left if no token comes first
 pub left_none : (bs : List ℕ) (refusal : ScanRefusal) → kind_at (drop (gap_len 0 bs) bs) ≡ Err refusal → left_in bs ≡ drop (gap_len 0 bs) bs
 left_none bs refusal e = left_enough (length bs) (suc (length bs)) bs (omega arith) (omega arith) ∙ left_none_within (length bs) bs refusal e
 
--- what is left of a script is what is left behind some of its tokens
+-- what is left of a script is what is left after some of its tokens
 left_from : (script : List ℕ) (at : ℕ) (ts : List Token) (end : ℕ) → at ≤ length script → Reads script at ts end → left_in (drop at script) ≡ left_in (drop end script)
 left_from script at [] end w h = ap (λ (n : ℕ). left_in (drop n script)) h
 left_from script at (t ∷ ts) end w h =

@@ -1,4 +1,4 @@
--- A token by the grammar is no longer than what is read where it stands.
+-- A token by the grammar is no longer than what is read in its place.
 use Rattle.std.proofs.Common.{◌≡◌, ℕ, suc, ◌+◌, ◌<◌, ◌≤◌, ◌⊎◌, Bool, true, false, List, [], ◌∷◌, ◌++◌, length, map, take, drop, nat_le, Ok, refl, sym, ap, ◌∙◌, arith, inl, inr, length-append, append_assoc}
 use Rattle.std.specs.Prelude.{◌==◌, ◌||◌, codes}
 use Rattle.std.specs.List.{prefix_len, list_all}
@@ -238,7 +238,7 @@ last_whole last behind (inr e) = rw (e.0, e.1) (refl, omega arith)
 pub behind_opening : (comment end rest : List ℕ) → drop (length comment + length end) (comment ++ (end ++ rest)) ≡ rest
 behind_opening comment end rest = drop-append-add comment (end ++ rest) (length end) ∙ drop-append_seam end rest
 
--- behind "text:"
+-- after "text:"
 multi_line_whole : (blanks comment end body text last behind : List ℕ) (k : TokenKind × ℕ) → list_all is_blank blanks ≡ true → (comment ≡ []) ⊎ ((begins_with 35 comment ≡ true) × (list_all not_lf comment ≡ true)) → IsLineEnd end → Lines body text → IsLineEnd last ⊎ ((last ≡ []) × (behind ≡ [])) → multi_line_at (blanks ++ (comment ++ (end ++ (body ++ 46 ∷ (last ++ behind))))) ≡ Ok k → 5 + (length blanks + (length comment + (length end + (length body + suc (length last))))) ≤ k.1
 multi_line_whole blanks comment end body text last behind k b c en ls la e =
     let more : List ℕ = last ++ behind in

@@ -11,7 +11,7 @@ use Rattle.sieve_text.specs.Lexemes.{kinds_in, left_in}
 use Rattle.sieve_text.specs.Tokens.{mark_of, kind_at}
 use Rattle.sieve_text.proofs.LexemeLemmas.{first_in, left_first}
 
--- texts that begin with the octet have the mark as their first token, behind no gap
+-- texts that begin with the octet have the mark as their first token, with no gap before it
 abbrev StandsFirst : ℕ → Mark → Type 0
 StandsFirst b m = (bs : List ℕ) → (gap_len 0 (b ∷ bs) ≡ 0) × (kind_at (b ∷ bs) ≡ Ok (kinds.Mark m, 1))
 

@@ -9,7 +9,7 @@ use Rattle.std.proofs.lemmas.Str.Parse.{digits_value-take-le}
 use Rattle.std.proofs.lemmas.List.Sums.{prefix_len_passes}
 use Rattle.std.proofs.lemmas.List.Folds.{length-prefix_len}
 
--- what stands in front is all digits
+-- the longest front that passes a test passes it whole
 pub prefix_taken : (p : ℕ → Bool) (xs : List ℕ) → prefix_len p (take (prefix_len p xs) xs) ≡ prefix_len p xs
 prefix_taken p [] = refl
 prefix_taken p (x ∷ xs) = elim (cases_Bool (p x)) [

@@ -1,4 +1,4 @@
--- A quoted string without backslashes and line ends stands for itself.
+-- A quoted string without backslashes and line ends is its own value.
 use Rattle.std.proofs.Common.{◌≡◌, ◌+◌, ℕ, suc, Bool, false, List, [], ◌∷◌, length, refl, ap, arith, inl, inr}
 use Rattle.std.specs.Prelude.{◌==◌}
 use Rattle.std.specs.List.{prefix_len}

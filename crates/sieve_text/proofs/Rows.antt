@@ -1,4 +1,4 @@
--- Worked rows of the definitions.
+-- Worked examples of the definitions.
 use Rattle.std.proofs.Common.{◌≡◌, ℕ, List, [], ◌∷◌, ◌++◌, Ok, Err, refl}
 use Rattle.std.specs.Prelude.{codes}
 use Rattle.sieve_syntax.specs.declared.token.TokenKind.TheVariants as kinds
@@ -28,7 +28,7 @@ slash_gap : gap_len 0 (codes " /*/") ≡ 1
 unfolding gap_len comment_len bracketed_len
 slash_gap = refl
 
--- the longest number, and one more
+-- the largest number, and one more
 largest : kind_at (codes "8589934591G {}") ≡ Ok (kinds.Number 9223372035781033984, 11)
 unfolding kind_at number_at
 largest = refl
@@ -45,7 +45,7 @@ hexadecimal : kind_at (codes "0x10") ≡ Ok (kinds.Number 0, 1)
 unfolding kind_at number_at
 hexadecimal = refl
 
--- dots: only where another follows is a leading one dropped
+-- dots: a leading one is dropped only if another follows
 dots : kind_at (codes "text:" ++ lf ++ codes "..a" ++ lf ++ codes ".b" ++ lf ++ codes ".") ≡ Ok (kinds.StringValue (codes ".a" ++ crlf ++ codes ".b" ++ crlf), 14)
 unfolding kind_at multi_line_at lines_at lines_len unstuffed with_crlf
 dots = refl

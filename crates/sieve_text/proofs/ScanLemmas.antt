@@ -17,7 +17,7 @@ Reads_push script at (u ∷ ts) t end h e = (h.0, Reads_push script u.end ts t e
 same_token : (script : List ℕ) (at : ℕ) (t u : Token) → token_at script at ≡ Ok (Some t) → token_at script at ≡ Ok (Some u) → t ≡ u
 same_token script at t u e h = cc
 
--- no token stands here
+-- no token begins here
 Stops : Result (Option Token) ScanRefusal → Type 0
 Stops answer = (t : Token) → answer ≡ Ok (Some t) → ⊥
 
@@ -29,7 +29,7 @@ fault_stops : (refusal : ScanRefusal) → Stops (Err refusal)
 unfolding Stops
 fault_stops refusal t e = cc
 
--- tokens up to a place where none stands are the only ones
+-- tokens up to a place where none begins are the only ones
 one_end : (script : List ℕ) (at : ℕ) (ts us : List Token) (m n : ℕ) (x y : Result (Option Token) ScanRefusal) → Reads script at ts m → token_at script m ≡ x → Stops x → Reads script at us n → token_at script n ≡ y → Stops y → (ts ≡ us) × (m ≡ n)
 unfolding Stops
 one_end script at [] [] m n x y h e s k f t = (refl, sym h ∙ k)

@@ -1,4 +1,4 @@
--- A text has the same tokens from behind its gap on.
+-- A text has the same tokens without the gap at its front.
 use Rattle.std.proofs.Common.{◌≡◌, ℕ, zero, suc, ◌+◌, ◌-◌, true, false, List, [], ◌∷◌, drop, nat_lt, Result, Ok, Err, refl, sym, subst, ◌∙◌, arith, inl, inr}
 use Rattle.std.proofs.lemmas.Bool.{cases_Bool}
 use Rattle.std.specs.List.{prefix_len}
@@ -11,7 +11,7 @@ use Rattle.sieve_text.specs.Tokens.{kind_at}
 use Rattle.sieve_text.proofs.GapLemmas.{gap_last}
 use Rattle.sieve_text.proofs.LexemeLemmas.{first_in, none_in, left_first, left_none}
 
--- no gap stands behind a gap
+-- no gap comes after a gap
 pub gap_again : (inside : ℕ) (bs : List ℕ) → gap_len 0 (drop (gap_len inside bs) bs) ≡ 0
 unfolding gap_len
 gap_again inside [] = refl

@@ -1,4 +1,4 @@
--- What is read is spelled so.
+-- The tokens that are read spell what is read from them.
 use Rattle.std.proofs.Common.{◌≡◌, ℕ, zero, suc, List, [], ◌∷◌, ◌++◌, length, Option, Some, None, Result, Ok, Err, refl, sym, ap, subst, ◌∙◌, append_assoc}
 use Rattle.std.proofs.lemmas.List.{append-nil}
 use Rattle.sieve_syntax.specs.declared.tree.StringList.{StringList}

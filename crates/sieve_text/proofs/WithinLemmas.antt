@@ -16,7 +16,7 @@ use Rattle.sieve_text.specs.Strings.{begins_as, begins_text, opening_end_at, lin
 use Rattle.sieve_text.specs.Tokens.{text_len, mark_of, lines_at, multi_line_at, factor_at, kind_at, token_at, ◌>>=◌}
 use Rattle.sieve_text.proofs.KindLemmas.{read_as, tested, bound_parts, same_kind, no_kind, quoted_parts, lines_parts, multi_line_parts, tag_parts, number_parts, mark_parts, branch, lines, name, digits, colon, quote, one}
 
--- one octet and so many of the others
+-- a front that begins with a passing octet is not empty
 pub one_more : (p : ℕ → Bool) (b : ℕ) (bs : List ℕ) → p b ≡ true → 0 < prefix_len p (b ∷ bs)
 one_more p b bs h = rw h (omega arith)
 
@@ -113,7 +113,7 @@ some_token t u e = cc
 no_token : (t : Token) → read_as None ≡ Ok (Some t) → ⊥
 no_token t e = cc
 
--- where a token stands, and what it is
+-- the place of a token, and its kind
 pub record IsTokenAt (script : List ℕ) (at : ℕ) (t : Token) : Type 0 where
   pub begins : t.start ≡ at + gap_len 0 (drop at script)
   pub kind : TokenKind × ℕ
@@ -150,6 +150,6 @@ token_within script at t within e =
     let n = p.ends in
     (omega arith, omega arith, omega arith)
 
--- a fault stands at the first octet where no "text:" begins
+-- a fault is at the first octet if no "text:" begins there
 pub no_text : (at : ℕ) (bs : List ℕ) → begins_text bs ≡ false → at + text_len bs ≡ at
 no_text at bs h = rw h (omega arith)

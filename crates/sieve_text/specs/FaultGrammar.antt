@@ -1,4 +1,4 @@
--- Where a script has no token, by the grammar (RFC 5228, sections 2.2 to 2.4 and 8.1): what stands there, for each refusal.
+-- What is found where a script has no token by the grammar, for each refusal (RFC 5228, sections 2.2 to 2.4 and 8.1).
 use Rattle.std.specs.Prelude.{◌≡◌, ℕ, ◌+◌, ◌<◌, ◌≤◌, ◌⊎◌, true, false, List, [], ◌∷◌, ◌++◌, length, ◌==◌}
 use Rattle.std.specs.List.{list_all}
 use Rattle.std.specs.Char.{is_ascii_digit}
@@ -10,7 +10,7 @@ use Rattle.sieve_text.specs.declared.fault.ScanRefusal.TheVariants.{NotUtf8, NoT
 use Rattle.sieve_text.specs.Octets.{is_blank, is_white, is_start, not_lf, begins, begins_with}
 use Rattle.sieve_text.specs.TokenGrammar.{IsNumber, QuotedText, IsQuoted, IsLineEnd, Lines, IsTextColon, IsHashComment, IsMultiLine, octet_of, closes, Gap, IsFront}
 
--- an octet that no token, no white space and no comment begins with; "/" begins one only before "*"
+-- an octet that begins no token, no white space and no comment; "/" begins a comment only before "*"
 pub record IsNoBeginning (b : ℕ) (behind : List ℕ) : Type 0 where
   pub white : is_white b ≡ false
   pub hash : (b == 35) ≡ false
@@ -21,21 +21,21 @@ pub record IsNoBeginning (b : ℕ) (behind : List ℕ) : Type 0 where
   pub mark : (mark : Mark) → b ≡ octet_of mark → ⊥
   pub comment : b ≡ 47 → begins_with 42 behind ≡ false
 
--- what can't follow "text:" and blanks: an octet that is no blank, no "#" and no line end
+-- what cannot follow "text:" and blanks: an octet that is no blank, no "#" and no line end
 pub record IsNoOpening (bs : List ℕ) : Type 0 where
   pub some : 0 < length bs
   pub blank : begins is_blank bs ≡ false
   pub hash : begins_with 35 bs ≡ false
   pub line_end : (end behind : List ℕ) → bs ≡ end ++ behind → IsLineEnd end → ⊥
 
--- 11: no token begins here; so many octets stand before the one that can't be there
+-- 11: no token begins here; the number is how many octets come before the one that cannot be there
 pub data NoTokenAt : ℕ → List ℕ → Type 0 where
   no_beginning : (b : ℕ) (behind : List ℕ) → IsNoBeginning b behind → NoTokenAt 0 (b ∷ behind)
   no_tag : (behind : List ℕ) → begins is_start behind ≡ false → NoTokenAt 0 (58 ∷ behind)
   no_opening : (word blanks behind : List ℕ) → IsTextColon word → list_all is_blank blanks ≡ true → IsNoOpening behind → NoTokenAt (length word + length blanks) (word ++ (blanks ++ behind))
 
--- 12: a string that goes on to the script's end: after a quotation mark, where the last octet may be a backslash; on the
--- line of "text:"; or after lines of which none is a single dot
+-- 12: a string that is open at the script's end: a quoted one, whose last octet may be a backslash; one that ends on
+-- the line of "text:"; or one after lines of which none is a single dot
 pub data OpenString : List ℕ → Type 0 where
   open_quoted : (body text : List ℕ) → QuotedText body text → OpenString (34 ∷ body)
   open_escape : (body text : List ℕ) → QuotedText body text → OpenString (34 ∷ (body ++ 92 ∷ []))
@@ -61,7 +61,7 @@ pub record IsLongString (bs : List ℕ) : Type 0 where
   pub string : IsQuoted value octets ⊎ IsMultiLine value octets behind
   pub long : 65535 < length value
 
--- a refusal of what begins here; so many octets stand before the one at which it is told
+-- a refusal of what begins here; the number is how many octets come before its place
 abbrev pub IsFaultHere : ScanRefusal → ℕ → List ℕ → Type 0
 IsFaultHere NotUtf8 before bs = ⊥
 IsFaultHere NoToken before bs = NoTokenAt before bs
@@ -71,7 +71,7 @@ IsFaultHere NumberTooLarge before bs = (before ≡ 0) × IsLargeNumber bs
 IsFaultHere ScriptTooLong before bs = ⊥
 IsFaultHere StringTooLong before bs = (before ≡ 0) × IsLongString bs
 
--- the first faulty place, after a front of tokens and a gap
+-- the first faulty place, after the first tokens and a gap
 pub record IsFaultAt (script : List ℕ) (refusal : ScanRefusal) (place : ℕ) : Type 0 where
   pub tokens : List Token
   pub end : ℕ
@@ -85,11 +85,11 @@ pub record IsFaultAt (script : List ℕ) (refusal : ScanRefusal) (place : ℕ) :
   pub fault : IsFaultHere refusal before faulty
   pub place_is : place ≡ (end + length gap) + before
 
--- octet 0, or a CR that no LF follows
+-- octet 0, or a CR without LF
 abbrev pub IsStray : ℕ → List ℕ → Type 0
 IsStray b behind = (b ≡ 0) ⊎ ((b ≡ 13) × (begins_with 10 behind ≡ false))
 
--- octets before others, of which none is stray
+-- octets before others, none of them stray
 pub data IsClean : List ℕ → List ℕ → Type 0 where
   clean_end : (behind : List ℕ) → IsClean [] behind
   clean_octet : (b : ℕ) (bs behind : List ℕ) → (IsStray b (bs ++ behind) → ⊥) → IsClean bs behind → IsClean (b ∷ bs) behind
@@ -104,11 +104,11 @@ pub record IsStrayAt (script : List ℕ) (place : ℕ) : Type 0 where
   pub stray : IsStray octet behind
   pub place_is : place ≡ length front
 
--- what is judged before any token: at most 262,144 octets, UTF-8, and none of them stray
+-- the check before any token: at most 262,144 octets, UTF-8, and none of them stray
 abbrev pub IsText : List ℕ → Type 0
 IsText script = (length script ≤ 262144) × IsUtf8 script × IsClean script []
 
--- the refusal of a script, and the offset at which it stands: the first of these that holds
+-- the refusal of a script, and its offset: the first of these that holds
 abbrev pub IsRefusedAt : List ℕ → ScanRefusal → ℕ → Type 0
 IsRefusedAt script ScriptTooLong place = (262144 < length script) × (place ≡ 0)
 IsRefusedAt script NotUtf8 place = (length script ≤ 262144) × ¬ (IsUtf8 script) × (place ≡ 0)

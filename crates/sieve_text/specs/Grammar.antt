@@ -1,5 +1,5 @@
--- Which texts are scripts, and which trees they have (RFC 5228, section 8): a text is scanned into tokens, and these
--- are the spelling of a tree with at most 32 tests and at most 32 blocks inside one another.
+-- Which texts are scripts, and their trees (RFC 5228, section 8): a text is scanned into tokens, which spell a tree
+-- with at most 32 nested tests and at most 32 nested blocks.
 use Rattle.std.specs.Prelude.{◌≡◌, ℕ, ◌≤◌, ◌<◌, ◌⊎◌, List, Result, Ok, Err, map}
 use Rattle.sieve_syntax.specs.declared.token.Token.{Token}
 use Rattle.sieve_syntax.specs.declared.token.TokenKind.{TokenKind}
@@ -14,7 +14,7 @@ use Rattle.sieve_text.specs.declared.fault.TextFault.{TextFault}
 use Rattle.sieve_text.specs.declared.fault.TextFault.TheVariants.{NoMemory, Refused}
 use Rattle.sieve_text.specs.Tokens.{IsScan, IsFaulty, scan_number}
 
--- the numbers by which refusals are told
+-- the numbers of refusals
 abbrev pub text_number : TextRefusal → ℕ
 text_number (Scan r) = scan_number r
 text_number Syntax = 20
@@ -25,19 +25,19 @@ abbrev pub text_fault_of : ScanFault → TextFault
 text_fault_of scan_faults.NoMemory = NoMemory
 text_fault_of (scan_faults.Refused r at) = Refused (Scan r) at
 
--- what tokens say, without where they stand
+-- the content of tokens, without their places
 abbrev pub kinds : List Token → List TokenKind
 kinds = map (λ (t : Token). t.kind)
 
--- no more than 32 tests and no more than 32 blocks stand inside one another
+-- at most 32 tests and at most 32 blocks are nested
 abbrev pub IsShallow : CommandTrees → Type 0
 IsShallow t = (commands_test_depth t ≤ 32) × (commands_block_depth t ≤ 32)
 
--- more than 32 tests or more than 32 blocks do
+-- more than 32 tests or more than 32 blocks are nested
 abbrev pub IsDeep : CommandTrees → Type 0
 IsDeep t = (32 < commands_test_depth t) ⊎ (32 < commands_block_depth t)
 
--- the text's tokens are the spelling of this tree, of any depth
+-- the text's tokens spell this tree, of any depth
 abbrev pub Spells : List ℕ → CommandTrees → Type 0
 Spells script t = (ts : List Token) × IsScan script ts × (kinds ts ≡ commands_tokens t)
 
@@ -45,21 +45,21 @@ Spells script t = (ts : List Token) × IsScan script ts × (kinds ts ≡ command
 abbrev pub IsScript : List ℕ → CommandTrees → Type 0
 IsScript script t = Spells script t × IsShallow t
 
--- the answer is this tree, want of memory aside
+-- the answer is this tree, unless memory ran out
 abbrev pub AnswersTree : CommandTrees → Result Script TextFault → Type 0
 AnswersTree t (Ok s) = tree_of s ≡ t
 AnswersTree t (Err NoMemory) = Unit {0}
 AnswersTree t (Err (Refused refusal at)) = ⊥
 
--- the answer is this refusal, want of memory aside
+-- the answer is this refusal, unless memory ran out
 abbrev pub AnswersRefusal : TextRefusal → Result Script TextFault → Type 0
 AnswersRefusal r (Ok s) = ⊥
 AnswersRefusal r (Err NoMemory) = Unit {0}
 AnswersRefusal r (Err (Refused refusal at)) = refusal ≡ r
 
--- what a fault says of the text: by a refusal of the scanner, that this is the text's; by `Syntax`, that the text has
--- tokens, and these have no tree of any depth; by `Nesting`, that it has tokens, and these have no tree within the
--- limits; by want of memory nothing
+-- what a fault says of the text. A refusal of the scanner is the text's. After `Syntax` the text has tokens, and they
+-- have no tree of any depth. After `Nesting` it has tokens, and they have no tree within the limits. No memory says
+-- nothing
 abbrev pub Explains : List ℕ → TextFault → Type 0
 Explains script NoMemory = Unit {0}
 Explains script (Refused (Scan r) at) = IsFaulty script r

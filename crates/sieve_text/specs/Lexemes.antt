@@ -1,4 +1,4 @@
--- What the tokens say that are written in a script.
+-- The content of the tokens that are written in a script.
 use Rattle.std.specs.Prelude.{ℕ, zero, suc, List, [], ◌∷◌, length, drop, Result, Ok, Err}
 use Rattle.sieve_syntax.specs.declared.token.TokenKind.{TokenKind}
 use Rattle.sieve_syntax.specs.declared.token.TokenKind.TheVariants as kinds
@@ -18,7 +18,7 @@ abbrev pub string_of : WrittenString → List ℕ
 string_of (Quoted body) = quoted_value body.now
 string_of (Lines lines) = lines_value lines.now
 
--- what a token says
+-- the content of a token
 abbrev pub kind_of : Lexeme → TokenKind
 kind_of (lexemes.Identifier name) = kinds.Identifier name.now
 kind_of (lexemes.Tag name) = kinds.Tag name.now
@@ -26,7 +26,7 @@ kind_of (lexemes.Number n) = kinds.Number n
 kind_of (lexemes.StringValue written) = kinds.StringValue (string_of written)
 kind_of (lexemes.Mark mark) = kinds.Mark mark
 
--- what a token says, and how many octets it has
+-- the content of a token, and its length in octets
 abbrev pub read_of : Lexeme × ℕ → TokenKind × ℕ
 read_of x = (kind_of x.0, x.1)
 
@@ -37,12 +37,13 @@ abbrev pub first_and : (List ℕ → List TokenKind) → List ℕ → Result (To
 first_and more bs (Ok k) = k.0 ∷ more (drop k.1 bs)
 first_and more bs (Err refusal) = []
 
--- what the tokens of a text say, up to the first place where none is; no more than so many
+-- the content of a text's tokens, up to the first place where none begins; the number bounds how many
 unfoldable pub kinds_within : ℕ → List ℕ → List TokenKind
 kinds_within zero bs = []
 kinds_within (suc n) bs = first_and (kinds_within n) (drop (gap_len 0 bs) bs) (kind_at (drop (gap_len 0 bs) bs))
 
--- what the tokens of a text say, all of them up to the first place where none is, as each has an octet
+-- the content of a text's tokens, up to the first place where none begins; its length is enough, as each token has an
+-- octet
 abbrev pub kinds_in : List ℕ → List TokenKind
 kinds_in bs = kinds_within (length bs) bs
 
@@ -50,11 +51,11 @@ abbrev pub left_behind : (List ℕ → List ℕ) → List ℕ → Result (TokenK
 left_behind more bs (Ok k) = more (drop k.1 bs)
 left_behind more bs (Err refusal) = bs
 
--- what is left of a text from the first place on where no token is; no more than so many tokens stand before it
+-- the rest of a text from the first place on where no token begins; the number bounds how many tokens come before
 unfoldable pub left_within : ℕ → List ℕ → List ℕ
 left_within zero bs = bs
 left_within (suc n) bs = left_behind (left_within n) (drop (gap_len 0 bs) bs) (kind_at (drop (gap_len 0 bs) bs))
 
--- what is left of a text from the first place on where no token is: nothing where tokens go on to its end
+-- the rest of a text from the first place on where no token begins: nothing if tokens go on to its end
 abbrev pub left_in : List ℕ → List ℕ
 left_in bs = left_within (length bs) bs

@@ -14,11 +14,11 @@ is_white b = is_blank b || ((b == 10) || (b == 13))
 abbrev pub is_start : ℕ → Bool
 is_start b = is_ascii_alphabetic b || (b == 95)
 
--- and goes on with letters, digits and "_"
+-- and continues with letters, digits and "_"
 abbrev pub is_word : ℕ → Bool
 is_word b = is_start b || is_ascii_digit b
 
--- in a quoted string, an octet that stands for itself, whatever stands before it
+-- in a quoted string, an octet that is its own value, whatever comes before it
 abbrev pub is_plain : ℕ → Bool
 is_plain b = not ((b == 92) || (b == 10))
 
@@ -34,16 +34,16 @@ begins p (b ∷ bs) = p b
 abbrev pub begins_with : ℕ → List ℕ → Bool
 begins_with octet = begins (λ b. b == octet)
 
--- how many octets the line end has that begins here, LF or CR LF; 0 where none begins
+-- the length in octets of the line end that begins here, LF or CR LF; 0 where none begins
 abbrev pub line_end_len : List ℕ → ℕ
 line_end_len [] = 0
 line_end_len (b ∷ bs) = if b == 10 then 1 else if (b == 13) && begins_with 10 bs then 2 else 0
 
--- octet 0, or a CR with no LF behind it
+-- octet 0, or a CR without LF
 abbrev pub is_stray : ℕ → List ℕ → Bool
 is_stray b bs = (b == 0) || ((b == 13) && not (begins_with 10 bs))
 
--- how many octets stand before the first stray one, or all there are
+-- how many octets come before the first stray one, or all there are
 unfoldable pub stray_len : List ℕ → ℕ
 stray_len [] = 0
 stray_len (b ∷ bs) = if is_stray b bs then 0 else suc (stray_len bs)

@@ -1,6 +1,6 @@
--- The grammar of RFC 5228, section 8.2, read from left to right. Each reader gives what it read and the tokens
--- behind that. The parser's functions are proved against these first; what its callers see speaks of the
--- spelling of trees alone.
+-- The grammar of RFC 5228, section 8.2, read from left to right. Each reader gives what it read and the tokens after
+-- that. The parser's functions are proved against these first; the contracts for their callers use only the spelling of
+-- trees.
 use Rattle.std.specs.Prelude.{◌≡◌, ℕ, zero, suc, List, [], ◌∷◌, ◌++◌, length, Option, Some, None, Result, Ok, Err}
 use Rattle.sieve_syntax.specs.declared.tree.StringList.{StringList}
 use Rattle.sieve_syntax.specs.declared.tree.StringList.TheVariants as string_lists
@@ -25,7 +25,7 @@ abbrev pub ◌>>=◌ : {A B : Type 0} → Result A Misfit → (A → Result B Mi
 (Ok x) >>= f = f x
 (Err e) >>= f = Err e
 
--- want of memory says nothing of what is read
+-- running out of memory says nothing of what is read
 abbrev pub Fails : {Y : Type 0} → Stop → Result Y Misfit → Type 0
 Fails NoMemory read = Unit {0}
 Fails (Refused misfit left) read = read ≡ Err misfit
@@ -35,7 +35,7 @@ abbrev pub Gives : {X Y : Type 0} → (X → Y) → Result X Stop → Result Y M
 Gives view (Ok x) read = read ≡ Ok (view x)
 Gives view (Err e) read = Fails e read
 
--- a thing, and the tokens behind it
+-- a thing, and the tokens after it
 abbrev pub Reads : Type 0 → Type 0
 Reads A = List TokenKind → Result (A × List TokenKind) Misfit
 
@@ -47,16 +47,16 @@ abbrev pub many_with : {A : Type 0} → Reads (List A) → List TokenKind → Op
 many_with more ts None = Ok ([], ts)
 many_with more ts (Some a) = more a.1 >>= λ x. Ok (a.0 ∷ x.0, x.1)
 
--- things for as long as the tokens begin with one. The number bounds how many; the count of the tokens is enough.
+-- things for as long as the tokens begin with one. The number bounds how many; the number of the tokens is enough.
 unfoldable pub many_at : {A : Type 0} → Tries A → ℕ → Reads (List A)
 many_at read zero ts = Ok ([], ts)
 many_at read (suc n) ts = read ts >>= many_with (many_at read n) ts
 
--- what was read before, in front of what is read now
+-- what was read before, and then what is read now
 abbrev pub behind : {A : Type 0} → List A → Result (List A × List TokenKind) Misfit → Result (List A × List TokenKind) Misfit
 behind before r = r >>= λ x. Ok (before ++ x.0, x.1)
 
--- a thing behind a comma
+-- a thing after a comma
 abbrev pub next_with : {A : Type 0} → Reads A → Tries A
 next_with read [] = Ok None
 next_with read (tokens.Mark Comma ∷ ts) = read ts >>= λ x. Ok (Some x)
@@ -85,7 +85,7 @@ behind_brace (t ∷ ts) = Err Syntax
 unfoldable pub other_strings_at : Reads (List (List ℕ))
 other_strings_at ts = many_at (next_with string_at) (length ts) ts
 
--- the strings of a list, behind its opening bracket
+-- the strings of a list, after its opening bracket
 unfoldable pub string_list_at : Reads StringList
 string_list_at ts =
     string_at ts >>= λ first.
@@ -104,7 +104,7 @@ argument_at (t ∷ ts) = Ok None
 unfoldable pub arguments_at : Reads (List Argument)
 arguments_at ts = many_at argument_at (length ts) ts
 
--- the tests of a list, behind its opening bracket
+-- the tests of a list, after its opening bracket
 abbrev pub test_list_with : Reads TestTree → Reads InnerTests
 test_list_with read ts =
     read ts >>= λ first.
@@ -126,18 +126,18 @@ test_with read (tokens.Identifier n ∷ ts) =
     Ok (test n args.0 inner.0, inner.1)
 test_with read (t ∷ ts) = Err Syntax
 
--- a test would stand one too deep
+-- a test that would be nested one too deep
 abbrev pub refused_at : Reads TestTree
 refused_at [] = Err Syntax
 refused_at (tokens.Identifier n ∷ ts) = Err Nesting
 refused_at (t ∷ ts) = Err Syntax
 
--- a test with no more tests inside one another than the number
+-- a test with at most this number of nested tests
 unfoldable pub test_at : ℕ → Reads TestTree
 test_at zero = refused_at
 test_at (suc d) = test_with (inner_with (test_at d))
 
--- how a command ends, by what is read behind an opening brace
+-- the ending of a command, by what is read after an opening brace
 abbrev pub ending_with : Reads CommandTrees → Reads EndingTree
 ending_with read [] = Err Syntax
 ending_with read (tokens.Mark Semicolon ∷ ts) = Ok (semicolon, ts)
@@ -161,8 +161,7 @@ commands_with depth read ts =
     many_at (command_with depth read) (length ts) ts >>= λ cs.
     Ok (commands_of cs.0, cs.1)
 
--- the commands of a block, with no more tests and no more blocks inside one another than the numbers, that block
--- counted
+-- the commands of a block, with at most these numbers of nested tests and nested blocks, that block counted
 unfoldable pub inside_at : ℕ → ℕ → Reads CommandTrees
 inside_at depth zero = λ ts. Err Nesting
 inside_at depth (suc blocks) = commands_with depth (inside_at depth blocks)
@@ -175,7 +174,7 @@ whole_of (cs, t ∷ ts) = Err Syntax
 unfoldable pub script_at : ℕ → ℕ → List TokenKind → Result CommandTrees Misfit
 script_at depth blocks ts = commands_with depth (inside_at depth blocks) ts >>= whole_of
 
--- a script or a refusal is what is read, want of memory aside
+-- a script or a refusal is what is read, unless memory ran out
 abbrev pub GivesScript : Result Script TextFault → Result CommandTrees Misfit → Type 0
 GivesScript (Ok s) read = read ≡ Ok (tree_of s)
 GivesScript (Err faults.NoMemory) read = Unit {0}

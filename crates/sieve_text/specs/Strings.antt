@@ -11,19 +11,20 @@ unfoldable pub with_crlf : Bool → List ℕ → List ℕ
 with_crlf after_cr [] = []
 with_crlf after_cr (b ∷ bs) = if (b == 10) && not after_cr then 13 ∷ 10 ∷ with_crlf false bs else b ∷ with_crlf (b == 13) bs
 
--- behind a quotation mark: how many octets stand before the first one that no backslash escapes, or all there are
+-- after a quotation mark: how many octets come before the first quotation mark that no backslash escapes, or all there
+-- are
 unfoldable pub quoted_len : Bool → List ℕ → ℕ
 quoted_len escaped [] = 0
 quoted_len true (b ∷ bs) = suc (quoted_len false bs)
 quoted_len false (b ∷ bs) = if b == 34 then 0 else suc (quoted_len (b == 92) bs)
 
--- a backslash is dropped, and the octet after it stands for itself
+-- a backslash is dropped, and the octet after it is kept
 unfoldable pub unescaped : Bool → List ℕ → List ℕ
 unescaped escaped [] = []
 unescaped true (b ∷ bs) = b ∷ unescaped false bs
 unescaped false (b ∷ bs) = if b == 92 then unescaped true bs else b ∷ unescaped false bs
 
--- the value of what stands between quotation marks
+-- the value of the octets between quotation marks
 abbrev pub quoted_value : List ℕ → List ℕ
 quoted_value body = with_crlf false (unescaped false body)
 
@@ -36,7 +37,7 @@ begins_as (x ∷ xs) (b ∷ bs) = (to_ascii_lowercase b == x) && begins_as xs bs
 abbrev pub begins_text : List ℕ → Bool
 begins_text bs = begins_as (codes "text:") bs
 
--- behind the blanks after "text:": how many octets an optional hash comment and the line end take
+-- after the blanks that follow "text:": the length in octets of an optional hash comment and the line end
 abbrev pub opening_end_at : List ℕ → Result ℕ ScanRefusal
 opening_end_at bs =
     if length bs == 0 then Err StringNotClosed
@@ -48,7 +49,7 @@ abbrev pub is_last_line : List ℕ → Bool
 is_last_line [] = false
 is_last_line (b ∷ bs) = (b == 46) && ((length bs == 0) || nat_lt 0 (line_end_len bs))
 
--- how many octets stand before the line that is a single dot, or all there are; the flag says that a line starts here
+-- how many octets come before the line that is a single dot, or all there are; the flag tells that a line begins here
 unfoldable pub lines_len : Bool → List ℕ → ℕ
 lines_len at_start [] = 0
 lines_len at_start (b ∷ bs) = if at_start && is_last_line (b ∷ bs) then 0 else suc (lines_len (b == 10) bs)

@@ -1,5 +1,5 @@
--- The grammar of scripts as sequences of gaps and tokens (RFC 5228, sections 2.2 to 2.4 and 8.1), apart from how they
--- are found.
+-- The grammar of scripts as sequences of gaps and tokens (RFC 5228, sections 2.2 to 2.4 and 8.1), independent of how
+-- they are found.
 use Rattle.std.specs.Prelude.{◌≡◌, ℕ, ◌+◌, ◌*◌, ◌<◌, ◌≤◌, ◌⊎◌, Bool, true, false, List, [], ◌∷◌, ◌++◌, map, length, ◌==◌, ◌&&◌, ◌||◌, codes, if◌then◌else◌}
 use Rattle.std.specs.List.{list_all}
 use Rattle.std.specs.Char.{is_ascii_digit, to_ascii_lowercase}
@@ -34,7 +34,7 @@ pub record IsNumber (value : ℕ) (octets : List ℕ) : Type 0 where
   pub counts : Quantifier quantifier factor
   pub says : value ≡ digits_value 10 digits * factor
 
--- the text between quotation marks, and what it says: a quotation mark or backslash stands only after a backslash
+-- the text between quotation marks, and its content: a quotation mark or backslash comes only after a backslash
 pub data QuotedText : List ℕ → List ℕ → Type 0 where
   quoted_end : QuotedText [] []
   quoted_plain : (b : ℕ) (bs says : List ℕ) → (b ≡ 34 → ⊥) → (b ≡ 92 → ⊥) → QuotedText bs says → QuotedText (b ∷ bs) (b ∷ says)
@@ -59,12 +59,12 @@ is_dot (b ∷ []) = b == 46
 is_dot (b ∷ c ∷ []) = (b == 46) && (c == 13)
 is_dot (b ∷ c ∷ d ∷ bs) = false
 
--- a leading dot is dropped where another dot follows it
+-- a leading dot is dropped if another dot follows it
 abbrev pub without_dot : List ℕ → List ℕ
 without_dot [] = []
 without_dot (b ∷ bs) = if (b == 46) && begins_with 46 bs then bs else b ∷ bs
 
--- lines, of which none is a single dot, and what they say
+-- lines, of which none is a single dot, and their content
 pub data Lines : List ℕ → List ℕ → Type 0 where
   no_lines : Lines [] []
   line : (content bs says : List ℕ) → list_all not_lf content ≡ true → is_dot content ≡ false → Lines bs says → Lines (content ++ 10 ∷ bs) (without_dot content ++ 10 ∷ says)
@@ -77,7 +77,7 @@ IsTextColon word = map to_ascii_lowercase word ≡ codes "text:"
 abbrev pub IsHashComment : List ℕ → Type 0
 IsHashComment comment = (comment ≡ []) ⊎ ((begins_with 35 comment ≡ true) × (list_all not_lf comment ≡ true))
 
--- "text:" *(SP / HTAB) [hash-comment] line-end lines "." line-end, where the script's end may stand for the last one
+-- "text:" *(SP / HTAB) [hash-comment] line-end lines "." line-end, where the last line-end may be the script's end
 pub record IsMultiLine (value octets behind : List ℕ) : Type 0 where
   pub word : List ℕ
   pub blanks : List ℕ
@@ -129,19 +129,19 @@ IsApart (kinds.Number n) behind = Unit {0}
 IsApart (kinds.StringValue value) behind = Unit {0}
 IsApart (kinds.Mark mark) behind = Unit {0}
 
--- a token stands on these octets, before others: the longest that fits
+-- a token with these octets, before others: the longest that fits
 pub record IsToken (kind : TokenKind) (octets behind : List ℕ) : Type 0 where
   pub spelled : Lexeme kind octets behind
   pub longest : (other : TokenKind) (more rest : List ℕ) → octets ++ behind ≡ more ++ rest → Lexeme other more rest → length more ≤ length octets
   pub apart : IsApart kind behind
   pub limited : IsWithinLimits kind
 
--- whether "*/" stands somewhere
+-- whether "*/" occurs
 abbrev pub closes : List ℕ → Bool
 closes [] = false
 closes (b ∷ bs) = ((b == 42) && begins_with 47 bs) || closes bs
 
--- white space and comments before other octets. A hash comment goes on to its line's end, or to the script's end; a
+-- white space and comments before other octets. A hash comment extends to its line's end, or to the script's end; a
 -- bracketed one ends with the first "*/"
 pub data Gap : List ℕ → List ℕ → Type 0 where
   gap_end : (behind : List ℕ) → Gap [] behind
@@ -149,7 +149,7 @@ pub data Gap : List ℕ → List ℕ → Type 0 where
   gap_hash : (text bs behind : List ℕ) → list_all not_lf text ≡ true → begins not_lf (bs ++ behind) ≡ false → Gap bs behind → Gap (35 ∷ (text ++ bs)) behind
   gap_bracketed : (text bs behind : List ℕ) → closes (text ++ 42 ∷ []) ≡ false → Gap bs behind → Gap (47 ∷ 42 ∷ (text ++ 42 ∷ 47 ∷ bs)) behind
 
--- a token stands first, after a gap, from an offset on
+-- a token comes first, after a gap, from an offset on
 pub record IsFirst (at : ℕ) (bs : List ℕ) (t : Token) (behind : List ℕ) : Type 0 where
   pub gap : List ℕ
   pub octets : List ℕ
@@ -164,7 +164,7 @@ abbrev pub IsCut : ℕ → List ℕ → List Token → Type 0
 IsCut at bs [] = Gap bs []
 IsCut at bs (t ∷ ts) = (behind : List ℕ) × IsFirst at bs t behind × IsCut t.end behind ts
 
--- gaps and tokens in turn, from an offset on up to another, from which on this is left
+-- gaps and tokens in turn, from one offset up to another, and the rest from there
 abbrev pub IsFront : ℕ → List ℕ → List Token → ℕ → List ℕ → Type 0
 IsFront at bs [] end rest = (at ≡ end) × (bs ≡ rest)
 IsFront at bs (t ∷ ts) end rest = (behind : List ℕ) × IsFirst at bs t behind × IsFront t.end behind ts end rest

@@ -18,7 +18,7 @@ use Rattle.sieve_text.specs.Octets.{is_blank, is_start, is_word, begins, stray_l
 use Rattle.sieve_text.specs.Gaps.{gap_len, opens_bracketed}
 use Rattle.sieve_text.specs.Strings.{quoted_len, quoted_value, begins_text, opening_end_at, lines_len, lines_value}
 
--- the number by which a refusal is told
+-- the number of a refusal
 abbrev pub scan_number : ScanRefusal → ℕ
 scan_number NotUtf8 = 10
 scan_number NoToken = 11
@@ -42,33 +42,34 @@ abbrev pub mark_kind : Option Mark → Result (TokenKind × ℕ) ScanRefusal
 mark_kind None = Err NoToken
 mark_kind (Some m) = Ok (kinds.Mark m, 1)
 
--- a string with this value on so many octets; a value has at most 65,535 octets
+-- a string with this value and this length as written; a value has at most 65,535 octets
 abbrev pub string_kind : List ℕ → ℕ → Result (TokenKind × ℕ) ScanRefusal
 string_kind value n = if nat_lt 65535 (length value) then Err StringTooLong else Ok (kinds.StringValue value, n)
 
--- a quoted string behind its first quotation mark
+-- a quoted string after its first quotation mark
 unfoldable pub quoted_at : List ℕ → Result (TokenKind × ℕ) ScanRefusal
 quoted_at bs =
     let n = quoted_len false bs in
     if nat_lt n (length bs) then string_kind (quoted_value (take n bs)) (n + 2) else Err StringNotClosed
 
--- the lines of a multi-line string, and the single dot that ends them with its line end; so many octets stand before
+-- the lines of a multi-line string, and the single dot that ends them with its line end; the number is how many octets
+-- come before
 unfoldable pub lines_at : ℕ → List ℕ → Result (TokenKind × ℕ) ScanRefusal
 lines_at before bs =
     let n = lines_len true bs in
     if nat_lt n (length bs) then string_kind (lines_value (take n bs)) (before + (n + (1 + line_end_len (drop (n + 1) bs)))) else Err StringNotClosed
 
--- a multi-line string behind its "text:": blanks, perhaps a hash comment, a line end and the lines
+-- a multi-line string after its "text:": blanks, perhaps a hash comment, a line end and the lines
 unfoldable pub multi_line_at : List ℕ → Result (TokenKind × ℕ) ScanRefusal
 multi_line_at bs =
     let blanks = prefix_len is_blank bs in
     opening_end_at (drop blanks bs) >>= λ n. lines_at (5 + (blanks + n)) (drop (blanks + n) bs)
 
--- a tag behind its colon
+-- a tag after its colon
 unfoldable pub tag_at : List ℕ → Result (TokenKind × ℕ) ScanRefusal
 tag_at bs = if begins is_start bs then Ok (kinds.Tag (take (prefix_len is_word bs) bs), suc (prefix_len is_word bs)) else Err NoToken
 
--- the quantifiers K, M and G in either case: 2^10, 2^20 and 2^30, each on one octet; 1 on none where none stands first
+-- the quantifiers K, M and G in either case: 2^10, 2^20 and 2^30, each on one octet; 1 on none where none comes first
 abbrev pub factor_at : List ℕ → ℕ × ℕ
 factor_at [] = (1, 0)
 factor_at (b ∷ bs) =
@@ -86,8 +87,8 @@ number_at bs =
 abbrev pub identifier_at : List ℕ → Result (TokenKind × ℕ) ScanRefusal
 identifier_at bs = Ok (kinds.Identifier (take (prefix_len is_word bs) bs), prefix_len is_word bs)
 
--- the token that begins here, the longest one, and how many octets it has; or why none begins here.
--- A comment that begins here is one that is not closed, as others are part of the gap
+-- the longest token that begins here, and its length in octets; or why none begins here. A comment that begins here is
+-- not closed, as closed ones are part of the gap
 unfoldable pub kind_at : List ℕ → Result (TokenKind × ℕ) ScanRefusal
 kind_at [] = Err NoToken
 kind_at (b ∷ bs) =
@@ -105,12 +106,12 @@ token_at script at =
     let start = at + gap_len 0 (drop at script) in
     if nat_lt start (length script) then (kind_at (drop start script) >>= λ k. Ok (Some (record { kind = k.0; start = start; end = start + k.1 }))) else Ok None
 
--- these tokens stand from an offset on, and the last one ends at another
+-- these tokens come from an offset on, and the last one ends at another
 abbrev pub Reads : List ℕ → ℕ → List Token → ℕ → Type 0
 Reads script at [] end = at ≡ end
 Reads script at (t ∷ ts) end = (token_at script at ≡ Ok (Some t)) × Reads script t.end ts end
 
--- what is judged before the tokens finds nothing: at most 262,144 octets, UTF-8, no octet 0, no CR without LF
+-- the check before the tokens finds nothing: at most 262,144 octets, UTF-8, no octet 0, no CR without LF
 abbrev pub IsSound : List ℕ → Type 0
 IsSound script = (length script ≤ 262144) × IsUtf8 script × (stray_len script ≡ length script)
 
@@ -128,7 +129,7 @@ IsUnsound script StringTooLong = ⊥
 abbrev pub IsScan : List ℕ → List Token → Type 0
 IsScan script ts = IsSound script × ((end : ℕ) × Reads script 0 ts end × (token_at script end ≡ Ok None))
 
--- the first faulty place, behind some tokens
+-- the first faulty place, after some tokens
 abbrev pub IsFirstFault : List ℕ → ScanRefusal → Type 0
 IsFirstFault script refusal = (ts : List Token) × (end : ℕ) × Reads script 0 ts end × (token_at script end ≡ Err refusal)
 
@@ -141,12 +142,12 @@ abbrev pub Gives : {X Y : Type 0} → (X → Y) → Result X FaultyPlace → Res
 Gives view (Ok x) read = read ≡ Ok (view x)
 Gives view (Err e) read = read ≡ Err e.refusal
 
--- the refusal is the script's, want of memory aside
+-- the refusal is the script's, unless memory ran out
 abbrev pub FaultsBy : List ℕ → ScanFault → Type 0
 FaultsBy script NoMemory = Unit {0}
 FaultsBy script (Refused refusal at) = IsFaulty script refusal
 
--- where no token is found a refusal stands at one place, and else at another
+-- the place of a refusal: the second one where no token is found, and the first one otherwise
 abbrev pub either_place : ℕ → ℕ → ScanRefusal → ℕ
 either_place first octet NoToken = octet
 either_place first octet NotUtf8 = first
@@ -156,20 +157,20 @@ either_place first octet NumberTooLarge = first
 either_place first octet ScriptTooLong = first
 either_place first octet StringTooLong = first
 
--- how many octets "text:" and the blanks behind it take, where it begins here
+-- the length in octets of "text:" and the blanks after it, if it begins here
 abbrev pub text_len : List ℕ → ℕ
 text_len bs = if begins_text bs then 5 + prefix_len is_blank (drop 5 bs) else 0
 
--- where the refusal stands of what begins behind the gap from an offset on: at its first octet, or where no token can
--- be at the octet that is none, which "text:" and blanks may stand before
+-- the place of the refusal of what begins after the gap from an offset on: its first octet, or for `NoToken` the octet
+-- that cannot be there, which may come after "text:" and blanks
 abbrev pub fault_place : List ℕ → ℕ → ScanRefusal → ℕ
 fault_place script at = let start = at + gap_len 0 (drop at script) in either_place start (start + text_len (drop start script))
 
--- the refusal stands at this place
+-- the refusal is at this place
 abbrev pub StandsAt : (ScanRefusal → ℕ) → FaultyPlace → Type 0
 StandsAt place e = e.at ≡ place e.refusal
 
--- the refusal stands at the first stray octet or at the start of an unsound script, or at the first faulty place
+-- the refusal is at the first stray octet or at the start of an unsound script, or at the first faulty place
 abbrev pub StandsIn : List ℕ → ScanFault → Type 0
 StandsIn script NoMemory = Unit {0}
 StandsIn script (Refused refusal at) =

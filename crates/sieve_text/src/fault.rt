@@ -6,18 +6,18 @@ ghost use Rattle.sieve_text.specs.Tokens.{scan_number};
 
 use std::alloc::{AllocError, AllocFailed};
 
-/// Why a text has no tokens.
+/// Why a script has no tokens (RFC 5228, section 8.1).
 #[derive(Clone, Copy, Debug, PartialEq, Eq)]
 pub enum ScanRefusal {
-    /// 10: the script is no UTF-8 (RFC 5228, section 2.1).
+    /// 10: the script is not UTF-8 (RFC 5228, section 2.1).
     NotUtf8,
-    /// 11: no token begins here, or an octet 0 or a CR without LF stands here.
+    /// 11: no token begins at this octet, or it is an octet 0 or a CR without LF.
     NoToken,
-    /// 12: a quoted or multi-line string goes on to the script's end (section 2.4.2).
+    /// 12: a quoted or multi-line string is still open at the end of the script (RFC 5228, section 2.4.2).
     StringNotClosed,
-    /// 13: a bracketed comment goes on to the script's end (section 2.3).
+    /// 13: a bracketed comment is still open at the end of the script (RFC 5228, section 2.3).
     CommentNotClosed,
-    /// 14: a number with its factor is above 2^63 - 1 (section 2.4.1).
+    /// 14: a number with its factor is above 2^63 - 1 (RFC 5228, section 2.4.1).
     NumberTooLarge,
     /// 15: the script has more than 262,144 octets.
     ScriptTooLong,
@@ -26,7 +26,7 @@ pub enum ScanRefusal {
 }
 
 impl ScanRefusal {
-    /// The number by which the refusal is told: 10 to 16.
+    /// The number of the refusal: 10 to 16.
     pub fn number(self) -> u8
         ensures { result ≡ scan_number self }
     {
@@ -42,7 +42,7 @@ impl ScanRefusal {
     }
 }
 
-/// A refusal, and the offset in octets at which it stands.
+/// A refusal and its place, an offset in octets.
 #[derive(Clone, Copy)]
 pub struct FaultyPlace {
     pub refusal: ScanRefusal,
@@ -50,7 +50,6 @@ pub struct FaultyPlace {
 }
 
 impl FaultyPlace {
-    /// A refusal at an offset.
     pub fn new(refusal: ScanRefusal, at: usize) -> FaultyPlace
         ensures { (result.refusal ≡ refusal) × (result.at ≡ at) }
     {
@@ -61,10 +60,10 @@ impl FaultyPlace {
 /// Why `scan` gives no tokens.
 #[derive(Clone, Copy, Debug, PartialEq, Eq)]
 pub enum ScanFault {
-    /// 99: an allocation was refused.
+    /// 99: no memory; an allocation failed.
     NoMemory,
-    /// The refusal, and the offset in octets at which it stands: for `NoToken` that of the octet, for the others that
-    /// of the first octet of the token or comment. `NotUtf8` and `ScriptTooLong` stand at 0.
+    /// A refusal and its place, an offset in octets. `NoToken` is at its octet, and `NotUtf8` and `ScriptTooLong` are
+    /// at 0. The others are at the first octet of the token or comment.
     Refused(ScanRefusal, usize),
 }
 
@@ -101,19 +100,19 @@ impl<T: Drop> From<AllocFailed<T>> for ScanFault {
     }
 }
 
-/// Why a text is no script.
+/// Why a text is not a script.
 #[derive(Clone, Copy, Debug, PartialEq, Eq)]
 pub enum TextRefusal {
     /// 10 to 16: the text has no tokens.
     Scan(ScanRefusal),
-    /// 20: the tokens are outside the grammar of RFC 5228, section 8.2.
+    /// 20: the tokens do not follow the grammar of RFC 5228, section 8.2.
     Syntax,
-    /// 21: more than 32 tests or more than 32 blocks stand inside one another.
+    /// 21: more than 32 tests or more than 32 blocks are nested.
     Nesting,
 }
 
 impl TextRefusal {
-    /// The number by which the refusal is told: 10 to 16, 20 or 21.
+    /// The number of the refusal: 10 to 16, 20 or 21.
     pub fn number(self) -> u8
         ensures { result ≡ text_number self }
     {
@@ -128,11 +127,11 @@ impl TextRefusal {
 /// Why `parse` gives no script.
 #[derive(Clone, Copy, Debug, PartialEq, Eq)]
 pub enum TextFault {
-    /// 99: an allocation was refused.
+    /// 99: no memory; an allocation failed.
     NoMemory,
-    /// The refusal, and the offset in octets at which it stands: the scanner's for `Scan`; for `Syntax` that of the
-    /// first token after which nothing could make the text a script, or the text's length where it ends too early;
-    /// for `Nesting` that of the identifier of the 33rd test, or of the opening brace of the 33rd block.
+    /// A refusal and its place, an offset in octets. `Scan` is at the scanner's place. `Syntax` is at the first token
+    /// after which nothing could make the text a script, or at the text's length if the text ends too early. `Nesting`
+    /// is at the identifier of the 33rd test, or at the opening brace of the 33rd block.
     Refused(TextRefusal, usize),
 }
 

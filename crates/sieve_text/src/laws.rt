@@ -1,4 +1,4 @@
-//! Laws of the tokens of a script. The functions have no code: their contracts are the laws.
+//! Laws of the tokens of a script. The functions do nothing: their contracts are the laws.
 
 ghost use Rattle.std.specs.Prelude.{◌≡◌, ◌⊎◌, ◌↔◌, ℕ, List};
 ghost use Rattle.sieve_syntax.specs.declared.token.Token.{Token};
@@ -8,12 +8,12 @@ ghost use Rattle.sieve_text.specs.FaultGrammar.{IsText, IsRefusedAt};
 ghost use Rattle.sieve_text.specs.TokenGrammar.{IsCut};
 ghost use Rattle.sieve_text.specs.Tokens.{IsScan, IsFaulty, StandsIn};
 
-/// No script has two lists of tokens.
+/// A script has at most one list of tokens.
 pub fn one_scan()
     ensures { (script : List ℕ) (ts us : List Token) → IsScan script ts → IsScan script us → ts ≡ us }
 {}
 
-/// No script has tokens and a refusal, or two refusals.
+/// A script with tokens has no refusal, and none has two refusals.
 pub fn one_verdict()
     ensures tokens { (script : List ℕ) (ts : List Token) (refusal : ScanRefusal) → IsScan script ts → IsFaulty script refusal → ⊥ }
     ensures refusal { (script : List ℕ) (a b : ScanRefusal) → IsFaulty script a → IsFaulty script b → a ≡ b }
@@ -24,14 +24,15 @@ pub fn some_verdict()
     ensures { (script : List ℕ) → ((ts : List Token) × IsScan script ts) ⊎ ((refusal : ScanRefusal) × IsFaulty script refusal) }
 {}
 
-/// A script has these tokens exactly where it is a text that is cut so: gaps and tokens in turn, each token the longest
-/// that fits by the grammar of RFC 5228, section 8.1, and within the limits.
+/// The tokens of a script are exactly those into which it can be cut, if it is a text. Gaps and tokens alternate, and
+/// each token is the longest that fits the grammar of RFC 5228, section 8.1, and the limits.
 pub fn cut()
     ensures { (script : List ℕ) (ts : List Token) → IsScan script ts ↔ (IsText script × IsCut 0 script ts) }
 {}
 
-/// A refusal stands at a place exactly where the grammar has it: the script is too long (15), no UTF-8 (10) or has a stray
-/// octet (11), or else what is left after a front of tokens and a gap begins with no token, for the reason that it gives.
+/// A refusal is at a place exactly where the grammar puts it. Either the script is too long (15), not UTF-8 (10) or has
+/// a stray octet (11). Or, after the first tokens and a gap, the rest begins with no token, for the reason that the
+/// refusal gives.
 pub fn refused_place()
     ensures at { (script : List ℕ) (refusal : ScanRefusal) (place : ℕ) → StandsIn script (Refused refusal place) ↔ IsRefusedAt script refusal place }
     ensures some { (script : List ℕ) (refusal : ScanRefusal) → IsFaulty script refusal ↔ ((place : ℕ) × IsRefusedAt script refusal place) }

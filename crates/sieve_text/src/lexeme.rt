@@ -1,32 +1,32 @@
-//! Tokens as they are written: slices of the script, which take no memory.
+//! Tokens as written: slices of the script, which need no allocation.
 
 use sieve_syntax::Mark;
 
-/// A string as it is written.
+/// A string as written.
 #[derive(Clone, Copy)]
 pub enum WrittenString<'a> {
-    /// What stands between its quotation marks.
+    /// The octets between its quotation marks.
     Quoted(&'a [u8]),
     /// Its lines, without the single dot that ends them.
     Lines(&'a [u8]),
 }
 
-/// A token as it is written.
+/// A token as written.
 #[derive(Clone, Copy)]
 pub enum Lexeme<'a> {
-    /// A name.
+    /// An identifier.
     Identifier(&'a [u8]),
-    /// The name behind a colon.
+    /// The name after a colon.
     Tag(&'a [u8]),
     /// A number with its factor multiplied in.
     Number(u64),
-    /// A quoted or multi-line string, whose value is within its limit.
+    /// A quoted or multi-line string whose value is within the limit.
     StringValue(WrittenString<'a>),
     /// One of the marks.
     Mark(Mark),
 }
 
-/// A token as it is written, and the octets of the script that it stands on: from `start` up to `end`, which is not in it.
+/// A token as written, and its place in the script as octet offsets: from `start` up to but not including `end`.
 #[derive(Clone, Copy)]
 pub struct PlacedLexeme<'a> {
     pub lexeme: Lexeme<'a>,

@@ -1,11 +1,12 @@
 //! The text of Sieve scripts (RFC 5228): from octets to tokens, and from tokens to the tree.
 //!
-//! In `specs/`, `Octets`, `Gaps` and `Strings` have the parts of tokens, and `Tokens` says which tokens a script has, or
-//! which refusal, as they are read. `TokenGrammar` has the tokens of the standard's section 8.1 apart from any order of
-//! reading, each the longest that fits, and `FaultGrammar` what stands where a script has none; that the tokens and the
-//! refusals are exactly those are the laws `cut` and `refused_place`. `Grammar` says which trees a script has and what an
-//! answer says of it; `Reading` has the grammar read from left to right, against which the parser's functions are proved
-//! first.
+//! In `specs/`, `Octets`, `Gaps` and `Strings` define the parts of tokens. `Tokens` defines the tokens of a script, or
+//! its refusal, in the order of reading. `TokenGrammar` defines the tokens of RFC 5228, section 8.1, independently of
+//! that order, each the longest that fits. `FaultGrammar` defines what is found where a script has no token. By the
+//! laws `cut` and `refused_place`, both pairs of definitions agree.
+//!
+//! `Grammar` defines the trees of a script and what an answer means for it. `Reading` is the grammar read from left to
+//! right; the parser's functions are proved against it first.
 #![tactic(auto)]
 
 mod fault;

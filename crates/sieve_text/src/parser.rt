@@ -1,5 +1,5 @@
-//! The tree of a text (RFC 5228, section 8.2). Its tokens are read from left to right, with no step back, and no deeper
-//! than the limits on tests and blocks inside one another.
+//! The tree of a text (RFC 5228, section 8.2). Its tokens are read from left to right, without backtracking, and no
+//! deeper than the limits on nested tests and nested blocks.
 
 ghost use Rattle.std.specs.Prelude.{◌≡◌, length, List, IfOk, IfErr, OnOk, map, Result};
 ghost use Rattle.sieve_syntax.specs.declared.token.Token.{Token};
@@ -28,11 +28,10 @@ use sieve_syntax::{Command, Script};
 use std::alloc::Global;
 use stop::{Misfit, Stop, left_from, syntax};
 
-/// How many blocks may stand inside one another.
+/// How many blocks may be nested.
 const BLOCK_DEPTH: u8 = 32;
 
-/// The commands that the tokens of a text are, up to the first place where none is, and how many octets there are from
-/// that place on.
+/// The commands of a text, up to the first place where none begins, and how many octets remain from that place on.
 #[tactic(auto, unfolding(crate::specs::Reading::script_at))]
 fn all_commands(alloc: Global, text: &[u8]) -> Result<(Vec<Command>, usize), Stop>
     ensures value { Gives (λ x. commands_of (map command_of x.0.items)) result (script_at 32 32 (kinds_in text.now)) }
@@ -45,8 +44,8 @@ fn all_commands(alloc: Global, text: &[u8]) -> Result<(Vec<Command>, usize), Sto
     Ok((commands, left_from(rest)))
 }
 
-/// Judges whether a script that is judged as a whole has tokens, which is so where its commands were read and nothing is
-/// left behind them.
+/// Judges whether a script that was judged as a whole has tokens. It has some if its commands were read and nothing is
+/// left after them.
 fn judge_tokens(script: &[u8], read: &Result<(Vec<Command>, usize), Stop>) -> Result<(), ScanFault>
     requires sound { IsSound script.now }
     requires left { IfOk read.now (λ x. x.1 ≡ length (left_in script.now)) }
@@ -75,23 +74,23 @@ fn answer(read: Result<(Vec<Command>, usize), Stop>, end: usize) -> Result<Scrip
     Err(TextFault::Refused(refusal, end.saturating_sub(left)))
 }
 
-/// The tree of a script (RFC 5228, section 8.2), which keeps whether a string or a test stood in brackets.
+/// The tree of a script (RFC 5228, section 8.2), which records whether a string or a test was written in brackets.
 ///
-/// A script has at most 32 blocks and at most 32 tests inside one another. A text that has no tokens is refused as by
-/// `scan` (10 to 16). Tokens that are those of a deeper tree are refused with 21, and tokens that are those of no tree
-/// with 20, or with 21 where the 33rd test or block stands before the first token that can't be in the grammar. Want of
-/// memory (99) may stand in place of any answer.
+/// A script has at most 32 nested blocks and at most 32 nested tests. A text without tokens is refused as by `scan` (10
+/// to 16). Tokens of a deeper tree are refused with 21. Tokens of no tree are refused with 20, or with 21 if the 33rd
+/// nested test or block comes before the first token that does not fit the grammar. Any answer may be replaced by no
+/// memory (99).
 pub fn parse(alloc: Global, script: &[u8]) -> Result<Script, TextFault>
-    // What is given is the script's tree.
+    // The answer is the script's tree.
     ensures found { IfOk result (λ s. IsScript script.now (tree_of s)) }
 
-    // A script's tree is given.
+    // A script is answered with its tree.
     ensures only { (t : CommandTrees) → IsScript script.now t → AnswersTree t result }
 
-    // A tree that is too deep is refused for that.
+    // A tree that is too deep is refused for that reason.
     ensures nests { (t : CommandTrees) → Spells script.now t → IsDeep t → AnswersRefusal TextRefusal.Nesting result }
 
-    // A text with no tokens is refused for that.
+    // A text without tokens is refused for that reason.
     ensures faulty { (r : ScanRefusal) → IsFaulty script.now r → AnswersRefusal (TextRefusal.Scan r) result }
 
     // Each refusal says what the text lacks.

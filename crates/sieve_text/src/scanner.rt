@@ -1,7 +1,7 @@
 //! Tokens from octets (RFC 5228, section 8.1).
 //!
-//! A script is judged as a whole first. Then its tokens are read from the front, each behind a gap of white space and
-//! comments. Each octet is looked at a bounded number of times.
+//! A script is judged as a whole first. Then its tokens are read from the front, each after a gap of white space and
+//! comments. Each octet is read a bounded number of times.
 
 mod gap;
 mod multi_line;
@@ -27,7 +27,7 @@ use std::alloc::{AllocError, Global};
 use std::str;
 pub use strings::string_text;
 
-/// How many octets a script has at most; a longer one is refused (15).
+/// The greatest length of a script in octets; a longer one is refused (15).
 pub const MOST_OCTETS: usize = 262_144;
 
 #[inline(always)]
@@ -47,7 +47,7 @@ fn mark(b: u8) -> Option<Mark>
     }
 }
 
-/// An identifier, and how many octets it has.
+/// An identifier, and its length in octets.
 #[inline(always)]
 fn identifier(rest: &[u8]) -> (Lexeme<'_>, usize)
     ensures value { identifier_at rest.now ≡ Ok (read_of result) }
@@ -57,7 +57,7 @@ fn identifier(rest: &[u8]) -> (Lexeme<'_>, usize)
     (Lexeme::Identifier(&rest[..n]), n)
 }
 
-/// A tag behind its colon, which stands at this offset.
+/// A tag: `behind` is the text after its colon, which is at this offset.
 #[tactic(auto, unfolding(crate::specs::Tokens::tag_at))]
 #[inline(always)]
 fn tag(behind: &[u8], at: usize) -> Result<(Lexeme<'_>, usize), FaultyPlace>
@@ -75,7 +75,7 @@ fn tag(behind: &[u8], at: usize) -> Result<(Lexeme<'_>, usize), FaultyPlace>
     }
 }
 
-/// The token that begins here, at this offset, and how many octets it has.
+/// The token that begins here, at this offset, and its length in octets.
 #[tactic(auto, unfolding(crate::specs::Tokens::kind_at))]
 #[inline(always)]
 fn lexeme(rest: &[u8], at: usize) -> Result<(Lexeme<'_>, usize), FaultyPlace>
@@ -109,7 +109,7 @@ fn lexeme(rest: &[u8], at: usize) -> Result<(Lexeme<'_>, usize), FaultyPlace>
     }
 }
 
-/// The next token from an offset on, if there is one.
+/// The next token from an offset on; `None` where there is none.
 #[tactic(auto, unfolding(crate::specs::Tokens::token_at))]
 #[inline(always)]
 fn placed_lexeme(script: &[u8], at: usize) -> Result<Option<PlacedLexeme<'_>>, FaultyPlace>
@@ -133,7 +133,8 @@ fn placed_lexeme(script: &[u8], at: usize) -> Result<Option<PlacedLexeme<'_>>, F
     }))
 }
 
-/// Judges a script as a whole: its length, then that it is UTF-8, then that each octet may stand in a text.
+/// Judges a script as a whole: its length (15), then that it is UTF-8 (10), then that it has no octet 0 and no CR
+/// without LF (11).
 pub fn judge(script: &[u8]) -> Result<(), ScanFault>
     ensures sound { OnOk result (IsSound script.now) }
     ensures fault { IfErr result (λ e. FaultsBy script.now e) }
@@ -152,7 +153,7 @@ pub fn judge(script: &[u8]) -> Result<(), ScanFault>
     Ok(())
 }
 
-/// The mark that a text begins with, with no gap before it, and the text behind it.
+/// The mark at the front of a text, with no gap before it, and the text after it.
 #[inline(always)]
 fn split_mark(text: &[u8]) -> Option<(Mark, &[u8])>
     ensures { IfSome result (λ x. (octet : ℕ) × (text.now ≡ octet ∷ x.1.now) × (mark_of octet ≡ Some x.0)) }
@@ -161,7 +162,7 @@ fn split_mark(text: &[u8]) -> Option<(Mark, &[u8])>
     Some((mark(first)?, behind))
 }
 
-/// The mark that a text begins with, with no gap before it.
+/// The mark at the front of a text, with no gap before it.
 #[inline(always)]
 pub fn first_mark(text: &[u8]) -> Option<Mark>
     ensures { IfSome result (λ m. (rest : List TokenKind) × (kinds_in text.now ≡ kinds.Mark m ∷ rest)) }
@@ -172,7 +173,7 @@ pub fn first_mark(text: &[u8]) -> Option<Mark>
     }
 }
 
-/// Whether a name stands first, with no gap before it.
+/// Whether an identifier is at the front of a text, with no gap before it.
 #[inline(always)]
 pub fn begins_with_name(text: &[u8]) -> bool
     ensures { result ≡ true → (name : List ℕ) × (rest : List TokenKind) × (kinds_in text.now ≡ kinds.Identifier name ∷ rest) }
@@ -183,7 +184,7 @@ pub fn begins_with_name(text: &[u8]) -> bool
     }
 }
 
-/// What `split_lexeme` gives, read without a look for a mark before all else.
+/// What `split_lexeme` gives, without looking for a mark first.
 fn split_other(text: &[u8]) -> Option<(Lexeme<'_>, &[u8])>
     ensures cases { MatchOption result (kinds_in text.now ≡ []) (λ x. kinds_in text.now ≡ kind_of x.0 ∷ kinds_in x.1.now) }
     ensures fewer { IfSome result (λ x. length (kinds_in x.1.now) < length (kinds_in text.now)) }
@@ -197,8 +198,9 @@ fn split_other(text: &[u8]) -> Option<(Lexeme<'_>, &[u8])>
     Some((lexeme, gap::behind_gap(behind)))
 }
 
-/// The first token of a text, as it is written, and the text behind it and behind the gap that follows it, so that the next
-/// token is known by one look; `None` where no token stands first behind white space and comments.
+/// The first token of a text, as written, and the text after it and after the gap that follows it. As the gap is
+/// skipped, the first octet of the rest shows the next token. `None` where no token comes first after white space and
+/// comments.
 #[inline(always)]
 pub fn split_lexeme(text: &[u8]) -> Option<(Lexeme<'_>, &[u8])>
     ensures cases { MatchOption result (kinds_in text.now ≡ []) (λ x. kinds_in text.now ≡ kind_of x.0 ∷ kinds_in x.1.now) }
@@ -211,7 +213,7 @@ pub fn split_lexeme(text: &[u8]) -> Option<(Lexeme<'_>, &[u8])>
     split_other(text)
 }
 
-/// How many tokens a script has.
+/// How many tokens a script has; one without tokens is refused as by `scan`.
 pub fn count_tokens(script: &[u8]) -> Result<usize, ScanFault>
     ensures tokens { IfOk result (λ n. (ts : List Token) × IsScan script.now ts × (length ts ≡ n)) }
     ensures fault { IfErr result (λ e. FaultsBy script.now e) }
@@ -227,7 +229,7 @@ pub fn count_tokens(script: &[u8]) -> Result<usize, ScanFault>
     Ok(count)
 }
 
-/// A token that owns what it says.
+/// A token that owns its content.
 fn token(alloc: Global, placed: PlacedLexeme<'_>) -> Result<Token, AllocError>
     ensures { IfOk result (λ t. t ≡ token_of placed.entry) }
 {
@@ -245,16 +247,16 @@ fn token(alloc: Global, placed: PlacedLexeme<'_>) -> Result<Token, AllocError>
     })
 }
 
-/// The tokens of a script (RFC 5228, section 8.1), in order, each with the octets that it stands on.
+/// The tokens of a script (RFC 5228, section 8.1), in order, each with its place in the script.
 ///
-/// Tokens are identifiers, tags, numbers of at most 2^63 - 1, strings of at most 65,535 octets and marks; each is the
-/// longest that fits. Comments and white space stand between them. A bare LF counts as a line end, and in a string it
-/// is read as CR LF.
+/// Tokens are identifiers, tags, numbers of at most 2^63 - 1, strings of at most 65,535 octets and marks. Each is the
+/// longest that fits. Comments and white space may come between them. A bare LF counts as a line end, and in a string
+/// it is read as CR LF.
 ///
-/// A script that has no tokens is refused by the first of these that holds: it has more than 262,144 octets (15); it is
-/// no UTF-8 (10); it has an octet 0, or a CR without LF (11); and else by its first faulty place: a string (12) or
+/// A script without tokens is refused by the first of these that holds: it has more than 262,144 octets (15); it is not
+/// UTF-8 (10); it has an octet 0, or a CR without LF (11). Otherwise its first faulty place decides: a string (12) or
 /// bracketed comment (13) that is not closed, a number above 2^63 - 1 (14), a string that is closed and too long (16),
-/// or an octet where no token begins (11). Want of memory (99) may stand in place of any answer.
+/// or an octet where no token begins (11). Any answer may be replaced by no memory (99).
 pub fn scan(alloc: Global, script: &[u8]) -> Result<Vec<Token>, ScanFault>
     ensures tokens { IfOk result (λ v. IsScan script.now v.items) }
     ensures fault { IfErr result (λ e. FaultsBy script.now e) }

@@ -1,4 +1,4 @@
-//! Databases that a store is adopted from: of version 1, of version 2, and others, which are 88.
+//! Databases from which a store is adopted: of version 1, of version 2, and others, which are refused with 88.
 
 use crate::lines::answer;
 use crate::media::{Kept, adopted, in_files, in_memory, kept_in_files, kept_in_memory};
@@ -9,11 +9,11 @@ use std::alloc::Global;
 use std::process::Abort;
 use std::test::Fail;
 
-/// Due days beside version 1, with a row that is no record's.
+/// Due days for version 1, with a row that is no record's.
 const DUES: &str =
     "CREATE TABLE due_day (record INTEGER PRIMARY KEY, day INTEGER NOT NULL) STRICT; CREATE INDEX due_by_day ON due_day (day, record); INSERT INTO due_day VALUES (3, 8)";
 
-/// What a store tells that was moved over from version 1.
+/// What a store answers that was moved over from version 1.
 const MOVED: [(&str, &str); 11] = [
     ("due 20040", "none"),
     ("due 20041", "2 tax 20041"),
@@ -31,7 +31,7 @@ const MOVED: [(&str, &str); 11] = [
     ),
 ];
 
-/// What a store tells whose greatest number is the last but one.
+/// What a store answers whose greatest number is the last but one.
 const LAST: [(&str, &str); 3] = [
     ("capture 19675 two tax,unfiled", "refused 87"),
     ("capture 19675 one unfiled", "4294967295 unfiled never"),
@@ -42,7 +42,7 @@ const LAST: [(&str, &str); 3] = [
 const LAST_ROWS: &str =
     "INSERT INTO meta VALUES ('version', '1'), ('root', 'permanent'); INSERT INTO class VALUES ('unfiled', 1, NULL), ('tax', 1, NULL); INSERT INTO message VALUES (4294967294, x'61'); INSERT INTO record VALUES (4294967294, 4294967294, 'tax', 19675, 0)";
 
-/// What a store tells whose stored due days were wrong.
+/// What a store answers whose stored due days were wrong.
 const RENEWED: [(&str, &str); 2] = [("due 20040", "none"), ("due 90000", "1 tax 20041")];
 
 /// Rows of version 1 that are no archive's.
@@ -70,7 +70,7 @@ const BROKEN_SECOND: [&str; 6] = [
     "INSERT INTO message VALUES (1, x'61')",
 ];
 
-/// Whether a database is refused as no archive, and the connection handed back.
+/// Whether a database is refused as no archive, and the connection is returned.
 fn is_refused<S: Alter + Drop>(alloc: Global, conn: Connection<S>) -> Result<bool, Fail> {
     if !conn.is_autocommit() {
         return Err(Fail::from("a transaction goes on"));
@@ -84,7 +84,7 @@ fn is_refused<S: Alter + Drop>(alloc: Global, conn: Connection<S>) -> Result<boo
     }
 }
 
-/// Asks a store, which is closed and adopted again after each line.
+/// Gives lines to a store, which is closed and adopted again after each of them.
 fn ask<K: Kept>(
     rt: &impl Abort,
     first: K,
@@ -99,7 +99,7 @@ fn ask<K: Kept>(
     Ok(())
 }
 
-/// Lays and fills version 1, and runs a text after it.
+/// Creates and fills version 1, and then runs a text.
 fn first<S: Alter>(conn: &mut Connection<S>, text: &str) -> Result<(), Fail> {
     lay_first(conn)?;
     fill_first(conn)?;

@@ -2,7 +2,7 @@
 
 use crate::lines::number;
 
-/// The years that are counted at most.
+/// The most years that are counted.
 const YEARS: u32 = 1_300;
 
 fn year_days(year: u32) -> u32 {
@@ -45,7 +45,7 @@ fn civil(day: u32) -> (u32, u32, u32) {
     (year, month, left.saturating_add(1))
 }
 
-/// The number of a day, which is cut to the last of its month.
+/// The number of a day, after it is cut to the last of its month.
 fn number_of(year: u32, month: u32, day: u32) -> u32 {
     let mut days = day.min(month_days(year, month)).saturating_sub(1);
     for before in 1970..year {

@@ -12,7 +12,7 @@ const SCHEDULE: &str =
 const DUES: &str =
     "CREATE TABLE due_day (record INTEGER PRIMARY KEY, day INTEGER NOT NULL) STRICT; CREATE INDEX due_by_day ON due_day (day, record)";
 
-/// The layout after these texts, around version 1's tables.
+/// The layout of version 1's tables, with one text run before they are created and one after.
 fn layout_around(alloc: Global, before: &str, after: &str) -> Result<Layout, Fail> {
     let mut conn: Connection<MemStore> = Connection::open_in_memory(alloc)?;
     conn.execute_batch(before)?;
@@ -21,7 +21,7 @@ fn layout_around(alloc: Global, before: &str, after: &str) -> Result<Layout, Fai
     Ok(layout_of(conn.schema()))
 }
 
-/// The layout that a text alone leaves.
+/// The layout after a text alone.
 fn layout_after(alloc: Global, text: &str) -> Result<Layout, Fail> {
     let mut conn: Connection<MemStore> = Connection::open_in_memory(alloc)?;
     conn.execute_batch(text)?;

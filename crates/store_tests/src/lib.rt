@@ -1,5 +1,7 @@
-//! Tests of the tables of the store and of the store itself, over databases in memory and over files in memory: what no clause
-//! says, tables of other names before and between ours, worked rows, and random commands beside a plain model of the archive.
+//! Tests of the store and of its tables, over databases in memory and over files in memory.
+//!
+//! They cover what no clause says, tables of other names before and between ours, worked rows, and random commands
+//! that are also given to a plain model of the archive.
 #![tactic(auto)]
 
 #[cfg(test)]

@@ -1,7 +1,8 @@
 //! Commands of the store as lines of words, and its answers as texts.
 //!
-//! `class PATH`, `plan NAME`, `capture DAY BODY PATHS`, `due DAY`, `hold NAME RECORD`, `release NAME RECORD`, `destroy RECORD DAY`,
-//! `message RECORD`; days are numbers since 1970-01-01, paths are joined by commas, and no path is `-`.
+//! The commands: `class PATH`, `plan NAME`, `capture DAY BODY PATHS`, `due DAY`, `hold NAME RECORD`,
+//! `release NAME RECORD`, `destroy RECORD DAY` and `message RECORD`. Days are numbers since 1970-01-01. Paths are
+//! joined by commas, and `-` is no path.
 
 use crate::plans::plan_file;
 use class_plan::{Plan, date_of, day_number, day_of};
@@ -11,7 +12,6 @@ use std::alloc::Global;
 use std::str;
 use std::test::Fail;
 
-/// The seconds of a day.
 const DAY_SECONDS: u64 = 86_400;
 
 /// The words of a line.

@@ -43,7 +43,7 @@ fn closed(conn: Connection<FileStore<Memory>>) -> Result<Files<Memory>, Fail> {
     }
 }
 
-/// A store over what a connection has, whatever that is.
+/// The store that is adopted from a connection.
 pub(crate) fn adopted<S: Alter + Drop>(
     alloc: Global,
     conn: Connection<S>,
@@ -101,13 +101,13 @@ impl Kept for InFiles {
     }
 }
 
-/// The store that a database in memory is adopted to.
+/// The store that is adopted from a database in memory.
 pub(crate) fn kept_in_memory(alloc: Global, conn: Connection<MemStore>) -> Result<InMemory, Fail> {
     let store = adopted(alloc, conn)?;
     Ok(InMemory { alloc, store })
 }
 
-/// The store that a database over files in memory is adopted to.
+/// The store that is adopted from a database over files in memory.
 pub(crate) fn kept_in_files(
     alloc: Global,
     conn: Connection<FileStore<Memory>>,

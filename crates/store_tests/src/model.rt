@@ -1,4 +1,4 @@
-//! A plain archive: lists that are gone through from the front, by the rules of the archive alone.
+//! A plain archive: lists that are searched from the front, by the rules of the archive alone.
 
 use crate::calendar::{destroys, due_day};
 use crate::lines::{Words, number, push_line, split_line};
@@ -29,7 +29,6 @@ struct Hold {
     ended: bool,
 }
 
-/// An archive.
 #[derive(Drop)]
 pub(crate) struct Model {
     alloc: Global,
@@ -55,7 +54,6 @@ impl Model {
         })
     }
 
-    /// How many records there are.
     pub(crate) fn count(&self) -> u32 {
         u32::try_from(self.records.len()).unwrap_or(u32::MAX)
     }

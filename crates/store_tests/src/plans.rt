@@ -1,4 +1,5 @@
-//! The plans of the tests, by their names: the root's schedule and then each class with its own, or with none.
+//! The plans of the tests, by their names: the root's schedule, and then each class with its own schedule, or with
+//! none.
 
 use std::alloc::{AllocError, Global};
 

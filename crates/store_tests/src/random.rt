@@ -1,4 +1,4 @@
-//! Random commands, to the store and to the plain archive beside it.
+//! Random commands, given to the store and to the plain archive.
 
 use crate::media::{Kept, in_files, in_memory, kept_in_files, kept_in_memory};
 use crate::model::Model;
@@ -7,13 +7,13 @@ use std::alloc::Global;
 use std::process::Abort;
 use std::test::Fail;
 
-/// How many commands are tried over memory, and over files in all.
+/// The number of commands over memory, and of those over files in all.
 const COMMANDS: u32 = 10_000;
 
 /// The paths that may be classes, in byte order.
 const PATHS: [&str; 7] = ["a", "a/b", "b", "c", "d", "e", "unfiled"];
 
-/// Numbers by chance.
+/// Pseudorandom numbers.
 #[derive(Drop)]
 struct Chance(u64);
 
@@ -51,7 +51,7 @@ fn paths(alloc: Global, chance: &mut Chance, model: &Model) -> Result<String, Fa
     Ok(text)
 }
 
-/// A line by chance.
+/// A random line.
 fn next_line(alloc: Global, chance: &mut Chance, model: &Model) -> Result<String, Fail> {
     let record = chance.below(model.count().saturating_add(3));
     let name = chance.below(4);
@@ -81,7 +81,7 @@ fn next_line(alloc: Global, chance: &mut Chance, model: &Model) -> Result<String
     Ok(text)
 }
 
-/// Gives both the same commands; now and then the store is closed and adopted again.
+/// Compares the answers of both to the same commands; now and then the store is closed and adopted again.
 fn compare<K: Kept>(
     rt: &impl Abort,
     alloc: Global,
@@ -111,7 +111,7 @@ fn commands_over_memory(rt: HostRuntime) -> Result<(), Fail> {
     compare(&rt, alloc, empty, 16, COMMANDS)
 }
 
-/// A quarter of the commands over files, from a seed of its own: a test has little time.
+/// A quarter of the commands over files, from its own seed, as the time of a test is limited.
 fn quarter_over_files(rt: &(impl Abort + AllocGlobal), seed: u64) -> Result<(), Fail> {
     let alloc = rt.alloc();
     let empty = kept_in_files(alloc, in_files(alloc)?)?;

@@ -1,4 +1,4 @@
-//! What is laid, replaced and moved is read back.
+//! What is created, replaced and moved is read back.
 
 use crate::tables::{classes, fill_first, lay_first, schedules};
 use record_tables::fault::Fault;
@@ -13,7 +13,7 @@ use std::alloc::Global;
 use std::process::Abort;
 use std::test::Fail;
 
-/// What a read answered, without its cause.
+/// The rows of a read, or a failure without its cause.
 fn rows<T: Drop>(read: Result<Vec<T>, Fault>) -> Result<Vec<T>, Fail> {
     match read {
         Ok(all) => Ok(all),
@@ -21,7 +21,7 @@ fn rows<T: Drop>(read: Result<Vec<T>, Fault>) -> Result<Vec<T>, Fail> {
     }
 }
 
-/// Looks at the plan's rows and at the version.
+/// Checks the plan's rows and the version.
 fn has_plan<S: Alter>(
     rt: &impl Abort,
     alloc: Global,
@@ -72,7 +72,7 @@ fn laid_and_replaced(rt: HostRuntime) -> Result<(), Fail> {
     Ok(())
 }
 
-/// Moves version 1 over among other tables, and reads it back.
+/// Moves version 1 over to version 2 among other tables, and reads it back.
 fn moves(
     rt: &impl Abort,
     alloc: Global,
@@ -131,7 +131,7 @@ fn moved(rt: HostRuntime) -> Result<(), Fail> {
     )
 }
 
-/// Whether every read is refused as no archive after this.
+/// Whether the read is refused as no archive after a text was run.
 fn is_refused(alloc: Global, text: &str, read: Broken) -> Result<bool, Fail> {
     let mut conn: Connection<MemStore> = Connection::open_in_memory(alloc)?;
     lay_first(&mut conn)?;

@@ -1,10 +1,10 @@
-//! Worked rows: commands and what the store answers to them, each over an empty store.
+//! Worked rows: tables of commands and the store's answers, each over an empty store.
 
 use crate::media::{Kept, in_files, in_memory, kept_in_files, kept_in_memory};
 use std::process::Abort;
 use std::test::Fail;
 
-/// A line and what it is answered.
+/// A line and its answer.
 type Row = (&'static str, &'static str);
 
 /// A capture on 2023-11-14, its due lists, a hold, a revision, its destruction.
@@ -31,7 +31,7 @@ const ONE_RECORD: [Row; 20] = [
     ("plan no-tax", "refused 57"),
 ];
 
-/// One message in two classes goes with its last live record; a capture in no class uses no number.
+/// One message in two classes is removed with its last live record; a capture in no class uses no number.
 const TWO_CLASSES: [Row; 11] = [
     ("plan both", "ok"),
     (
@@ -49,7 +49,7 @@ const TWO_CLASSES: [Row; 11] = [
     ("message 4", "refused 80"),
 ];
 
-/// A permanent class has no due list, and the way back restores it; due dates at the end of the year.
+/// A permanent class has no due list, and the plan from before restores it; due dates at the end of the year.
 const REVISIONS: [Row; 12] = [
     ("plan one-year", "ok"),
     ("capture 19675 invoice tax", "1 tax 20041"),

@@ -5,7 +5,7 @@ use sqlite::{Alter, Connection, Error};
 use std::alloc::Global;
 use std::test::Fail;
 
-/// Lays version 1's tables, without due days.
+/// Creates version 1's tables, without due days.
 pub(crate) fn lay_first<S: Alter>(conn: &mut Connection<S>) -> Result<(), Error> {
     conn.execute_batch(
         "CREATE TABLE message (number INTEGER PRIMARY KEY, body BLOB NOT NULL) STRICT; CREATE TABLE record (number INTEGER PRIMARY KEY, message INTEGER NOT NULL, path TEXT NOT NULL, day INTEGER NOT NULL, destroyed INTEGER NOT NULL) STRICT; CREATE TABLE hold (name TEXT NOT NULL, record INTEGER NOT NULL, PRIMARY KEY (name, record)) STRICT; CREATE TABLE meta (key TEXT NOT NULL PRIMARY KEY, value TEXT NOT NULL) STRICT",
@@ -15,7 +15,7 @@ pub(crate) fn lay_first<S: Alter>(conn: &mut Connection<S>) -> Result<(), Error>
     )
 }
 
-/// Version 1's rows: two live records of one message, a destroyed one whose message is gone, and a hold.
+/// Writes version 1's rows: two live records of one message, a destroyed one whose message is gone, and a hold.
 pub(crate) fn fill_first<S: Alter>(conn: &mut Connection<S>) -> Result<(), Error> {
     conn.execute_batch(
         "INSERT INTO meta VALUES ('version', '1'), ('root', 'permanent'); INSERT INTO class VALUES ('unfiled', 1, NULL), ('tax', 0, '1 years destroy'); INSERT INTO message VALUES (2, x'6162'); INSERT INTO record VALUES (1, 1, 'tax', 19675, 1), (2, 2, 'tax', 19675, 0), (3, 2, 'unfiled', 19675, 0); INSERT INTO hold VALUES ('case', 3)",
@@ -38,7 +38,7 @@ pub(crate) fn classes(alloc: Global) -> Result<Vec<ClassRow>, Fail> {
     Ok(all)
 }
 
-/// A permanent plan, in which `tax` is destroyed a year after.
+/// A permanent plan, in which `tax` is destroyed after one year, at the end of the year reached.
 pub(crate) fn schedules(alloc: Global) -> Result<Vec<ScheduleRow>, Fail> {
     let mut all = Vec::new(alloc);
     all.push(ScheduleRow {

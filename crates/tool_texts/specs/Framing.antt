@@ -1,4 +1,4 @@
--- Where a payload's length stands in a command of a session, and where a moment.
+-- The words of a command as typed, and its line as a session takes it.
 use Rattle.std.specs.Prelude.{ℕ, Bool, List, [], ◌∷◌, ◌++◌, ◌==◌, codes, decimal, length, map}
 use Rattle.std.specs.List.{join_with_byte, slice_split}
 use Rattle.tool_texts.specs.declared.framing.Framed.{Framed}
@@ -9,11 +9,11 @@ use Rattle.tool_texts.specs.declared.framing.Part.TheVariants.{Word, Moment, Fil
 abbrev pub is_space : ℕ → Bool
 is_space b = b == 32
 
--- a line's words, of which two that follow one another have one space between them
+-- a line's words, with one space between each two
 abbrev pub words_of : List ℕ → List (List ℕ)
 words_of line = slice_split is_space line
 
--- the word as it was typed
+-- the word as typed
 abbrev pub word_of : Part → List ℕ
 word_of (Word w) = w.now
 word_of Moment = codes "@now"

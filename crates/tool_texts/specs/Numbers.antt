@@ -1,4 +1,4 @@
--- The numbers by which something is refused, and those of the faults of a run.
+-- The numbers of refusals, and those of the faults of a run.
 use Rattle.std.specs.Prelude.{ℕ, Bool, List, [], ◌∷◌, ◌==◌, ◌||◌}
 use Rattle.std.specs.List.{list_any}
 
@@ -30,7 +30,7 @@ session_refusals = 70 ∷ 71 ∷ 72 ∷ 73 ∷ []
 abbrev pub store_refusals : List ℕ
 store_refusals = 80 ∷ 81 ∷ 82 ∷ 83 ∷ 84 ∷ 85 ∷ 86 ∷ 87 ∷ 88 ∷ 89 ∷ []
 
--- the desk, and want of memory
+-- the desk, and no memory (99)
 abbrev pub desk_refusals : List ℕ
 desk_refusals = 90 ∷ 91 ∷ 92 ∷ 93 ∷ 94 ∷ 95 ∷ 96 ∷ 97 ∷ 99 ∷ []
 

@@ -1,4 +1,4 @@
--- Where an offset of a text stands.
+-- The line and the column of an offset in a text.
 use Rattle.std.specs.Prelude.{ℕ, Bool, List, ◌+◌, ◌-◌, ◌==◌, not, count_by, length, take, drop}
 use Rattle.std.specs.List.{suffix_len, before_first}
 
@@ -9,7 +9,7 @@ is_line_feed b = b == 10
 abbrev pub line_of : List ℕ → ℕ → ℕ
 line_of text offset = count_by is_line_feed (take offset text) + 1
 
--- how many octets stand between the last line feed before the offset, or the text's beginning, and the offset
+-- how many octets come after the last line feed before the offset, or after the text's beginning, up to the offset
 abbrev pub octets_before : List ℕ → ℕ → ℕ
 octets_before text offset = suffix_len (λ b. not (is_line_feed b)) (take offset text)
 
@@ -17,6 +17,6 @@ octets_before text offset = suffix_len (λ b. not (is_line_feed b)) (take offset
 abbrev pub column_of : List ℕ → ℕ → ℕ
 column_of text offset = octets_before text offset + 1
 
--- what stands on the line of the offset: from its beginning up to the first line feed, or to the text's end
+-- the line of the offset: from its beginning up to the first line feed, or to the text's end
 abbrev pub line_text : List ℕ → ℕ → List ℕ
 line_text text offset = before_first is_line_feed (drop (length (take offset text) - octets_before text offset) text)

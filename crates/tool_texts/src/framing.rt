@@ -7,7 +7,7 @@ use itoa::Buffer;
 use std::alloc::{AllocError, Global};
 use std::str;
 
-/// What a payload of a command is.
+/// The kind of a payload of a command.
 #[derive(Clone, Copy, Debug, PartialEq, Eq)]
 pub enum Payload {
     Script,
@@ -17,7 +17,8 @@ pub enum Payload {
 }
 
 impl Payload {
-    /// The greatest length of such a payload, in octets: a longer one is refused (15, 95, 61, 58).
+    /// The greatest length of such a payload, in octets. A longer one is refused: a script with 15, a message with 95,
+    /// an image with 61, a plan with 58.
     pub fn limit(self) -> u64 {
         match self {
             Payload::Script => 262_144,
@@ -28,7 +29,7 @@ impl Payload {
     }
 }
 
-/// What a word after a command's name is.
+/// The kind of a word after a command's name.
 #[derive(Clone, Copy, Debug, PartialEq, Eq)]
 pub enum Slot {
     Plain,
@@ -38,8 +39,8 @@ pub enum Slot {
     Length(Payload),
 }
 
-/// What the words after a command's name are, up to the last one that is a moment or a length; none for a command that has
-/// neither.
+/// The kinds of the words after a command's name, up to the last one that is a moment or a length. A command with
+/// neither has none.
 pub fn slots(command: &[u8]) -> &'static [Slot] {
     match command {
         b"PLAN" => &[Slot::Length(Payload::Plan)],
@@ -56,20 +57,20 @@ pub fn slots(command: &[u8]) -> &'static [Slot] {
     }
 }
 
-/// A word of a command, and what stands for it in a session.
+/// A word of a command, and what replaces it in a session.
 #[derive(Clone, Copy, Debug, PartialEq, Eq)]
 pub enum Part<'a> {
     /// The word itself.
     Word(&'a [u8]),
-    /// `@now`: the seconds of the clock.
+    /// `@now`: replaced by the seconds of the clock.
     Moment,
-    /// `@PATH`: the length of the file at this path, whose octets follow the line.
+    /// `@PATH`: replaced by the length of the file at this path, whose octets follow the line.
     File(Payload, &'a [u8]),
-    /// A length in octets, as it was typed: so many octets follow the line where it was typed.
+    /// A length in octets, as typed: that number of octets follows the line where it was typed.
     Here(&'a [u8], u32),
 }
 
-/// The part that a word is, where it stands.
+/// The part that a word of this kind is.
 fn read_word(slot: Slot, word: &[u8]) -> Part<'_>
     ensures { word_of result ≡ word.now }
 {
@@ -92,14 +93,14 @@ fn length(word: &[u8]) -> Option<u32> {
     str::from_utf8(word).ok()?.parse().ok()
 }
 
-/// The words of a line, which is without its line feed.
+/// The words of a line without its line feed.
 fn words(alloc: Global, line: &[u8]) -> Result<Vec<&[u8]>, AllocError>
     ensures { IfOk result (λ v. map (λ w. w.now) v.items ≡ words_of line.now) }
 {
     line.split(|octet| *octet == b' ').collect(alloc)
 }
 
-/// The parts of a line, which is without its line feed: a part for each word, in order. The only error is want of memory.
+/// The parts of a line without its line feed: one for each word, in order. Fails only if memory runs out.
 pub fn parts(alloc: Global, line: &[u8]) -> Result<Vec<Part<'_>>, AllocError>
     ensures { IfOk result (λ v. map word_of v.items ≡ words_of line.now) }
 {
@@ -123,9 +124,9 @@ pub enum Framed<'a> {
     Word(&'a [u8]),
     /// A moment, in seconds since 1970-01-01T00:00:00Z.
     Moment(u64),
-    /// The octets of a file, whose number stands in the line and which follow it.
+    /// The octets of a file, whose number is in the line and which follow the line.
     File(Vec<u8>),
-    /// A length as it was typed: so many octets follow the line where it was typed.
+    /// A length as typed: that number of octets follows the line where it was typed.
     Here(&'a [u8], u32),
 }
 
@@ -141,8 +142,8 @@ fn spell(line: &mut Vec<u8>, word: &Framed<'_>) -> Result<(), AllocError>
     }
 }
 
-/// The line of a command as a session takes it, with its line feed: a moment and a file's number of octets are decimal, and
-/// two words that follow one another have one space between them. The only error is want of memory.
+/// The line of a command as a session takes it, with its line feed. A moment and a file's number of octets are decimal,
+/// and one space separates two words. Fails only if memory runs out.
 pub fn framed_line(alloc: Global, words: &[Framed<'_>]) -> Result<Vec<u8>, AllocError>
     ensures { IfOk result (λ v. v.items ≡ line_of words.now) }
 {

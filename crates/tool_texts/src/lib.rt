@@ -1,4 +1,4 @@
-//! The words in which a user of Mailfile is told things: a text for each number, places in a text by line and column, and
+//! Texts for the users of Mailfile: one for each number of a refusal or fault, places in a text by line and column, and
 //! commands as a person types them.
 #![tactic(auto)]
 

@@ -1,9 +1,9 @@
-//! A text for each number by which something is refused, and for each fault of a run: what the rule asks, and what to do.
+//! A text for each number of a refusal and for each fault of a run: what the rule requires, and what to do.
 
 ghost use Rattle.std.specs.Prelude.{◌≡◌, is_some};
 ghost use Rattle.tool_texts.specs.Numbers.{size_refusals, text_refusals, check_refusals, plan_refusals, image_refusals, session_refusals, store_refusals, desk_refusals, run_faults, is_among, is_refusal};
 
-/// The text of a number of a refusal; none where nothing is refused by that number.
+/// The text of a refusal's number; none where no refusal has that number.
 #[tactic(auto, using(crate::proofs::Choices::is_some_option_or))]
 pub fn refusal_text(number: u8) -> Option<&'static str>
     ensures { is_some result ≡ is_refusal number }
@@ -18,7 +18,7 @@ pub fn refusal_text(number: u8) -> Option<&'static str>
         .or(desk_text(number))
 }
 
-/// The text of a fault of a run, which is a part of its outcome; none where no run has that fault.
+/// The text of a fault of a run, 1 to 5, which is a part of its outcome; none for any other number.
 pub fn fault_text(number: u8) -> Option<&'static str>
     ensures { is_some result ≡ is_among run_faults number }
 {
@@ -75,7 +75,7 @@ fn script_text(number: u8) -> Option<&'static str>
     Some(text)
 }
 
-/// Refusals by the rules of well made scripts.
+/// Refusals by the rules of well-made scripts.
 fn check_text(number: u8) -> Option<&'static str>
     ensures { is_some result ≡ is_among check_refusals number }
 {
@@ -189,7 +189,7 @@ fn store_text(number: u8) -> Option<&'static str>
     Some(text)
 }
 
-/// Refusals of the desk, and want of memory.
+/// Refusals of the desk, and no memory (99).
 fn desk_text(number: u8) -> Option<&'static str>
     ensures { is_some result ≡ is_among desk_refusals number }
 {

@@ -1,17 +1,17 @@
-//! Lines and columns.
+//! Places in a text, by line and column.
 
 ghost use Rattle.std.specs.Prelude.{◌≡◌, ◌≤◌, ◌-◌, length, take, drop, not};
 ghost use Rattle.std.specs.List.{before_first, position};
 ghost use Rattle.tool_texts.specs.Places.{line_of, column_of, line_text, octets_before, is_line_feed};
 
-/// Where an offset of a text stands. Both are counted from 1, and a column counts octets.
+/// The place of an offset in a text. Both numbers count from 1, and a column counts octets.
 #[derive(Clone, Copy, Debug, PartialEq, Eq)]
 pub struct Place {
     pub line: usize,
     pub column: usize,
 }
 
-/// How many octets stand between the last line feed of a text and the text's end; all of them where it has none.
+/// How many octets come after the last line feed of a text; all of them if there is none.
 fn octets_after_last_line(text: &[u8]) -> usize
     ensures value { result ≡ octets_before text.now (length text.now) }
     ensures within { result ≤ length text.now }
@@ -23,7 +23,7 @@ fn octets_after_last_line(text: &[u8]) -> usize
     text.len() - start
 }
 
-/// The line and the column of an offset in octets; an offset past the text's end stands where the end does.
+/// The line and the column of an offset in octets. An offset past the end of the text counts as its end.
 pub fn place_of(text: &[u8], offset: usize) -> Place
     ensures line { result.line ≡ line_of text.now offset }
     ensures column { result.column ≡ column_of text.now offset }
@@ -43,7 +43,7 @@ fn first_line_feed(text: &[u8]) -> Option<usize>
     text.iter().position(|octet| *octet == b'\n')
 }
 
-/// What stands before the first line feed of a text; all of it where it has none.
+/// The text before its first line feed; all of it if there is none.
 fn first_line(text: &[u8]) -> &[u8]
     ensures { result.now ≡ before_first is_line_feed text.now }
 {
@@ -53,7 +53,7 @@ fn first_line(text: &[u8]) -> &[u8]
     }
 }
 
-/// The line in which an offset stands, without its line feed; an offset past the text's end stands where the end does.
+/// The line of an offset in octets, without its line feed. An offset past the end of the text counts as its end.
 pub fn line_at(text: &[u8], offset: usize) -> &[u8]
     ensures { result.now ≡ line_text text.now offset }
 {

@@ -20,7 +20,7 @@ pub enum Baseline {
 const ABSENT: u8 = 0;
 
 impl Baseline {
-    /// What it is called in the table.
+    /// The name of the pass in the table.
     pub fn name(self) -> &'static str {
         match self {
             Baseline::Sum => "sum",
@@ -30,7 +30,7 @@ impl Baseline {
         }
     }
 
-    /// Passes over the octets so many times; the answer is told so that the work is done.
+    /// Passes over the octets `times` times; the answer is reported, so that the work is done.
     pub fn run(self, alloc: Global, input: &[u8], times: usize) -> Result<usize, AllocError> {
         let mut answer = 0usize;
         for _ in 0..times {

@@ -1,5 +1,5 @@
-//! Measures captures in flight: sessions of BEGIN, TURN and FINISH, beside the same records made by the store alone, and the memory
-//! of sixty-four captures of 8 MiB.
+//! Measures captures in flight: sessions of BEGIN, TURN and FINISH, beside the same records made by the store alone,
+//! and the memory of sixty-four captures of 8 MiB.
 
 use crate::bench::filings::{INVOICE_SCRIPT, message};
 use crate::bench::memory::peak;
@@ -20,7 +20,7 @@ use std::time::Instant;
 /// How many captures a session has, one after the other.
 const CAPTURES: u32 = 10_000;
 
-/// How many it has where its answers are told.
+/// How many it has where its answers are reported.
 const FEW_CAPTURES: u32 = 20;
 
 /// How many captures are in flight at most.
@@ -29,13 +29,12 @@ const IN_FLIGHT: u32 = 64;
 /// The moment of each BEGIN, in seconds since 1970-01-01T00:00:00Z.
 const MOMENT: u64 = 1_700_000_000;
 
-/// The class that the script files into.
 const CLASS: &[u8] = b"finance";
 
 /// The header of a message of 8 MiB, which the script files, with its blank line.
 const LARGE_HEADER: &[u8] = b"Subject: Your invoice for October\r\n\r\n";
 
-/// How often captures are measured, and what the names of the files begin with; or none, where the first word is another.
+/// How often captures are measured, and what the names of the files begin with; none where the first word is another.
 pub fn asked_for(rt: &(impl Env + AllocGlobal)) -> Result<Option<(u32, String)>> {
     let mut words = env::args(rt)?;
     let _ = words.next();
@@ -47,7 +46,7 @@ pub fn asked_for(rt: &(impl Env + AllocGlobal)) -> Result<Option<(u32, String)>>
     Ok(Some((rounds.context("no rounds")?, path)))
 }
 
-/// A session that sets the script as an officer's program, and captures a message by it so many times.
+/// A session that sets the script as an officer's program, and captures a message by it `captures` times.
 fn session_of(alloc: Global, message: &[u8], captures: u32) -> Result<Vec<u8>, AllocError> {
     let (script_len, message_len) = (INVOICE_SCRIPT.len(), message.len());
     let front = format!(in alloc; "CLASS finance\nSCRIPT ann main {script_len}\n")?;
@@ -64,7 +63,7 @@ fn session_of(alloc: Global, message: &[u8], captures: u32) -> Result<Vec<u8>, A
     Ok(session)
 }
 
-/// Serves a session at a desk, and tells how many octets it was answered.
+/// Serves a session at a desk, and answers how many octets were written.
 fn octets_answered<S: Alter + Drop>(
     alloc: Global,
     desk: &mut Desk<S>,
@@ -77,7 +76,7 @@ fn octets_answered<S: Alter + Drop>(
     Ok(sink.as_slice().len())
 }
 
-/// Makes the records of a message in the class so many times by the store alone.
+/// Makes the records of a message in the class, a number of times, by the store alone.
 fn store_captures<S: Alter>(
     store: &mut Store<S>,
     message: &[u8],
@@ -93,7 +92,7 @@ fn store_captures<S: Alter>(
     Ok(())
 }
 
-/// The nanoseconds of a session over a database, and how many octets it was answered.
+/// The nanoseconds of a session over a database, and how many octets were written.
 fn session_time<S: Alter + Drop>(
     rt: &(impl Clock + AllocGlobal),
     conn: Connection<S>,
@@ -133,14 +132,14 @@ struct Times {
 }
 
 impl Times {
-    /// Before the first round.
+    /// The times before the first round.
     const NONE: Times = Times {
         session: u128::MAX,
         store: u128::MAX,
         answered: 0,
     };
 
-    /// With another round, over two databases.
+    /// The times with another round, over two databases.
     fn with_round<S: Alter + Drop>(
         self,
         rt: &(impl Clock + AllocGlobal),
@@ -159,7 +158,6 @@ impl Times {
     }
 }
 
-/// The times over databases in memory.
 fn times_in_memory(
     rt: &(impl Clock + AllocGlobal),
     rounds: u32,
@@ -194,7 +192,7 @@ fn times_in_files(
     Ok(times)
 }
 
-/// Tells a row of the table: the session, and the store alone as the plain pass.
+/// Reports a row of the table: the session, and the store alone as the plain pass.
 fn tell_times(
     rt: &impl Print,
     place: &str,
@@ -223,7 +221,8 @@ fn large_message(alloc: Global) -> Result<Vec<u8>, AllocError> {
     Ok(message)
 }
 
-/// Begins as many captures as can be in flight, each of a message of 8 MiB, and tells how many octets the messages have.
+/// Begins as many captures as can be in flight, each of a message of 8 MiB, and answers how many octets the messages
+/// have.
 fn begin_all<S: Alter>(alloc: Global, desk: &mut Desk<S>) -> Result<usize> {
     let mut octets = 0usize;
     for _ in 0..IN_FLIGHT {
@@ -236,7 +235,8 @@ fn begin_all<S: Alter>(alloc: Global, desk: &mut Desk<S>) -> Result<usize> {
     Ok(octets)
 }
 
-/// Tells a row of the table: the memory of sixty-four captures of 8 MiB, and a copy of such a message as the plain pass.
+/// Reports a row of the table: the memory of sixty-four captures of 8 MiB, and a copy of such a message as the plain
+/// pass.
 fn tell_memory<R: Files + Clock + Print + AllocGlobal>(rt: &R) -> Result<()> {
     let alloc = rt.alloc();
     let mut desk = desk_in_memory(alloc).context("there is no desk")?;
@@ -256,7 +256,7 @@ fn tell_memory<R: Files + Clock + Print + AllocGlobal>(rt: &R) -> Result<()> {
     Ok(())
 }
 
-/// Tells what captures take, in so many rounds, in memory and in files whose names begin with a path.
+/// Reports what captures take, in `rounds` rounds, in memory and in files whose names begin with a path.
 pub fn tell(rt: &HostRuntime, rounds: u32, path: &str) -> Result<()> {
     let message = message(rt.alloc())?;
     let session = session_of(rt.alloc(), &message, CAPTURES)?;
@@ -267,7 +267,7 @@ pub fn tell(rt: &HostRuntime, rounds: u32, path: &str) -> Result<()> {
     tell_memory(rt)
 }
 
-/// Tells what a small session answers.
+/// Reports what a small session answers.
 pub fn tell_answers(rt: &(impl Print + AllocGlobal)) -> Result<()> {
     let alloc = rt.alloc();
     let message = message(alloc)?;

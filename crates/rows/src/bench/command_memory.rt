@@ -1,5 +1,5 @@
-//! The memory that filing by hostile scripts takes, above their texts and the message, by the most that the process has had
-//! at once.
+//! The memory that filing by hostile scripts takes beyond their texts and the message, by the peak memory of the
+//! process.
 
 use crate::bench::inputs::repeated;
 use crate::bench::memory::peak;
@@ -18,7 +18,7 @@ use std::time::Instant;
 /// What a script that can be included begins with: a `header` whose keys take up the rest of its 262,144 octets.
 const KEYS_FRONT: &[u8] = b"if header \"a\" [";
 
-/// How many octets each of the keys has but the last.
+/// How many octets each key has, except for the last.
 const KEY_OCTETS: usize = 65_535;
 
 /// How many octets the last key has.
@@ -123,8 +123,8 @@ fn checked(alloc: Global, script: &[u8]) -> Option<Checked> {
     check(tree).ok()
 }
 
-/// Tells a row of the table: what filing by a hostile script took of memory above the texts, and a copy of the script as the
-/// plain pass. There are two such scripts.
+/// Reports a row of the table: the memory that filing by a hostile script took beyond the texts, and a copy of the
+/// script as the plain pass. There are two such scripts.
 pub fn tell<R: Files + Clock + Print + AllocGlobal>(rt: &R, index: usize) -> Result<()> {
     let texts = match index {
         0 => Texts::of_keys(rt.alloc())?,

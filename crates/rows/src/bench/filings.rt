@@ -55,7 +55,7 @@ pub fn message(alloc: Global) -> Result<Vec<u8>, AllocError> {
     )
 }
 
-/// A script with a header test in every 500 octets that are asked for, and with so many at most.
+/// A script with a header test in every 500 of `octets` octets, and with `most` of them at most.
 pub fn script_of_tests(alloc: Global, octets: usize, most: usize) -> Result<Vec<u8>, AllocError> {
     let tests = (octets / 500).min(most);
     repeated(
@@ -66,8 +66,8 @@ pub fn script_of_tests(alloc: Global, octets: usize, most: usize) -> Result<Vec<
     )
 }
 
-/// A session that opens the script's class and files a message by it for every 100 octets that are asked for, and
-/// 10,000 times at most.
+/// A session that opens the script's class and files a message by it for every 100 of `octets` octets, 10,000 times at
+/// most.
 pub fn session_of_filings(alloc: Global, octets: usize) -> Result<Vec<u8>, AllocError> {
     let message = message(alloc)?;
     let (script_len, message_len) = (INVOICE_SCRIPT.len(), message.len());
@@ -84,8 +84,7 @@ pub fn session_of_filings(alloc: Global, octets: usize) -> Result<Vec<u8>, Alloc
     )
 }
 
-/// A session that opens a class for every 256 octets that are asked for, and 4,000 at most, and files a message into each
-/// of them.
+/// A session that opens a class for every 256 of `octets` octets, 4,000 at most, and files a message into each of them.
 pub fn session_of_classes(alloc: Global, octets: usize) -> Result<Vec<u8>, AllocError> {
     let mut session = Vec::new(alloc);
     let mut script = Vec::from_slice(alloc, b"require \"fileinto\";\r\n")?;
@@ -128,7 +127,7 @@ pub fn compiled(alloc: Global, script: &[u8]) -> Option<Verified> {
     compile(alloc, &checked, None, &Library::new(alloc)).ok()
 }
 
-/// The case of a message and the script's class, or none of a message that is too long.
+/// The case of a message and the script's class; none for a message that is too long.
 pub fn case_of(alloc: Global, message: &[u8]) -> Result<Option<WholeCase>, AllocError> {
     if message.len() > GREATEST_MESSAGE {
         return Ok(None);
@@ -139,7 +138,7 @@ pub fn case_of(alloc: Global, message: &[u8]) -> Result<Option<WholeCase>, Alloc
     Ok(Some(case))
 }
 
-/// The fields of the cases of a message that is read so many times.
+/// The fields of the cases of a message that is read `times` times.
 pub fn fields_of_cases(alloc: Global, message: &[u8], times: usize) -> Result<usize, AllocError> {
     let mut fields = 0usize;
     for _ in 0..times {
@@ -154,12 +153,12 @@ pub fn weight_of(alloc: Global, script: &[u8]) -> usize {
     compiled(alloc, script).map_or(0, |program| program.budget() as usize)
 }
 
-/// The weights of a script that is compiled so many times.
+/// The weights of a script that is compiled `times` times, added up.
 pub fn weights_of(alloc: Global, script: &[u8], times: usize) -> usize {
     (0..times).fold(0usize, |sum, _| sum.wrapping_add(weight_of(alloc, script)))
 }
 
-/// The octets that a session is answered, or 0 where it is given up.
+/// How many octets a session writes, or 0 where it is given up.
 pub fn octets_answered(alloc: Global, session: &[u8]) -> Result<usize, AllocError> {
     let Some(mut desk) = desk_in_memory(alloc) else {
         return Err(AllocError);

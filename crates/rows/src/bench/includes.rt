@@ -10,7 +10,7 @@ use std::rc::Rc;
 /// What a script that includes others begins with.
 const FRONT: &str = "require \"include\";\r\n";
 
-/// How many `if`s stand around an include.
+/// How many `if`s enclose an include.
 const IFS: usize = 31;
 
 /// How many scripts there may be in a location.
@@ -38,7 +38,6 @@ pub struct Linked {
     library: Library,
 }
 
-/// Adds an include.
 fn push_include(text: &mut String, tag: &str, name: &str) -> Result<(), AllocError> {
     text.push_str("include ")?;
     text.push_str(tag)?;
@@ -56,7 +55,7 @@ fn ten_of(alloc: Global, name: &str) -> Result<String, AllocError> {
     Ok(text)
 }
 
-/// A script of one include inside so many `if`s.
+/// A script of one include inside thirty-one `if`s.
 fn inside_ifs(alloc: Global, name: &str) -> Result<String, AllocError> {
     let mut text = String::from_str(alloc, FRONT)?;
     text.push_str("if true {".repeat(alloc, IFS)?.as_str())?;
@@ -98,7 +97,8 @@ impl Texts {
         })
     }
 
-    /// Eight scripts, of which each but the last includes the next inside thirty-one `if`s; the last has 12,000 commands.
+    /// Eight scripts, of which each but the last includes the next inside thirty-one `if`s; the last has 12,000
+    /// commands.
     pub fn of_ifs(alloc: Global) -> Result<Texts, AllocError> {
         let mut others = Vec::new(alloc);
         for (name, next) in [
@@ -147,7 +147,7 @@ impl Texts {
         })
     }
 
-    /// All texts, one behind the other.
+    /// All texts, one after the other.
     pub fn joined(&self, alloc: Global) -> Result<Vec<u8>, AllocError> {
         let mut octets = Vec::from_slice(alloc, self.main.as_bytes())?;
         for other in &self.others {

@@ -2,7 +2,7 @@
 
 use std::alloc::{AllocError, Global};
 
-/// A text as often as it fits so many octets, behind another text.
+/// The octets of `front`, and then `text` as often as it fits into `octets` octets.
 pub fn repeated(
     alloc: Global,
     front: &[u8],
@@ -16,7 +16,7 @@ pub fn repeated(
     Ok(input)
 }
 
-/// An image of TRUE and DROP in turn and a last STOP, of about so many octets, and of 65,535 instructions at most.
+/// An image of TRUE and DROP in turn and a last STOP, of about `octets` octets, and of 65,535 instructions at most.
 pub fn image_of_code(alloc: Global, octets: usize) -> Result<Vec<u8>, AllocError> {
     let pairs = (octets / 8).min(32_767) as u16;
     let mut input = image_head(alloc, 65_535, 0, 0, pairs * 2 + 1)?;
@@ -27,7 +27,7 @@ pub fn image_of_code(alloc: Global, octets: usize) -> Result<Vec<u8>, AllocError
     Ok(input)
 }
 
-/// An image of texts of 254 octets and one STOP, of about so many octets, and of 65,535 texts at most.
+/// An image of texts of 254 octets and one STOP, of about `octets` octets, and of 65,535 texts at most.
 pub fn image_of_texts(alloc: Global, octets: usize) -> Result<Vec<u8>, AllocError> {
     let texts = (octets / 256).min(65_535) as u16;
     let mut input = image_head(alloc, 1, texts, 0, 1)?;
@@ -39,8 +39,8 @@ pub fn image_of_texts(alloc: Global, octets: usize) -> Result<Vec<u8>, AllocErro
     Ok(input)
 }
 
-/// An image of about so many octets, and of 59,991 instructions at most, that reads the message's size, compares it,
-/// jumps, marks a slot and reads it, in turn. No jump leaves an instruction out.
+/// An image of about `octets` octets, and of 59,991 instructions at most. In turn it reads the message's size, compares
+/// it, jumps, marks a slot and reads it. No jump leaves an instruction out.
 pub fn image_of_steps(alloc: Global, octets: usize) -> Result<Vec<u8>, AllocError> {
     let blocks = (octets / 40).min(5_999) as u16;
     let mut input = image_head(alloc, 60_000, 0, 1, blocks * 10 + 1)?;
@@ -56,7 +56,7 @@ pub fn image_of_steps(alloc: Global, octets: usize) -> Result<Vec<u8>, AllocErro
     Ok(input)
 }
 
-/// What stands before the texts of an image with one slot.
+/// The octets before the texts of an image with one slot.
 fn image_head(
     alloc: Global,
     budget: u32,

@@ -67,11 +67,11 @@ pub enum Measure {
     Cases,
     /// A thousand times `parse`, `check` and `compile` of that script.
     ShortScript,
-    /// The same, once, of a script of up to 1,000 header tests.
+    /// The same, once, for a script of up to 1,000 header tests.
     HalfScript,
-    /// The same of a script of up to 2,000 header tests.
+    /// The same for a script of up to 2,000 header tests.
     LongScript,
-    /// A stage of the way of a script of up to 2,000 header tests, or the whole way.
+    /// A stage of the processing of a script of up to 2,000 header tests, or all stages.
     Way(Stage),
     /// `compile` of a script of weight 48,885, of ten includes a script over four levels.
     TenIncludes,
@@ -119,14 +119,14 @@ pub enum HostileText {
     Digits,
 }
 
-/// How often a short work is done in one run.
+/// How often short work is done in one run.
 const TIMES: usize = 1_000;
 
 /// A field of 80 octets with its line end.
 const FIELD: &[u8] =
     b"X-Field: the quick brown fox jumps over the lazy dog and then it goes home....\r\n";
 
-/// Text without anything that is looked for.
+/// Text without anything that is searched for.
 const PROSE: &[u8] = b"the quick brown fox jumps over the lazy dog ";
 
 /// Text of 75 octets with an encoded word.
@@ -154,7 +154,7 @@ impl Measure {
         }
     }
 
-    /// An input of about so many octets.
+    /// An input of about `octets` octets.
     pub fn input(self, alloc: Global, octets: usize) -> Result<Vec<u8>, AllocError> {
         match self {
             Measure::Header | Measure::Pieces => repeated(alloc, b"", FIELD, octets),
@@ -212,7 +212,7 @@ impl Measure {
         }
     }
 
-    /// Runs once; the answer is told so that the work is done.
+    /// Runs once; the answer is reported, so that the work is done.
     pub fn run(self, alloc: Global, input: &[u8], setting: &Setting) -> Result<usize, AllocError> {
         match self {
             Measure::Header | Measure::Body => Ok(read_head(alloc, input)?.fields().len()),
@@ -269,7 +269,6 @@ impl Measure {
 }
 
 impl AcceptedText {
-    /// What is repeated.
     fn repeated(self) -> &'static [u8] {
         match self {
             AcceptedText::Keeps => b"keep;",
@@ -284,7 +283,6 @@ impl AcceptedText {
 }
 
 impl HostileText {
-    /// What is repeated.
     fn repeated(self) -> &'static [u8] {
         match self {
             HostileText::Brackets => b"(",

@@ -1,4 +1,4 @@
-//! The memory that the cases of messages take, by the most that the process has had at once.
+//! The memory that the cases of messages take, by the peak memory of the process.
 
 use crate::bench::command_memory;
 use crate::bench::filings::message;
@@ -41,13 +41,13 @@ const HOSTILE_HEADERS: [HostileHeader; 5] = [
     },
 ];
 
-/// How many rows tell the memory of cases: one for each hostile header, and one for messages as people send them.
+/// How many rows report the memory of cases: one for each hostile header, and one for messages as people send them.
 const CASE_ROWS: usize = 6;
 
 /// How many messages of 2 KB are kept at once.
 const MESSAGES: usize = 4_000;
 
-/// The most octets that the process had since this was asked for the last time, or since it began.
+/// The peak memory of the process in octets, since this was asked for the last time, or since the process began.
 pub fn peak(rt: &(impl Files + AllocGlobal)) -> Result<usize> {
     let status = fs::read_to_string(rt, "/proc/self/status")?;
     let (_, rest) = status
@@ -84,7 +84,8 @@ fn fields_of_many(alloc: Global, message: &[u8]) -> Result<usize> {
     Ok(fields)
 }
 
-/// Tells a row of the table: what a case took of memory, or many of them, and a copy of the message as the plain pass.
+/// Reports a row of the table: the memory that a case took, or many of them, and a copy of the message as the plain
+/// pass.
 fn tell_row<R: Files + Clock + Print + AllocGlobal>(
     rt: &R,
     title: &str,
@@ -111,8 +112,8 @@ fn tell_row<R: Files + Clock + Print + AllocGlobal>(
     Ok(())
 }
 
-/// Tells the memory of the hostile header `index`, in a message of 8 MiB, after the last one that of messages as people send
-/// them, and then that of commands.
+/// Reports the memory of the hostile header `index`, in a message of 8 MiB. After the last of them follow messages as
+/// people send them, and then commands.
 pub fn tell<R: Files + Clock + Print + AllocGlobal>(rt: &R, index: usize) -> Result<()> {
     if let Some(index) = index.checked_sub(CASE_ROWS) {
         return command_memory::tell(rt, index);

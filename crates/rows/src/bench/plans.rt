@@ -9,7 +9,7 @@ pub const MOST_CLASSES: usize = 4_095;
 /// The octets of a plan file for each class.
 const CLASS_OCTETS: usize = 256;
 
-/// The path of a class. Of eight in a row each lies in the one before, the first in none.
+/// The path of a class. Of eight in a row each is inside the one before, and the first in none.
 pub fn class_path(alloc: Global, number: usize) -> Result<String, AllocError> {
     let region = 1_000 + number / 8;
     let mut path = format!(in alloc; "{region}-invoices-and-receipts-of-one-region")?;
@@ -19,7 +19,7 @@ pub fn class_path(alloc: Global, number: usize) -> Result<String, AllocError> {
     Ok(path)
 }
 
-/// A plan file of so many octets, with a class for each 256 of them, and with 4,095 at most.
+/// A plan file of `octets` octets, with a class for each 256 of them, and with 4,095 at most.
 pub fn plan_text(alloc: Global, octets: usize) -> Result<Vec<u8>, AllocError> {
     let mut text = Vec::from_slice(alloc, b"root = \"permanent\"\n")?;
     for number in 0..MOST_CLASSES.min(octets / CLASS_OCTETS) {
@@ -35,7 +35,7 @@ pub fn plan_text(alloc: Global, octets: usize) -> Result<Vec<u8>, AllocError> {
     Ok(text)
 }
 
-/// A plan of so many classes beside `unfiled`, none with a schedule of its own.
+/// A plan of `classes` classes beside `unfiled`, none with a schedule of its own.
 pub fn plan_of(alloc: Global, classes: usize) -> Result<Plan, AllocError> {
     let mut plan = Plan::new(alloc)?;
     for number in 0..classes {
@@ -59,7 +59,7 @@ pub fn taken_over(alloc: Global, text: &[u8]) -> Result<usize, AllocError> {
     Ok(plan.class_count())
 }
 
-/// Reads the schedule of a path so many times, and tells how often there was one.
+/// Reads the schedule of a path `times` times, and answers how often there was one.
 pub fn schedules(plan: &Plan, path: &[u8], times: usize) -> usize {
     (0..times)
         .filter(|_| plan.schedule_of(path).is_some())

@@ -1,25 +1,25 @@
-//! The table that is measured, as data: what, what was asked of it, and the plain pass beside it.
+//! The table of measures as data: what is measured, what is required of it, and the plain pass beside it.
 
 use crate::bench::baselines::Baseline;
 use crate::bench::measures::{AcceptedText, HostileText, Measure};
 use crate::bench::stages::Stage;
 
-/// What was asked of a measure.
+/// What is required of a measure.
 #[derive(Clone, Copy)]
 pub enum Asked {
-    /// At least so many millions of octets a second.
+    /// At least this number of millions of octets a second.
     Rate(u32),
-    /// At most so many microseconds a run.
+    /// At most this number of microseconds a run.
     Time(u32),
-    /// At most so many tenths of the time of a run on half the octets.
+    /// At most this number of tenths of the time of a run on half the octets.
     Growth(u32),
-    /// At most so many times the memory of the input.
+    /// At most this number of times the memory of the input.
     Memory(u32),
     /// Nothing; it is measured to be compared with another.
     Nothing,
 }
 
-/// At most three times as long on twice the octets; a quadratic work takes four times as long.
+/// At most three times as long on twice the octets; quadratic work takes four times as long.
 const LINEAR: Asked = Asked::Growth(30);
 
 /// At most one and a half times as long on twice the octets.
@@ -35,13 +35,13 @@ pub struct Row {
     pub measure: Measure,
     /// Its name in the table.
     pub title: &'static str,
-    /// What was asked of it.
+    /// What is required of the measure.
     pub asked: Asked,
     /// What it is compared with, over the same input and as often.
     pub baseline: Baseline,
 }
 
-/// Each row, in the order of a message's way.
+/// Each row, in the order in which a message passes the parts.
 pub const ROWS: [Row; 53] = [
     Row {
         measure: Measure::Header,

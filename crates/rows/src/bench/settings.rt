@@ -20,12 +20,12 @@ pub struct Setting {
     case: Option<WholeCase>,
     /// The scripts that include each other and are compiled.
     linked: Option<Linked>,
-    /// What stands before the stages of the script.
+    /// The results before the stages of the script.
     results: Option<Results>,
 }
 
 impl Setting {
-    /// What a measure works on, whose input this is.
+    /// What a measure works on, by its input.
     pub fn of(alloc: Global, measure: Measure, input: &[u8]) -> Result<Setting, AllocError> {
         let plan = match measure {
             Measure::ScheduleOfFew => plan_of(alloc, 8)?,
@@ -57,7 +57,7 @@ impl Setting {
         })
     }
 
-    /// The steps of so many runs of the program, which are 0 where there is none.
+    /// The steps of `runs` runs of the program; 0 where there is none.
     pub fn steps(&self, alloc: Global, runs: usize) -> Result<usize, AllocError> {
         let (Some(program), Some(case)) = (&self.program, &self.case) else {
             return Ok(0);

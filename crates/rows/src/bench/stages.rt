@@ -1,4 +1,4 @@
-//! The way of a script of header tests, from its text to the outcome, and each stage of it by itself.
+//! The processing of a script of header tests, from its text to the outcome, and each stage of it by itself.
 
 use crate::bench::filings::{
     case_of, compiled, judged, message, octets_answered, script_of_tests, session_of_tests,
@@ -14,7 +14,7 @@ use std::alloc::{AllocError, Global};
 /// The most header tests of the script.
 const MOST_TESTS: usize = 2_000;
 
-/// A stage of the way.
+/// A stage of the processing.
 #[derive(Clone, Copy)]
 pub enum Stage {
     /// `scan` of the text.
@@ -29,11 +29,11 @@ pub enum Stage {
     Verify,
     /// `run` of its image.
     Run,
-    /// The whole way: `serve` of a session that files a message by the script.
+    /// All stages: `serve` of a session that files a message by the script.
     File,
 }
 
-/// What stands before the stages of a script.
+/// The results before the stages of a script.
 #[derive(Drop)]
 pub struct Results {
     checked: Option<Checked>,
@@ -43,7 +43,7 @@ pub struct Results {
 }
 
 impl Results {
-    /// Those of a script, and the case of a message.
+    /// The results of a script, and the case of a message.
     pub fn of(alloc: Global, script: &[u8]) -> Result<Results, AllocError> {
         let program = compiled(alloc, script);
         let image = match &program {
@@ -69,7 +69,7 @@ impl Results {
         }
     }
 
-    /// The steps of a run of the program, which are 0 where there is none.
+    /// The steps of a run of the program; 0 where there is none.
     fn steps(&self, alloc: Global) -> Result<usize, AllocError> {
         let (Some(program), Some(case)) = (&self.program, &self.case) else {
             return Ok(0);
@@ -86,7 +86,7 @@ fn checked(alloc: Global, script: &[u8]) -> Option<Checked> {
 }
 
 impl Stage {
-    /// A script with a header test in every 500 octets that are asked for, or the session that files a message by it.
+    /// A script with a header test in every 500 of `octets` octets, or the session that files a message by it.
     pub fn input(self, alloc: Global, octets: usize) -> Result<Vec<u8>, AllocError> {
         let script = script_of_tests(alloc, octets, MOST_TESTS)?;
         match self {
@@ -95,7 +95,7 @@ impl Stage {
         }
     }
 
-    /// Runs once; the answer is told so that the work is done.
+    /// Runs once; the answer is reported, so that the work is done.
     pub fn run(self, alloc: Global, input: &[u8], results: &Results) -> Result<usize, AllocError> {
         match self {
             Stage::Scan => Ok(scan(alloc, input).map_or(0, |tokens| tokens.len())),

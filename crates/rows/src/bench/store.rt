@@ -1,6 +1,7 @@
-//! Measures the store: each call, and in turn with it the statements that it makes by themselves, on a database with the same rows.
-//! Each call is made on a small archive in memory, and what it answered is told; or its times are told, over files whose names begin
-//! with a path. The database of the statements stays there, with the rows of such an archive.
+//! Measures the store: each call, and in turn with it the statements that it makes, by themselves on a database with
+//! the same rows. Either each call is made on a small archive in memory, and its answer is reported; or the times of
+//! the calls are reported, over files whose names begin with a path. The database of the statements stays there, with
+//! the rows of such an archive.
 
 mod archive;
 mod calls;
@@ -17,13 +18,13 @@ use sqlite_std_file::File;
 use std::env;
 use std::rt::Env;
 
-/// The archive of which answers are told.
+/// The archive whose answers are reported.
 const FEW: Size = Size {
     records: 200,
     holds: 20,
 };
 
-/// What the command line asks for.
+/// What the command line gives.
 #[derive(Drop)]
 pub struct Wanted {
     /// The size of the large archive.
@@ -31,11 +32,11 @@ pub struct Wanted {
     rounds: u32,
     /// What the names of the files begin with.
     path: String,
-    /// What the rows say of where the files lie.
+    /// What the rows say about where the files lie.
     place: String,
 }
 
-/// What the command line asks for after the word `store`: records, holds, rounds, a path and words for the rows.
+/// What the command line gives after the word `store`: records, holds, rounds, a path and words for the rows.
 pub fn asked_for(rt: &(impl Env + AllocGlobal)) -> Result<Option<Wanted>> {
     let mut words = env::args(rt)?;
     let _ = words.next();
@@ -57,13 +58,12 @@ pub fn asked_for(rt: &(impl Env + AllocGlobal)) -> Result<Option<Wanted>> {
     }))
 }
 
-/// A database in a file.
 fn in_file(rt: &HostRuntime, wanted: &Wanted, name: &str) -> Result<Connection<FileStore<File>>> {
     let path = format!(in rt.alloc(); "{}-{name}.db", wanted.path)?;
     Ok(Connection::open(rt, path.as_str())?)
 }
 
-/// Tells the times of each call, and closes the database of the statements.
+/// Reports the times of each call, and closes the database of the statements.
 pub fn tell_times(rt: &HostRuntime, wanted: &Wanted) -> Result<()> {
     let (alloc, size) = (rt.alloc(), wanted.size);
     let large = in_file(rt, wanted, "large")?;
@@ -81,7 +81,7 @@ pub fn tell_times(rt: &HostRuntime, wanted: &Wanted) -> Result<()> {
     Ok(())
 }
 
-/// Tells what each call answers on a small archive.
+/// Reports what each call answers on a small archive.
 pub fn tell_answers(rt: &(impl Print + AllocGlobal)) -> Result<()> {
     let alloc = rt.alloc();
     let conn = Connection::open_in_memory(alloc)?;

@@ -18,19 +18,19 @@ pub struct Timing {
     pub baseline: u128,
     /// What the last run of the measure answered.
     pub answer: usize,
-    /// What all runs answered, added up; it is told so that the work is done.
+    /// What all runs answered, added up; it is reported, so that the work is done.
     pub answers: usize,
 }
 
-/// What a row answers on an input of about so many octets.
+/// What a row answers on an input of about `octets` octets.
 pub fn answer_of(alloc: Global, row: &Row, octets: usize) -> Result<usize, AllocError> {
     let input = row.measure.input(alloc, octets)?;
     let setting = Setting::of(alloc, row.measure, &input)?;
     row.measure.run(alloc, &input, &setting)
 }
 
-/// The least times of a row on an input of about so many octets, in so many rounds. The measure and the plain pass take
-/// turns, so that a machine that is busy for a while is so for both.
+/// The least times of a row on an input of about `octets` octets, in `rounds` rounds. The measure and the plain pass
+/// take turns, so that a machine that is busy for a while is so for both.
 pub fn timing_of(
     rt: &(impl Clock + AllocGlobal),
     row: &Row,

@@ -3,7 +3,7 @@
 use sieve_syntax::{Argument, Arguments, Command, Ending, Script, StringList, Test, Tests, Text};
 use std::mem::size_of;
 
-/// A text of at most so many octets lies in its own row.
+/// A text of at most this number of octets lies in its own row.
 const FEW: usize = 14;
 
 /// The octets that a text takes beside its row.

@@ -1,4 +1,4 @@
-//! Changes by chance: octets that are set, left out, put in, doubled, and fronts and backs of two texts.
+//! Changes by chance: octets that are set, left out, inserted or doubled, and fronts and backs of two texts.
 
 use crate::made::chance::Chance;
 use std::alloc::{AllocError, Global};
@@ -6,7 +6,7 @@ use std::alloc::{AllocError, Global};
 /// How many octets are left out or doubled at once, at most.
 const MOST_AT_ONCE: u64 = 12;
 
-/// Some octets in two parts, parted anywhere.
+/// Some octets in two parts, cut anywhere.
 fn part<'a>(chance: &mut Chance, octets: &'a [u8]) -> (&'a [u8], &'a [u8]) {
     let places = (octets.len() as u64).saturating_add(1);
     let place = (chance.below(places) as usize).min(octets.len());
@@ -54,7 +54,7 @@ fn changed(
     Ok(out)
 }
 
-/// Some octets with up to three changes, among which words may be put in.
+/// Some octets with up to three changes, which may insert words.
 pub fn changes(
     alloc: Global,
     chance: &mut Chance,

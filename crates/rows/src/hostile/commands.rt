@@ -34,7 +34,6 @@ fn push_two(
     out.extend_from_slice(message)
 }
 
-/// Adds a command.
 fn push_command(alloc: Global, chance: &mut Chance, out: &mut Vec<u8>) -> Result<()> {
     match chance.below(14) {
         0 => push_one(alloc, out, "PLAN", PLAN.as_bytes())?,

@@ -32,7 +32,7 @@ pub fn images_of_scripts(alloc: Global, chance: &mut Chance) -> Result<Vec<Vec<u
     Ok(images)
 }
 
-/// An instruction whose operands are 0 where it has none, and small, in code of so many instructions.
+/// An instruction in code of `count` instructions. Its operands are small, and 0 where it has none.
 fn instruction(chance: &mut Chance, count: u64) -> Instruction {
     let op = u8::try_from(chance.below(21))
         .unwrap_or(0)
@@ -49,7 +49,6 @@ fn instruction(chance: &mut Chance, count: u64) -> Instruction {
     Instruction { op, a, b }
 }
 
-/// The texts of an image.
 fn texts(alloc: Global) -> Result<Vec<Vec<u8>>, AllocError> {
     let mut texts = Vec::new(alloc);
     for text in TEXTS {
@@ -58,7 +57,8 @@ fn texts(alloc: Global) -> Result<Vec<Vec<u8>>, AllocError> {
     Ok(texts)
 }
 
-/// The octets of an image of a few instructions, most of them with a STOP at the end; none where the format has no such image.
+/// The octets of an image of a few instructions, most of them with a STOP at the end; no octets where the format has no
+/// such image.
 pub fn image_of_instructions(alloc: Global, chance: &mut Chance) -> Result<Vec<u8>> {
     let count = chance.below(9);
     let mut code = Vec::new(alloc);

@@ -1,4 +1,4 @@
-//! Makes an input of a kind, hands it to the public calls, and says what it was answered.
+//! Makes an input of a kind, passes it to the public calls, and counts the answers.
 
 use crate::desks::desk_in_memory;
 use crate::hostile::changes::{changes, spliced};
@@ -29,10 +29,10 @@ use sqlite::MemStore;
 use std::alloc::Global;
 use std::str;
 
-/// How many sessions one desk serves before it makes room for a new one.
+/// How many sessions one desk serves before a new one takes its place.
 const SESSIONS_OF_A_DESK: u32 = 40;
 
-/// What inputs are made from, and what they are handed to.
+/// What inputs are made from, and what they are passed to.
 #[derive(Drop)]
 pub struct Judges {
     alloc: Global,
@@ -55,7 +55,6 @@ fn cases(alloc: Global) -> Result<Vec<WholeCase>> {
     Ok(cases)
 }
 
-/// A plan.
 fn plan(alloc: Global) -> Result<Plan> {
     match Plan::from_toml(alloc, PLAN.as_bytes()) {
         Ok(plan) => Ok(plan),
@@ -63,14 +62,14 @@ fn plan(alloc: Global) -> Result<Plan> {
     }
 }
 
-/// A program by chance.
+/// The program of a script that is made by chance.
 fn program(alloc: Global, chance: &mut Chance, library: &Library) -> Result<Verified> {
     let main = crate::compiled::checked(alloc, script(alloc, chance)?.as_bytes())?;
     Ok(compile(alloc, &main, None, library)?)
 }
 
 impl Judges {
-    /// What a seed gives.
+    /// The judges of a seed.
     pub fn new(alloc: Global, chance: &mut Chance) -> Result<Judges> {
         let library = library_by_chance(alloc, chance)?;
         Ok(Judges {
@@ -107,7 +106,8 @@ impl Judges {
         }
     }
 
-    /// Octets that may be an image: a changed one, one of two, or one of made instructions, which may be changed.
+    /// Octets that may be an image: an image of the pool, parts of two of them, or an image of made instructions, with
+    /// up to three changes.
     fn make_image(&self, chance: &mut Chance) -> Result<Vec<u8>> {
         let octets = match chance.below(4) {
             0 => image_of_instructions(self.alloc, chance)?,
@@ -120,7 +120,7 @@ impl Judges {
         Ok(changes(self.alloc, chance, octets.as_slice(), &IMAGE_WORDS)?)
     }
 
-    /// Reads and verifies octets that may be an image, and runs that.
+    /// Reads and verifies octets that may be an image, and runs the image.
     fn image(&self, chance: &mut Chance) -> Result<Answer> {
         let octets = self.make_image(chance)?;
         Ok(

@@ -1,9 +1,9 @@
-//! How many inputs of each kind were answered what.
+//! How many inputs of each kind had which answer.
 
 use anyhow::Result;
 use std::alloc::{AllocError, Global};
 
-/// What an input is.
+/// The kinds of inputs.
 #[derive(Clone, Copy, PartialEq)]
 pub enum Kind {
     Image,
@@ -16,7 +16,7 @@ pub enum Kind {
 }
 
 impl Kind {
-    /// As it is told.
+    /// The name of a kind in the report.
     fn name(self) -> &'static str {
         match self {
             Kind::Image => "image",
@@ -29,7 +29,7 @@ impl Kind {
     }
 }
 
-/// What an input was answered.
+/// The answer to an input.
 #[derive(Clone, Copy, PartialEq)]
 pub enum Answer {
     Accepted,
@@ -39,7 +39,7 @@ pub enum Answer {
     OverBudget,
 }
 
-/// How often a kind was answered so.
+/// How often a kind had one answer.
 #[derive(Clone, Copy)]
 struct Count {
     kind: Kind,
@@ -47,14 +47,14 @@ struct Count {
     times: u64,
 }
 
-/// How often each kind was answered what.
+/// How often each kind had each answer.
 #[derive(Drop)]
 pub struct Tally {
     counts: Vec<Count>,
 }
 
 impl Tally {
-    /// Of no input.
+    /// The counts before the first input.
     pub fn new(alloc: Global) -> Tally {
         Tally {
             counts: Vec::new(alloc),
@@ -77,7 +77,7 @@ impl Tally {
         Ok(())
     }
 
-    /// Tells each count on a line: the kind, the answer and how often it was given, with tabs between them.
+    /// Reports each count on a line, with tabs between the parts: the kind, the answer and how often it was given.
     pub fn tell(&self, rt: &impl Print) -> Result<()> {
         for count in &self.counts {
             let (kind, times) = (count.kind.name(), count.times);

@@ -1,4 +1,4 @@
-//! Words that are put into inputs, and texts that inputs are made from.
+//! Words that are inserted into inputs, and texts that inputs are made from.
 
 /// Words of images: the mark, instructions, and greatest numbers.
 pub const IMAGE_WORDS: [&str; 6] = [

@@ -21,7 +21,7 @@ impl Chance {
         (self.state >> 33) % limit.max(1)
     }
 
-    /// True once in so many times.
+    /// True once in `times` times on average.
     pub fn one_in(&mut self, times: u64) -> bool {
         self.below(times) == 0
     }

@@ -24,7 +24,7 @@ const BODIES: [&str; 12] = [
     "=?UTF-8?Q?ab?=",
 ];
 
-/// A message of up to six fields and up to 55 octets behind its header.
+/// A message of up to six fields, with up to 55 octets after its header.
 pub fn message(alloc: Global, chance: &mut Chance) -> Result<String, AllocError> {
     let mut message = String::new(alloc);
     for _ in 0..chance.below(7) {

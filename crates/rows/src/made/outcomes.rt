@@ -1,4 +1,4 @@
-//! What the outcome of a script and a message was, to be counted.
+//! Outcomes of scripts and messages by their kinds, to be counted.
 
 use crate::made::sides::Captured;
 use std::alloc::Global;
@@ -39,7 +39,7 @@ impl Kind {
     }
 }
 
-/// How the pairs of scripts and messages went.
+/// The counts of all pairs of scripts and messages.
 #[derive(Drop)]
 pub struct Tally {
     /// The kinds of their outcomes.
@@ -53,7 +53,7 @@ pub struct Tally {
 }
 
 impl Tally {
-    /// Of no pair.
+    /// The counts before the first pair.
     pub fn new(alloc: Global) -> Tally {
         Tally {
             kinds: Vec::new(alloc),

@@ -7,10 +7,10 @@ use std::alloc::{AllocError, Global};
 /// What each script may use.
 const REQUIRE: &str = "require [\"fileinto\", \"copy\", \"include\"]; ";
 
-/// How deep tests stand in tests.
+/// The depth of tests inside tests.
 const TEST_DEPTH: u8 = 2;
 
-/// How deep blocks stand in the blocks of a command.
+/// The depth of blocks inside the blocks of a command.
 const BLOCK_DEPTH: u8 = 2;
 
 /// Names of fields; no message has the last.
@@ -178,7 +178,7 @@ fn push_block(chance: &mut Chance, script: &mut String, depth: u8) -> Result<(),
     script.push_str("} ")
 }
 
-/// A test and a block behind a word.
+/// A word, a test and a block.
 #[cycle(commands)]
 fn push_branch(
     chance: &mut Chance,

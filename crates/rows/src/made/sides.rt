@@ -17,7 +17,7 @@ pub struct Captured {
 }
 
 impl Captured {
-    /// As text: the fault, if there is one, and the classes.
+    /// The outcome as text: the fault, if there is one, and the classes.
     pub fn shown(&self, alloc: Global) -> Result<String> {
         let mut text = String::new(alloc);
         if let Some(fault) = self.fault {

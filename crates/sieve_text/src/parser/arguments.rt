@@ -11,7 +11,7 @@ use crate::scanner::{begins_with_name, first_mark, split_lexeme, string_text};
 use sieve_syntax::{Argument, Arguments, Mark, StringList, Text, Texts};
 use std::alloc::Global;
 
-/// A string, and the tokens behind it.
+/// A string, and the tokens after it.
 fn read_string(alloc: Global, text: &[u8]) -> Result<(Text, &[u8]), Stop>
     ensures value { Gives (λ x. (x.0, kinds_in x.1.now)) result (string_at (kinds_in text.now)) }
     ensures fewer { IfOk result (λ x. length (kinds_in x.1.now) < length (kinds_in text.now)) }
@@ -35,7 +35,7 @@ fn next_string(alloc: Global, text: &[u8]) -> Result<Option<(Text, &[u8])>, Stop
     }
 }
 
-/// The tokens behind a closing bracket.
+/// The tokens after a closing bracket.
 fn behind_bracket(text: &[u8]) -> Result<&[u8], Stop>
     ensures value { Gives (λ x. kinds_in x.now) result (behind_bracket (kinds_in text.now)) }
     ensures fewer { IfOk result (λ x. length (kinds_in x.now) < length (kinds_in text.now)) }
@@ -47,7 +47,7 @@ fn behind_bracket(text: &[u8]) -> Result<&[u8], Stop>
     }
 }
 
-/// The strings of a list behind its first one.
+/// The strings of a list after its first one.
 fn other_strings(alloc: Global, text: &[u8]) -> Result<(Texts, &[u8]), Stop>
     ensures value { Gives (λ x. (x.0, kinds_in x.1.now)) result (other_strings_at (kinds_in text.now)) }
     ensures fewer { IfOk result (λ x. length (kinds_in x.1.now) ≤ length (kinds_in text.now)) }
@@ -62,7 +62,7 @@ fn other_strings(alloc: Global, text: &[u8]) -> Result<(Texts, &[u8]), Stop>
     Ok((Texts::from_vec(alloc, others)?, rest))
 }
 
-/// A list of strings, behind its opening bracket.
+/// A list of strings, after its opening bracket.
 #[tactic(auto, unfolding(crate::specs::Reading::string_list_at))]
 fn string_list(alloc: Global, text: &[u8]) -> Result<(StringList, &[u8]), Stop>
     ensures value { Gives (λ x. (x.0, kinds_in x.1.now)) result (string_list_at (kinds_in text.now)) }
@@ -75,7 +75,8 @@ fn string_list(alloc: Global, text: &[u8]) -> Result<(StringList, &[u8]), Stop>
     Ok((StringList::Listed(first, others), rest))
 }
 
-/// Whether no argument stands first, where one look tells it: a name or a mark does, with no gap before it.
+/// Whether the front of the text shows at once that no argument begins there: an identifier or a mark other than an
+/// opening bracket, with no gap before it.
 #[inline(always)]
 #[tactic(auto, unfolding(crate::specs::Reading::argument_at))]
 fn has_no_argument(text: &[u8]) -> bool
@@ -116,7 +117,7 @@ fn next_argument(alloc: Global, text: &[u8]) -> Result<Option<(Argument, &[u8])>
     }
 }
 
-/// The arguments, and the tokens behind them.
+/// The arguments, and the tokens after them.
 fn some_arguments(alloc: Global, text: &[u8]) -> Result<(Arguments, &[u8]), Stop>
     ensures value { Gives (λ x. (x.0, kinds_in x.1.now)) result (arguments_at (kinds_in text.now)) }
     ensures fewer { IfOk result (λ x. length (kinds_in x.1.now) ≤ length (kinds_in text.now)) }
@@ -131,7 +132,7 @@ fn some_arguments(alloc: Global, text: &[u8]) -> Result<(Arguments, &[u8]), Stop
     Ok((Arguments::from_vec(alloc, arguments)?, rest))
 }
 
-/// The arguments, and the tokens behind them; none where one look tells that none stands first.
+/// The arguments, and the tokens after them; first it is checked whether the front shows that there are none.
 #[inline(always)]
 pub fn arguments(alloc: Global, text: &[u8]) -> Result<(Arguments, &[u8]), Stop>
     ensures value { Gives (λ x. (x.0, kinds_in x.1.now)) result (arguments_at (kinds_in text.now)) }

@@ -14,10 +14,10 @@ use crate::scanner::{first_mark, split_lexeme};
 use sieve_syntax::{Command, Ending, Mark, Tests, Text};
 use std::alloc::Global;
 
-/// How many tests may stand inside one another.
+/// How many tests may be nested.
 const TEST_DEPTH: u8 = 32;
 
-/// Commands for as long as there are some, with no more than `depth` blocks inside one another.
+/// Commands for as long as one follows, with at most `depth` nested blocks.
 #[cycle(command_reader)]
 pub fn commands(alloc: Global, depth: u8, text: &[u8]) -> Result<(Vec<Command>, &[u8]), Stop>
     ensures value { Gives (λ x. (map command_of x.0.items, kinds_in x.1.now)) result (many_at (command_with 32 (inside_at 32 depth)) (length (kinds_in text.now)) (kinds_in text.now)) }
@@ -34,7 +34,7 @@ pub fn commands(alloc: Global, depth: u8, text: &[u8]) -> Result<(Vec<Command>, 
     Ok((commands, rest))
 }
 
-/// The tests of a command, and the tokens behind them; none where one look tells that none stands first.
+/// The tests of a command, and the tokens after them; first it is checked whether the front shows that there are none.
 #[inline(always)]
 fn command_tests(alloc: Global, text: &[u8]) -> Result<(Tests, &[u8]), Stop>
     ensures value { Gives (λ x. (inner_of x.0, kinds_in x.1.now)) result (inner_with (test_at 32) (kinds_in text.now)) }
@@ -47,7 +47,7 @@ fn command_tests(alloc: Global, text: &[u8]) -> Result<(Tests, &[u8]), Stop>
     inner_tests(alloc, TEST_DEPTH, text)
 }
 
-/// A command, where the tokens begin with one, with no more than `depth` blocks inside one another.
+/// A command, where the tokens begin with one, with at most `depth` nested blocks.
 #[cycle(command_reader)]
 fn next_command(alloc: Global, depth: u8, text: &[u8]) -> Result<Option<(Command, &[u8])>, Stop>
     ensures value { Gives (option_map (λ x. (command_of x.0, kinds_in x.1.now))) result (command_with 32 (inside_at 32 depth) (kinds_in text.now)) }
@@ -75,7 +75,7 @@ fn next_command(alloc: Global, depth: u8, text: &[u8]) -> Result<Option<(Command
     )))
 }
 
-/// What a command ends with, with no more than `depth` blocks inside one another.
+/// The ending of a command, with at most `depth` nested blocks.
 #[cycle(command_reader)]
 #[tactic(auto, unfolding(crate::specs::Reading::inside_at))]
 fn read_ending(alloc: Global, depth: u8, text: &[u8]) -> Result<(Ending, &[u8]), Stop>
@@ -97,7 +97,7 @@ fn read_ending(alloc: Global, depth: u8, text: &[u8]) -> Result<(Ending, &[u8]),
     }
 }
 
-/// The tokens behind the brace that closes a block.
+/// The tokens after the brace that closes a block.
 fn behind_brace(text: &[u8]) -> Result<&[u8], Stop>
     ensures value { Gives (λ x. kinds_in x.now) result (behind_brace (kinds_in text.now)) }
     ensures fewer { IfOk result (λ x. length (kinds_in x.now) < length (kinds_in text.now)) }

@@ -1,16 +1,16 @@
-//! Rows of a list that is read, as commands, tests, arguments and strings are.
+//! Lists that grow as they are read: of commands, tests, arguments and strings.
 
 ghost use Rattle.std.specs.Prelude.{◌≡◌, [], ◌∷◌, ◌++◌, OnOk};
 
 use std::alloc::AllocError;
 
-/// How many rows a list that mostly has several has room for at first.
+/// The first capacity of a list that mostly has several rows.
 pub const SEVERAL: usize = 4;
 
-/// Adds a row at the end; the only error is want of memory.
+/// Adds a row at the end. Fails only if memory runs out.
 ///
-/// There is room for `first` rows at first, and it grows by a fifth and four, so that lists that are read at the same time never
-/// have much more room than rows.
+/// The first capacity is `first` rows. It grows by a fifth and four, so that lists that are read at the same time never
+/// have much spare capacity.
 pub fn push<T: Drop>(rows: &mut Vec<T>, row: T, first: usize) -> Result<(), AllocError>
     ensures ok { OnOk result (rows.new.items ≡ rows.old.items ++ row ∷ []) }
 {

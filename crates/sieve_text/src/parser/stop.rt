@@ -1,4 +1,4 @@
-//! Why reading stops before a tree is whole.
+//! Why reading stops before a tree is complete.
 
 ghost use Rattle.std.specs.Prelude.{◌≡◌, ℕ, length, drop};
 ghost use Rattle.sieve_text.specs.Gaps.{gap_len};
@@ -8,16 +8,16 @@ ghost use Rattle.sieve_text.specs.declared.parser.stop.Stop.TheVariants.{Refused
 use crate::scanner::gap_length;
 use std::alloc::{AllocError, AllocFailed};
 
-/// Why tokens are not read.
+/// Why a token does not fit.
 #[derive(Clone, Copy)]
 pub enum Misfit {
-    /// The next token cannot stand here, or there is none where one has to.
+    /// The next token cannot come here, or a token is missing.
     Syntax,
-    /// The next token would begin the 33rd test or block inside one another.
+    /// The next token would begin the 33rd nested test or block.
     Nesting,
 }
 
-/// Want of memory, or a misfit and how many octets there are from the first one of its token on.
+/// No memory, or a misfit and how many octets remain from the first octet of its token on.
 #[derive(Clone, Copy)]
 pub enum Stop {
     NoMemory,
@@ -46,7 +46,7 @@ impl<T: Drop> From<AllocFailed<T>> for Stop {
     }
 }
 
-/// How many octets there are from the first token of a text on, or from where no token begins.
+/// How many octets remain from the first token of a text on, or from where no token begins.
 pub fn left_from(text: &[u8]) -> usize
     ensures { result ≡ length (drop (gap_len 0 text.now) text.now) }
 {
@@ -54,7 +54,7 @@ pub fn left_from(text: &[u8]) -> usize
     rest.len()
 }
 
-/// The refusal of the first token of a text, or of its end, where it can't stand.
+/// The refusal of the first token of a text, or of its end, which does not fit the grammar.
 pub fn syntax(text: &[u8]) -> Stop
     ensures { (left : ℕ) × (result ≡ Refused Syntax left) }
 {

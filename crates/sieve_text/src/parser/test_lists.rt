@@ -15,8 +15,8 @@ use crate::scanner::{first_mark, split_lexeme};
 use sieve_syntax::{Mark, Test, TestList, Tests, Text};
 use std::alloc::Global;
 
-/// A test whose name stands first in a text, `behind` being the text behind the name, with no more than `depth` tests inside
-/// one another, itself counted.
+/// A test whose name comes first in a text, with at most `depth` nested tests, itself counted; `behind` is the text
+/// after the name.
 #[cycle(test_reader)]
 #[tactic(auto, unfolding(crate::specs::Reading::test_at))]
 fn named_test<'a>(
@@ -48,7 +48,7 @@ fn named_test<'a>(
     ))
 }
 
-/// A test, with no more than `depth` tests inside one another, itself counted.
+/// A test, with at most `depth` nested tests, itself counted.
 #[cycle(test_reader)]
 #[tactic(auto, unfolding(crate::specs::Reading::test_at))]
 fn read_test(alloc: Global, depth: u8, text: &[u8]) -> Result<(Test, &[u8]), Stop>
@@ -62,7 +62,8 @@ fn read_test(alloc: Global, depth: u8, text: &[u8]) -> Result<(Test, &[u8]), Sto
     }
 }
 
-/// Whether no test stands first, where one look tells it: a mark other than an opening bracket does, with no gap before it.
+/// Whether the front of the text shows at once that no test begins there: a mark other than an opening bracket, with no
+/// gap before it.
 #[inline(always)]
 pub fn has_no_test(text: &[u8]) -> bool
     ensures { result ≡ true → (read : Reads TestTree) → inner_with read (kinds_in text.now) ≡ Ok (no_tests, kinds_in text.now) }
@@ -73,7 +74,7 @@ pub fn has_no_test(text: &[u8]) -> bool
     }
 }
 
-/// The tests of a command or of a test, with no more than `depth` inside one another.
+/// The tests of a command or of a test, at most `depth` of them nested.
 #[cycle(test_reader)]
 pub fn inner_tests(alloc: Global, depth: u8, text: &[u8]) -> Result<(Tests, &[u8]), Stop>
     ensures value { Gives (λ x. (inner_of x.0, kinds_in x.1.now)) result (inner_with (test_at depth) (kinds_in text.now)) }
@@ -93,7 +94,7 @@ pub fn inner_tests(alloc: Global, depth: u8, text: &[u8]) -> Result<(Tests, &[u8
     }
 }
 
-/// A list of tests, behind its opening bracket.
+/// A list of tests, after its opening bracket.
 #[cycle(test_reader)]
 fn test_list(alloc: Global, depth: u8, text: &[u8]) -> Result<(Tests, &[u8]), Stop>
     ensures value { Gives (λ x. (inner_of x.0, kinds_in x.1.now)) result (test_list_with (test_at depth) (kinds_in text.now)) }
@@ -137,7 +138,7 @@ fn next_test(alloc: Global, depth: u8, text: &[u8]) -> Result<Option<(Test, &[u8
     }
 }
 
-/// The tokens behind the bracket that closes a list of tests.
+/// The tokens after the bracket that closes a list of tests.
 fn behind_paren(text: &[u8]) -> Result<&[u8], Stop>
     ensures value { Gives (λ x. kinds_in x.now) result (behind_paren (kinds_in text.now)) }
     ensures fewer { IfOk result (λ x. length (kinds_in x.now) < length (kinds_in text.now)) }

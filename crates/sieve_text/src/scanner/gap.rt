@@ -5,7 +5,7 @@ ghost use Rattle.sieve_text.specs.Gaps.{bracketed_len, opens_bracketed as opens,
 
 use crate::scanner::octets;
 
-/// Whether `/*` stands here.
+/// Whether `/*` begins here.
 pub fn opens_bracketed(rest: &[u8]) -> bool
     ensures { result ≡ opens rest.now }
 {
@@ -15,7 +15,7 @@ pub fn opens_bracketed(rest: &[u8]) -> bool
     }
 }
 
-/// How many octets stand before the slash of the first `*/`, or all there are.
+/// How many octets come before the slash of the first `*/`; all of them if there is none.
 #[tactic(auto, unfolding(crate::specs::Gaps::bracketed_len))]
 fn bracketed_length(body: &[u8]) -> usize
     ensures value { result ≡ bracketed_len false body.now }
@@ -31,7 +31,7 @@ fn bracketed_length(body: &[u8]) -> usize
     body.len()
 }
 
-/// How many octets the comment has that begins here; 0 where none begins, or where it is not closed.
+/// The length in octets of the comment that begins here; 0 if none begins, or it is not closed.
 #[tactic(auto, unfolding(crate::specs::Gaps::comment_len))]
 fn comment_length(rest: &[u8]) -> usize
     ensures value { result ≡ comment_len rest.now }
@@ -48,7 +48,7 @@ fn comment_length(rest: &[u8]) -> usize
     if n < body.len() { n + 3 } else { 0 }
 }
 
-/// How many octets white space and closed comments take.
+/// The length in octets of the white space and closed comments that come first.
 pub fn gap_length(rest: &[u8]) -> usize
     ensures value { result ≡ gap_len 0 rest.now }
     ensures within { result ≤ length rest.now }
@@ -67,7 +67,7 @@ pub fn gap_length(rest: &[u8]) -> usize
     at
 }
 
-/// A text from behind the white space and closed comments that it begins with.
+/// The text after the white space and closed comments that it begins with.
 #[inline(always)]
 pub fn behind_gap(text: &[u8]) -> &[u8]
     ensures { result.now ≡ drop (gap_len 0 text.now) text.now }

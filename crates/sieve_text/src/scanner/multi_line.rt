@@ -13,7 +13,7 @@ use crate::scanner::octets;
 use crate::scanner::strings::string;
 use std::alloc::{AllocError, Global};
 
-/// Whether `text:` stands here, in letters of either case.
+/// Whether `text:` begins here, in letters of either case.
 pub fn begins(rest: &[u8]) -> bool
     ensures value { result ≡ begins_text rest.now }
     ensures within { result ≡ true → 5 ≤ length rest.now }
@@ -30,8 +30,8 @@ pub fn begins(rest: &[u8]) -> bool
     }
 }
 
-/// How many octets an optional hash comment and the line end take, which stand at this offset, `start` being that of
-/// the string.
+/// The length in octets of an optional hash comment and the line end, which begin at the offset `at`; `start` is the
+/// offset of the string.
 fn opening_end(rest: &[u8], start: usize, at: usize) -> Result<usize, FaultyPlace>
     ensures value { Gives (λ x. x) result (opening_end_at rest.now) }
     ensures within { IfOk result (λ n. n ≤ length rest.now) }
@@ -53,7 +53,7 @@ fn opening_end(rest: &[u8], start: usize, at: usize) -> Result<usize, FaultyPlac
     }
 }
 
-/// Whether a dot stands here, and a line end or the text's end behind it.
+/// Whether a dot is here, and then a line end or the end of the text.
 fn ends_lines(rest: &[u8]) -> bool
     ensures { result ≡ is_last_line rest.now }
 {
@@ -63,7 +63,7 @@ fn ends_lines(rest: &[u8]) -> bool
     }
 }
 
-/// How many octets stand before the line that is a single dot, or all there are.
+/// How many octets come before the line that is a single dot; all of them if there is none.
 #[tactic(auto, unfolding(crate::specs::Strings::lines_len))]
 fn lines_length(lines: &[u8]) -> usize
     ensures value { result ≡ lines_len true lines.now }
@@ -83,7 +83,7 @@ fn lines_length(lines: &[u8]) -> usize
     n
 }
 
-/// What the lines stand for: a leading dot is dropped where another dot follows it, and a bare LF becomes CR LF.
+/// The value of the lines: a leading dot is dropped if another dot follows it, and a bare LF becomes CR LF.
 #[tactic(auto, unfolding(crate::specs::Strings::unstuffed, crate::specs::Strings::with_crlf))]
 pub fn value(alloc: Global, lines: &[u8]) -> Result<Vec<u8>, AllocError>
     ensures { IfOk result (λ v. v.items ≡ lines_value lines.now) }
@@ -108,7 +108,7 @@ pub fn value(alloc: Global, lines: &[u8]) -> Result<Vec<u8>, AllocError>
     Ok(octets)
 }
 
-/// The lines of a string that begins at an offset, `before` octets before them.
+/// The lines of a string that begins at the offset `at`, `before` octets before them.
 #[tactic(auto, unfolding(crate::specs::Tokens::lines_at))]
 fn lines_token(lines: &[u8], before: usize, at: usize) -> Result<(Lexeme<'_>, usize), FaultyPlace>
     requires { before + length lines.now < 2 ^ 64 }
@@ -126,7 +126,7 @@ fn lines_token(lines: &[u8], before: usize, at: usize) -> Result<(Lexeme<'_>, us
     string(written, before + (n + (1 + end)), at)
 }
 
-/// A multi-line string behind its `text:`, which stands at this offset.
+/// A multi-line string: `behind` is the text after its `text:`, which is at this offset.
 #[tactic(auto, unfolding(crate::specs::Tokens::multi_line_at))]
 pub fn token(behind: &[u8], at: usize) -> Result<(Lexeme<'_>, usize), FaultyPlace>
     requires { at + (5 + length behind.now) < 2 ^ 64 }

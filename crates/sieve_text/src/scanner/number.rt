@@ -13,7 +13,7 @@ use crate::lexeme::Lexeme;
 /// 2^63 - 1.
 const LARGEST: u64 = 9_223_372_036_854_775_807;
 
-/// The factor of the quantifier that stands first, K, M or G in either case, and its one octet; 1 and 0 where none does.
+/// The factor of the quantifier that comes first, K, M or G in either case, and its length 1; 1 and 0 if there is none.
 fn factor(rest: &[u8]) -> (u64, usize)
     ensures value { result ≡ factor_at rest.now }
     ensures positive { 0 < result.0 }
@@ -34,7 +34,7 @@ fn digits_length(rest: &[u8]) -> usize
     rest.iter().take_while(|b| b.is_ascii_digit()).count()
 }
 
-/// The value of decimal digits, where it is at most 2^63 - 1.
+/// The value of decimal digits; none above 2^63 - 1.
 fn decimal(digits: &[u8]) -> Option<u64>
     requires { prefix_len is_ascii_digit digits.now ≡ length digits.now }
     ensures { SomeIff result (digits_value 10 digits.now < 2 ^ 63) (digits_value 10 digits.now) }
@@ -50,7 +50,7 @@ fn decimal(digits: &[u8]) -> Option<u64>
     Some(value)
 }
 
-/// A number, which begins at this offset, and how many octets it has.
+/// The number that begins here, at this offset, and its length in octets.
 #[tactic(auto, unfolding(crate::specs::Tokens::number_at))]
 pub fn token(rest: &[u8], at: usize) -> Result<(Lexeme<'_>, usize), FaultyPlace>
     ensures value { Gives read_of result (number_at rest.now) }

@@ -25,7 +25,7 @@ pub fn starts_word(b: u8) -> bool
     b.is_ascii_alphabetic() || b == b'_'
 }
 
-/// Whether an identifier can go on with this octet.
+/// Whether an identifier can continue with this octet.
 fn is_word_octet(b: u8) -> bool
     ensures { result ≡ is_word b }
 {
@@ -44,7 +44,7 @@ fn is_not_line_feed(b: u8) -> bool
     b != b'\n'
 }
 
-/// How many blanks stand first.
+/// How many blanks come first.
 pub fn blank_length(rest: &[u8]) -> usize
     ensures value { result ≡ prefix_len is_blank rest.now }
     ensures within { result ≤ length rest.now }
@@ -52,7 +52,7 @@ pub fn blank_length(rest: &[u8]) -> usize
     rest.iter().take_while(|b| is_blank_octet(**b)).count()
 }
 
-/// How many octets of white space stand first.
+/// How many octets of white space come first.
 pub fn white_length(rest: &[u8]) -> usize
     ensures value { result ≡ prefix_len is_white rest.now }
     ensures within { result ≤ length rest.now }
@@ -60,7 +60,7 @@ pub fn white_length(rest: &[u8]) -> usize
     rest.iter().take_while(|b| is_white_octet(**b)).count()
 }
 
-/// How many letters, digits and `_` stand first.
+/// How many letters, digits and `_` come first.
 pub fn word_length(rest: &[u8]) -> usize
     ensures value { result ≡ prefix_len is_word rest.now }
     ensures within { result ≤ length rest.now }
@@ -68,7 +68,7 @@ pub fn word_length(rest: &[u8]) -> usize
     rest.iter().take_while(|b| is_word_octet(**b)).count()
 }
 
-/// How many octets stand before the first backslash or LF, or all there are.
+/// How many octets come before the first backslash or LF; all of them if there is none.
 pub fn plain_length(rest: &[u8]) -> usize
     ensures value { result ≡ prefix_len is_plain rest.now }
     ensures within { result ≤ length rest.now }
@@ -76,7 +76,7 @@ pub fn plain_length(rest: &[u8]) -> usize
     rest.iter().take_while(|b| is_plain_octet(**b)).count()
 }
 
-/// How many octets stand before the first LF, or all there are.
+/// How many octets come before the first LF; all of them if there is none.
 pub fn line_length(rest: &[u8]) -> usize
     ensures value { result ≡ prefix_len not_lf rest.now }
     ensures within { result ≤ length rest.now }
@@ -84,14 +84,14 @@ pub fn line_length(rest: &[u8]) -> usize
     rest.iter().take_while(|b| is_not_line_feed(**b)).count()
 }
 
-/// Whether this octet stands first.
+/// Whether this octet comes first.
 pub fn starts_with(rest: &[u8], octet: u8) -> bool
     ensures { result ≡ begins_with octet rest.now }
 {
     matches!(rest, [b, ..] if *b == octet)
 }
 
-/// How many octets the line end has that begins here, LF or CR LF; 0 where none begins.
+/// The length in octets of the line end that begins here, LF or CR LF; 0 if none begins.
 pub fn line_end_length(rest: &[u8]) -> usize
     ensures value { result ≡ line_end_len rest.now }
     ensures within { result ≤ length rest.now }
@@ -121,8 +121,8 @@ fn first_stray(script: &[u8]) -> usize
     n
 }
 
-/// How many octets stand before the first octet 0 or CR without LF, or all there are. Where there is neither octet a search
-/// tells it.
+/// How many octets come before the first octet 0 or CR without LF; all of them if there is none. One search tells
+/// whether there is an octet 0 or a CR at all.
 pub fn stray_length(script: &[u8]) -> usize
     ensures value { result ≡ stray_len script.now }
     ensures within { result ≤ length script.now }

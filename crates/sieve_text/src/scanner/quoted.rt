@@ -10,7 +10,7 @@ use crate::lexeme::{Lexeme, WrittenString};
 use crate::scanner::strings::string;
 use std::alloc::{AllocError, Global};
 
-/// How many octets stand before the closing quotation mark, or all there are.
+/// How many octets come before the closing quotation mark; all of them if there is none.
 #[tactic(auto, unfolding(crate::specs::Strings::quoted_len))]
 fn body_length(rest: &[u8]) -> usize
     ensures value { result ≡ quoted_len false rest.now }
@@ -29,8 +29,8 @@ fn body_length(rest: &[u8]) -> usize
     rest.len()
 }
 
-/// What the octets between the quotation marks stand for: a backslash is dropped, the octet after it stays, and a bare
-/// LF becomes CR LF.
+/// The value of the octets between the quotation marks: a backslash is dropped, the octet after it stays, and a bare LF
+/// becomes CR LF.
 #[tactic(auto, unfolding(crate::specs::Strings::unescaped, crate::specs::Strings::with_crlf))]
 pub fn value(alloc: Global, body: &[u8]) -> Result<Vec<u8>, AllocError>
     ensures { IfOk result (λ v. v.items ≡ quoted_value body.now) }
@@ -53,7 +53,7 @@ pub fn value(alloc: Global, body: &[u8]) -> Result<Vec<u8>, AllocError>
     Ok(octets)
 }
 
-/// A string behind its opening quotation mark, which stands at this offset.
+/// A string: `behind` is the text after its opening quotation mark, which is at this offset.
 #[tactic(auto, unfolding(crate::specs::Tokens::quoted_at))]
 pub fn token(behind: &[u8], at: usize) -> Result<(Lexeme<'_>, usize), FaultyPlace>
     ensures value { Gives read_of result (quoted_at behind.now) }

@@ -11,13 +11,13 @@ use crate::scanner::{multi_line, octets, quoted};
 use sieve_syntax::Text;
 use std::alloc::{AllocError, Global};
 
-/// The most octets of a string's value.
+/// The greatest length of a string's value in octets.
 const MOST_OCTETS: usize = 65_535;
 
-/// A string of so many octets as written is within its limit, as no octet stands for more than two.
+/// A string of at most this many octets as written is within the limit, as no octet yields more than two.
 const FEW_OCTETS: usize = 32_767;
 
-/// Whether the value of what stands between the quotation marks has more than 65,535 octets.
+/// Whether the value of the octets between the quotation marks has more than 65,535 octets.
 #[tactic(auto, unfolding(crate::specs::Strings::unescaped, crate::specs::Strings::with_crlf))]
 fn quoted_too_long(body: &[u8]) -> bool
     ensures { result ≡ nat_lt 65535 (length (quoted_value body.now)) }
@@ -41,7 +41,7 @@ fn quoted_too_long(body: &[u8]) -> bool
     false
 }
 
-/// Whether what the lines stand for has more than 65,535 octets.
+/// Whether the value of the lines has more than 65,535 octets.
 #[tactic(auto, unfolding(crate::specs::Strings::unstuffed, crate::specs::Strings::with_crlf))]
 fn lines_too_long(lines: &[u8]) -> bool
     ensures { result ≡ nat_lt 65535 (length (lines_value lines.now)) }
@@ -77,7 +77,8 @@ fn is_too_long(written: WrittenString<'_>) -> bool
     }
 }
 
-/// The string that is written so, whose token begins at this offset and has this length in octets.
+/// The token of a string as written, which begins at this offset and has this length in octets; `StringTooLong` (16)
+/// above the limit.
 pub fn string(
     written: WrittenString<'_>,
     length: usize,
@@ -93,7 +94,7 @@ pub fn string(
     Ok((Lexeme::StringValue(written), length))
 }
 
-/// The value of what stands between the quotation marks: just that, where it has no backslash and no LF.
+/// The value of the octets between the quotation marks: the same octets, if there is no backslash and no LF among them.
 fn quoted_text(alloc: Global, body: &[u8]) -> Result<Text, AllocError>
     ensures { IfOk result (λ t. t ≡ quoted_value body.now) }
 {
@@ -103,7 +104,7 @@ fn quoted_text(alloc: Global, body: &[u8]) -> Result<Text, AllocError>
     Text::from_vec(alloc, quoted::value(alloc, body)?)
 }
 
-/// The value of a string.
+/// The value of a string. Fails only if memory runs out.
 pub fn string_text(alloc: Global, written: WrittenString<'_>) -> Result<Text, AllocError>
     ensures { IfOk result (λ t. t ≡ string_of written.entry) }
 {

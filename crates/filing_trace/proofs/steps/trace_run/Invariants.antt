@@ -4,7 +4,7 @@ use Rattle.filing_trace.specs.declared.steps.Step.{Step}
 use Rattle.filing_trace.specs.Told.{IsTold}
 use Rattle.filing_trace.proofs.steps.trace_run.Given as goal
 
--- the machine stands in the run, and the steps that it has made are told
+-- the machine is in the run, and the steps that it has made are recorded
 abbrev pub invariant-loop-machine : goal.invariant-loop-machine
 invariant-loop-machine g l = record {
   stands : Stands l.program (g.C.Case.facts l.case) l.machine;

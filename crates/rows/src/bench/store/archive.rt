@@ -1,5 +1,5 @@
-//! The archive that is laid: records of one class, each of a message of its own, which fall due in an order unlike that of their
-//! numbers.
+//! The archive that is laid: records of one class, each of a message of its own. They fall due in an order unlike that
+//! of their numbers.
 
 use crate::bench::store::calls::refused;
 use anyhow::{Context, Result, bail};
@@ -12,7 +12,6 @@ use std::alloc::Global;
 /// The class of the records.
 pub const CLASS: &[u8] = b"tax";
 
-/// The name of the holds.
 const HOLD: &[u8] = b"case";
 
 /// The day of the first captures, in days since 1970-01-01.
@@ -24,13 +23,13 @@ pub const DAYS: u32 = 1_000;
 /// How many records are captured on a day.
 const RECORDS_A_DAY: u32 = 10;
 
-/// A prime by which numbers are taken to their places in the order of due dates.
+/// A prime that takes numbers to their places in the order of due dates.
 const MIX: u64 = 7_919;
 
 /// The octets of the messages.
 const BODY: &[u8] = b"Subject: invoice\r\n\r\nThe invoice of this month is enclosed.\r\n";
 
-/// How much an archive has.
+/// The size of an archive.
 #[derive(Clone, Copy)]
 pub struct Size {
     pub records: u32,
@@ -39,7 +38,7 @@ pub struct Size {
 }
 
 impl Size {
-    /// A hundredth of it.
+    /// A hundredth of this size.
     pub fn hundredth(self) -> Size {
         Size {
             records: self.records / 100,
@@ -64,7 +63,7 @@ impl Size {
         FIRST_DAY.saturating_add(self.place(number) / RECORDS_A_DAY)
     }
 
-    /// The day by which so many records are due, where no hold keeps any.
+    /// The day by which `due` records are due, where no hold keeps any.
     pub fn day_of(self, due: u32) -> u32 {
         FIRST_DAY
             .saturating_add(DAYS)
@@ -79,7 +78,7 @@ impl Size {
     }
 }
 
-/// The plan by which records are destroyed after so many days.
+/// The plan by which records are destroyed after `days` days.
 pub fn plan_of_days(alloc: Global, days: u32) -> Result<Plan> {
     let text = format!(in alloc;
         "root = \"permanent\"\n[[class]]\npath = \"tax\"\nschedule = \"{days} days destroy\"\n"

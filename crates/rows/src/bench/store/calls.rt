@@ -66,7 +66,7 @@ impl Call {
         }
     }
 
-    /// How many runs are made, of so many that are asked for.
+    /// How many runs are made where `rounds` are asked for.
     pub fn rounds(self, rounds: u32) -> u32 {
         match self {
             Call::Revise | Call::Adopt => rounds / 10 + 1,
@@ -75,7 +75,7 @@ impl Call {
     }
 }
 
-/// A call that is to be made on an archive that was laid in such a size.
+/// A call that is to be made on an archive of a size.
 #[derive(Clone, Copy)]
 pub struct Turn {
     pub call: Call,
@@ -85,13 +85,13 @@ pub struct Turn {
 }
 
 impl Turn {
-    /// The first call of a run, after so many runs.
+    /// The first call of a run, after `runs` runs.
     pub fn of(call: Call, size: Size, runs: u32) -> Turn {
         let before = runs.saturating_mul(call.times());
         Turn { call, size, before }
     }
 
-    /// The call after so many more.
+    /// The call after `calls` more.
     pub fn after(self, calls: u32) -> Turn {
         let before = self.before.saturating_add(calls);
         Turn { before, ..self }
@@ -111,7 +111,7 @@ impl Turn {
         2_000 + self.before % 2
     }
 
-    /// The day of a due list, by which the records are due too that are held, where the list is the longest.
+    /// The day of a due list. By that of the longest list the records with a hold are due too.
     pub fn due_day(self, length: Length) -> u32 {
         let due = self.size.due();
         match length {
@@ -151,7 +151,7 @@ fn destroy<S: Alter>(store: &mut Store<S>, number: u32) -> Result<usize> {
     Ok(1)
 }
 
-/// Makes a call; the answer is how many records or octets it answers, or that it was done.
+/// Makes a call. The answer is how many records or octets it answers, or that it was done.
 pub fn make<S: Alter>(
     alloc: Global,
     store: &mut Store<S>,

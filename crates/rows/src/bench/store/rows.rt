@@ -1,4 +1,4 @@
-//! The rows that are told, as data, and what is told of each.
+//! The rows that are reported, as data, and what is reported of each.
 
 use crate::bench::store::calls::{Call, Length, Turn};
 use crate::bench::store::pair::{Archives, Pair};
@@ -7,22 +7,22 @@ use anyhow::Result;
 use sqlite::Alter;
 use std::rt::Clock;
 
-/// What was asked of a call.
+/// What is required of a call.
 #[derive(Clone, Copy)]
 enum Asked {
-    /// At least so many tenths of the rate of the statements by themselves.
+    /// At least this number of tenths of the rate of the statements by themselves.
     Share(u32),
-    /// At most so many microseconds.
+    /// At most this number of microseconds.
     Time(u32),
-    /// At most so many microseconds more than the statements by themselves.
+    /// At most this number of microseconds more than the statements by themselves.
     Above(u32),
-    /// At most so many tenths of the time of a due list of half as many records.
+    /// At most this number of tenths of the time of a due list of half as many records.
     Growth(u32),
-    /// At most so many tenths of the time in an archive of a hundredth of the records.
+    /// At most this number of tenths of the time in an archive of a hundredth of the records.
     Same(u32),
 }
 
-/// A call, and each figure that was asked of it.
+/// A call, and each figure that is required of it.
 struct Row {
     call: Call,
     title: &'static str,
@@ -89,7 +89,7 @@ impl Asked {
         }
     }
 
-    /// The times that those of the call are held to, with the archives.
+    /// The times that those of the call are compared with, and the archives.
     fn other<S: Alter + Drop>(
         self,
         rt: &(impl Clock + AllocGlobal),
@@ -123,8 +123,9 @@ impl Row {
         }
     }
 
-    /// Tells a figure that was asked for: the title, what was asked, the size and nanoseconds of a call, those of what they are
-    /// held to, the name and nanoseconds of the statements, and what a call answered, with tabs between them.
+    /// Reports a figure, with tabs between the parts: the title, the requirement, and the size and nanoseconds of a
+    /// call. Then follow the nanoseconds that those are compared with, the name and nanoseconds of the statements, and
+    /// what a call answered.
     fn tell<S: Alter>(
         &self,
         rt: &impl Print,
@@ -150,7 +151,7 @@ impl Row {
     }
 }
 
-/// Measures each call, in about so many rounds, and tells each figure.
+/// Measures each call, in about `rounds` rounds, and reports each figure.
 pub fn tell_times<S: Alter + Drop>(
     rt: &(impl Clock + Print + AllocGlobal),
     mut archives: Archives<S>,
@@ -170,7 +171,7 @@ pub fn tell_times<S: Alter + Drop>(
     Ok(archives)
 }
 
-/// Makes a run of each call, and tells what it answered.
+/// Makes a run of each call, and reports what it answered.
 pub fn tell_answers<S: Alter + Drop>(
     rt: &(impl Print + AllocGlobal),
     mut pair: Pair<S>,

@@ -41,7 +41,7 @@ fn delete_record<S: Alter>(tx: &mut Transaction<'_, S>, key: u32) -> Result<()> 
     Ok(())
 }
 
-/// Puts the due days of all records by such a plan in place of those that are there.
+/// Puts the due days of all records, by a plan of `days` days, in place of those that are there.
 fn renew_dues<S: Alter>(tx: &mut Transaction<'_, S>, size: Size, days: u32) -> Result<()> {
     tx.execute("DROP TABLE due_day", &[])?;
     tx.execute(
@@ -97,7 +97,7 @@ fn write<S: Alter>(tx: &mut Transaction<'_, S>, turn: Turn, body: &[u8]) -> Resu
     Ok(())
 }
 
-/// Writes in a transaction.
+/// Makes the statements of a call that writes, in one transaction.
 fn written<S: Alter>(conn: &mut Connection<S>, turn: Turn, body: &[u8]) -> Result<()> {
     if !conn.is_autocommit() {
         bail!("a transaction goes on");
@@ -124,7 +124,6 @@ const ADOPTION: [&str; 7] = [
     "SELECT record, day FROM due_day ORDER BY record",
 ];
 
-/// Makes a query.
 fn query<S: Alter>(conn: &mut Connection<S>, text: &str, params: &[ValueRef<'_>]) -> Result<()> {
     let _rows = conn.query_all(text, params)?;
     Ok(())

@@ -52,7 +52,7 @@ fn each(rt: &impl Clock, start: Instant, call: Call) -> Result<u128> {
     Ok(spent.checked_div(u128::from(call.times())).unwrap_or(spent))
 }
 
-/// The times of a call, in about so many rounds. The runs of the call and of its statements take turns.
+/// The times of a call, in about `rounds` rounds. The runs of the call and of its statements take turns.
 pub fn timing_of<S: Alter + Drop>(
     rt: &(impl Clock + AllocGlobal),
     mut pair: Pair<S>,

@@ -6,7 +6,7 @@ use Rattle.tool_texts.proofs.places.octets_after_last_line.Given as goal
 abbrev pub decreases-loop-start : goal.decreases-loop-start
 decreases-loop-start l = l.start
 
--- what stands after the place is on the last line
+-- what comes after the place is on the last line
 abbrev pub invariant-loop-start : goal.invariant-loop-start
 invariant-loop-start l = record {
   within : l.start ≤ length l.text;
