@@ -24,7 +24,7 @@ statements_of() {
     # shellcheck disable=SC2086 # numbers are words
     case $call in
         due)
-            echo "SELECT due_day.record, due_day.day, record.path FROM due_day JOIN record ON record.number = due_day.record WHERE due_day.day <= (SELECT day FROM due_day ORDER BY day LIMIT 1 OFFSET (SELECT count(*) / 10 - 1 FROM due_day) + (SELECT count(*) FROM hold)) ORDER BY due_day.day, due_day.record;"
+            echo "SELECT due_day.record, due_day.day, record.path FROM due_day JOIN record ON record.number = due_day.record WHERE due_day.day <= (SELECT day FROM due_day ORDER BY day LIMIT 1 OFFSET (SELECT count(*) / 10 - 2 FROM due_day) + (SELECT count(*) / 9 FROM hold)) ORDER BY due_day.day, due_day.record;"
             ;;
         message) printf 'SELECT body FROM message WHERE number = %d;\n' $numbers ;;
         hold) printf "BEGIN; INSERT INTO hold (name, record) VALUES ('bench', %d); COMMIT;\n" $numbers ;;

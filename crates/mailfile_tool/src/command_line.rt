@@ -23,11 +23,11 @@ fn explain<'a>(alloc: Global) -> Result<Command<'a>, AllocError> {
         .long("script")
         .value_name("FILE")
         .action(ArgAction::Set)
-        .help("The script that was refused: shows the place of an offset in it");
+        .help("The script that was refused: offsets in it are shown as line and column");
     let numbers = Arg::new(alloc, "numbers")
         .long("numbers")
         .action(ArgAction::SetTrue)
-        .help("Tells the texts of all numbers, and reads nothing");
+        .help("Prints the texts of all numbers, and reads nothing");
     Command::new(alloc, "explain")
         .about("Reads replies, and writes them with a text after each number of a refusal or fault")
         .after_help("Example: mailfile < officer.session | mailfile-tool explain")
@@ -43,7 +43,7 @@ fn check<'a>(alloc: Global) -> Result<Command<'a>, AllocError> {
         .num_args(1..);
     Command::new(alloc, "check")
         .about(
-            "Judges scripts: tells nothing where they are good, else FILE:LINE:COLUMN: NUMBER: TEXT, and status 1",
+            "Checks scripts: prints nothing for good ones, else FILE:LINE:COLUMN: NUMBER: TEXT, with status 1",
         )
         .after_help("Example: mailfile-tool check scripts/*.sieve")
         .arg(scripts)
@@ -60,7 +60,7 @@ fn with_folders<'a>(alloc: Global, command: Command<'a>) -> Result<Command<'a>, 
         .long("global")
         .value_name("DIR")
         .action(ArgAction::Set)
-        .help("The scripts that all share, NAME.sieve each");
+        .help("The scripts that every officer can include, NAME.sieve each");
     command.arg(personal)?.arg(global)
 }
 
@@ -76,7 +76,7 @@ fn compile<'a>(alloc: Global) -> Result<Command<'a>, AllocError> {
         .action(ArgAction::Set)
         .help("The file that the image is written to");
     let command = Command::new(alloc, "compile")
-        .about("Writes the image of a script, and tells its budget in steps")
+        .about("Writes the image of a script, and prints its budget in steps")
         .after_help("Example: mailfile-tool compile main.sieve --global shared -o main.image")
         .arg(script)?
         .arg(image)?;
@@ -98,7 +98,7 @@ fn frame<'a>(alloc: Global) -> Result<Command<'a>, AllocError> {
     let file = Arg::new(alloc, "file")
         .value_name("FILE")
         .action(ArgAction::Set)
-        .help("The commands; standard input where none is named");
+        .help("The file of commands; standard input if none is given");
     Command::new(alloc, "frame")
         .about("Reads commands with @PATH in place of lengths, and writes the octets of a session")
         .after_help(
@@ -120,15 +120,15 @@ fn why<'a>(alloc: Global) -> Result<Command<'a>, AllocError> {
         .long("plan")
         .value_name("FILE")
         .action(ArgAction::Set)
-        .help("The plan; without it unfiled is the only class");
+        .help("The plan; without it the only class is unfiled");
     let day = Arg::new(alloc, "day")
         .long("day")
         .value_name("YYYY-MM-DD")
         .action(ArgAction::Set)
-        .help("The day of the capture, from which due dates count; without it today");
+        .help("The day of the capture, from which due dates are counted; today if none is given");
     let command = Command::new(alloc, "why")
         .about(
-            "Tells why a message is filed where it is: its fields, the run step by step, its classes",
+            "Shows why a message is filed where it is: its fields, the run step by step, its classes",
         )
         .after_help(
             "Example: mailfile-tool why main.sieve mail.eml --plan plan.toml --day 2026-11-23",
@@ -145,7 +145,7 @@ pub fn command<'a>(alloc: Global) -> Result<Command<'a>, AllocError> {
     Command::new(alloc, "mailfile-tool")
         .version("0.1.0")
         .about(
-            "Tools beside mailfile: commands without counting, numbers in words, scripts judged, images as text, why a message is filed",
+            "Tools for mailfile: sessions without counting octets, texts for numbers, script checks, images as text, and why a message is filed",
         )
         .subcommand_required(true)
         .subcommand(frame(alloc)?)?

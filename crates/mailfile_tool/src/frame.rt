@@ -55,7 +55,7 @@ fn framed_words<'a>(rt: &HostRuntime, line: &'a [u8]) -> Result<Vec<Framed<'a>>,
     let alloc = rt.alloc();
     let parts = parts(alloc, line)?;
     if is_misshapen(&parts) {
-        return Err(Failure::told(alloc, "another number of words than the command takes"));
+        return Err(Failure::told(alloc, "the command takes another number of words"));
     }
     let mut words = Vec::new(alloc);
     for part in parts.iter() {

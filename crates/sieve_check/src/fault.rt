@@ -13,13 +13,13 @@ pub enum CheckFault {
     #[error("unknown capability")]
     UnknownCapability,
     /// 31: a `require` comes after a command other than `require` (RFC 5228, section 3.2).
-    #[error("a require stands behind another command")]
+    #[error("a require after another command")]
     RequireTooLate,
     /// 32: the command is unknown (RFC 5228, section 2.10.5).
     #[error("unknown command")]
     UnknownCommand,
     /// 33: the test is unknown (RFC 5228, section 2.10.5).
-    #[error("not among the known tests")]
+    #[error("unknown test")]
     UnknownTest,
     /// 34: no `require` before names a capability that the command or its tag needs (RFC 5228, section 2.10.5).
     #[error("a capability is needed and not required")]

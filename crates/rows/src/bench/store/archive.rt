@@ -33,7 +33,7 @@ const BODY: &[u8] = b"Subject: invoice\r\n\r\nThe invoice of this month is enclo
 #[derive(Clone, Copy)]
 pub struct Size {
     pub records: u32,
-    /// Records of one hold each, which fall due after those of the longest due list.
+    /// Records of one hold each: all that are captured on some days, which lie evenly among the others.
     pub holds: u32,
 }
 
@@ -63,7 +63,7 @@ impl Size {
         FIRST_DAY.saturating_add(self.place(number) / RECORDS_A_DAY)
     }
 
-    /// The day by which `due` records are due, where no hold keeps any.
+    /// The day by which `due` records are due, counting those on hold.
     pub fn day_of(self, due: u32) -> u32 {
         FIRST_DAY
             .saturating_add(DAYS)
@@ -71,10 +71,26 @@ impl Size {
             .saturating_sub(1)
     }
 
+    /// Of how many days one has its records held, if any has.
+    fn held_every(self) -> Option<u32> {
+        self.records.checked_div(self.holds)
+    }
+
+    /// How many records are due, with those that are held, when a due list has a number of lines.
+    pub fn due_with(self, lines: u32) -> u32 {
+        let days = (lines / RECORDS_A_DAY).saturating_sub(1);
+        let others = self.held_every().map_or(0, |every| every.saturating_sub(1));
+        let held = days.checked_div(others).unwrap_or(0);
+        lines.saturating_add(held.saturating_mul(RECORDS_A_DAY))
+    }
+
     /// Whether a hold keeps a record.
     fn is_held(self, number: u32) -> bool {
-        let place = self.place(number);
-        place >= self.due() && place.saturating_sub(self.due()) < self.holds
+        let day = self.place(number) / RECORDS_A_DAY;
+        match self.held_every() {
+            Some(every) => day.checked_rem(every) == Some(every.saturating_sub(1)),
+            None => false,
+        }
     }
 }
 

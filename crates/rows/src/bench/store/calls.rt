@@ -111,14 +111,15 @@ impl Turn {
         2_000 + self.before % 2
     }
 
-    /// The day of a due list. By that of the longest list the records with a hold are due too.
+    /// The day of a due list of a length.
     pub fn due_day(self, length: Length) -> u32 {
         let due = self.size.due();
-        match length {
-            Length::Tenth => self.size.day_of(due.saturating_add(self.size.holds)),
-            Length::Twentieth => self.size.day_of(due / 2),
-            Length::Fifty => self.size.day_of(50),
-        }
+        let lines = match length {
+            Length::Tenth => due,
+            Length::Twentieth => due / 2,
+            Length::Fifty => 50,
+        };
+        self.size.day_of(self.size.due_with(lines))
     }
 }
 
