@@ -6,7 +6,7 @@ ghost use Rattle.class_plan.specs.declared.faults.PlanFault.TheVariants.{NoMemor
 
 use crate::document::lists_from;
 use crate::faults::PlanFault;
-use crate::judge::plan_from;
+use crate::plan_rules::plan_from;
 use crate::plans::Plan;
 use std::alloc::Global;
 

@@ -9,7 +9,7 @@ ghost use Rattle.class_plan.specs.declared.faults.PlanFault.TheVariants.{NoMemor
 
 use crate::entries::{Listed, Stated};
 use crate::faults::PlanFault;
-use crate::judge::plan_from;
+use crate::plan_rules::plan_from;
 use crate::plans::{Plan, UNFILED};
 use crate::schedules::Schedule;
 use crate::texts::limit_of;

@@ -6,10 +6,10 @@ ghost use Rattle.class_plan.specs.Paths.{is_mark, is_path};
 pub(crate) const SLASH: u8 = b'/';
 
 /// The most `/` in a path, one fewer than its segments.
-const MOST_SLASHES: usize = 7;
+const MAX_SLASHES: usize = 7;
 
 /// The most octets in a segment.
-const MOST_OCTETS: usize = 40;
+const MAX_OCTETS: usize = 40;
 
 /// Whether an octet is a small letter, a digit or `-`.
 fn fits_segment(octet: u8) -> bool
@@ -26,13 +26,13 @@ pub(crate) fn fits_path(path: &[u8]) -> bool
     let mut run: usize = 0;
     for octet in path {
         if *octet == SLASH {
-            if run == 0 || closed == MOST_SLASHES {
+            if run == 0 || closed == MAX_SLASHES {
                 return false;
             }
             closed += 1;
             run = 0;
         } else {
-            if !fits_segment(*octet) || run == MOST_OCTETS {
+            if !fits_segment(*octet) || run == MAX_OCTETS {
                 return false;
             }
             run += 1;

@@ -16,7 +16,7 @@ use std::collections::{BTreeMap, BTreeSet};
 use std::marker::Model;
 
 /// The most classes of a plan, `unfiled` among them.
-pub(crate) const MOST_CLASSES: usize = 4096;
+pub(crate) const MAX_CLASSES: usize = 4096;
 
 /// The class that is always there and open.
 pub(crate) const UNFILED: &[u8] = b"unfiled";
@@ -103,7 +103,7 @@ impl Plan {
         if class_at(&self.classes, path).is_some() {
             return Some(PlanFault::PathTwice);
         }
-        if self.classes.len() >= MOST_CLASSES {
+        if self.classes.len() >= MAX_CLASSES {
             return Some(PlanFault::TooManyClasses);
         }
         None

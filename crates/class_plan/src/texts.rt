@@ -15,14 +15,14 @@ const PERMANENT: &[u8] = b"permanent";
 const YEAR_END: &[u8] = b" year-end";
 
 /// The greatest count of any unit.
-const GREATEST_COUNT: u32 = 366_000;
+const MAX_COUNT: u32 = 366_000;
 
 /// The greatest count of a unit.
 pub(crate) fn limit_of(unit: Unit) -> u32
     ensures { result ≡ most unit }
 {
     match unit {
-        Unit::Days => GREATEST_COUNT,
+        Unit::Days => MAX_COUNT,
         Unit::Months => 12_000,
         Unit::Years => 1_000,
     }
@@ -211,7 +211,7 @@ fn read_count(word: &[u8]) -> Option<u32>
     }
     let mut count: u32 = 0;
     for octet in word {
-        if !octet.is_ascii_digit() || count > GREATEST_COUNT {
+        if !octet.is_ascii_digit() || count > MAX_COUNT {
             return None;
         }
         count = count * 10 + u32::from(*octet - b'0');

@@ -6,7 +6,7 @@ ghost use Rattle.mail_words.specs.Value.{value_of_body};
 ghost use Rattle.filing_case.specs.Message.{field_in};
 ghost use Rattle.filing_case.specs.Fields.{listed, start_from};
 
-use mail_head::{Field, MOST_OCTETS, first_field};
+use mail_head::{Field, MAX_OCTETS, first_field};
 use mail_words::append_value;
 use std::alloc::{AllocError, Global};
 use std::marker::Model;
@@ -43,7 +43,7 @@ impl FieldValues {
     /// value is decoded once, here. Memory is taken twice, for all fields and for all octets of their names and bodies.
     /// It grows only where a value is longer than its body. The only error is a refused allocation.
     pub fn read(alloc: Global, text: &[u8]) -> Result<FieldValues, AllocError>
-        requires { length text.now ≤ MOST_OCTETS }
+        requires { length text.now ≤ MAX_OCTETS }
         ensures { IfOk result (λ v. v ≡ map field_in (fields_of text.now)) }
     {
         let room = room_for(text);

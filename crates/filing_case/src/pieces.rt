@@ -9,7 +9,7 @@ ghost use Rattle.filing_case.specs.Pieces.{coming};
 ghost use Rattle.filing_case.specs.Views.{paths_in};
 
 use crate::whole::{WholeCase, fields_fed};
-use mail_head::{HeadFault, HeaderBuffer, MOST_OCTETS};
+use mail_head::{HeadFault, HeaderBuffer, MAX_OCTETS};
 use std::alloc::Global;
 use std::collections::BTreeSet;
 use std::marker::Model;
@@ -50,7 +50,7 @@ impl PieceCase {
     /// case is then unchanged.
     pub fn feed(&mut self, piece: &[u8]) -> Result<(), HeadFault>
         ensures fed { (message : List ℕ) → self.old.reader ≡ reader_of message → OnOk result (self.new.reader ≡ reader_of (message ++ piece.now)) }
-        ensures too_long { (result ≡ Err TooLong) ↔ (IsTrue self.old.reader.refuses ⊎ (MOST_OCTETS < self.old.reader.size + length piece.now)) }
+        ensures too_long { (result ≡ Err TooLong) ↔ (IsTrue self.old.reader.refuses ⊎ (MAX_OCTETS < self.old.reader.size + length piece.now)) }
         ensures for_good { result ≡ Err TooLong → self.new.reader ≡ record self.old.reader { refuses = true } }
         ensures no_memory { result ≡ Err HeadFault.NoMemory → self.new ≡ self.old }
         ensures paths { self.new.paths ≡ self.old.paths }

@@ -11,7 +11,7 @@ ghost use Rattle.filing_case.specs.Whole.{facts_by, facts_of};
 use crate::case::Case;
 use crate::fields::FieldValues;
 use crate::paths::OpenPaths;
-use mail_head::{HeadFault, HeaderBuffer, MOST_OCTETS};
+use mail_head::{HeadFault, HeaderBuffer, MAX_OCTETS};
 use sieve_meaning::is_word;
 use std::alloc::{AllocError, Global};
 use std::collections::BTreeSet;
@@ -34,7 +34,7 @@ impl<P: OpenPaths + Drop> WholeCase<P> {
     /// where it lies; `WholeCase::read` answers the same, but copies the header. The only error is a refused
     /// allocation.
     pub fn from_message(alloc: Global, message: &[u8], paths: P) -> Result<WholeCase<P>, AllocError>
-        requires { length message.now ≤ MOST_OCTETS }
+        requires { length message.now ≤ MAX_OCTETS }
         ensures { IfOk result (λ c. facts_by P.opens c ≡ case_of message.now (P.opens paths)) }
     {
         let fields = FieldValues::read(alloc, message)?;
@@ -49,7 +49,7 @@ impl<P: OpenPaths + Drop> WholeCase<P> {
 /// A buffer that was fed a message.
 fn fed_buffer(alloc: Global, msg: &[u8]) -> Result<HeaderBuffer, HeadFault>
     ensures fed { IfOk result (λ r. r ≡ reader_of msg.now) }
-    ensures within { length msg.now ≤ MOST_OCTETS → result ≢ Err TooLong }
+    ensures within { length msg.now ≤ MAX_OCTETS → result ≢ Err TooLong }
 {
     let mut buffer = HeaderBuffer::new(alloc);
     for piece in msg.chunks(PIECE) {
@@ -100,7 +100,7 @@ impl WholeCase {
         msg: &[u8],
         paths: BTreeSet<Vec<u8>>,
     ) -> Result<WholeCase, AllocError>
-        requires { length msg.now ≤ MOST_OCTETS }
+        requires { length msg.now ≤ MAX_OCTETS }
         ensures { IfOk result (λ c. facts_of c ≡ case_of msg.now (is_among (paths_in paths))) }
     {
         let buffer = match fed_buffer(alloc, msg) {

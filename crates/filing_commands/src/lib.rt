@@ -12,7 +12,7 @@ mod registry;
 mod told;
 
 pub use fault::{DeskFault, Refusal};
-pub use limits::{GREATEST_IMAGE, GREATEST_MESSAGE, GREATEST_PLAN, GREATEST_SCRIPT};
+pub use limits::{MAX_IMAGE_OCTETS, MAX_MESSAGE_OCTETS, MAX_PLAN_OCTETS, MAX_SCRIPT_OCTETS};
 pub use payload::Payload;
 pub use registry::Registry;
 pub use told::{Capture, Outcome, Turn};

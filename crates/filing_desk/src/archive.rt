@@ -11,7 +11,7 @@ ghost use Rattle.filing_commands.specs.Told.{told_done, told_lines};
 
 use crate::desk::Desk;
 use class_plan::{Date, Plan, day_number};
-use filing_commands::{DeskFault, GREATEST_PLAN, Payload};
+use filing_commands::{DeskFault, MAX_PLAN_OCTETS, Payload};
 use jiff::civil::date;
 use record_store::{Line, StoreFault};
 use sqlite::Alter;
@@ -62,7 +62,7 @@ impl<S: Alter> Desk<S> {
         ensures { CallsWith (IsClean S.Store) (StandsFor S.Store) self.old greatest_plan text.now (λ t. commands.plain (office.set_plan t))
             (told_done result) self.new }
     {
-        let octets = text.octets(GREATEST_PLAN, DeskFault::PlanTooLong)?;
+        let octets = text.octets(MAX_PLAN_OCTETS, DeskFault::PlanTooLong)?;
         let plan = Plan::from_toml(self.alloc, octets)?;
         self.store.revise(plan)?;
         self.open_paths = None;

@@ -19,7 +19,7 @@ ghost use Rattle.filing_desk.specs.Standing.{AreOpenPaths, IsShownBy};
 
 use crate::desk::Desk;
 use class_plan::{Date, day_of};
-use filing_commands::{Capture, DeskFault, GREATEST_MESSAGE, Payload, Turn};
+use filing_commands::{Capture, DeskFault, MAX_MESSAGE_OCTETS, Payload, Turn};
 use filing_flights::{Flight, PinnedPaths, class_paths};
 use filing_machine::Machine;
 use filing_verify::Verified;
@@ -34,7 +34,7 @@ fn is_too_long(message: &Payload) -> bool
     ensures short { result ≡ false → IsShort greatest_message message.now }
 {
     match message {
-        Payload::Whole(octets) => octets.len() > GREATEST_MESSAGE,
+        Payload::Whole(octets) => octets.len() > MAX_MESSAGE_OCTETS,
         Payload::TooLong => true,
         Payload::NoMemory => false,
     }

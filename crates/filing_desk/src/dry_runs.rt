@@ -14,7 +14,7 @@ ghost use Rattle.filing_commands.specs.Told.{outcome_view, told_outcome};
 ghost use Rattle.filing_commands.specs.declared.fault.DeskFault.TheVariants.{NoMemory};
 
 use crate::desk::Desk;
-use crate::judge::{judge_image, judge_message, judge_script};
+use crate::payloads::{judge_image, judge_message, judge_script};
 use filing_commands::{DeskFault, Outcome, Payload};
 use filing_gen::{GenFault, compile_with};
 use filing_machine::{Case, run};

@@ -6,7 +6,7 @@
 //! - `captures`: captures in flight;
 //! - `pieces`: messages that come in pieces;
 //! - `dry_runs`: runs that store nothing;
-//! - `judge`: payloads as scripts, images and cases of messages;
+//! - `payloads`: payloads as scripts, images and cases of messages;
 //! - `registry`: the desk as a `Registry`.
 //!
 //! The crate `filing_commands` defines what each command may be answered and what it leaves. `Standing` in `specs/`
@@ -18,8 +18,8 @@ mod captures;
 mod classes;
 mod desk;
 mod dry_runs;
-mod judge;
 mod officers;
+mod payloads;
 mod pieces;
 mod registry;
 

@@ -7,7 +7,7 @@ ghost use Rattle.filing_commands.specs.Standing as commands;
 ghost use Rattle.filing_commands.specs.Told.{told_done};
 
 use crate::desk::Desk;
-use crate::judge::{judge_image, judge_script};
+use crate::payloads::{judge_image, judge_script};
 use filing_commands::{DeskFault, Payload};
 use sqlite::Alter;
 

@@ -8,7 +8,7 @@ ghost use Rattle.filing_commands.specs.Told.{told_ticket};
 ghost use Rattle.filing_desk.specs.Beginning.{joined};
 
 use crate::desk::Desk;
-use filing_commands::{DeskFault, GREATEST_MESSAGE, Payload};
+use filing_commands::{DeskFault, MAX_MESSAGE_OCTETS, Payload};
 use sqlite::Alter;
 use std::alloc::{AllocError, Global};
 
@@ -19,7 +19,7 @@ fn length_of(pieces: &[&[u8]]) -> Option<usize>
 {
     let mut octets: usize = 0;
     for piece in pieces {
-        if piece.len() > GREATEST_MESSAGE - octets {
+        if piece.len() > MAX_MESSAGE_OCTETS - octets {
             return None;
         }
         octets += piece.len();

@@ -14,7 +14,7 @@ ghost use Rattle.filing_flights.specs.Machines.{HasMade, IsStopped};
 use crate::paths::PinnedPaths;
 use class_plan::Date;
 use filing_case::{Case, WholeCase};
-use filing_commands::{GREATEST_MESSAGE, Turn};
+use filing_commands::{MAX_MESSAGE_OCTETS, Turn};
 use filing_machine::{Machine, Outcome};
 use filing_verify::Verified;
 use std::alloc::{AllocError, Global};
@@ -55,7 +55,7 @@ impl Flight {
         paths: PinnedPaths,
         day: Date,
     ) -> Result<Flight, AllocError>
-        requires length { length message.items ≤ GREATEST_MESSAGE }
+        requires length { length message.items ≤ MAX_MESSAGE_OCTETS }
         requires day { IsCaptureDay day }
         ensures { IfOk result (HoldsBegun ticket program.value message.items paths day) }
     {

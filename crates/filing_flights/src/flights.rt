@@ -11,7 +11,7 @@ use std::alloc::{AllocError, Global};
 use std::marker::Model;
 
 /// The most captures in flight.
-const MOST: usize = 64;
+const MAX_FLIGHTS: usize = 64;
 
 fn place_of(flights: &[Flight], ticket: u64) -> Option<usize>
     ensures { result ≡ position (λ f. f.ticket == ticket) flights.now }
@@ -53,7 +53,7 @@ impl Flights {
         ensures count { result ≡ nat_le most_in_flight (length self.now) }
         ensures flights { TellsFull self.now result }
     {
-        self.flights.len() >= MOST
+        self.flights.len() >= MAX_FLIGHTS
     }
 
     /// The first capture with that ticket, if there is one.

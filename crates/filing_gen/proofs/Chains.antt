@@ -184,19 +184,19 @@ stands_last g back old now new jumps is_open whole h is n ends eq =
 module _ (g : Include → Flow) (back : ℕ) (old : Output) (whole : Commands) (word : CommandWord) (is_open : Bool) (xs : List TreeCommand) (i : ℕ) (x : TreeCommand) (at : x ≡ get_or xs i x) (lt : i < length xs) (named : command_word (out-Command x).name ≡ word)
     (part : Part) (told : part ≡ part_of word is_open) (now ended : Output) (jumps kept : List ℕ) (h : Stands g back old now jumps is_open (commands_of (map command_of (drop i xs))) whole)
     (is : ended ≡ (if is_apart word part then with_jumps (length now.code.items) jumps now else now)) (are : kept ≡ (if is_apart word part then [] else jumps)) where
-  abbrev behind : CommandTrees
-  behind = commands_of (map command_of (drop (i + 1) xs))
+  abbrev following : CommandTrees
+  following = commands_of (map command_of (drop (i + 1) xs))
 
-  split : commands_of (map command_of (drop i xs)) ≡ trees.command_then (command_of x) behind
+  split : commands_of (map command_of (drop i xs)) ≡ trees.command_then (command_of x) following
   split = ap (λ (l : List TreeCommand). commands_of (map command_of l)) (turn xs i x at lt)
 
-  before : Stands g back old ended kept is_open (trees.command_then (command_of x) behind) whole × (is_apart word (part_of word is_open) ≡ true → kept ≡ [])
-  before = stands_apart g back old whole word is_open x behind named now jumps (subst (λ (cs : CommandTrees). Stands g back old now jumps is_open cs whole) split h) ended kept (rw told at is) (rw told at are)
+  before : Stands g back old ended kept is_open (trees.command_then (command_of x) following) whole × (is_apart word (part_of word is_open) ≡ true → kept ≡ [])
+  before = stands_apart g back old whole word is_open x following named now jumps (subst (λ (cs : CommandTrees). Stands g back old now jumps is_open cs whole) split h) ended kept (rw told at is) (rw told at are)
 
   -- before the command is written
   pub turn_ready : HasRoom old (commands_long (λ j. size (g j)) whole) → HasRoom ended (part_long (λ j. size (g j)) part (command_of x)) × All (λ p. p < length ended.code.items) kept
   turn_ready room =
-      let r = stands_room g back old ended kept is_open (trees.command_then (command_of x) behind) whole before.0 room in
+      let r = stands_room g back old ended kept is_open (trees.command_then (command_of x) following) whole before.0 room in
       let long = turn_long (λ j. size (g j)) word is_open xs i x at lt named in
       let same = ap (λ (cs : CommandTrees). long_from (λ j. size (g j)) is_open cs) split in
       let mine = ap (λ (p : Part). part_long (λ j. size (g j)) p (command_of x)) told in (
@@ -204,10 +204,10 @@ module _ (g : Include → Flow) (back : ℕ) (old : Output) (whole : Commands) (
         before.0.places,
       )
 
-  pub turn_stands : (new : Output) (after : List ℕ) → EmitsOpen g back part (command_of x) ended kept new after → All (λ p. p < length new.code.items) after → (opened : Bool) → opened ≡ is_branch part → Stands g back old new after opened behind whole
+  pub turn_stands : (new : Output) (after : List ℕ) → EmitsOpen g back part (command_of x) ended kept new after → All (λ p. p < length new.code.items) after → (opened : Bool) → opened ≡ is_branch part → Stands g back old new after opened following whole
   turn_stands new after e low opened branches =
-      subst (λ (b : Bool). Stands g back old new after b behind whole) (sym (branches ∙ ap is_branch told))
-      (stands_turn g back old whole word is_open x behind named ended new kept after before.0 before.1 (subst (λ (p : Part). EmitsOpen g back p (command_of x) ended kept new after) told e) low)
+      subst (λ (b : Bool). Stands g back old new after b following whole) (sym (branches ∙ ap is_branch told))
+      (stands_turn g back old whole word is_open x following named ended new kept after before.0 before.1 (subst (λ (p : Part). EmitsOpen g back p (command_of x) ended kept new after) told e) low)
 
 pub last_stands : (g : Include → Flow) (back : ℕ) (old now new : Output) (jumps : List ℕ) (is_open : Bool) (xs : List TreeCommand) (i : ℕ) (whole : Commands) → Stands g back old now jumps is_open (commands_of (map command_of (drop i xs))) whole → length xs ≤ i
     → new ≡ with_jumps (length now.code.items) jumps now → (n : ℕ) (ends : List ℕ) → end_at ends n ≡ back → Emits old new (flow g n whole) ends

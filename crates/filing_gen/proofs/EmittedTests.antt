@@ -209,4 +209,4 @@ word_flow t w is =
 
 pub header_same : (args rest : List Argument) (m : MatchType) (o : Comparator) (names keys : StringList) (more : List StringList) → string_lists false args ≡ names ∷ string_lists false rest → string_lists false rest ≡ keys ∷ more
     → header_flow (comparison m o) (first_of names) (others_once (first_of names) (others_of names)) (first_of keys) (others_of keys) ≡ test_flow (header_of m o (string_lists false args))
-header_same args rest m o names keys more lists lists_behind = rw (lists, lists_behind) refl
+header_same args rest m o names keys more lists lists_after = rw (lists, lists_after) refl

@@ -46,7 +46,7 @@ fn is_passed(main: &MainScript<'_>, include: &Include<'_>) -> bool
 
 /// What an include comes to, by the script that it finds. Where there is none, the include does nothing if `is_passed`,
 /// and else is fault 2. Where the script is active, it does nothing under `:once`, and else is fault 3.
-fn judge<'a>(
+fn finding_of<'a>(
     found: Option<(usize, &'a Checked)>,
     is_passed: bool,
     is_active: bool,
@@ -80,7 +80,7 @@ pub fn find<'a, C: Chain>(scope: &Scope<'a>, chain: &C, include: &Include<'_>) -
     ensures told { told result ≡ judgement (library_of (scripts_of scope.now.shelves)) (names_of scope.now.main) (C.names chain.now) (asked include.now) }
     ensures slot { EntersAt result (slots_of (scripts_of scope.now.shelves) (script_of include.now.script)) }
 {
-    judge(
+    finding_of(
         find_script(scope.shelves, &include.script),
         is_passed(&scope.main, include),
         chain.contains(&include.script),

@@ -35,7 +35,7 @@ use std::alloc::{AllocError, Global};
 use std::marker::PhantomData;
 
 /// The greatest weight of a script that is run.
-const GREATEST_WEIGHT: u32 = 60_000;
+const MAX_WEIGHT: u32 = 60_000;
 
 /// Writes a script, and after it the end of the run, to which a `return` of the script jumps. Room for `operations`
 /// operations is taken at once.
@@ -108,7 +108,7 @@ fn weigh(script: &Script, scope: Scope<'_>) -> Option<u32>
         chain: &scope.main,
         below: PhantomData,
     };
-    script_weight(&includes, script, GREATEST_WEIGHT)
+    script_weight(&includes, script, MAX_WEIGHT)
 }
 
 /// Compiles a checked script, which may be known by a personal name, and the scripts that it includes, to an image that

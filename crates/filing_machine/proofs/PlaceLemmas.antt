@@ -58,7 +58,7 @@ AreNamed-same c name places i h lt other =
     record { values = h.values ∙ ap (map (λ f. f.value)) (sym kept); in_case = h.in_case }
 
 -- two lists on the top of a stack, replaced by one
-pub in_case-joined : (c : Facts) (stack behind rest new : List Item) (first second both : List ℕ) → stack ≡ Fields second ∷ behind → behind ≡ Fields first ∷ rest → AllByRecursion (InCase c) stack → both ≡ first ++ second → new ≡ Fields both ∷ rest → AllByRecursion (InCase c) new
-in_case-joined c stack behind rest new first second both es eb h e en =
+pub in_case-joined : (c : Facts) (stack following rest new : List Item) (first second both : List ℕ) → stack ≡ Fields second ∷ following → following ≡ Fields first ∷ rest → AllByRecursion (InCase c) stack → both ≡ first ++ second → new ≡ Fields both ∷ rest → AllByRecursion (InCase c) new
+in_case-joined c stack following rest new first second both es eb h e en =
     let all : AllByRecursion (InCase c) (Fields second ∷ Fields first ∷ rest) = subst (λ (xs : List Item). AllByRecursion (InCase c) xs) (es ∙ ap (λ xs. Fields second ∷ xs) eb) h in
     subst (λ (xs : List Item). AllByRecursion (InCase c) xs) (sym en) (subst (λ (xs : List ℕ). All (λ place. place < length c.fields) xs) (sym e) (All-append (λ place. place < length c.fields) first second all.1.0 all.0), all.1.1)

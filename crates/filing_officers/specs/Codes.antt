@@ -4,7 +4,7 @@ use Rattle.std.specs.Coded.{Coded, code_by, coded×, coded⊎, coded_list, coded
 use Rattle.std.proofs.Common.{inl, inr}
 use Rattle.script_library.specs.Libraries.{NamedScript, entries_code}
 use Rattle.filing_image.specs.Program.{Program}
-use Rattle.filing_verify.specs.contracts.judge.Verified as verified
+use Rattle.filing_verify.specs.contracts.verifier.Verified as verified
 use Rattle.filing_commands.specs.Pinning.{Active, no_program, script_named, image}
 use Rattle.filing_officers.specs.Register.{Settings, Register}
 

@@ -16,7 +16,7 @@ use std::alloc::{AllocError, Global};
 use std::rc::Rc;
 
 /// The last edition of the global scripts, which all later changes share. No image is kept at it.
-const LAST_EDITION: u64 = u64::MAX;
+const MAX_EDITION: u64 = u64::MAX;
 
 /// The program that an officer has set.
 #[derive(Drop)]
@@ -128,7 +128,7 @@ impl Profile {
             }
         }
         let image = self.make(alloc, globals)?;
-        if edition < LAST_EDITION {
+        if edition < MAX_EDITION {
             self.kept = Some(KeptImage {
                 image: image.clone()?,
                 edition,

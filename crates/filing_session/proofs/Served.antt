@@ -4,7 +4,7 @@ use Rattle.std.specs.Prelude.{OnOk, IsErrOf}
 use Rattle.std.proofs.lemmas.List.{append-nil}
 use Rattle.std.proofs.Math.Seq.{take-append_seam}
 use Rattle.std.proofs.lemmas.Grind.{flat_map-append}
-use Rattle.filing_session.specs.Streams.{IsBehind}
+use Rattle.filing_session.specs.Streams.{IsAfter}
 use Rattle.filing_session.specs.Written.{Writes}
 use Rattle.filing_commands.specs.Answers.{Answer}
 use Rattle.filing_commands.specs.Standing.{Command}
@@ -91,7 +91,7 @@ module _ {D : Type 0} (Does : D → Command → Answer → D → Type 0) where
       (length h.items, h.answers, subst P (sym first) h.run, same ∙ h.written)
 
   -- a fault in an answer
-  pub cut_in_answer : (n : ℕ) (all : Session) (s₀ : D) (w₀ left : List ℕ) (s : D) (w : List ℕ) (item : Item) (r : Answer) (rest : List ℕ) (s' : D) (w' : List ℕ) → Served (suc n) all s₀ w₀ left s w → heard left ≡ Got item rest → ItemStep Does s item r s' → IsBehind w (reply_octets r) w' → IsCutInAnswer Does all s₀ w₀ w' s'
+  pub cut_in_answer : (n : ℕ) (all : Session) (s₀ : D) (w₀ left : List ℕ) (s : D) (w : List ℕ) (item : Item) (r : Answer) (rest : List ℕ) (s' : D) (w' : List ℕ) → Served (suc n) all s₀ w₀ left s w → heard left ≡ Got item rest → ItemStep Does s item r s' → IsAfter w (reply_octets r) w' → IsCutInAnswer Does all s₀ w₀ w' s'
   unfolding more
   cut_in_answer n all s₀ w₀ left s w item r rest s' w' h e step b =
       let next : Served n all s₀ w₀ rest s' (w ++ reply_octets r) = more n all s₀ w₀ left s w item r rest s' (w ++ reply_octets r) h e step refl in
@@ -100,7 +100,7 @@ module _ {D : Type 0} (Does : D → Command → Answer → D → Type 0) where
       (length next.items, h.answers, r, subst P (sym first) next.run, (b.0, b.1 ∙ ap (λ x. x ++ take b.0 (reply_octets r)) h.written))
 
   -- a fault in the ending
-  pub cut_in_ending : (n : ℕ) (all : Session) (s₀ : D) (w₀ left : List ℕ) (s : D) (w : List ℕ) (e : Ending) (w' : List ℕ) → Served n all s₀ w₀ left s w → session_of n left ≡ record { items = []; ending = e } → IsBehind w (ending_octets e) w' → IsCutInEnding Does all s₀ w₀ w' s
+  pub cut_in_ending : (n : ℕ) (all : Session) (s₀ : D) (w₀ left : List ℕ) (s : D) (w : List ℕ) (e : Ending) (w' : List ℕ) → Served n all s₀ w₀ left s w → session_of n left ≡ record { items = []; ending = e } → IsAfter w (ending_octets e) w' → IsCutInEnding Does all s₀ w₀ w' s
   cut_in_ending n all s₀ w₀ left s w e w' h stop b =
       let is = all_ends n all s₀ w₀ left s w e h stop in
       rw is (h.answers, h.run, (b.0, b.1 ∙ ap (λ x. x ++ take b.0 (ending_octets e)) h.written))

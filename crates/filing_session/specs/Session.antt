@@ -6,7 +6,7 @@ use Rattle.filing_commands.specs.Standing.{Command, plain, begin}
 use Rattle.filing_session.specs.Lines.{Line, Whole, TooLong, Cut, End, line_of}
 use Rattle.filing_session.specs.Asked.{Asked, Alone, SetPlan, SetScript, SetGlobal, SetImage, Begin, File, Try, Quit, Unknown, BadWord, asked}
 use Rattle.filing_session.specs.Replies.{reply_octets}
-use Rattle.filing_session.specs.Streams.{IsBehind}
+use Rattle.filing_session.specs.Streams.{IsAfter}
 use Rattle.filing_session.specs.declared.items.Ending.{Ending}
 use Rattle.filing_session.specs.declared.items.Ending.TheVariants as ending
 
@@ -76,15 +76,15 @@ abbrev pub session_in : List ℕ → Session
 session_in input = session_of 1000000 input
 
 -- what is left unread: after an item, what is left of the rest; after an ending, all the rest
-abbrev pub left_behind : Heard → (List ℕ → List ℕ) → List ℕ
-left_behind (Got item rest) next = next rest
-left_behind (Stop e rest) next = rest
+abbrev pub left_after : Heard → (List ℕ → List ℕ) → List ℕ
+left_after (Got item rest) next = next rest
+left_after (Stop e rest) next = rest
 
 -- What a session with at most this number of items leaves unread of an input: what follows the line that ends it, or
 -- its last item. Of a line that is too long, 513 octets are read.
 unfoldable pub left_by : ℕ → List ℕ → List ℕ
 left_by zero input = input
-left_by (suc most) input = left_behind (heard input) (λ rest. left_by most rest)
+left_by (suc most) input = left_after (heard input) (λ rest. left_by most rest)
 
 -- what is written at the end
 abbrev pub ending_octets : Ending → List ℕ
@@ -128,12 +128,12 @@ module _ {D : Type 0} (Does : D → Command → Answer → D → Type 0) where
   abbrev pub IsCutInAnswer : Session → D → (old written : List ℕ) → D → Type 0
   IsCutInAnswer session s old written new =
       (n : ℕ) × (answers : List Answer) × (last : Answer) × Run s (take n session.items) (answers ++ last ∷ []) new
-      × IsBehind (old ++ answers_octets answers) (reply_octets last) written
+      × IsAfter (old ++ answers_octets answers) (reply_octets last) written
 
   -- all items were done, all their answers were written, and of the ending a prefix
   abbrev pub IsCutInEnding : Session → D → (old written : List ℕ) → D → Type 0
   IsCutInEnding session s old written new =
-      (answers : List Answer) × Run s session.items answers new × IsBehind (old ++ answers_octets answers) (ending_octets session.ending) written
+      (answers : List Answer) × Run s session.items answers new × IsAfter (old ++ answers_octets answers) (ending_octets session.ending) written
 
   -- a rest of the output is missing, of the last answer or of the ending
   abbrev pub IsCut : Session → D → (old written : List ℕ) → D → Type 0

@@ -34,8 +34,8 @@ moved (Ok n) = n
 moved (Err e) = 0
 
 -- what was there, and then a prefix of these octets
-abbrev pub IsBehind : (old octets new : List ℕ) → Type 0
-IsBehind old octets new = (n : ℕ) × (new ≡ old ++ take n octets)
+abbrev pub IsAfter : (old octets new : List ℕ) → Type 0
+IsAfter old octets new = (n : ℕ) × (new ≡ old ++ take n octets)
 
 -- a count rose, or it is at its greatest value
 abbrev pub Rises : (before now : ℕ) → Type 0

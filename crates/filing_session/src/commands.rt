@@ -11,8 +11,8 @@ ghost use Rattle.filing_session.specs.Replies.{answer_of};
 use crate::reply::Reply;
 use crate::requests::{NoPayload, OnePayload, TwoPayloads};
 use filing_commands::{
-    Capture, DeskFault, GREATEST_IMAGE, GREATEST_MESSAGE, GREATEST_PLAN, GREATEST_SCRIPT, Outcome,
-    Payload, Refusal, Registry, Turn,
+    Capture, DeskFault, MAX_IMAGE_OCTETS, MAX_MESSAGE_OCTETS, MAX_PLAN_OCTETS, MAX_SCRIPT_OCTETS,
+    Outcome, Payload, Refusal, Registry, Turn,
 };
 use record_store::Line;
 
@@ -118,10 +118,10 @@ pub fn limit_of_one(command: OnePayload<'_>) -> usize
     ensures { result ≡ one_limit command.entry }
 {
     match command {
-        OnePayload::SetPlan => GREATEST_PLAN,
-        OnePayload::SetScript { .. } | OnePayload::SetGlobal(_) => GREATEST_SCRIPT,
-        OnePayload::SetImage(_) => GREATEST_IMAGE,
-        OnePayload::Begin { .. } => GREATEST_MESSAGE,
+        OnePayload::SetPlan => MAX_PLAN_OCTETS,
+        OnePayload::SetScript { .. } | OnePayload::SetGlobal(_) => MAX_SCRIPT_OCTETS,
+        OnePayload::SetImage(_) => MAX_IMAGE_OCTETS,
+        OnePayload::Begin { .. } => MAX_MESSAGE_OCTETS,
     }
 }
 
@@ -130,8 +130,8 @@ pub fn limits_of_two(command: TwoPayloads) -> (usize, usize)
     ensures { result ≡ two_limits command }
 {
     match command {
-        TwoPayloads::File => (GREATEST_SCRIPT, GREATEST_MESSAGE),
-        TwoPayloads::Try => (GREATEST_IMAGE, GREATEST_MESSAGE),
+        TwoPayloads::File => (MAX_SCRIPT_OCTETS, MAX_MESSAGE_OCTETS),
+        TwoPayloads::Try => (MAX_IMAGE_OCTETS, MAX_MESSAGE_OCTETS),
     }
 }
 

@@ -12,10 +12,10 @@ use std::str;
 const NAME_OCTETS: usize = 64;
 
 /// The greatest length in octets that a command line may give for a payload.
-const GREATEST_LENGTH: u64 = 4_294_967_295;
+const MAX_LENGTH: u64 = 4_294_967_295;
 
 /// How many turns one command grants at most.
-const GREATEST_COUNT: u64 = 1_000_000;
+const MAX_COUNT: u64 = 1_000_000;
 
 /// The words of a line that are still to be taken. None are left after the last word. An empty text is one empty word.
 #[derive(Clone, Copy, Debug)]
@@ -124,7 +124,7 @@ pub fn read_number(word: &[u8]) -> Option<u64>
 pub fn read_length(word: &[u8]) -> Option<usize>
     ensures { result ≡ number_of greatest_length word.now }
 {
-    match read_number_to(word, GREATEST_LENGTH) {
+    match read_number_to(word, MAX_LENGTH) {
         Some(length) => Some(length as usize),
         None => None,
     }
@@ -134,7 +134,7 @@ pub fn read_length(word: &[u8]) -> Option<usize>
 pub fn read_count(word: &[u8]) -> Option<u32>
     ensures { result ≡ number_of greatest_count word.now }
 {
-    match read_number_to(word, GREATEST_COUNT) {
+    match read_number_to(word, MAX_COUNT) {
         Some(count) => Some(count as u32),
         None => None,
     }

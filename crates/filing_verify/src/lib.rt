@@ -11,12 +11,12 @@ mod effect;
 mod fault;
 mod flow;
 mod inside;
-mod judge;
 mod kind;
 mod reach;
 mod shape;
 mod shaping;
+mod verifier;
 
 pub use fault::VerifyFault;
-pub use judge::{Verified, verify};
 pub use kind::Kind;
+pub use verifier::{Verified, verify};

@@ -35,11 +35,11 @@ chosen t u x e f = rw (e, f) refl
 pub field_of-place : (line after rest body text : List ℕ) (n k : ℕ) → n ≡ prefix_len is_name_octet line → n ≤ length line → after ≡ drop n line → k ≡ prefix_len is_blank after → k ≤ length after → rest ≡ drop k after → 0 < n → begins_with 58 rest ≡ true → 0 < length rest → body ≡ drop 1 rest → text ≡ without_end body → text ≡ take (length text) body → Some (slice_range line 0 n, slice_range line (length line - length body) (length line - length body + length text)) ≡ field_of line
 unfolding field_of
 field_of-place line after rest body text n k en wn ea ek wk er some colon sr eb et ft =
-    let behind : body ≡ drop (n + k + 1) line = eb ∙ ap (drop 1) (er ∙ ap (drop k) ea ∙ drop-drop k n line) ∙ drop-drop 1 (n + k) line in
+    let following : body ≡ drop (n + k + 1) line = eb ∙ ap (drop 1) (er ∙ ap (drop k) ea ∙ drop-drop k n line) ∙ drop-drop 1 (n + k) line in
     let lengths : length after ≡ length line - n = rw ea (length-drop n line) in
     let lengths_2 : length rest ≡ length after - k = rw er (length-drop k after) in
     let room : n + k + 1 ≤ length line = omega arith in
     let named : nat_lt 0 n ≡ true = grind arith in
     let front : slice_range line 0 n ≡ take n line = ap (λ m. take m line) (omega arith) in
     let result : cond (nat_lt 0 n && begins_with 58 rest) (Some (take n line, without_end (drop 1 rest))) None ≡ Some (take n line, text) = chosen _ _ _ named colon ∙ ap (λ x. Some (take n line, x)) (sym (et ∙ ap without_end eb)) in
-    rw (front, part_at line body text (n + k + 1) behind room ft) (sym (rw (← en, ← ea, ← ek, ← er) result))
+    rw (front, part_at line body text (n + k + 1) following room ft) (sym (rw (← en, ← ea, ← ek, ← er) result))

@@ -43,17 +43,17 @@ Passed-more text rest line after n h lines room el ea none =
 
 -- the first logical line that is a field
 pub Passed-found : (text rest line after : List ℕ) (n : ℕ) (found : FoundField) → Passed text rest → logical_lines (header_of rest) ≡ take n rest ∷ logical_lines (header_of (drop n rest)) → n ≤ length rest → line ≡ take n rest → length line ≡ n → after ≡ drop n rest → Some found.field ≡ field_of line → length found.field.0 + length found.field.1 < length line → found.from.now ≡ rest → found.after.now ≡ after → IsFirstField text found
-Passed-found text rest line after n found h lines room el size ea some short from behind =
+Passed-found text rest line after n found h lines room el size ea some short from following =
     let cut : logical_lines (header_of rest) ≡ line ∷ logical_lines (header_of (drop n rest)) = lines ∙ ap (λ x. x ∷ logical_lines (header_of (drop n rest))) (sym el) in
     let field : found.field ∷ fields_of (drop n rest) ≡ fields_of rest = fields_of-some [] rest line (drop n rest) found.field (fields_of rest) cut some refl in
     let long : length after ≡ length rest - n = ap length ea ∙ length-drop n rest in
     record {
       first = h.same ∙ ap fields_of (sym from);
-      field = ap fields_of from ∙ sym field ∙ ap (λ x. found.field ∷ fields_of x) (sym (behind ∙ ea));
+      field = ap fields_of from ∙ sym field ∙ ap (λ x. found.field ∷ fields_of x) (sym (following ∙ ea));
       from_end = from ∙ h.end ∙ ap (λ m. drop (length text - m) text) (ap length (sym from));
       from_within = rw from h.within;
-      after_end = behind ∙ end_of_end text rest after n h.end h.within room ea ∙ ap (λ m. drop (length text - m) text) (ap length (sym behind));
-      between = rw (from, behind) (omega arith);
+      after_end = following ∙ end_of_end text rest after n h.end h.within room ea ∙ ap (λ m. drop (length text - m) text) (ap length (sym following));
+      between = rw (from, following) (omega arith);
     }
 
 pub Passed-done : (text rest : List ℕ) → Passed text rest → header_of rest ≡ [] → fields_of text ≡ []

@@ -13,19 +13,19 @@ use Rattle.mail_head.proofs.FeedLemmas.{IsOpen, open_of, last_unended}
 -- the first octets of a header
 pub record Taken (text rest : List ℕ) (len : ℕ) : Type 0 where
   pub within : len ≤ length text
-  pub behind : rest ≡ drop len text
+  pub following : rest ≡ drop len text
   pub octets : header_octets text ≡ take len text ++ header_octets rest
 
 pub Taken-none : (text : List ℕ) → Taken text text 0
-Taken-none text = record { within = omega arith; behind = refl; octets = refl }
+Taken-none text = record { within = omega arith; following = refl; octets = refl }
 
 pub Taken-more : (text rest line after : List ℕ) (len n : ℕ) → Taken text rest len → header_of rest ≡ take (line_len rest) rest ∷ header_of (drop (line_len rest) rest) → n ≡ line_len rest → n ≤ length rest → after ≡ drop n rest → length line ≡ n → Taken text after (len + length line)
 Taken-more text rest line after len n h lines en within ea long =
     let octets : header_octets rest ≡ take n rest ++ header_octets after = ap concat lines ∙ rw (← en, ← ea) refl in
     record {
-      within = rw long (omega (arith, h.within, ap length h.behind, length-drop len text, within));
-      behind = rw long (ea ∙ ap (drop n) h.behind ∙ drop-drop n len text);
-      octets = rw (long, take-add len n text) (h.octets ∙ ap (λ x. take len text ++ x) (octets ∙ ap (λ x. take n x ++ header_octets after) h.behind) ∙ sym (append_assoc (take len text) (take n (drop len text)) (header_octets after)));
+      within = rw long (omega (arith, h.within, ap length h.following, length-drop len text, within));
+      following = rw long (ea ∙ ap (drop n) h.following ∙ drop-drop n len text);
+      octets = rw (long, take-add len n text) (h.octets ∙ ap (λ x. take len text ++ x) (octets ∙ ap (λ x. take n x ++ header_octets after) h.following) ∙ sym (append_assoc (take len text) (take n (drop len text)) (header_octets after)));
     }
 
 pub Taken-done : (text rest : List ℕ) (len : ℕ) → Taken text rest len → header_of rest ≡ [] → header_octets text ≡ take len text

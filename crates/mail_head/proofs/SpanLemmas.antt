@@ -262,12 +262,12 @@ field_is line name body tail en some er eb =
     let same : ended.0 ≡ body = sym (end_to ended.0 ended.1 ended.3) ∙ ap without_end (sym ended.2) ∙ eb in
     let P : List ℕ → Type 0 = λ x. IsEnd x ended.1 in
     let Q : List ℕ → Type 0 = λ x. list_all is_name_octet x ≡ true in
-    let behind : after ≡ take k after ++ 58 ∷ tail = sym (take-append-drop k after) ∙ ap (λ x. take k after ++ x) er in
+    let following : after ≡ take k after ++ 58 ∷ tail = sym (take-append-drop k after) ∙ ap (λ x. take k after ++ x) er in
     let long : length name ≡ n = ap length en ∙ length-prefix_len is_name_octet line in
     record {
       blanks = take k after;
       end = ended.1;
-      joined = sym (take-append-drop n line) ∙ ap (λ x. x ++ after) (sym en) ∙ ap (λ x. name ++ x) (behind ∙ ap (λ x. take k after ++ 58 ∷ x) (ended.2 ∙ ap (λ x. x ++ ended.1) same));
+      joined = sym (take-append-drop n line) ∙ ap (λ x. x ++ after) (sym en) ∙ ap (λ x. name ++ x) (following ∙ ap (λ x. take k after ++ 58 ∷ x) (ended.2 ∙ ap (λ x. x ++ ended.1) same));
       some = omega (arith, long, ltb-true 0 n some);
       octets = subst Q (sym en) (run_passes is_name_octet line);
       blank = run_passes is_blank after;

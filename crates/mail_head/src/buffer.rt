@@ -10,7 +10,7 @@ use std::marker::Model;
 use thiserror::Error;
 
 /// The most octets that a message may have: 8 MiB.
-pub const MOST_OCTETS: u64 = 8_388_608;
+pub const MAX_OCTETS: u64 = 8_388_608;
 
 /// Why a reader refuses a message.
 #[derive(Clone, Copy, Debug, PartialEq, Eq, Error)]
@@ -84,7 +84,7 @@ impl HeaderBuffer {
     /// 8,388,608 octets, and again in every later call. Refuses with `NoMemory` (99) and leaves the buffer unchanged.
     pub fn feed(&mut self, piece: &[u8]) -> Result<(), HeadFault>
         ensures fed { (message : List ℕ) → self.old ≡ reader_of message → OnOk result (self.new ≡ reader_of (message ++ piece.now)) }
-        ensures too_long { (result ≡ Err HeadFault.TooLong) ↔ (IsTrue self.old.refuses ⊎ (MOST_OCTETS < self.old.size + length piece.now)) }
+        ensures too_long { (result ≡ Err HeadFault.TooLong) ↔ (IsTrue self.old.refuses ⊎ (MAX_OCTETS < self.old.size + length piece.now)) }
         ensures for_good { result ≡ Err HeadFault.TooLong → self.new ≡ record self.old { refuses = true } }
         ensures no_memory { result ≡ Err HeadFault.NoMemory → self.new ≡ self.old }
     {
@@ -96,13 +96,13 @@ impl HeaderBuffer {
     /// What the next piece adds to the header. The one refusal is `TooLong` (1), in the cases of `feed`.
     pub(crate) fn next_part(&mut self, piece: &[u8]) -> Result<HeaderPart, HeadFault>
         ensures part { IfOk result (IsNextPart self.old piece.now) }
-        ensures room { OnOk result (self.old.size + length piece.now ≤ MOST_OCTETS) }
+        ensures room { OnOk result (self.old.size + length piece.now ≤ MAX_OCTETS) }
         ensures ok { OnOk result (self.new ≡ self.old) }
         ensures only { OnErr result (result ≡ Err HeadFault.TooLong) }
-        ensures too_long { (result ≡ Err HeadFault.TooLong) ↔ (IsTrue self.old.refuses ⊎ (MOST_OCTETS < self.old.size + length piece.now)) }
+        ensures too_long { (result ≡ Err HeadFault.TooLong) ↔ (IsTrue self.old.refuses ⊎ (MAX_OCTETS < self.old.size + length piece.now)) }
         ensures for_good { OnErr result (self.new ≡ record self.old { refuses = true }) }
     {
-        if self.refuses || piece.len() as u64 > MOST_OCTETS - self.size {
+        if self.refuses || piece.len() as u64 > MAX_OCTETS - self.size {
             self.refuses = true;
             return Err(HeadFault::TooLong);
         }
@@ -116,7 +116,7 @@ impl HeaderBuffer {
     /// unchanged.
     pub(crate) fn add(&mut self, piece: &[u8], part: HeaderPart) -> Result<(), AllocError>
         requires part { IsOfPiece piece.now part }
-        requires room { self.old.size + length piece.now ≤ MOST_OCTETS }
+        requires room { self.old.size + length piece.now ≤ MAX_OCTETS }
         ensures ok { OnOk result (self.new ≡ record self.old { kept = with_part self.old.kept piece.now part; size = self.old.size + length piece.now }) }
         ensures err { OnErr result (self.new ≡ self.old) }
     {
@@ -135,7 +135,7 @@ impl HeaderBuffer {
     /// The octets of the header so far. Refuses with `TooLong` (1) exactly where a `feed` did.
     pub fn octets(&self) -> Result<&[u8], HeadFault>
         ensures octets { IfOk result (λ octets. octets.now ≡ self.now.kept) }
-        ensures within { IfOk result (λ octets. length octets.now ≤ MOST_OCTETS) }
+        ensures within { IfOk result (λ octets. length octets.now ≤ MAX_OCTETS) }
         ensures too_long { IsErrOf result HeadFault.TooLong ↔ IsTrue self.now.refuses }
         ensures no_other { result ≡ Err HeadFault.NoMemory → ⊥ }
     {
@@ -155,7 +155,7 @@ impl HeaderBuffer {
     /// The octets of the header, in the vector that kept them.
     pub(crate) fn into_octets(self) -> Vec<u8>
         ensures octets { result.items ≡ self.kept }
-        ensures within { length result.items ≤ MOST_OCTETS }
+        ensures within { length result.items ≤ MAX_OCTETS }
     {
         self.kept
     }

@@ -22,7 +22,7 @@ mod parts;
 mod pieces;
 mod reading;
 
-pub use buffer::{HeadFault, HeaderBuffer, MOST_OCTETS};
+pub use buffer::{HeadFault, HeaderBuffer, MAX_OCTETS};
 pub use fields::Field;
 pub use laws::fields_are_decided;
 pub use owned::PieceHead;

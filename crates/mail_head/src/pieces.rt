@@ -5,7 +5,7 @@ ghost use Rattle.std.specs.Vec.{vec_capacity};
 ghost use Rattle.mail_head.specs.Fields.{fields_of};
 ghost use Rattle.mail_head.specs.Pieces.{header_octets, reader_of};
 ghost use Rattle.mail_head.specs.Parts.{gained, IsOfPiece};
-ghost use Rattle.mail_head.specs.declared.buffer.TheConstants.{MOST_OCTETS};
+ghost use Rattle.mail_head.specs.declared.buffer.TheConstants.{MAX_OCTETS};
 ghost use Rattle.mail_head.specs.declared.buffer.HeadFault.TheVariants.{TooLong, NoMemory};
 
 use crate::buffer::{HeadFault, HeaderBuffer};
@@ -53,7 +53,7 @@ impl HeadReader {
     /// 8,388,608 octets, and again in every later call. Refuses with `NoMemory` (99) and leaves the reader unchanged.
     pub fn feed(&mut self, piece: &[u8]) -> Result<(), HeadFault>
         ensures fed { (message : List ℕ) → self.old ≡ reader_of message → OnOk result (self.new ≡ reader_of (message ++ piece.now)) }
-        ensures too_long { (result ≡ Err TooLong) ↔ (IsTrue self.old.refuses ⊎ (MOST_OCTETS < self.old.size + length piece.now)) }
+        ensures too_long { (result ≡ Err TooLong) ↔ (IsTrue self.old.refuses ⊎ (MAX_OCTETS < self.old.size + length piece.now)) }
         ensures for_good { result ≡ Err TooLong → self.new ≡ record self.old { refuses = true } }
         ensures no_memory { result ≡ Err NoMemory → self.new ≡ self.old }
     {
@@ -103,7 +103,7 @@ fn line_end_count(text: &[u8]) -> usize
 /// before.
 fn make_room(starts: &mut Vec<u32>, line_ends: usize) -> Result<(), AllocError>
     requires empty { starts.old.items ≡ [] }
-    requires few { line_ends ≤ MOST_OCTETS }
+    requires few { line_ends ≤ MAX_OCTETS }
     ensures ok { OnOk result (line_ends < vec_capacity starts.new) }
     ensures empty { starts.new.items ≡ [] }
     ensures room { vec_capacity starts.old ≤ vec_capacity starts.new }

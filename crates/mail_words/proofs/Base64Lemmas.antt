@@ -139,8 +139,8 @@ map_append : (xs ys : List ℕ) (o : Option (List ℕ)) → option_map (λ more.
 map_append xs ys None = refl
 map_append xs ys (Some x) = ap Some (sym (append_assoc xs ys x))
 
-pub Decoding-more : (charset : Charset) (text rest behind old out new a : List ℕ) → Decoding charset text rest old out → b_octets (take 64 rest) ≡ Some a → ((length a ≡ 48) ⊎ (behind ≡ [])) → behind ≡ drop 64 rest → new ≡ out ++ written_in charset a → Decoding charset text behind old new
-Decoding-more charset text rest behind old out new a d h whole eb en =
+pub Decoding-more : (charset : Charset) (text rest following old out new a : List ℕ) → Decoding charset text rest old out → b_octets (take 64 rest) ≡ Some a → ((length a ≡ 48) ⊎ (following ≡ [])) → following ≡ drop 64 rest → new ≡ out ++ written_in charset a → Decoding charset text following old new
+Decoding-more charset text rest following old out new a d h whole eb en =
     let next : (length a ≡ 48) ⊎ (drop 64 rest ≡ []) = elim whole [ inl full ↦ inl full | inr last ↦ inr (sym eb ∙ last) ] in
     let step = chunk-good rest a d.bytes h next in
     record {
@@ -156,8 +156,8 @@ no_rest octets o e = ap (option_map (λ more. octets ++ more)) e
 pub Decoding-bad : (charset : Charset) (text rest old out : List ℕ) → Decoding charset text rest old out → b_octets (take 64 rest) ≡ None → ArePut false charset old (b_octets text) out
 Decoding-bad charset text rest old out d h = ArePut-none charset old (b_octets text) out (written_in charset d.octets) (sym d.same ∙ no_rest d.octets (b_octets rest) (chunk-bad rest d.bytes h)) d.put
 
-pub Decoding-short : (charset : Charset) (text rest behind old out a : List ℕ) → Decoding charset text rest old out → b_octets (take 64 rest) ≡ Some a → length a < 48 → (behind ≡ [] → ⊥) → behind ≡ drop 64 rest → ArePut false charset old (b_octets text) out
-Decoding-short charset text rest behind old out a d h short more eb = ArePut-none charset old (b_octets text) out (written_in charset d.octets) (sym d.same ∙ no_rest d.octets (b_octets rest) (chunk-short rest a d.bytes h short (λ none. more (eb ∙ none)))) d.put
+pub Decoding-short : (charset : Charset) (text rest following old out a : List ℕ) → Decoding charset text rest old out → b_octets (take 64 rest) ≡ Some a → length a < 48 → (following ≡ [] → ⊥) → following ≡ drop 64 rest → ArePut false charset old (b_octets text) out
+Decoding-short charset text rest following old out a d h short more eb = ArePut-none charset old (b_octets text) out (written_in charset d.octets) (sym d.same ∙ no_rest d.octets (b_octets rest) (chunk-short rest a d.bytes h short (λ none. more (eb ∙ none)))) d.put
 
 b_octets-nil : b_octets [] ≡ Some []
 b_octets-nil = (b_law [] [] bytes_nil).1 (bytes_nil, sym (encode_of-nil standard))
@@ -181,9 +181,9 @@ read_all text symbols rest count e none h =
 pub symbols_read : (symbols rest : List ℕ) (count : ℕ) (o : Option (List ℕ)) → take count symbols ≡ take 64 rest → b_octets (take count symbols) ≡ o → b_octets (take 64 rest) ≡ o
 symbols_read symbols rest count o e h = ap b_octets (sym e) ∙ h
 
-pub some_left : (rest behind : List ℕ) → is_nil rest ≡ false → behind ≡ drop 64 rest → length behind < length rest
-some_left [] behind h e = absurd cc
-some_left (x ∷ xs) behind h e = omega (arith, ap length e, length-drop 64 (x ∷ xs))
+pub some_left : (rest following : List ℕ) → is_nil rest ≡ false → following ≡ drop 64 rest → length following < length rest
+some_left [] following h e = absurd cc
+some_left (x ∷ xs) following h e = omega (arith, ap length e, length-drop 64 (x ∷ xs))
 
 pub not_nil : (xs : List ℕ) → is_nil xs ≡ false → xs ≡ [] → ⊥
 not_nil [] h e = absurd cc

@@ -8,9 +8,9 @@ use Rattle.mail_words.specs.Words.{Word, spelling, IsWord, first_word}
 use Rattle.mail_words.specs.Decoding.{text_of}
 use Rattle.mail_words.specs.Meaning.{IsGood}
 use Rattle.mail_words.specs.Value.{Cut, cut_at, cut_words, shown_word, shown, words_shown}
-use Rattle.mail_words.specs.Spans.{may_stand_behind, StandsIn, written, IsCutOf, IsWordShown, IsBehindGood, IsGapShown, IsShownBehind, IsShown, ShownLaw}
+use Rattle.mail_words.specs.Spans.{may_stand_after, StandsIn, written, IsCutOf, IsWordShown, IsAfterGood, IsGapShown, IsShownAfter, IsShown, ShownLaw}
 use Rattle.mail_words.proofs.SpellingLemmas.{Found, first_word-stands}
-use Rattle.mail_words.proofs.SpanLemmas.{finds, behind_word, lifted, cut_of}
+use Rattle.mail_words.proofs.SpanLemmas.{finds, after_word, lifted, cut_of}
 use Rattle.mail_words.proofs.MeaningLemmas.{means_from, means_to, bad_word}
 
 abbrev Part : Type 0
@@ -23,13 +23,13 @@ lowered text gap w after before u rest h k = record {
       let both : gap ++ (spelling w ++ after) ≡ gap ++ (spelling w ++ (before ++ (spelling u ++ rest))) = sym h.joined ∙ k.joined ∙ append_assoc gap (spelling w ++ before) (spelling u ++ rest) ∙ ap (λ x. gap ++ x) (append_assoc (spelling w) before (spelling u ++ rest)) in
       append_cancel_left (spelling w) after (before ++ (spelling u ++ rest)) (append_cancel_left gap (spelling w ++ after) (spelling w ++ (before ++ (spelling u ++ rest))) both);
   word = k.word;
-  begins = begins_behind before k.begins;
+  begins = begins_after before k.begins;
   ends = k.ends;
 }
   where
-    begins_behind : (bs : List ℕ) → may_stand_behind true (gap ++ (spelling w ++ bs)) ≡ true → may_stand_behind true bs ≡ true
-    begins_behind [] e = refl
-    begins_behind (b ∷ bs) e = sym (behind_word gap w b bs) ∙ e
+    begins_after : (bs : List ℕ) → may_stand_after true (gap ++ (spelling w ++ bs)) ≡ true → may_stand_after true bs ≡ true
+    begins_after [] e = refl
+    begins_after (b ∷ bs) e = sym (after_word gap w b bs) ∙ e
 
 too_long : (gap : List ℕ) (w : Word) (before : List ℕ) → gap ++ (spelling w ++ before) ≡ gap → ⊥
 too_long gap w before e = absurd (omega (arith, ap length e, length-append gap (spelling w ++ before), length-append (spelling w) before))
@@ -38,11 +38,11 @@ too_long gap w before e = absurd (omega (arith, ap length e, length-append gap (
 abbrev IsAt : List Part → List ℕ → Word → Type 0
 IsAt parts before u = (front : List Part) × (gap : List ℕ) × (back : List Part) × (parts ≡ front ++ (gap, u) ∷ back) × (before ≡ written front gap)
 
-behind_first : (gap : List ℕ) (w : Word) (parts : List Part) (before : List ℕ) (u : Word) (front : List Part) (place : List ℕ) (back : List Part) → (gap, w) ∷ parts ≡ front ++ (place, u) ∷ back → gap ++ (spelling w ++ before) ≡ written front place → IsAt parts before u
-behind_first gap w parts before u [] place back e f =
+after_first : (gap : List ℕ) (w : Word) (parts : List Part) (before : List ℕ) (u : Word) (front : List Part) (place : List ℕ) (back : List Part) → (gap, w) ∷ parts ≡ front ++ (place, u) ∷ back → gap ++ (spelling w ++ before) ≡ written front place → IsAt parts before u
+after_first gap w parts before u [] place back e f =
     let same : ◌≡◌ {A = Part} (gap, w) (place, u) = cc in
     absurd (too_long gap w before (f ∙ ap (λ p. p.0) (sym same)))
-behind_first gap w parts before u (p ∷ front) place back e f =
+after_first gap w parts before u (p ∷ front) place back e f =
     let first : ◌≡◌ {A = Part} (gap, w) p = cc in
     let others : parts ≡ front ++ (place, u) ∷ back = cc in
     let whole : gap ++ (spelling w ++ before) ≡ gap ++ (spelling w ++ written front place) = f ∙ ap (λ q. q.0 ++ (spelling q.1 ++ written front place)) (sym first) in
@@ -57,7 +57,7 @@ rest_cut text gap w parts last k =
       words = λ front part back e. lowered text gap w (written parts last) (written front part.0) part.1 (written back last) first (k.words ((gap, w) ∷ front) part back (ap (λ x. (gap, w) ∷ x) e));
       all = λ before u rest s.
           let found = k.all (gap ++ (spelling w ++ before)) u rest (lifted text gap w (written parts last) before u rest first s) in
-          behind_first gap w parts before u found.0 found.1 found.2 found.3 found.4;
+          after_first gap w parts before u found.0 found.1 found.2 found.3 found.4;
     }
 
 -- the first word of a cut is the one that is found first
@@ -100,10 +100,10 @@ cut_is ((gap, w) ∷ parts) (suc n) text last h k =
     let place = k.all f.0 f.1 f.2 here in
     let first = at_front gap w parts f place.0 place.1 place.2 found.2 place.3 place.4 in
     let joined : gap ++ (spelling w ++ written parts last) ≡ gap ++ (spelling w ++ f.2) = sym stands.joined ∙ here.joined ∙ ap (λ x. x ++ (spelling f.1 ++ f.2)) (sym first.0) ∙ ap (λ x. gap ++ (spelling x ++ f.2)) (sym first.1) in
-    let behind : written parts last ≡ f.2 = append_cancel_left (spelling w) (written parts last) f.2 (append_cancel_left gap (spelling w ++ written parts last) (spelling w ++ f.2) joined) in
+    let following : written parts last ≡ f.2 = append_cancel_left (spelling w) (written parts last) f.2 (append_cancel_left gap (spelling w ++ written parts last) (spelling w ++ f.2) joined) in
     let short : length (written parts last) ≤ n = omega (arith, h, ap length k.whole, length-append gap (spelling w ++ written parts last), length-append (spelling w) (written parts last)) in
     let more : cut_words n (written parts last) ≡ (parts, last) = cut_is parts n (written parts last) last short (rest_cut text gap w parts last k) in
-    ap (λ o. cut_at text o (cut_words n)) found.1 ∙ ap (λ x. ((x, f.1) ∷ (cut_words n f.2).0, (cut_words n f.2).1)) (sym first.0) ∙ ap (λ x. ((gap, x) ∷ (cut_words n f.2).0, (cut_words n f.2).1)) (sym first.1) ∙ ap (λ c. ((gap, w) ∷ c.0, c.1)) (ap (cut_words n) (sym behind) ∙ more)
+    ap (λ o. cut_at text o (cut_words n)) found.1 ∙ ap (λ x. ((x, f.1) ∷ (cut_words n f.2).0, (cut_words n f.2).1)) (sym first.0) ∙ ap (λ x. ((gap, x) ∷ (cut_words n f.2).0, (cut_words n f.2).1)) (sym first.1) ∙ ap (λ c. ((gap, w) ∷ c.0, c.1)) (ap (cut_words n) (sym following) ∙ more)
 
 -- what is shown
 
@@ -115,8 +115,8 @@ others_are part parts h = λ front p back e. h (part ∷ front) p back (ap (λ x
 
 -- the flag says whether the word before is good
 abbrev Tells : Bool → Option Word → Type 0
-Tells true before = IsBehindGood before
-Tells false before = IsBehindGood before → ⊥
+Tells true before = IsAfterGood before
+Tells false before = IsAfterGood before → ⊥
 
 gap_shown : (flag blank : Bool) (before : Option Word) (gap : List ℕ) (w : Word) → Tells flag before → list_all is_blank gap ≡ blank → IsGood w → IsGapShown before gap w (cond (flag && blank) [] gap)
 gap_shown true true before gap w h e good = inl ((h, e, good), refl)
@@ -132,12 +132,12 @@ gap_is false blank before gap octets w h e good (inl d) = absurd (h d.0.0)
 gap_is false blank before gap octets w h e good (inr d) = d.1
 
 -- what is computed is shown
-shown_behind : (parts : List Part) (flag : Bool) (before : Option Word) (last : List ℕ) → Tells flag before → AreWords parts → IsShownBehind before parts last (shown flag parts last)
+shown_after : (parts : List Part) (flag : Bool) (before : Option Word) (last : List ℕ) → Tells flag before → AreWords parts → IsShownAfter before parts last (shown flag parts last)
 unfolding shown
-shown_behind [] flag before last h words = refl
-shown_behind (part ∷ parts) flag before last h words = by (text_of part.1) refl (shown_behind parts true (Some part.1) last) (shown_behind parts false (Some part.1) last)
+shown_after [] flag before last h words = refl
+shown_after (part ∷ parts) flag before last h words = by (text_of part.1) refl (shown_after parts true (Some part.1) last) (shown_after parts false (Some part.1) last)
   where
-    by : (o : Option (List ℕ)) → text_of part.1 ≡ o → (IsGood part.1 → AreWords parts → IsShownBehind (Some part.1) parts last (shown true parts last)) → ((IsGood part.1 → ⊥) → AreWords parts → IsShownBehind (Some part.1) parts last (shown false parts last)) → IsShownBehind before (part ∷ parts) last (shown_word flag part.0 part.1 o (λ good. shown good parts last))
+    by : (o : Option (List ℕ)) → text_of part.1 ≡ o → (IsGood part.1 → AreWords parts → IsShownAfter (Some part.1) parts last (shown true parts last)) → ((IsGood part.1 → ⊥) → AreWords parts → IsShownAfter (Some part.1) parts last (shown false parts last)) → IsShownAfter before (part ∷ parts) last (shown_word flag part.0 part.1 o (λ good. shown good parts last))
     by (Some text) e yes_good not_good =
         let means = means_from part.1 text (words [] part parts refl) e in
         (cond (flag && list_all is_blank part.0) [] part.0, text, shown true parts last, gap_shown flag (list_all is_blank part.0) before part.0 part.1 h refl (text, means), inl means, yes_good (text, means) (others_are part parts words), refl)
@@ -158,7 +158,7 @@ gap_kept : (before : Option Word) (gap octets : List ℕ) (w : Word) → (IsGood
 gap_kept before gap octets w bad (inl d) = absurd (bad d.0.2)
 gap_kept before gap octets w bad (inr d) = d.1
 
-value_is : (parts : List Part) (flag : Bool) (before : Option Word) (last value : List ℕ) → Tells flag before → AreWords parts → IsShownBehind before parts last value → value ≡ shown flag parts last
+value_is : (parts : List Part) (flag : Bool) (before : Option Word) (last value : List ℕ) → Tells flag before → AreWords parts → IsShownAfter before parts last value → value ≡ shown flag parts last
 unfolding shown
 value_is [] flag before last value h words s = s
 value_is (part ∷ parts) flag before last value h words (gap, word, rest, sg, sw, sr, e) = e ∙ by (text_of part.1) refl (λ good. value_is parts true (Some part.1) last rest good (others_are part parts words) sr) (λ bad. value_is parts false (Some part.1) last rest bad (others_are part parts words) sr)
@@ -179,7 +179,7 @@ pub words_are_shown : (text : List ℕ) → IsShown text (words_shown text)
 words_are_shown text =
     let cut : Cut = cut_words (length text) text in
     let is_cut : IsCutOf text cut = cut_of (length text) text (omega arith) in
-    (cut, is_cut, shown_behind cut.0 false None cut.1 (λ h. h) (cut_has_words text cut is_cut))
+    (cut, is_cut, shown_after cut.0 false None cut.1 (λ h. h) (cut_has_words text cut is_cut))
 
 shown_is : (text value : List ℕ) → IsShown text value → value ≡ words_shown text
 shown_is text value (cut, is_cut, h) =

@@ -70,22 +70,22 @@ pub record Skipped (text rest : List ℕ) : Type 0 where
 pub Skipped-none : (text : List ℕ) → Skipped text text
 Skipped-none text = record { front = []; joined = refl; same = refl }
 
-pub Skipped-one : (text rest behind : List ℕ) → Skipped text rest → begins_line_end rest ≡ true → behind ≡ drop 1 rest → Skipped text behind
+pub Skipped-one : (text rest following : List ℕ) → Skipped text rest → begins_line_end rest ≡ true → following ≡ drop 1 rest → Skipped text following
 unfolding unfolded
-Skipped-one text [] behind s h e = absurd cc
-Skipped-one text (b ∷ bs) behind s h e = record {
+Skipped-one text [] following s h e = absurd cc
+Skipped-one text (b ∷ bs) following s h e = record {
   front = s.front ++ b ∷ [];
   joined = s.joined ∙ sym (append_assoc s.front (b ∷ []) bs) ∙ ap (λ x. (s.front ++ b ∷ []) ++ x) (sym e);
   same = s.same ∙ ap (λ t. cond t (unfolded bs) (b ∷ unfolded bs)) h ∙ ap unfolded (sym e);
 }
 
-pub Skipped-to : (text rest behind : List ℕ) (octet : ℕ) → Skipped text rest → begins_line_end rest ≡ false → rest ≡ octet ∷ behind → IsFirstOctet text octet behind
+pub Skipped-to : (text rest following : List ℕ) (octet : ℕ) → Skipped text rest → begins_line_end rest ≡ false → rest ≡ octet ∷ following → IsFirstOctet text octet following
 unfolding unfolded
-Skipped-to text [] behind octet s h e = absurd cc
-Skipped-to text (b ∷ bs) behind octet s h e = (
+Skipped-to text [] following octet s h e = absurd cc
+Skipped-to text (b ∷ bs) following octet s h e = (
   s.front,
   s.joined ∙ ap (λ x. s.front ++ x) e,
-  s.same ∙ ap (λ t. cond t (unfolded bs) (b ∷ unfolded bs)) h ∙ (let same : b ∷ bs ≡ octet ∷ behind = e in cc),
+  s.same ∙ ap (λ t. cond t (unfolded bs) (b ∷ unfolded bs)) h ∙ (let same : b ∷ bs ≡ octet ∷ following = e in cc),
 )
 
 pub Skipped-all : (text rest : List ℕ) → Skipped text rest → length rest ≡ 0 → unfolded text ≡ []
@@ -122,21 +122,21 @@ pub unfolded-last : (text rest before : List ℕ) (b : ℕ) → unfolded text �
 unfolded-last text rest before b same h e = same ∙ ap unfolded e ∙ unfolded-snoc before b (sym (ends_in-last 10 before b) ∙ ap (ends_in 10) (sym e) ∙ h)
 
 -- blanks at the front
-pub first_blanks-more : (rest behind : List ℕ) (octet : ℕ) → rest ≡ octet ∷ behind → is_blank octet ≡ true → without_first_blanks rest ≡ without_first_blanks behind
-first_blanks-more rest behind octet e h = let one : 1 + prefix_len is_blank behind ≡ suc (prefix_len is_blank behind) = omega arith in ap without_first_blanks e ∙ rw (h, one) refl
+pub first_blanks-more : (rest following : List ℕ) (octet : ℕ) → rest ≡ octet ∷ following → is_blank octet ≡ true → without_first_blanks rest ≡ without_first_blanks following
+first_blanks-more rest following octet e h = let one : 1 + prefix_len is_blank following ≡ suc (prefix_len is_blank following) = omega arith in ap without_first_blanks e ∙ rw (h, one) refl
 
-pub first_blanks-stop : (rest behind : List ℕ) (octet : ℕ) → rest ≡ octet ∷ behind → is_blank octet ≡ false → without_first_blanks rest ≡ rest
-first_blanks-stop rest behind octet e h = ap without_first_blanks e ∙ rw h (sym e)
+pub first_blanks-stop : (rest following : List ℕ) (octet : ℕ) → rest ≡ octet ∷ following → is_blank octet ≡ false → without_first_blanks rest ≡ rest
+first_blanks-stop rest following octet e h = ap without_first_blanks e ∙ rw h (sym e)
 
 pub first_blanks-none : (rest : List ℕ) → rest ≡ [] → without_first_blanks rest ≡ rest
 first_blanks-none [] e = refl
 first_blanks-none (b ∷ bs) e = absurd cc
 
-pub all_blank-more : (rest behind : List ℕ) (octet : ℕ) → rest ≡ octet ∷ behind → is_blank octet ≡ true → list_all is_blank rest ≡ list_all is_blank behind
-all_blank-more rest behind octet e h = ap (list_all is_blank) e ∙ rw h refl
+pub all_blank-more : (rest following : List ℕ) (octet : ℕ) → rest ≡ octet ∷ following → is_blank octet ≡ true → list_all is_blank rest ≡ list_all is_blank following
+all_blank-more rest following octet e h = ap (list_all is_blank) e ∙ rw h refl
 
-pub all_blank-stop : (rest behind : List ℕ) (octet : ℕ) → rest ≡ octet ∷ behind → is_blank octet ≡ false → list_all is_blank rest ≡ false
-all_blank-stop rest behind octet e h = ap (list_all is_blank) e ∙ rw h refl
+pub all_blank-stop : (rest following : List ℕ) (octet : ℕ) → rest ≡ octet ∷ following → is_blank octet ≡ false → list_all is_blank rest ≡ false
+all_blank-stop rest following octet e h = ap (list_all is_blank) e ∙ rw h refl
 
 -- blanks at the end
 pub last_blanks-none : (rest : List ℕ) → rest ≡ [] → without_last_blanks rest ≡ rest
@@ -179,15 +179,15 @@ InPart-none part text = record { front = []; joined = refl; apart = refl; all = 
 in_part-split : (part : Part) (text rest : List ℕ) (s : InPart part text rest) → unfolded text ≡ unfolded s.front ++ unfolded rest
 in_part-split part text rest s = ap unfolded s.joined ∙ unfolded-append s.front rest (rw s.apart refl)
 
-pub InPart-more : (part : Part) (text rest behind : List ℕ) → InPart part text rest → IsPartOctet part rest behind → InPart part text behind
-InPart-more part text rest behind s (b, passes, (ends, e, f)) =
+pub InPart-more : (part : Part) (text rest following : List ℕ) → InPart part text rest → IsPartOctet part rest following → InPart part text following
+InPart-more part text rest following s (b, passes, (ends, e, f)) =
     let p : ℕ → Bool = is_part_octet part in
     let front : List ℕ = (s.front ++ ends) ++ b ∷ [] in
-    let joined : text ≡ front ++ behind = s.joined ∙ ap (λ x. s.front ++ x) e ∙ sym (append_assoc s.front ends (b ∷ behind)) ∙ sym (append_assoc (s.front ++ ends) (b ∷ []) behind) in
+    let joined : text ≡ front ++ following = s.joined ∙ ap (λ x. s.front ++ x) e ∙ sym (append_assoc s.front ends (b ∷ following)) ∙ sym (append_assoc (s.front ++ ends) (b ∷ []) following) in
     let apart : last_is 13 front ≡ false = last-snoc 13 (s.front ++ ends) b ∙ part_not_cr part b passes in
-    let whole : unfolded text ≡ unfolded front ++ unfolded behind = ap unfolded joined ∙ unfolded-append front behind (rw apart refl) in
-    let same : unfolded text ≡ (unfolded s.front ++ b ∷ []) ++ unfolded behind = in_part-split part text rest s ∙ ap (λ x. unfolded s.front ++ x) f ∙ sym (append_assoc (unfolded s.front) (b ∷ []) (unfolded behind)) in
-    let here : unfolded front ≡ unfolded s.front ++ b ∷ [] = append_cancel_right (unfolded front) (unfolded s.front ++ b ∷ []) (unfolded behind) (sym whole ∙ same) in
+    let whole : unfolded text ≡ unfolded front ++ unfolded following = ap unfolded joined ∙ unfolded-append front following (rw apart refl) in
+    let same : unfolded text ≡ (unfolded s.front ++ b ∷ []) ++ unfolded following = in_part-split part text rest s ∙ ap (λ x. unfolded s.front ++ x) f ∙ sym (append_assoc (unfolded s.front) (b ∷ []) (unfolded following)) in
+    let here : unfolded front ≡ unfolded s.front ++ b ∷ [] = append_cancel_right (unfolded front) (unfolded s.front ++ b ∷ []) (unfolded following) (sym whole ∙ same) in
     record {
       front = front;
       joined = joined;
@@ -201,8 +201,8 @@ InPart-front part text rest front s e =
     let same : front ≡ s.front = e ∙ ap (take (length text - length rest)) s.joined ∙ take_at s.front rest (length text - length rest) n in
     (in_part-split part text rest s ∙ ap (λ x. unfolded x ++ unfolded rest) (sym same), ap (λ x. list_all (is_part_octet part) (unfolded x)) same ∙ s.all)
 
-pub part-shorter : (part : Part) (text behind : List ℕ) → IsPartOctet part text behind → length (unfolded behind) < length (unfolded text)
-part-shorter part text behind (b, passes, (ends, e, f)) = omega (arith, ap length f)
+pub part-shorter : (part : Part) (text following : List ℕ) → IsPartOctet part text following → length (unfolded following) < length (unfolded text)
+part-shorter part text following (b, passes, (ends, e, f)) = omega (arith, ap length f)
 
 -- a run of a part's octets before one that is none
 take_run : (p : ℕ → Bool) (front rest : List ℕ) → list_all p front ≡ true → take_while p rest ≡ [] → take_while p (front ++ rest) ≡ front
@@ -215,5 +215,5 @@ take_run p (x ∷ xs) rest a e =
 pub run_front : (p : ℕ → Bool) (whole front rest : List ℕ) → whole ≡ front ++ rest → list_all p front ≡ true → take_while p rest ≡ [] → front ≡ take_while p whole
 run_front p whole front rest h a e = sym (ap (take_while p) h ∙ take_run p front rest a e)
 
-pub run_behind : (p : ℕ → Bool) (whole front rest : List ℕ) → whole ≡ front ++ rest → list_all p front ≡ true → take_while p rest ≡ [] → rest ≡ drop (length (take_while p whole)) whole
-run_behind p whole front rest h a e = sym (ap (λ ys. drop (length ys) whole) (sym (run_front p whole front rest h a e)) ∙ ap (drop (length front)) h ∙ drop_at front rest (length front) refl)
+pub run_after : (p : ℕ → Bool) (whole front rest : List ℕ) → whole ≡ front ++ rest → list_all p front ≡ true → take_while p rest ≡ [] → rest ≡ drop (length (take_while p whole)) whole
+run_after p whole front rest h a e = sym (ap (λ ys. drop (length ys) whole) (sym (run_front p whole front rest h a e)) ∙ ap (drop (length front)) h ∙ drop_at front rest (length front) refl)

@@ -25,23 +25,23 @@ front-not_open bs h = rw (opens_pair bs, h) refl
 pub record Opened (bs opened charset encoded : List ℕ) : Type 0 where
   pub begins : bs ≡ 61 ∷ 63 ∷ opened
   pub charset_is : charset ≡ take_while is_charset_octet opened
-  pub behind : encoded ≡ drop (length (take_while is_charset_octet opened)) opened
+  pub following : encoded ≡ drop (length (take_while is_charset_octet opened)) opened
 
 pub front-not_encoding : (bs opened charset encoded : List ℕ) → Opened bs opened charset encoded → names_encoding encoded ≡ false → None ≡ word_at bs
 unfolding word_at
-front-not_encoding bs opened charset encoded o h = sym (ap word_at o.begins ∙ (rw (← o.behind, h, and-false (nat_lt 0 (length (take_while is_charset_octet opened)))) refl))
+front-not_encoding bs opened charset encoded o h = sym (ap word_at o.begins ∙ (rw (← o.following, h, and-false (nat_lt 0 (length (take_while is_charset_octet opened)))) refl))
 
 pub record Lettered (bs opened charset encoded rest text closed : List ℕ) (letter : ℕ) : Type 0 where
   pub front : Opened bs opened charset encoded
   pub named : encoded ≡ 63 ∷ letter ∷ 63 ∷ rest
   pub encoding : is_encoding letter ≡ true
   pub text_is : text ≡ take_while is_text_octet rest
-  pub behind : closed ≡ drop (length (take_while is_text_octet rest)) rest
+  pub following : closed ≡ drop (length (take_while is_text_octet rest)) rest
 
 -- the word at the front, by the tests of its parts
 word_at-parts : (bs opened charset encoded rest text closed : List ℕ) (letter : ℕ) → Lettered bs opened charset encoded rest text closed letter → word_at bs ≡ cond (nat_lt 0 (length charset) && true && nat_lt 0 (length text) && closes closed) (Some (record { charset = charset; encoding = letter; text = text }, drop 2 closed)) None
 unfolding word_at
-word_at-parts bs opened charset encoded rest text closed letter l = ap word_at l.front.begins ∙ (rw (← l.front.behind, ← l.front.charset_is, l.named, l.encoding, ← l.behind, ← l.text_is) refl)
+word_at-parts bs opened charset encoded rest text closed letter l = ap word_at l.front.begins ∙ (rw (← l.front.following, ← l.front.charset_is, l.named, l.encoding, ← l.following, ← l.text_is) refl)
 
 pub front-not_closed : (bs opened charset encoded rest text closed : List ℕ) (letter : ℕ) → Lettered bs opened charset encoded rest text closed letter → begins_with_pair 63 61 closed ≡ false → None ≡ word_at bs
 front-not_closed bs opened charset encoded rest text closed letter l h = sym (word_at-parts bs opened charset encoded rest text closed letter l ∙ (rw (closes_pair closed, h, and-false (nat_lt 0 (length charset) && true && nat_lt 0 (length text))) refl))

@@ -35,20 +35,20 @@ push_octet octets b (Some x) = ap Some (sym (append_assoc octets (b ∷ []) x))
 put_one : (charset : Charset) (old out new octets : List ℕ) (b : ℕ) → out ≡ old ++ written_in charset octets → new ≡ out ++ written_in charset (b ∷ []) → new ≡ old ++ written_in charset (octets ++ b ∷ [])
 put_one charset old out new octets b h e = e ∙ ap (λ x. x ++ written_in charset (b ∷ [])) h ∙ append_assoc old (written_in charset octets) (written_in charset (b ∷ [])) ∙ ap (λ x. old ++ x) (sym (written-append charset octets (b ∷ [])))
 
-pub Decoded-plain : (charset : Charset) (text rest behind old out new : List ℕ) (place : Place) (b pushed : ℕ) → Decoded charset text rest old out place → place ≡ Plain → rest ≡ b ∷ behind → (b ≡ 61 → ⊥) → pushed ≡ cond (eqb b 95) 32 b → new ≡ out ++ written_in charset (pushed ∷ []) → Decoded charset text behind old new Plain
+pub Decoded-plain : (charset : Charset) (text rest following old out new : List ℕ) (place : Place) (b pushed : ℕ) → Decoded charset text rest old out place → place ≡ Plain → rest ≡ b ∷ following → (b ≡ 61 → ⊥) → pushed ≡ cond (eqb b 95) 32 b → new ≡ out ++ written_in charset (pushed ∷ []) → Decoded charset text following old new Plain
 unfolding q_octets
-Decoded-plain charset text rest behind old out new place b pushed h e l at eb en = record {
+Decoded-plain charset text rest following old out new place b pushed h e l at eb en = record {
   small = tt;
   octets = h.octets ++ pushed ∷ [];
   put = put_one charset old out new h.octets pushed h.put en;
-  same = sym (push_octet h.octets pushed (q_octets Plain behind)) ∙ (rw (e, l, ne_eqb b 61 at, ← eb) at h.same);
+  same = sym (push_octet h.octets pushed (q_octets Plain following)) ∙ (rw (e, l, ne_eqb b 61 at, ← eb) at h.same);
 }
 
-pub Decoded-low : (charset : Charset) (text rest behind old out new : List ℕ) (place : Place) (b high low : ℕ) → Decoded charset text rest old out place → place ≡ Digit high → rest ≡ b ∷ behind → Some low ≡ hex_value b → new ≡ out ++ written_in charset ((high * 16 + low) ∷ []) → Decoded charset text behind old new Plain
+pub Decoded-low : (charset : Charset) (text rest following old out new : List ℕ) (place : Place) (b high low : ℕ) → Decoded charset text rest old out place → place ≡ Digit high → rest ≡ b ∷ following → Some low ≡ hex_value b → new ≡ out ++ written_in charset ((high * 16 + low) ∷ []) → Decoded charset text following old new Plain
 unfolding q_octets
-Decoded-low charset text rest behind old out new place b high low h e l digit en = record {
+Decoded-low charset text rest following old out new place b high low h e l digit en = record {
   small = tt;
   octets = h.octets ++ (high * 16 + low) ∷ [];
   put = put_one charset old out new h.octets (high * 16 + low) h.put en;
-  same = sym (push_octet h.octets (high * 16 + low) (q_octets Plain behind)) ∙ (rw (e, l, ← digit) at h.same);
+  same = sym (push_octet h.octets (high * 16 + low) (q_octets Plain following)) ∙ (rw (e, l, ← digit) at h.same);
 }

@@ -13,9 +13,9 @@ in_brackets : value_of_body (codes "(=?utf-8?q?a_b?=)") ≡ codes "(a b)"
 unfolding value_of_body shown cut_words first_word word_at unfolded text_of q_octets text_in charset_named is_utf8 chars lib.Utf8.encode
 in_brackets = refl
 
-behind_text : value_of_body (codes "x=?utf-8?q?a?=") ≡ codes "x=?utf-8?q?a?="
+after_text : value_of_body (codes "x=?utf-8?q?a?=") ≡ codes "x=?utf-8?q?a?="
 unfolding value_of_body shown cut_words first_word word_at unfolded
-behind_text = refl
+after_text = refl
 
 half_escape : value_of_body (codes "=?utf-8?q?=4?=") ≡ codes "=?utf-8?q?=4?="
 unfolding value_of_body shown cut_words first_word word_at unfolded text_of q_octets text_in charset_named is_utf8 chars lib.Utf8.encode

@@ -6,7 +6,7 @@ use Rattle.std.specs.Prelude.{option_map, nat_lt, not, ◌==◌}
 use Rattle.std.specs.List.{list_all, prefix_len}
 use Rattle.mail_words.specs.Words.{Word, spelling, IsWord, is_charset_octet, is_text_octet, is_encoding, precedes, can_follow, word_at, if_followed, followed_word_at, or_later, first_word}
 use Rattle.mail_words.specs.Value.{Cut, cut_at, cut_words}
-use Rattle.mail_words.specs.Spans.{may_stand_behind, StandsIn, written, IsCutOf, StandApart}
+use Rattle.mail_words.specs.Spans.{may_stand_after, StandsIn, written, IsCutOf, StandApart}
 use Rattle.mail_words.proofs.SpellingLemmas.{Found, first_word-stands}
 
 -- a prefix of octets that pass, before one that does not, is all of it
@@ -55,7 +55,7 @@ later_no : (o : Option (Word × List ℕ)) (b n : ℕ) (more : Option Found) →
 later_no (Some w) b n more h = (([], w.0, w.1), refl, omega arith)
 later_no None b n more h = ((b ∷ h.0.0, h.0.1, h.0.2), ap (option_map (λ f. (b ∷ f.0, f.1, f.2))) h.1, omega (arith, h.2))
 
-pub finds : (start : Bool) (text before : List ℕ) (w : Word) (after : List ℕ) → text ≡ before ++ (spelling w ++ after) → IsWord w → may_stand_behind start before ≡ true → can_follow after ≡ true → NoLater (first_word start text) (length before)
+pub finds : (start : Bool) (text before : List ℕ) (w : Word) (after : List ℕ) → text ≡ before ++ (spelling w ++ after) → IsWord w → may_stand_after start before ≡ true → can_follow after ≡ true → NoLater (first_word start text) (length before)
 unfolding first_word
 finds start text [] w after e h begins ends =
     let found : followed_word_at (spelling w ++ after) ≡ Some (w, after) = followed-written w after h ends in
@@ -138,12 +138,12 @@ charset_first c false e k = e
 charset_first c true e k = let is : c ≡ 61 = eqb-true c 61 e in absurd (no_truth (rw is at k))
 
 -- no word begins within the "?=" that ends another
-behind_end : (m : List ℕ) (after : List ℕ) (rest : List ℕ) → 63 ∷ 61 ∷ after ≡ m ++ 61 ∷ 63 ∷ rest → can_follow after ≡ true → (gap : List ℕ) × (m ≡ 63 ∷ 61 ∷ gap) × (after ≡ gap ++ 61 ∷ 63 ∷ rest)
-behind_end [] after rest e k = let no : get_or (63 ∷ 61 ∷ after) 0 0 ≡ get_or (61 ∷ 63 ∷ rest) 0 0 = ap (λ x. get_or x 0 0) e in absurd (omega (arith, no))
-behind_end (a ∷ []) after rest e k =
+after_end : (m : List ℕ) (after : List ℕ) (rest : List ℕ) → 63 ∷ 61 ∷ after ≡ m ++ 61 ∷ 63 ∷ rest → can_follow after ≡ true → (gap : List ℕ) × (m ≡ 63 ∷ 61 ∷ gap) × (after ≡ gap ++ 61 ∷ 63 ∷ rest)
+after_end [] after rest e k = let no : get_or (63 ∷ 61 ∷ after) 0 0 ≡ get_or (61 ∷ 63 ∷ rest) 0 0 = ap (λ x. get_or x 0 0) e in absurd (omega (arith, no))
+after_end (a ∷ []) after rest e k =
     let is : after ≡ 63 ∷ rest = cc in
     absurd (no_truth (rw is at k))
-behind_end (a ∷ b ∷ m) after rest e k =
+after_end (a ∷ b ∷ m) after rest e k =
     let one : 63 ≡ a = cc in
     let two : 61 ≡ b = cc in
     let more : after ≡ m ++ 61 ∷ 63 ∷ rest = cc in
@@ -162,7 +162,7 @@ apart w u after rest b more e hw hu ends =
     let whole : front ++ (w.text ++ 63 ∷ 61 ∷ after) ≡ more ++ 61 ∷ 63 ∷ c.0 ∷ tail = ap (λ x. 63 ∷ x) (append_assoc w.charset (63 ∷ w.encoding ∷ 63 ∷ []) (w.text ++ 63 ∷ 61 ∷ after)) ∙ inner in
     let one = skip_plain front (w.text ++ 63 ∷ 61 ∷ after) more (63 ∷ c.0 ∷ tail) whole (charset_plain w.charset w.encoding hw.charset hw.encoding) in
     let two = skip_text w.text after one.0 tail c.0 one.2 hw.text (charset_first c.0 (eqb c.0 61) refl c.3) in
-    let three = behind_end two.0 after (c.0 ∷ tail) two.2 ends in
+    let three = after_end two.0 after (c.0 ∷ tail) two.2 ends in
     let begun : b ∷ more ≡ 61 ∷ (front ++ (w.text ++ 63 ∷ 61 ∷ three.0)) = ap (λ x. x ∷ more) (sym first) ∙ ap (λ x. 61 ∷ x) (one.1 ∙ ap (λ x. front ++ x) (two.1 ∙ ap (λ x. w.text ++ x) three.1)) in
     let regroup : 61 ∷ (front ++ (w.text ++ 63 ∷ 61 ∷ three.0)) ≡ 61 ∷ 63 ∷ (w.charset ++ 63 ∷ w.encoding ∷ 63 ∷ (w.text ++ 63 ∷ 61 ∷ three.0)) = ap (λ x. 61 ∷ 63 ∷ x) (append_assoc w.charset (63 ∷ w.encoding ∷ 63 ∷ []) (w.text ++ 63 ∷ 61 ∷ three.0)) in
     (three.0, begun ∙ regroup ∙ sym (word_written w three.0), three.2 ∙ ap (λ x. three.0 ++ x) (sym second))
@@ -177,12 +177,12 @@ words_apart text before w after b more u rest h k =
 not_at_end : (after : List ℕ) (u : Word) (rest : List ℕ) → after ≡ spelling u ++ rest → can_follow after ≡ true → ⊥
 not_at_end after u rest e k = no_truth (rw e at k)
 
-behind_more : (start : Bool) (ys : List ℕ) (b : ℕ) (bs : List ℕ) → may_stand_behind start (ys ++ b ∷ bs) ≡ may_stand_behind (precedes b) bs
-behind_more start [] b bs = refl
-behind_more start (y ∷ ys) b bs = behind_more (precedes y) ys b bs
+after_more : (start : Bool) (ys : List ℕ) (b : ℕ) (bs : List ℕ) → may_stand_after start (ys ++ b ∷ bs) ≡ may_stand_after (precedes b) bs
+after_more start [] b bs = refl
+after_more start (y ∷ ys) b bs = after_more (precedes y) ys b bs
 
-pub behind_word : (gap : List ℕ) (w : Word) (b : ℕ) (bs : List ℕ) → may_stand_behind true (gap ++ (spelling w ++ b ∷ bs)) ≡ may_stand_behind true (b ∷ bs)
-behind_word gap w b bs = ap (may_stand_behind true) (sym (append_assoc gap (spelling w) (b ∷ bs))) ∙ behind_more true (gap ++ spelling w) b bs
+pub after_word : (gap : List ℕ) (w : Word) (b : ℕ) (bs : List ℕ) → may_stand_after true (gap ++ (spelling w ++ b ∷ bs)) ≡ may_stand_after true (b ∷ bs)
+after_word gap w b bs = ap (may_stand_after true) (sym (append_assoc gap (spelling w) (b ∷ bs))) ∙ after_more true (gap ++ spelling w) b bs
 
 -- a word that stands after another
 pub lifted : (text gap : List ℕ) (w : Word) (after before : List ℕ) (u : Word) (rest : List ℕ) → StandsIn true text gap w after → StandsIn true after before u rest → StandsIn true text (gap ++ (spelling w ++ before)) u rest
@@ -190,7 +190,7 @@ lifted text gap w after [] u rest h k = absurd (not_at_end after u rest k.joined
 lifted text gap w after (b ∷ bs) u rest h k = record {
   joined = h.joined ∙ ap (λ x. gap ++ (spelling w ++ x)) k.joined ∙ ap (λ x. gap ++ x) (sym (append_assoc (spelling w) (b ∷ bs) (spelling u ++ rest))) ∙ sym (append_assoc gap (spelling w ++ b ∷ bs) (spelling u ++ rest));
   word = k.word;
-  begins = behind_word gap w b bs ∙ k.begins;
+  begins = after_word gap w b bs ∙ k.begins;
   ends = k.ends;
 }
 
@@ -254,7 +254,7 @@ one_of text f cut h k before w after s (b ∷ more) eb e = at (apart f.1 w f.2 a
     at ([], ep, ef) = absurd (not_at_end f.2 w after ef h.ends)
     at (c ∷ gap, ep, ef) =
         let place : before ≡ f.0 ++ (spelling f.1 ++ c ∷ gap) = eb ∙ ap (λ x. f.0 ++ x) ep in
-        let begins : may_stand_behind true (c ∷ gap) ≡ true = sym (behind_word f.0 f.1 c gap) ∙ ap (may_stand_behind true) (sym place) ∙ s.begins in
+        let begins : may_stand_after true (c ∷ gap) ≡ true = sym (after_word f.0 f.1 c gap) ∙ ap (may_stand_after true) (sym place) ∙ s.begins in
         let rest : StandsIn true f.2 (c ∷ gap) w after = record { joined = ef; word = s.word; begins = begins; ends = s.ends } in
         let found = k.all (c ∷ gap) w after rest in
         ((f.0, f.1) ∷ found.0, found.1, found.2, ap (λ x. (f.0, f.1) ∷ x) found.3, place ∙ ap (λ x. f.0 ++ (spelling f.1 ++ x)) found.4)

@@ -7,7 +7,7 @@ use Rattle.std.specs.Prelude.{option_map, not, ◌&&◌, ◌||◌}
 use Rattle.std.specs.List.{list_all}
 use Rattle.memchr.specs.Find.{IsFirstByte, is_byte}
 use Rattle.mail_words.specs.Unfolding.{begins_with, unfolded}
-use Rattle.mail_words.specs.Spans.{may_stand_behind}
+use Rattle.mail_words.specs.Spans.{may_stand_after}
 use Rattle.mail_words.specs.Words.{Word, precedes, opens, word_at, followed_word_at, or_later, first_word}
 use Rattle.mail_words.proofs.FoldedLemmas.{last_is, last-snoc, unfolded-append, unfolded-before, unfolded-snoc}
 
@@ -15,20 +15,20 @@ abbrev pub Standing : Type 0
 Standing = List ℕ × Word × List ℕ
 
 -- a word that is found after some more octets
-abbrev pub behind : List ℕ → Standing → Standing
-behind front f = (front ++ f.0, f.1, f.2)
+abbrev pub following : List ℕ → Standing → Standing
+following front f = (front ++ f.0, f.1, f.2)
 
-behind-nil : (o : Option Standing) → o ≡ option_map (behind []) o
-behind-nil None = refl
-behind-nil (Some f) = refl
+following-nil : (o : Option Standing) → o ≡ option_map (following []) o
+following-nil None = refl
+following-nil (Some f) = refl
 
-behind-cons : (b : ℕ) (front : List ℕ) (o : Option Standing) → option_map (λ f. (b ∷ f.0, f.1, f.2)) (option_map (behind front) o) ≡ option_map (behind (b ∷ front)) o
-behind-cons b front None = refl
-behind-cons b front (Some f) = refl
+following-cons : (b : ℕ) (front : List ℕ) (o : Option Standing) → option_map (λ f. (b ∷ f.0, f.1, f.2)) (option_map (following front) o) ≡ option_map (following (b ∷ front)) o
+following-cons b front None = refl
+following-cons b front (Some f) = refl
 
-behind-append : (xs ys : List ℕ) (o : Option Standing) → option_map (behind xs) (option_map (behind ys) o) ≡ option_map (behind (xs ++ ys)) o
-behind-append xs ys None = refl
-behind-append xs ys (Some f) = ap (λ gap. Some (gap, f.1, f.2)) (sym (append_assoc xs ys f.0))
+following-append : (xs ys : List ℕ) (o : Option Standing) → option_map (following xs) (option_map (following ys) o) ≡ option_map (following (xs ++ ys)) o
+following-append xs ys None = refl
+following-append xs ys (Some f) = ap (λ gap. Some (gap, f.1, f.2)) (sym (append_assoc xs ys f.0))
 
 cond_none : {X : Type 0} (t : Bool) (o : Option X) → o ≡ None → cond t o None ≡ None
 cond_none true o e = e
@@ -47,13 +47,13 @@ no_word_at b bs e = rw (opens_no b bs e) refl
 abbrev is_other : ℕ → Bool
 is_other b = not (eqb b 61)
 
-skip : (xs ys : List ℕ) (start : Bool) → list_all is_other xs ≡ true → first_word start (xs ++ ys) ≡ option_map (behind xs) (first_word (may_stand_behind start xs) ys)
+skip : (xs ys : List ℕ) (start : Bool) → list_all is_other xs ≡ true → first_word start (xs ++ ys) ≡ option_map (following xs) (first_word (may_stand_after start xs) ys)
 unfolding first_word
-skip [] ys start h = behind-nil (first_word start ys)
+skip [] ys start h = following-nil (first_word start ys)
 skip (b ∷ bs) ys start h =
     let parts = and_parts (is_other b) (list_all is_other bs) h in
     let here : cond start (followed_word_at (b ∷ (bs ++ ys))) None ≡ None = cond_none start (followed_word_at (b ∷ (bs ++ ys))) (no_word_at b (bs ++ ys) (not-true (eqb b 61) parts.0)) in
-    ap (λ o. or_later o b (first_word (precedes b) (bs ++ ys))) here ∙ ap (option_map (λ f. (b ∷ f.0, f.1, f.2))) (skip bs ys (precedes b) parts.1) ∙ behind-cons b bs (first_word (may_stand_behind (precedes b) bs) ys)
+    ap (λ o. or_later o b (first_word (precedes b) (bs ++ ys))) here ∙ ap (option_map (λ f. (b ∷ f.0, f.1, f.2))) (skip bs ys (precedes b) parts.1) ∙ following-cons b bs (first_word (may_stand_after (precedes b) bs) ys)
 
 first_word-none : (xs : List ℕ) (start : Bool) → list_all is_other xs ≡ true → first_word start xs ≡ None
 unfolding first_word
@@ -74,24 +74,24 @@ others (suc k) (b ∷ bs) h none = pass_cond (eqb b 10 || (eqb b 13 && begins_wi
 pub record Searched (text : List ℕ) (from : ℕ) : Type 0 where
   pub within : from ≤ length text
   pub apart : last_is 13 (take from text) ≡ false
-  pub same : first_word true (unfolded text) ≡ option_map (behind (unfolded (take from text))) (first_word (may_stand_behind true (unfolded (take from text))) (unfolded (drop from text)))
+  pub same : first_word true (unfolded text) ≡ option_map (following (unfolded (take from text))) (first_word (may_stand_after true (unfolded (take from text))) (unfolded (drop from text)))
 
 pub Searched-none : (text : List ℕ) → Searched text 0
 unfolding unfolded
-Searched-none text = record { within = omega arith; apart = refl; same = behind-nil (first_word true (unfolded text)) }
+Searched-none text = record { within = omega arith; apart = refl; same = following-nil (first_word true (unfolded text)) }
 
-may_stand-append : (start : Bool) (xs ys : List ℕ) → may_stand_behind start (xs ++ ys) ≡ may_stand_behind (may_stand_behind start xs) ys
+may_stand-append : (start : Bool) (xs ys : List ℕ) → may_stand_after start (xs ++ ys) ≡ may_stand_after (may_stand_after start xs) ys
 may_stand-append start [] ys = refl
 may_stand-append start (x ∷ xs) ys = may_stand-append (precedes x) xs ys
 
-pub may_stand-last : (xs : List ℕ) (b : ℕ) → may_stand_behind true (xs ++ b ∷ []) ≡ precedes b
+pub may_stand-last : (xs : List ℕ) (b : ℕ) → may_stand_after true (xs ++ b ∷ []) ≡ precedes b
 may_stand-last xs b = may_stand-append true xs (b ∷ [])
 
 -- the same, where a "=" stands
 pub record Placed (text : List ℕ) (place : ℕ) : Type 0 where
   pub high : place < length text
   pub at : get_or text place 0 ≡ 61
-  pub same : first_word true (unfolded text) ≡ option_map (behind (unfolded (take place text))) (first_word (may_stand_behind true (unfolded (take place text))) (unfolded (drop place text)))
+  pub same : first_word true (unfolded text) ≡ option_map (following (unfolded (take place text))) (first_word (may_stand_after true (unfolded (take place text))) (unfolded (drop place text)))
 
 split_at : (text : List ℕ) (place : ℕ) → place < length text → get_or text place 0 ≡ 61 → drop place text ≡ 61 ∷ drop (place + 1) text
 split_at text place h e = drop_more text place 0 h ∙ ap (λ b. b ∷ drop (place + 1) text) e
@@ -105,13 +105,13 @@ Placed-to text from k h within none at =
     let tail : drop k rest ≡ 61 ∷ drop (k + 1) rest = split_at rest k within at in
     let cut : unfolded rest ≡ unfolded (take k rest) ++ unfolded (drop k rest) = ap unfolded (sym (take-append-drop k rest)) ∙ unfolded-before (take k rest) (drop k rest) (ap (begins_with 10) tail) in
     let seen : unfolded (take (from + k) text) ≡ unfolded (take from text) ++ unfolded (take k rest) = ap unfolded (take-add from k text) ∙ unfolded-append (take from text) (take k rest) (rw h.apart refl) in
-    let skipped = skip (unfolded (take k rest)) (unfolded (drop k rest)) (may_stand_behind true (unfolded (take from text))) (others k rest (omega arith) none) in
-    let start : may_stand_behind (may_stand_behind true (unfolded (take from text))) (unfolded (take k rest)) ≡ may_stand_behind true (unfolded (take (from + k) text)) = sym (may_stand-append true (unfolded (take from text)) (unfolded (take k rest))) ∙ ap (may_stand_behind true) (sym seen) in
+    let skipped = skip (unfolded (take k rest)) (unfolded (drop k rest)) (may_stand_after true (unfolded (take from text))) (others k rest (omega arith) none) in
+    let start : may_stand_after (may_stand_after true (unfolded (take from text))) (unfolded (take k rest)) ≡ may_stand_after true (unfolded (take (from + k) text)) = sym (may_stand-append true (unfolded (take from text)) (unfolded (take k rest))) ∙ ap (may_stand_after true) (sym seen) in
     let there : drop k rest ≡ drop (from + k) text = drop-drop k from text in
     record {
       high = high;
       at = place;
-      same = h.same ∙ ap (λ us. option_map (behind (unfolded (take from text))) (first_word (may_stand_behind true (unfolded (take from text))) us)) cut ∙ ap (option_map (behind (unfolded (take from text)))) skipped ∙ behind-append (unfolded (take from text)) (unfolded (take k rest)) (first_word (may_stand_behind (may_stand_behind true (unfolded (take from text))) (unfolded (take k rest))) (unfolded (drop k rest))) ∙ ap (λ xs. option_map (behind xs) (first_word (may_stand_behind (may_stand_behind true (unfolded (take from text))) (unfolded (take k rest))) (unfolded (drop k rest)))) (sym seen) ∙ ap (λ t. option_map (behind (unfolded (take (from + k) text))) (first_word t (unfolded (drop k rest)))) start ∙ ap (λ xs. option_map (behind (unfolded (take (from + k) text))) (first_word (may_stand_behind true (unfolded (take (from + k) text))) (unfolded xs))) there;
+      same = h.same ∙ ap (λ us. option_map (following (unfolded (take from text))) (first_word (may_stand_after true (unfolded (take from text))) us)) cut ∙ ap (option_map (following (unfolded (take from text)))) skipped ∙ following-append (unfolded (take from text)) (unfolded (take k rest)) (first_word (may_stand_after (may_stand_after true (unfolded (take from text))) (unfolded (take k rest))) (unfolded (drop k rest))) ∙ ap (λ xs. option_map (following xs) (first_word (may_stand_after (may_stand_after true (unfolded (take from text))) (unfolded (take k rest))) (unfolded (drop k rest)))) (sym seen) ∙ ap (λ t. option_map (following (unfolded (take (from + k) text))) (first_word t (unfolded (drop k rest)))) start ∙ ap (λ xs. option_map (following (unfolded (take (from + k) text))) (first_word (may_stand_after true (unfolded (take (from + k) text))) (unfolded xs))) there;
     }
 
 -- a search for "=" in the rest of a text
@@ -125,41 +125,41 @@ Searched-end text from h found =
     let none : IsFirstByte (is_byte 61) (drop from text) None = rw (take_rest text from) at found in
     let all : take (length (drop from text)) (drop from text) ≡ drop from text = take_all (length (drop from text)) (drop from text) (omega arith) in
     let rest : list_all is_other (unfolded (drop from text)) ≡ true = ap (λ xs. list_all is_other (unfolded xs)) (sym all) ∙ others (length (drop from text)) (drop from text) (omega arith) (λ j below same. none j (omega arith) below (eq-eqb (get_or (drop from text) j 0) 61 same)) in
-    sym (h.same ∙ ap (option_map (behind (unfolded (take from text)))) (first_word-none (unfolded (drop from text)) (may_stand_behind true (unfolded (take from text))) rest))
+    sym (h.same ∙ ap (option_map (following (unfolded (take from text)))) (first_word-none (unfolded (drop from text)) (may_stand_after true (unfolded (take from text))) rest))
 
 unfolded-at : (text rest : List ℕ) (place : ℕ) → Placed text place → rest ≡ drop place text → unfolded rest ≡ 61 ∷ unfolded (drop (place + 1) text)
 unfolding unfolded
 unfolded-at text rest place h e = ap unfolded (e ∙ split_at text place h.high h.at)
 
-pub Placed-word : (text gap rest : List ℕ) (place : ℕ) (w : Word) (after : List ℕ) → Placed text place → true ≡ may_stand_behind true (unfolded gap) → gap ≡ take place text → rest ≡ drop place text → Some (w, after) ≡ followed_word_at (unfolded rest) → Some (unfolded gap, w, after) ≡ first_word true (unfolded text)
+pub Placed-word : (text gap rest : List ℕ) (place : ℕ) (w : Word) (after : List ℕ) → Placed text place → true ≡ may_stand_after true (unfolded gap) → gap ≡ take place text → rest ≡ drop place text → Some (w, after) ≡ followed_word_at (unfolded rest) → Some (unfolded gap, w, after) ≡ first_word true (unfolded text)
 unfolding first_word
 Placed-word text gap rest place w after h may eg er found =
     let us : List ℕ = unfolded (drop (place + 1) text) in
     let here : unfolded rest ≡ 61 ∷ us = unfolded-at text rest place h er in
     let front : followed_word_at (61 ∷ us) ≡ Some (w, after) = ap followed_word_at (sym here) ∙ sym found in
     let word : first_word true (61 ∷ us) ≡ Some ([], w, after) = ap (λ o. or_later o 61 (first_word (precedes 61) us)) front in
-    let whole : first_word (may_stand_behind true (unfolded gap)) (unfolded rest) ≡ Some ([], w, after) = ap (λ t. first_word t (unfolded rest)) (sym may) ∙ ap (first_word true) here ∙ word in
-    sym (h.same ∙ ap (λ xs. option_map (behind (unfolded xs)) (first_word (may_stand_behind true (unfolded xs)) (unfolded (drop place text)))) (sym eg) ∙ ap (λ xs. option_map (behind (unfolded gap)) (first_word (may_stand_behind true (unfolded gap)) (unfolded xs))) (sym er) ∙ ap (option_map (behind (unfolded gap))) whole ∙ ap (λ xs. Some (xs, w, after)) (append-nil (unfolded gap)))
+    let whole : first_word (may_stand_after true (unfolded gap)) (unfolded rest) ≡ Some ([], w, after) = ap (λ t. first_word t (unfolded rest)) (sym may) ∙ ap (first_word true) here ∙ word in
+    sym (h.same ∙ ap (λ xs. option_map (following (unfolded xs)) (first_word (may_stand_after true (unfolded xs)) (unfolded (drop place text)))) (sym eg) ∙ ap (λ xs. option_map (following (unfolded gap)) (first_word (may_stand_after true (unfolded gap)) (unfolded xs))) (sym er) ∙ ap (option_map (following (unfolded gap))) whole ∙ ap (λ xs. Some (xs, w, after)) (append-nil (unfolded gap)))
 
-Placed-step : (text gap rest : List ℕ) (place : ℕ) → Placed text place → gap ≡ take place text → rest ≡ drop place text → cond (may_stand_behind true (unfolded gap)) (followed_word_at (unfolded rest)) None ≡ None → Searched text (place + 1)
+Placed-step : (text gap rest : List ℕ) (place : ℕ) → Placed text place → gap ≡ take place text → rest ≡ drop place text → cond (may_stand_after true (unfolded gap)) (followed_word_at (unfolded rest)) None ≡ None → Searched text (place + 1)
 unfolding first_word
 Placed-step text gap rest place h eg er none =
     let us : List ℕ = unfolded (drop (place + 1) text) in
-    let start : Bool = may_stand_behind true (unfolded gap) in
+    let start : Bool = may_stand_after true (unfolded gap) in
     let here : unfolded rest ≡ 61 ∷ us = unfolded-at text rest place h er in
     let no : cond start (followed_word_at (61 ∷ us)) None ≡ None = ap (λ xs. cond start (followed_word_at xs) None) (sym here) ∙ none in
     let front : take (place + 1) text ≡ gap ++ 61 ∷ [] = take_more text place 0 h.high ∙ ap (λ b. take place text ++ b ∷ []) h.at ∙ ap (λ xs. xs ++ 61 ∷ []) (sym eg) in
     let seen : unfolded (take (place + 1) text) ≡ unfolded gap ++ 61 ∷ [] = ap unfolded front ∙ unfolded-snoc gap 61 refl in
-    let later : first_word start (61 ∷ us) ≡ option_map (behind (61 ∷ [])) (first_word (precedes 61) us) = ap (λ o. or_later o 61 (first_word (precedes 61) us)) no in
-    let next : precedes 61 ≡ may_stand_behind true (unfolded (take (place + 1) text)) = sym (may_stand-last (unfolded gap) 61) ∙ ap (may_stand_behind true) (sym seen) in
+    let later : first_word start (61 ∷ us) ≡ option_map (following (61 ∷ [])) (first_word (precedes 61) us) = ap (λ o. or_later o 61 (first_word (precedes 61) us)) no in
+    let next : precedes 61 ≡ may_stand_after true (unfolded (take (place + 1) text)) = sym (may_stand-last (unfolded gap) 61) ∙ ap (may_stand_after true) (sym seen) in
     record {
       within = omega (arith, h.high);
       apart = ap (last_is 13) front ∙ last-snoc 13 gap 61;
-      same = h.same ∙ ap (λ xs. option_map (behind (unfolded xs)) (first_word (may_stand_behind true (unfolded xs)) (unfolded (drop place text)))) (sym eg) ∙ ap (λ xs. option_map (behind (unfolded gap)) (first_word start (unfolded xs))) (sym er) ∙ ap (λ xs. option_map (behind (unfolded gap)) (first_word start xs)) here ∙ ap (option_map (behind (unfolded gap))) later ∙ behind-append (unfolded gap) (61 ∷ []) (first_word (precedes 61) us) ∙ ap (λ xs. option_map (behind xs) (first_word (precedes 61) us)) (sym seen) ∙ ap (λ t. option_map (behind (unfolded (take (place + 1) text))) (first_word t us)) next;
+      same = h.same ∙ ap (λ xs. option_map (following (unfolded xs)) (first_word (may_stand_after true (unfolded xs)) (unfolded (drop place text)))) (sym eg) ∙ ap (λ xs. option_map (following (unfolded gap)) (first_word start (unfolded xs))) (sym er) ∙ ap (λ xs. option_map (following (unfolded gap)) (first_word start xs)) here ∙ ap (option_map (following (unfolded gap))) later ∙ following-append (unfolded gap) (61 ∷ []) (first_word (precedes 61) us) ∙ ap (λ xs. option_map (following xs) (first_word (precedes 61) us)) (sym seen) ∙ ap (λ t. option_map (following (unfolded (take (place + 1) text))) (first_word t us)) next;
     }
 
-pub Placed-no : (text gap rest : List ℕ) (place : ℕ) → Placed text place → gap ≡ take place text → rest ≡ drop place text → false ≡ may_stand_behind true (unfolded gap) → Searched text (place + 1)
+pub Placed-no : (text gap rest : List ℕ) (place : ℕ) → Placed text place → gap ≡ take place text → rest ≡ drop place text → false ≡ may_stand_after true (unfolded gap) → Searched text (place + 1)
 Placed-no text gap rest place h eg er may = Placed-step text gap rest place h eg er (ap (λ t. cond t (followed_word_at (unfolded rest)) None) (sym may))
 
 pub Placed-other : (text gap rest : List ℕ) (place : ℕ) → Placed text place → gap ≡ take place text → rest ≡ drop place text → None ≡ followed_word_at (unfolded rest) → Searched text (place + 1)
-Placed-other text gap rest place h eg er none = Placed-step text gap rest place h eg er (cond_none (may_stand_behind true (unfolded gap)) (followed_word_at (unfolded rest)) (sym none))
+Placed-other text gap rest place h eg er none = Placed-step text gap rest place h eg er (cond_none (may_stand_after true (unfolded gap)) (followed_word_at (unfolded rest)) (sym none))

@@ -9,15 +9,15 @@ use Rattle.mail_words.specs.Meaning.{Means, IsGood}
 
 -- a word may stand after these octets (RFC 2047, section 5): there are none and one may stand at the start, or the last
 -- of them is a blank or "("
-abbrev pub may_stand_behind : Bool → List ℕ → Bool
-may_stand_behind start [] = start
-may_stand_behind start (b ∷ bs) = may_stand_behind (precedes b) bs
+abbrev pub may_stand_after : Bool → List ℕ → Bool
+may_stand_after start [] = start
+may_stand_after start (b ∷ bs) = may_stand_after (precedes b) bs
 
 -- a word stands in a text, between the text before it and the text after it
 pub record StandsIn (start : Bool) (text before : List ℕ) (w : Word) (after : List ℕ) : Type 0 where
   pub joined : text ≡ before ++ (spelling w ++ after)
   pub word : IsWord w
-  pub begins : may_stand_behind start before ≡ true
+  pub begins : may_stand_after start before ≡ true
   pub ends : can_follow after ≡ true
 
 -- gaps and words, written one after another, and then the last text
@@ -37,26 +37,26 @@ abbrev pub IsWordShown : Word → List ℕ → Type 0
 IsWordShown w octets = Means w octets ⊎ ((IsGood w → ⊥) × (octets ≡ spelling w))
 
 -- there is a word before, and it is good
-abbrev pub IsBehindGood : Option Word → Type 0
-IsBehindGood None = ⊥
-IsBehindGood (Some w) = IsGood w
+abbrev pub IsAfterGood : Option Word → Type 0
+IsAfterGood None = ⊥
+IsAfterGood (Some w) = IsGood w
 
 -- a gap is dropped (RFC 2047, section 6.2): it is blanks alone and stands between two good words
 abbrev pub IsDropped : Option Word → List ℕ → Word → Type 0
-IsDropped before gap w = IsBehindGood before × (list_all is_blank gap ≡ true) × IsGood w
+IsDropped before gap w = IsAfterGood before × (list_all is_blank gap ≡ true) × IsGood w
 
 -- what is shown of a gap: nothing where it is dropped, and otherwise all of it
 abbrev pub IsGapShown : Option Word → List ℕ → Word → List ℕ → Type 0
 IsGapShown before gap w octets = (IsDropped before gap w × (octets ≡ [])) ⊎ ((IsDropped before gap w → ⊥) × (octets ≡ gap))
 
 -- what is shown of the gaps and words after a word, and of the last text
-abbrev pub IsShownBehind : Option Word → List (List ℕ × Word) → List ℕ → List ℕ → Type 0
-IsShownBehind before [] last value = value ≡ last
-IsShownBehind before (part ∷ parts) last value = (gap : List ℕ) × (word : List ℕ) × (rest : List ℕ) × IsGapShown before part.0 part.1 gap × IsWordShown part.1 word × IsShownBehind (Some part.1) parts last rest × (value ≡ gap ++ (word ++ rest))
+abbrev pub IsShownAfter : Option Word → List (List ℕ × Word) → List ℕ → List ℕ → Type 0
+IsShownAfter before [] last value = value ≡ last
+IsShownAfter before (part ∷ parts) last value = (gap : List ℕ) × (word : List ℕ) × (rest : List ℕ) × IsGapShown before part.0 part.1 gap × IsWordShown part.1 word × IsShownAfter (Some part.1) parts last rest × (value ≡ gap ++ (word ++ rest))
 
 -- what is shown of a text: its words and gaps, and the text after them
 abbrev pub IsShown : List ℕ → List ℕ → Type 0
-IsShown text value = (cut : Cut) × IsCutOf text cut × IsShownBehind None cut.0 cut.1 value
+IsShown text value = (cut : Cut) × IsCutOf text cut × IsShownAfter None cut.0 cut.1 value
 
 -- what is computed is what is shown of a text, and nothing else is
 abbrev pub ShownLaw : Type 0

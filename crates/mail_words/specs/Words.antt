@@ -105,7 +105,7 @@ is_part_octet Text = is_text_octet
 
 -- the first octet is one of the part's, and this is the rest
 abbrev pub IsPartOctet : Part → List ℕ → List ℕ → Type 0
-IsPartOctet part text behind = (b : ℕ) × (is_part_octet part b ≡ true) × IsFirstOctet text b behind
+IsPartOctet part text following = (b : ℕ) × (is_part_octet part b ≡ true) × IsFirstOctet text b following
 
 abbrev pub begins_with_pair : ℕ → ℕ → List ℕ → Bool
 begins_with_pair first second [] = false

@@ -19,18 +19,18 @@ const OCTETS: usize = 48;
 /// Reads the first symbols of a text, as many as there is room for. Answers their number, and the rest of the text.
 fn read_symbols<'a>(text: &'a [u8], symbols: &mut [u8; SYMBOLS]) -> (usize, &'a [u8])
     ensures read { take result.0 symbols.new ≡ take 64 (unfolded text.now) }
-    ensures behind { unfolded result.1.now ≡ drop 64 (unfolded text.now) }
+    ensures following { unfolded result.1.now ≡ drop 64 (unfolded text.now) }
     ensures within { result.0 ≤ 64 }
 {
     let mut count = 0;
     let mut rest = text;
     while count < SYMBOLS {
-        let Some((octet, behind)) = first_octet(rest) else {
+        let Some((octet, following)) = first_octet(rest) else {
             return (count, rest);
         };
         symbols[count] = octet;
         count += 1;
-        rest = behind;
+        rest = following;
     }
     (count, rest)
 }
@@ -57,16 +57,16 @@ pub fn append_b(shown: &mut Vec<u8>, charset: Charset, text: &[u8]) -> Result<bo
     let mut octets = [0u8; OCTETS];
     let mut rest = text;
     'groups: while !is_empty(rest) {
-        let (count, behind) = read_symbols(rest, &mut symbols);
+        let (count, following) = read_symbols(rest, &mut symbols);
         let Some(size) = decode_symbols(&symbols[..count], &mut octets) else {
             return Ok(false);
         };
         // Padding stands only at the end.
-        if size < OCTETS && !is_empty(behind) {
+        if size < OCTETS && !is_empty(following) {
             return Ok(false);
         }
         append_octets(shown, charset, &octets[..size])?;
-        rest = behind;
+        rest = following;
     }
     Ok(true)
 }

@@ -45,7 +45,7 @@ pub fn append_q(shown: &mut Vec<u8>, charset: Charset, text: &[u8]) -> Result<bo
 {
     let mut place = Place::Plain;
     let mut rest = text;
-    while let Some((octet, behind)) = first_octet(rest) {
+    while let Some((octet, following)) = first_octet(rest) {
         place = match place {
             Place::Plain if octet == b'=' => Place::Escape,
             Place::Plain => {
@@ -64,7 +64,7 @@ pub fn append_q(shown: &mut Vec<u8>, charset: Charset, text: &[u8]) -> Result<bo
                 None => return Ok(false),
             },
         };
-        rest = behind;
+        rest = following;
     }
     match place {
         Place::Plain => Ok(true),

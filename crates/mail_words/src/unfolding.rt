@@ -57,11 +57,11 @@ pub fn first_octet(text: &[u8]) -> Option<(u8, &[u8])>
 {
     let mut rest = text;
     while stands_at_line_end(rest) {
-        let (_, behind) = rest.split_at(1);
-        rest = behind;
+        let (_, following) = rest.split_at(1);
+        rest = following;
     }
     match rest.split_first() {
-        Some((&octet, behind)) => Some((octet, behind)),
+        Some((&octet, following)) => Some((octet, following)),
         None => None,
     }
 }
@@ -106,11 +106,11 @@ pub fn is_all_blank(text: &[u8]) -> bool
     ensures { result ≡ list_all is_blank (unfolded text.now) }
 {
     let mut rest = text;
-    while let Some((octet, behind)) = first_octet(rest) {
+    while let Some((octet, following)) = first_octet(rest) {
         if !is_blank_octet(octet) {
             return false;
         }
-        rest = behind;
+        rest = following;
     }
     true
 }
@@ -119,11 +119,11 @@ fn trim_start(text: &[u8]) -> &[u8]
     ensures { unfolded result.now ≡ without_first_blanks (unfolded text.now) }
 {
     let mut rest = text;
-    while let Some((octet, behind)) = first_octet(rest) {
+    while let Some((octet, following)) = first_octet(rest) {
         if !is_blank_octet(octet) {
             return rest;
         }
-        rest = behind;
+        rest = following;
     }
     rest
 }

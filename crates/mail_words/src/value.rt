@@ -66,7 +66,7 @@ fn append_shown(shown: &mut Vec<u8>, text: &[u8]) -> Result<(), AllocError>
     while let Some(standing) = next_word(rest) {
         let good = append_word(shown, &standing, after_good)?;
         after_good = good;
-        rest = standing.behind();
+        rest = standing.following();
     }
     append_unfolded(shown, rest)?;
     Ok(())

@@ -3,7 +3,7 @@
 ghost use Rattle.std.specs.Prelude.{◌≡◌, ◌∷◌, ◌++◌, [], true, false, length, drop, IfSome, MatchOption};
 ghost use Rattle.std.specs.List.{take_while};
 ghost use Rattle.mail_words.specs.Unfolding.{unfolded};
-ghost use Rattle.mail_words.specs.Spans.{may_stand_behind};
+ghost use Rattle.mail_words.specs.Spans.{may_stand_after};
 ghost use Rattle.mail_words.specs.Words.{is_charset_octet, is_text_octet, is_encoding, is_part_octet, IsPartOctet, precedes, can_follow, begins_with_pair, names_encoding, word_at, followed_word_at, first_word, spelling};
 
 use crate::unfolding::{first_octet, is_blank_octet, is_empty, last_octet};
@@ -61,7 +61,7 @@ impl<'a> EncodedWord<'a> {
 #[derive(Drop)]
 pub struct FrontWord<'a> {
     word: EncodedWord<'a>,
-    behind: &'a [u8],
+    following: &'a [u8],
 }
 
 impl<'a> Model for FrontWord<'a> {
@@ -71,7 +71,7 @@ impl<'a> Model for FrontWord<'a> {
 
     ghost Value = { Word × List ℕ };
 
-    ghost view = { λ f. (f.word, unfolded f.behind.now) };
+    ghost view = { λ f. (f.word, unfolded f.following.now) };
 }
 
 impl<'a> FrontWord<'a> {
@@ -82,7 +82,7 @@ impl<'a> FrontWord<'a> {
         StandingWord {
             gap,
             word: self.word,
-            behind: self.behind,
+            following: self.following,
         }
     }
 }
@@ -92,7 +92,7 @@ impl<'a> FrontWord<'a> {
 pub struct StandingWord<'a> {
     gap: &'a [u8],
     word: EncodedWord<'a>,
-    behind: &'a [u8],
+    following: &'a [u8],
 }
 
 impl<'a> Model for StandingWord<'a> {
@@ -102,7 +102,7 @@ impl<'a> Model for StandingWord<'a> {
 
     ghost Value = { List ℕ × Word × List ℕ };
 
-    ghost view = { λ s. (unfolded s.gap.now, s.word, unfolded s.behind.now) };
+    ghost view = { λ s. (unfolded s.gap.now, s.word, unfolded s.following.now) };
 }
 
 impl<'a> StandingWord<'a> {
@@ -120,10 +120,10 @@ impl<'a> StandingWord<'a> {
     }
 
     /// The text after the word.
-    pub fn behind(&self) -> &'a [u8]
+    pub fn following(&self) -> &'a [u8]
         ensures { unfolded result.now ≡ self.now.2 }
     {
-        self.behind
+        self.following
     }
 }
 
@@ -173,11 +173,11 @@ fn is_in_part(part: Part, octet: u8) -> bool
 }
 
 /// The rest after the first octet, if that is one of the part.
-fn behind_part_octet(text: &[u8], part: Part) -> Option<&[u8]>
-    ensures { MatchOption result (take_while (is_part_octet part) (unfolded text.now) ≡ []) (λ behind. IsPartOctet part text.now behind.now) }
+fn after_part_octet(text: &[u8], part: Part) -> Option<&[u8]>
+    ensures { MatchOption result (take_while (is_part_octet part) (unfolded text.now) ≡ []) (λ following. IsPartOctet part text.now following.now) }
 {
     match first_octet(text) {
-        Some((octet, behind)) if is_in_part(part, octet) => Some(behind),
+        Some((octet, following)) if is_in_part(part, octet) => Some(following),
         _ => None,
     }
 }
@@ -185,38 +185,38 @@ fn behind_part_octet(text: &[u8], part: Part) -> Option<&[u8]>
 /// The octets at the front of a text that are the part's, and the rest.
 fn split_part(text: &[u8], part: Part) -> (&[u8], &[u8])
     ensures front { unfolded result.0.now ≡ take_while (is_part_octet part) (unfolded text.now) }
-    ensures behind { unfolded result.1.now ≡ drop (length (take_while (is_part_octet part) (unfolded text.now))) (unfolded text.now) }
+    ensures following { unfolded result.1.now ≡ drop (length (take_while (is_part_octet part) (unfolded text.now))) (unfolded text.now) }
 {
     let mut rest = text;
-    while let Some(behind) = behind_part_octet(rest, part) {
-        rest = behind;
+    while let Some(following) = after_part_octet(rest, part) {
+        rest = following;
     }
     let (front, _) = text.split_at(text.len() - rest.len());
     (front, rest)
 }
 
 /// The rest after these two octets, if the text begins with them.
-fn behind_pair(text: &[u8], first: u8, second: u8) -> Option<&[u8]>
-    ensures { MatchOption result (begins_with_pair first second (unfolded text.now) ≡ false) (λ behind. unfolded text.now ≡ first ∷ second ∷ unfolded behind.now) }
+fn after_pair(text: &[u8], first: u8, second: u8) -> Option<&[u8]>
+    ensures { MatchOption result (begins_with_pair first second (unfolded text.now) ≡ false) (λ following. unfolded text.now ≡ first ∷ second ∷ unfolded following.now) }
 {
     let (octet, rest) = first_octet(text)?;
-    let (next, behind) = first_octet(rest)?;
+    let (next, following) = first_octet(rest)?;
     if octet == first && next == second {
-        Some(behind)
+        Some(following)
     } else {
         None
     }
 }
 
 /// The letter of an encoding and the rest after it, if the text begins with one between two "?".
-fn behind_encoding(text: &[u8]) -> Option<(u8, &[u8])>
+fn after_encoding(text: &[u8]) -> Option<(u8, &[u8])>
     ensures { MatchOption result (names_encoding (unfolded text.now) ≡ false) (λ e. (unfolded text.now ≡ 63 ∷ e.0 ∷ 63 ∷ unfolded e.1.now) × (is_encoding e.0 ≡ true)) }
 {
     let (first, rest) = first_octet(text)?;
     let (letter, rest) = first_octet(rest)?;
-    let (last, behind) = first_octet(rest)?;
+    let (last, following) = first_octet(rest)?;
     if first == b'?' && is_encoding_letter(letter) && last == b'?' {
-        Some((letter, behind))
+        Some((letter, following))
     } else {
         None
     }
@@ -243,11 +243,11 @@ fn may_follow(text: &[u8]) -> bool
 fn front_word(text: &[u8]) -> Option<FrontWord<'_>>
     ensures { result ≡ word_at (unfolded text.now) }
 {
-    let opened = behind_pair(text, b'=', b'?')?;
+    let opened = after_pair(text, b'=', b'?')?;
     let (charset, encoded) = split_part(opened, Part::Charset);
-    let (encoding, rest) = behind_encoding(encoded)?;
+    let (encoding, rest) = after_encoding(encoded)?;
     let (text, closed) = split_part(rest, Part::Text);
-    let behind = behind_pair(closed, b'?', b'=')?;
+    let following = after_pair(closed, b'?', b'=')?;
     if is_empty(charset) || is_empty(text) {
         return None;
     }
@@ -256,7 +256,7 @@ fn front_word(text: &[u8]) -> Option<FrontWord<'_>>
         encoding,
         text,
     };
-    Some(FrontWord { word, behind })
+    Some(FrontWord { word, following })
 }
 
 /// The word at the front of a text, if one stands there and the rest may follow a word.
@@ -264,14 +264,14 @@ fn followed_word(text: &[u8]) -> Option<FrontWord<'_>>
     ensures { result ≡ followed_word_at (unfolded text.now) }
 {
     match front_word(text) {
-        Some(front) if may_follow(front.behind) => Some(front),
+        Some(front) if may_follow(front.following) => Some(front),
         _ => None,
     }
 }
 
 /// Whether a word may stand directly after the gap.
-fn may_begin_behind(gap: &[u8]) -> bool
-    ensures { result ≡ may_stand_behind true (unfolded gap.now) }
+fn may_begin_after(gap: &[u8]) -> bool
+    ensures { result ≡ may_stand_after true (unfolded gap.now) }
 {
     match last_octet(gap) {
         Some((_, octet)) => may_precede(octet),
@@ -288,7 +288,7 @@ pub fn next_word(text: &[u8]) -> Option<StandingWord<'_>>
     while let Some(step) = memchr(b'=', &text[from..]) {
         let place = from + step;
         let (gap, rest) = text.split_at(place);
-        if may_begin_behind(gap) {
+        if may_begin_after(gap) {
             if let Some(front) = followed_word(rest) {
                 return Some(front.with_gap(gap));
             }

@@ -3,7 +3,7 @@
 use crate::Verdict;
 use crate::failure::Failure;
 use crate::files::{read_file, write_line};
-use crate::findings::{Finding, judge};
+use crate::findings::{Finding, first_finding};
 use clap::ArgMatches;
 use std::alloc::{AllocError, Global};
 use tool_texts::{Payload, place_of, refusal_text};
@@ -27,7 +27,7 @@ fn line_of(alloc: Global, path: &str, text: &[u8], finding: Finding) -> Result<S
 /// The text of a script's file; none where the script is refused, which is reported on standard output.
 pub fn read_good_script(rt: &HostRuntime, path: &str) -> Result<Option<Vec<u8>>, Failure> {
     let text = read_file(rt, path, Payload::Script.limit().saturating_mul(LONGER))?;
-    match judge(rt.alloc(), &text)? {
+    match first_finding(rt.alloc(), &text)? {
         Some(finding) => {
             write_line(rt, line_of(rt.alloc(), path, &text, finding)?)?;
             Ok(None)

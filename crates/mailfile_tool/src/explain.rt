@@ -3,7 +3,7 @@
 use crate::Verdict;
 use crate::failure::Failure;
 use crate::files::{read_file, read_line, write, write_line};
-use crate::findings::judge;
+use crate::findings::first_finding;
 use clap::ArgMatches;
 use std::alloc::{AllocError, Global};
 use std::io::BufReader;
@@ -91,7 +91,7 @@ fn place_of_refusal(
     if told.is_some() || !matches!(number, 30..=41) {
         return Ok(told);
     }
-    match judge(alloc, &script.octets)? {
+    match first_finding(alloc, &script.octets)? {
         Some(finding) if finding.number == number => Ok(Some(finding.at)),
         _ => Ok(None),
     }

@@ -33,7 +33,7 @@ struct Front {
 }
 
 /// Judges the text of a script; none where it is good.
-pub fn judge(alloc: Global, text: &[u8]) -> Result<Option<Finding>, AllocError> {
+pub fn first_finding(alloc: Global, text: &[u8]) -> Result<Option<Finding>, AllocError> {
     match refusal_of(alloc, text)? {
         None => Ok(None),
         Some(Refusal::Text(number, at)) => Ok(Some(Finding { number, at })),

@@ -12,7 +12,7 @@ use clap::ArgMatches;
 use class_plan::{Date, Plan, PlanFault, day_number, day_of};
 use filing_case::WholeCase;
 use filing_trace::trace_run;
-use mail_head::MOST_OCTETS;
+use mail_head::MAX_OCTETS;
 use tool_texts::Payload;
 
 /// The seconds of a day.
@@ -86,8 +86,8 @@ pub fn tell_why(rt: &HostRuntime, asked: &ArgMatches<'_>) -> Result<Verdict, Fai
         return Ok(Verdict::Refused);
     };
     let message = message_of(rt, asked)?;
-    if message.len() as u64 > MOST_OCTETS {
-        return Err(Failure::at(alloc, "the message", &FileFault::TooLong(MOST_OCTETS)));
+    if message.len() as u64 > MAX_OCTETS {
+        return Err(Failure::at(alloc, "the message", &FileFault::TooLong(MAX_OCTETS)));
     }
     let case = WholeCase::from_message(alloc, &message, plan.open_paths(alloc)?)?;
     let run = trace_run(alloc, &program, &case)?;

@@ -16,7 +16,7 @@ use Rattle.sieve_check.specs.declared.table.TagKind.TheVariants as kinds
 use Rattle.sieve_check.specs.Tables.{TagWord, WordForm, comparator_table, size_form}
 use Rattle.sieve_check.specs.Lookup.{same_name, same_text, tag_named}
 use Rattle.sieve_check.specs.Pieces.{PieceWord, tagged, positional, string_first, comparator_pieces, tag_pieces, pieces, positional_arguments}
-use Rattle.sieve_check.specs.Rules.{is_unknown_tag, tag_behind, has_kind, lacks_string, is_unknown_comparator}
+use Rattle.sieve_check.specs.Rules.{is_unknown_tag, tag_after, has_kind, lacks_string, is_unknown_comparator}
 use Rattle.sieve_check.specs.Shapes.{HasForm}
 use Rattle.sieve_meaning.specs.Reading.{is_tag, has_tag, string_lists}
 use Rattle.sieve_meaning.specs.Words.{same_word}
@@ -177,7 +177,7 @@ pieces_read names tags all (arguments.Tag t ∷ arguments.Tag v ∷ more) u l = 
 -- the arguments of a form
 pub form_read : (names : List (List ℕ)) (form : WordForm) (args : List Argument) (inner : InnerTests) → AreRead names form.tags → HasForm form args inner → (ps : List Argument) → positional_arguments (pieces form.tags args) ≡ ps → HasArguments names (lists_of ps) (numbers_in ps) args
 form_read names form args inner all h ps e =
-    let t = or_parts (list_any is_unknown_tag (pieces form.tags args)) (tag_behind (pieces form.tags args)) h.tags in
+    let t = or_parts (list_any is_unknown_tag (pieces form.tags args)) (tag_after (pieces form.tags args)) h.tags in
     let r = pieces_read names form.tags all args t.0 h.strings in
     record {
       tags_are = r.listed;

@@ -62,4 +62,4 @@ pub exists_answer : (case : BorrowedCase Paths) (args : List Argument) (fields :
 exists_answer case args fields names more answer same lists told = rw lists (told ∙ ap (λ xs. list_all (λ name. list_any (λ f. is_named name (lent f)) xs) (strings_of names)) same ∙ sym (exists-shown case names more))
 
 pub header_answer : (case : BorrowedCase Paths) (args rest : List Argument) (fields : List BorrowedField) (m : MatchType) (c : Comparator) (names keys : StringList) (more : List StringList) (answer : Bool) → fields ≡ case.fields.items → string_lists false args ≡ names ∷ string_lists false rest → string_lists false rest ≡ keys ∷ more → m ≡ match_type args → c ≡ comparator_from false args → answer ≡ list_any (λ f. list_any (λ name. is_named name (lent f)) (strings_of names) && list_any (λ key. key_matches m c key (lent f).value) (strings_of keys)) fields → answer ≡ truth (facts_of case) (header_of (match_type args) (comparator_from false args) (string_lists false args))
-header_answer case args rest fields m c names keys more answer same lists lists_behind how by told = rw (← how, ← by, lists, lists_behind) (told ∙ ap (λ xs. list_any (λ f. list_any (λ name. is_named name (lent f)) (strings_of names) && list_any (λ key. key_matches m c key (lent f).value) (strings_of keys)) xs) same ∙ sym (header-shown case m c names keys more))
+header_answer case args rest fields m c names keys more answer same lists lists_after how by told = rw (← how, ← by, lists, lists_after) (told ∙ ap (λ xs. list_any (λ f. list_any (λ name. is_named name (lent f)) (strings_of names) && list_any (λ key. key_matches m c key (lent f).value) (strings_of keys)) xs) same ∙ sym (header-shown case m c names keys more))

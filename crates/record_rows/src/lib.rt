@@ -2,12 +2,12 @@
 //! holds are an archive's.
 #![tactic(auto)]
 
+mod archive_rules;
 mod first;
-mod judge;
 mod plans;
 mod rules;
 
+pub use archive_rules::are_rows_of;
 pub use first::{classes_without_texts, plan_of_texts, rules_of_texts};
-pub use judge::are_rows_of;
 pub use plans::plan_of_rows;
 pub use rules::{classes_of, rules_of};

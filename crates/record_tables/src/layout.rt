@@ -371,7 +371,7 @@ pub(crate) fn is_alone(schema: &Schema) -> bool
     schema.tables.len() == 7 && schema.indexes.len() == 5 && schema.views.is_empty()
 }
 
-fn judge(schema: &Schema) -> Layout
+fn layout_in(schema: &Schema) -> Layout
     ensures { IsLayout schema.now result }
 {
     if has_none(schema) {
@@ -401,6 +401,6 @@ pub fn layout_of(schema: &Schema) -> Layout
     ensures first_with_dues { schema.now ≡ dated_schema → result ≡ Layout.FirstWithDues }
     ensures second { IsArchiveSchema schema.now → result ≡ Layout.Second }
 {
-    let layout = judge(schema);
+    let layout = layout_in(schema);
     layout
 }

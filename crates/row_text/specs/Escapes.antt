@@ -21,15 +21,15 @@ abbrev mutual
   -- the octets that a text with escapes means
   pub unescaped : List ℕ → List ℕ
   unescaped [] = []
-  unescaped (b ∷ bs) = if b == 92 then behind_backslash bs else b ∷ unescaped bs
+  unescaped (b ∷ bs) = if b == 92 then after_backslash bs else b ∷ unescaped bs
 
   -- and a text after a backslash
-  pub behind_backslash : List ℕ → List ℕ
-  behind_backslash [] = []
-  behind_backslash (b ∷ bs) = if b == 120 then behind_x bs else escaped b ∷ unescaped bs
+  pub after_backslash : List ℕ → List ℕ
+  after_backslash [] = []
+  after_backslash (b ∷ bs) = if b == 120 then after_x bs else escaped b ∷ unescaped bs
 
   -- and after `\x`: two digits
-  pub behind_x : List ℕ → List ℕ
-  behind_x [] = []
-  behind_x (high ∷ []) = []
-  behind_x (high ∷ low ∷ bs) = (hex_value high * 16 + hex_value low) ∷ unescaped bs
+  pub after_x : List ℕ → List ℕ
+  after_x [] = []
+  after_x (high ∷ []) = []
+  after_x (high ∷ low ∷ bs) = (hex_value high * 16 + hex_value low) ∷ unescaped bs

@@ -58,9 +58,9 @@ pub fn octets_of(alloc: Global, text: &str) -> Result<Vec<u8>, AllocError>
 {
     let mut octets = Vec::new(alloc);
     let mut rest = text.as_bytes();
-    while let Some((octet, behind)) = next_octet(rest) {
+    while let Some((octet, following)) = next_octet(rest) {
         octets.push(octet)?;
-        rest = behind;
+        rest = following;
     }
     Ok(octets)
 }

@@ -50,7 +50,7 @@ pub fn tell(rt: &(impl Print + AllocGlobal), seed: u64, count: u32) -> Result<()
     let mut judges = Judges::new(rt.alloc(), &mut chance)?;
     for _ in 0..count {
         let kind = next_kind(&mut chance);
-        judges.judge(&mut chance, &mut tally, kind)?;
+        judges.try_input(&mut chance, &mut tally, kind)?;
     }
     tally.tell(rt)
 }

@@ -90,7 +90,7 @@ fn answer(alloc: Global, library: &mut Library, row: &Row) -> Result<Vec<u8>> {
 }
 
 /// Whether a row's call is answered as the row says; if not, this is reported.
-fn judge(rt: &(impl Print + AllocGlobal), given: &mut Given, line: &str) -> Result<bool> {
+fn check_row(rt: &(impl Print + AllocGlobal), given: &mut Given, line: &str) -> Result<bool> {
     let row = read_row(rt.alloc(), given.front.as_slice(), line)?;
     let mut found = answer(rt.alloc(), &mut given.library, &row)?;
     if found.is_empty() {
@@ -112,7 +112,7 @@ fn play_calls(rt: &(impl Print + AllocGlobal), table: &str) -> Result<()> {
         if given.takes(rt.alloc(), line)? {
             continue;
         }
-        if judge(rt, &mut given, line)? {
+        if check_row(rt, &mut given, line)? {
             right = right.saturating_add(1);
         }
         given.front.clear();

@@ -3,7 +3,7 @@
 use crate::told::{size, word};
 use anyhow::{Result, bail};
 use filing_machine::{Case, PieceCase, WholeCase};
-use mail_head::{HeadFault, HeadReader, MOST_OCTETS, PieceHead, read_head};
+use mail_head::{HeadFault, HeadReader, MAX_OCTETS, PieceHead, read_head};
 use mail_words::value_of;
 use std::alloc::Global;
 use std::collections::BTreeSet;
@@ -119,7 +119,7 @@ pub fn open_paths(alloc: Global) -> Result<BTreeSet<Vec<u8>>> {
 
 /// The case of a whole message.
 pub fn whole_case(alloc: Global, message: &[u8]) -> Result<WholeCase> {
-    if message.len() as u64 > MOST_OCTETS {
+    if message.len() as u64 > MAX_OCTETS {
         bail!("a message is too long");
     }
     Ok(WholeCase::read(alloc, message, open_paths(alloc)?)?)

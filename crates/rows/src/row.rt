@@ -63,7 +63,7 @@ pub fn add_more(alloc: Global, front: &mut Vec<u8>, more: &str) -> Result<()> {
 }
 
 /// The octets of a text after others.
-fn behind(alloc: Global, front: &[u8], text: &str) -> Result<Vec<u8>, AllocError> {
+fn following(alloc: Global, front: &[u8], text: &str) -> Result<Vec<u8>, AllocError> {
     let mut whole = Vec::from_slice(alloc, front)?;
     whole.extend_from_slice(octets_of(alloc, text)?.as_slice())?;
     Ok(whole)
@@ -72,7 +72,7 @@ fn behind(alloc: Global, front: &[u8], text: &str) -> Result<Vec<u8>, AllocError
 /// The name and the text of a script, the text after the octets in `front`.
 pub fn read_script(alloc: Global, front: &[u8], line: &str) -> Result<(Vec<u8>, Vec<u8>)> {
     let (name, text) = line.split_once(' ').unwrap_or((line, ""));
-    Ok((octets_of(alloc, name)?, behind(alloc, front, text)?))
+    Ok((octets_of(alloc, name)?, following(alloc, front, text)?))
 }
 
 /// Reads a row, whose first text follows the octets in `front`.
@@ -84,7 +84,7 @@ pub fn read_row(alloc: Global, front: &[u8], line: &str) -> Result<Row> {
     let (second, third) = others.split_once('|').unwrap_or((others, ""));
     Ok(Row {
         call,
-        first: behind(alloc, front, first)?,
+        first: following(alloc, front, first)?,
         second: octets_of(alloc, second)?,
         third: octets_of(alloc, third)?,
         wanted: octets_of(alloc, wanted)?,

@@ -245,7 +245,7 @@ fn are_wanted(answered: &str, wanted: &str) -> bool {
 }
 
 /// Plays a case, and reports how it went.
-fn judge(rt: &(impl Print + AllocGlobal), case: &Case) -> io::Result<()> {
+fn play_case(rt: &(impl Print + AllocGlobal), case: &Case) -> io::Result<()> {
     let name = case.name.as_str();
     let Some(sink) = play(rt.alloc(), case.input.as_slice()) else {
         return println!(rt; "{name} had no answer");
@@ -273,7 +273,7 @@ fn read_case(alloc: Global, text: &str) -> Result<Case> {
 pub fn play_all(rt: &(impl Print + AllocGlobal), table: &str) -> Result<()> {
     for text in table.split("\ncase ").skip(1) {
         let case = read_case(rt.alloc(), text)?;
-        judge(rt, &case)?;
+        play_case(rt, &case)?;
         if case.is_cut {
             cut_anywhere(rt.alloc(), &case)?;
         }

@@ -308,7 +308,7 @@ impl Counts {
 }
 
 /// Adds what was found after a stop: the archive after the commands that were answered, or after one more.
-fn judge(
+fn count_stop(
     counts: &mut Counts,
     archives: &[Vec<u8>],
     stopped: &Stopped,
@@ -336,12 +336,12 @@ fn stop_once(
 ) -> Result<bool> {
     let mut stopped = play_stopped(alloc, files, trial.commands)?;
     let found = archive_in(alloc, &octets_of(alloc, &stopped.files)?)?;
-    judge(counts, archives, &stopped, &found)?;
+    count_stop(counts, archives, &stopped, &found)?;
     let has_stopped = stopped.has_stopped;
     stopped.files.log.crash();
     stopped.files.db.crash();
     let octets = octets_of(alloc, &stopped.files)?;
-    judge(counts, archives, &stopped, &archive_in(alloc, &octets)?)?;
+    count_stop(counts, archives, &stopped, &archive_in(alloc, &octets)?)?;
     Ok(has_stopped)
 }
 

@@ -94,13 +94,13 @@ fn write_command(alloc: Global, out: &mut Vec<u8>, command: &Command) -> Result<
 }
 
 /// The most commands that are written out; of more only the number is written.
-const MOST_SHOWN: usize = 20;
+const MAX_SHOWN: usize = 20;
 
 /// A tree as the functions above write it, or how many commands it has.
 fn tree_text(alloc: Global, script: &Script) -> Result<Vec<u8>> {
     let mut text = Vec::new(alloc);
     let count = script.commands.len();
-    if count > MOST_SHOWN {
+    if count > MAX_SHOWN {
         text.extend_from_slice(format!(in alloc; "{count} commands")?.as_bytes())?;
         return Ok(text);
     }

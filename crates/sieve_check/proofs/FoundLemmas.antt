@@ -9,7 +9,7 @@ use Rattle.sieve_check.specs.declared.table.TagKind.{TagKind}
 use Rattle.sieve_check.specs.declared.findings.Findings.{Findings}
 use Rattle.sieve_check.specs.Tables.{TagWord, WordForm}
 use Rattle.sieve_check.specs.Pieces.{PieceWord, tagged, positional, is_tagged}
-use Rattle.sieve_check.specs.Rules.{has_kind, stands_twice, has_tag_twice, same_kind, tag_behind}
+use Rattle.sieve_check.specs.Rules.{has_kind, stands_twice, has_tag_twice, same_kind, tag_after}
 use Rattle.sieve_check.specs.Findings.{nothing_found, found_with, found_in}
 
 -- a finding that each piece adds to by itself
@@ -18,33 +18,33 @@ any_found has get test turn f [] = sym (or-false (get f))
 any_found has get test turn f (p ∷ ps) = any_found has get test turn (found_with has f p) ps ∙ ap (λ (b : Bool). b || list_any test ps) (turn f p) ∙ or_assoc (get f) (test p) (list_any test ps)
 
 -- whether a tag comes after a positional argument; the flag tells that one came before these pieces
-behind_from : Bool → List PieceWord → Bool
-behind_from true ps = list_any is_tagged ps
-behind_from false ps = tag_behind ps
+after_from : Bool → List PieceWord → Bool
+after_from true ps = list_any is_tagged ps
+after_from false ps = tag_after ps
 
 one_more : (n : ℕ) → suc n ≡ 1 + n
 one_more n = omega arith
 
-behind_turn : (b q : Bool) (p : PieceWord) (ps : List PieceWord) → ((b || (q && is_tagged p)) || behind_from (q || not (is_tagged p)) ps) ≡ (b || behind_from q (p ∷ ps))
-unfolding behind_from
-behind_turn true q p ps = refl
-behind_turn false true p ps = refl
-behind_turn false false (tagged w c) ps = ap (λ (n : ℕ). list_any is_tagged (drop n (tagged w c ∷ ps))) (one_more (prefix_len is_tagged ps))
-behind_turn false false (positional a) ps = refl
+after_turn : (b q : Bool) (p : PieceWord) (ps : List PieceWord) → ((b || (q && is_tagged p)) || after_from (q || not (is_tagged p)) ps) ≡ (b || after_from q (p ∷ ps))
+unfolding after_from
+after_turn true q p ps = refl
+after_turn false true p ps = refl
+after_turn false false (tagged w c) ps = ap (λ (n : ℕ). list_any is_tagged (drop n (tagged w c ∷ ps))) (one_more (prefix_len is_tagged ps))
+after_turn false false (positional a) ps = refl
 
-nothing_behind : (b q : Bool) → b ≡ (b || behind_from q [])
-unfolding behind_from
-nothing_behind true q = refl
-nothing_behind false true = refl
-nothing_behind false false = refl
+nothing_after : (b q : Bool) → b ≡ (b || after_from q [])
+unfolding after_from
+nothing_after true q = refl
+nothing_after false true = refl
+nothing_after false false = refl
 
-behind_found : (has : Capability → Bool) (f : Findings) (ps : List PieceWord) → (found_in has f ps).late_tag ≡ (f.late_tag || behind_from f.positional ps)
-behind_found has f [] = nothing_behind f.late_tag f.positional
-behind_found has f (p ∷ ps) = behind_found has (found_with has f p) ps ∙ behind_turn f.late_tag f.positional p ps
+after_found : (has : Capability → Bool) (f : Findings) (ps : List PieceWord) → (found_in has f ps).late_tag ≡ (f.late_tag || after_from f.positional ps)
+after_found has f [] = nothing_after f.late_tag f.positional
+after_found has f (p ∷ ps) = after_found has (found_with has f p) ps ∙ after_turn f.late_tag f.positional p ps
 
-pub tag_behind_found : (has : Capability → Bool) (ps : List PieceWord) → (found_in has nothing_found ps).late_tag ≡ tag_behind ps
-unfolding behind_from
-tag_behind_found has ps = behind_found has nothing_found ps
+pub tag_after_found : (has : Capability → Bool) (ps : List PieceWord) → (found_in has nothing_found ps).late_tag ≡ tag_after ps
+unfolding after_from
+tag_after_found has ps = after_found has nothing_found ps
 
 -- whether there is a second tag; the flag tells that one came before these pieces
 second_from : Bool → List PieceWord → Bool

@@ -33,9 +33,9 @@ unfolding refusal_of refusal_from same_name same_text
 not_required = refl
 
 -- if true { keep; } keep; else { stop; }
-else_behind_keep : refusal_of (command_then (command (codes "if") ([]) (one_test (test (codes "true") ([]) no_tests)) (block (command_then (command (codes "keep") ([]) no_tests semicolon) no_commands))) (command_then (command (codes "keep") ([]) no_tests semicolon) (command_then (command (codes "else") ([]) no_tests (block (command_then (command (codes "stop") ([]) no_tests semicolon) no_commands))) no_commands))) ≡ Some 39
+else_after_keep : refusal_of (command_then (command (codes "if") ([]) (one_test (test (codes "true") ([]) no_tests)) (block (command_then (command (codes "keep") ([]) no_tests semicolon) no_commands))) (command_then (command (codes "keep") ([]) no_tests semicolon) (command_then (command (codes "else") ([]) no_tests (block (command_then (command (codes "stop") ([]) no_tests semicolon) no_commands))) no_commands))) ≡ Some 39
 unfolding refusal_of refusal_from same_name same_text
-else_behind_keep = refl
+else_after_keep = refl
 
 -- if not (true) {}
 not_in_brackets : refusal_of (command_then (command (codes "if") ([]) (one_test (test (codes "not") ([]) (listed_tests (test (codes "true") ([]) no_tests) last_test))) (block no_commands)) no_commands) ≡ Some 41
@@ -123,9 +123,9 @@ unfolding refusal_of refusal_from same_name same_text
 keep_with_tag = refl
 
 -- require "fileinto"; fileinto "a" :copy;
-copy_behind : refusal_of (command_then (command (codes "require") (one (codes "fileinto") ∷ []) no_tests semicolon) (command_then (command (codes "fileinto") (one (codes "a") ∷ marked (codes "copy") ∷ []) no_tests semicolon) no_commands)) ≡ Some 34
+copy_after : refusal_of (command_then (command (codes "require") (one (codes "fileinto") ∷ []) no_tests semicolon) (command_then (command (codes "fileinto") (one (codes "a") ∷ marked (codes "copy") ∷ []) no_tests semicolon) no_commands)) ≡ Some 34
 unfolding refusal_of refusal_from same_name same_text
-copy_behind = refl
+copy_after = refl
 
 -- keep body;
 keep_body : refusal_of (command_then (command (codes "keep") ([]) (one_test (test (codes "body") ([]) no_tests)) semicolon) no_commands) ≡ Some 33
@@ -168,19 +168,19 @@ unfolding refusal_of refusal_from same_name same_text
 comparator_of_exists = refl
 
 -- if true {} else {} else {}
-else_behind_else : refusal_of (command_then (command (codes "if") ([]) (one_test (test (codes "true") ([]) no_tests)) (block no_commands)) (command_then (command (codes "else") ([]) no_tests (block no_commands)) (command_then (command (codes "else") ([]) no_tests (block no_commands)) no_commands))) ≡ Some 39
+else_after_else : refusal_of (command_then (command (codes "if") ([]) (one_test (test (codes "true") ([]) no_tests)) (block no_commands)) (command_then (command (codes "else") ([]) no_tests (block no_commands)) (command_then (command (codes "else") ([]) no_tests (block no_commands)) no_commands))) ≡ Some 39
 unfolding refusal_of refusal_from same_name same_text
-else_behind_else = refl
+else_after_else = refl
 
 -- if true {} else {} elsif true {}
-elsif_behind_else : refusal_of (command_then (command (codes "if") ([]) (one_test (test (codes "true") ([]) no_tests)) (block no_commands)) (command_then (command (codes "else") ([]) no_tests (block no_commands)) (command_then (command (codes "elsif") ([]) (one_test (test (codes "true") ([]) no_tests)) (block no_commands)) no_commands))) ≡ Some 39
+elsif_after_else : refusal_of (command_then (command (codes "if") ([]) (one_test (test (codes "true") ([]) no_tests)) (block no_commands)) (command_then (command (codes "else") ([]) no_tests (block no_commands)) (command_then (command (codes "elsif") ([]) (one_test (test (codes "true") ([]) no_tests)) (block no_commands)) no_commands))) ≡ Some 39
 unfolding refusal_of refusal_from same_name same_text
-elsif_behind_else = refl
+elsif_after_else = refl
 
 -- if size 5 :over {}
-size_behind : refusal_of (command_then (command (codes "if") ([]) (one_test (test (codes "size") (arguments.Number 5 ∷ marked (codes "over") ∷ []) no_tests)) (block no_commands)) no_commands) ≡ Some 35
+size_after : refusal_of (command_then (command (codes "if") ([]) (one_test (test (codes "size") (arguments.Number 5 ∷ marked (codes "over") ∷ []) no_tests)) (block no_commands)) no_commands) ≡ Some 35
 unfolding refusal_of refusal_from same_name same_text
-size_behind = refl
+size_after = refl
 
 -- if allof true {}
 allof_one : refusal_of (command_then (command (codes "if") ([]) (one_test (test (codes "allof") ([]) (one_test (test (codes "true") ([]) no_tests)))) (block no_commands)) no_commands) ≡ Some 41

@@ -27,9 +27,9 @@ walk_append c [] ys = refl
 walk_append c (x ∷ xs) ys = ap (λ (r : Result Context ℕ). unless (judged c x) r) (walk_append (context_after c x) xs ys) ∙ sym (unless_bind (judged c x) (walk (context_after c x) xs) (λ d. walk d ys))
 
 -- one more command of a block or a script
-pub walk_turn : (items : List Command) (i : ℕ) (x : Command) (known behind : Context) (follows branch : Bool) (whole : Result Context ℕ) → i < length items → x ≡ get_or items i x → walk known (in_order follows (commands_of (map command_of (drop i items)))) ≡ whole → Ok behind ≡ walk known (command_in_order follows (command_of x)) → branch ≡ is_branch (role_of (command_named (command_name (command_of x)))) → walk behind (in_order branch (commands_of (map command_of (drop (i + 1) items)))) ≡ whole
-walk_turn items i x known behind follows branch whole lt is h ok eb =
-    ap (λ (b : Bool). walk behind (in_order b (commands_of (map command_of (drop (i + 1) items))))) eb
+pub walk_turn : (items : List Command) (i : ℕ) (x : Command) (known following : Context) (follows branch : Bool) (whole : Result Context ℕ) → i < length items → x ≡ get_or items i x → walk known (in_order follows (commands_of (map command_of (drop i items)))) ≡ whole → Ok following ≡ walk known (command_in_order follows (command_of x)) → branch ≡ is_branch (role_of (command_named (command_name (command_of x)))) → walk following (in_order branch (commands_of (map command_of (drop (i + 1) items)))) ≡ whole
+walk_turn items i x known following follows branch whole lt is h ok eb =
+    ap (λ (b : Bool). walk following (in_order b (commands_of (map command_of (drop (i + 1) items))))) eb
     ∙ ap (λ (r : Result Context ℕ). r >>= λ d. walk d rest) ok
     ∙ sym (walk_append known (command_in_order follows (command_of x)) rest)
     ∙ ap (λ (xs : List Command). walk known (in_order follows (commands_of (map command_of xs)))) (sym (drop_at items i x lt is))

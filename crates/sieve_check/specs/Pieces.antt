@@ -22,14 +22,14 @@ string_first (arguments.Number n ∷ more) = None
 string_first (arguments.Tag name ∷ more) = None
 
 abbrev pub comparator_pieces : Bool → TagWord → Option (List ℕ) → List PieceWord → List PieceWord
-comparator_pieces false w next behind = tagged (Some w) None ∷ behind
-comparator_pieces true w None behind = tagged (Some w) None ∷ behind
-comparator_pieces true w (Some s) behind = tagged (Some w) (Some s) ∷ drop 1 behind
+comparator_pieces false w next following = tagged (Some w) None ∷ following
+comparator_pieces true w None following = tagged (Some w) None ∷ following
+comparator_pieces true w (Some s) following = tagged (Some w) (Some s) ∷ drop 1 following
 
 -- a tag of the table that names a comparator takes the string directly after it, if there is one
 abbrev pub tag_pieces : Option TagWord → Option (List ℕ) → List PieceWord → List PieceWord
-tag_pieces None next behind = tagged None None ∷ behind
-tag_pieces (Some w) next behind = comparator_pieces w.names_comparator w next behind
+tag_pieces None next following = tagged None None ∷ following
+tag_pieces (Some w) next following = comparator_pieces w.names_comparator w next following
 
 abbrev pub pieces : List TagWord → List Argument → List PieceWord
 pieces tags [] = []

@@ -134,11 +134,11 @@ is_unknown_tag (tagged (Some w) c) = false
 is_unknown_tag (positional a) = false
 
 -- whether a tag comes after those with which the arguments begin
-abbrev pub tag_behind : List PieceWord → Bool
-tag_behind ps = list_any is_tagged (drop (prefix_len is_tagged ps) ps)
+abbrev pub tag_after : List PieceWord → Bool
+tag_after ps = list_any is_tagged (drop (prefix_len is_tagged ps) ps)
 
 abbrev pub has_wrong_tag : List PieceWord → Bool
-has_wrong_tag ps = list_any is_unknown_tag ps || tag_behind ps
+has_wrong_tag ps = list_any is_unknown_tag ps || tag_after ps
 
 -- 36: two tags of one kind, among them the same tag twice (RFC 5228, sections 2.6.2 and 2.7.1).
 abbrev pub kind_place : TagKind → ℕ

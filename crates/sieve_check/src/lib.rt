@@ -11,7 +11,7 @@
 //! - `findings`: what one pass over the pieces shows;
 //! - `rules`: one function for each rule on what follows a name;
 //! - `named` and `context`: what is known from the commands before a command;
-//! - `judge`: the least rule that a command breaks;
+//! - `command_faults`: the least rule that a command breaks;
 //! - `walk`: the first faulty command;
 //! - `checked`: the check, and the scripts that passed it.
 //!
@@ -26,10 +26,10 @@
 #![tactic(auto)]
 
 mod checked;
+mod command_faults;
 mod context;
 mod fault;
 mod findings;
-mod judge;
 mod laws;
 mod lookup;
 mod named;

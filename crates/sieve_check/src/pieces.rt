@@ -48,21 +48,24 @@ fn split_string(arguments: &[Argument]) -> Option<(&[u8], &[Argument])>
     ensures { MatchOption result (string_first arguments.now ≡ None) (λ x. arguments.now ≡ arguments_of.Strings (One x.0.now) ∷ x.1.now) }
 {
     match arguments.split_first() {
-        Some((Argument::Strings(StringList::One(text)), behind)) => Some((text.as_slice(), behind)),
+        Some((Argument::Strings(StringList::One(text)), following)) => Some((
+            text.as_slice(),
+            following,
+        )),
         _ => None,
     }
 }
 
 /// The comparator that a tag of this row names, and the arguments after both.
-fn split_comparator(row: Option<TagRow>, behind: &[Argument]) -> (Option<&[u8]>, &[Argument])
-    ensures { (tags : List TagWord) → tag_pieces (option_map tag_view row) (string_first behind.now) (pieces tags behind.now) ≡ tagged (option_map tag_view row) (option_map (λ t. t.now) result.0) ∷ pieces tags result.1.now }
+fn split_comparator(row: Option<TagRow>, following: &[Argument]) -> (Option<&[u8]>, &[Argument])
+    ensures { (tags : List TagWord) → tag_pieces (option_map tag_view row) (string_first following.now) (pieces tags following.now) ≡ tagged (option_map tag_view row) (option_map (λ t. t.now) result.0) ∷ pieces tags result.1.now }
 {
     match row {
-        Some(row) if row.names_comparator => match split_string(behind) {
+        Some(row) if row.names_comparator => match split_string(following) {
             Some((text, rest)) => (Some(text), rest),
-            None => (None, behind),
+            None => (None, following),
         },
-        _ => (None, behind),
+        _ => (None, following),
     }
 }
 
@@ -77,13 +80,13 @@ impl<'a> Iterator for Pieces<'a> {
     ghost remaining = { item_count pieces_left };
 
     fn next(&mut self) -> Option<Piece<'a>> {
-        let (first, behind) = self.rest.split_first()?;
-        self.rest = behind;
+        let (first, following) = self.rest.split_first()?;
+        self.rest = following;
         let Argument::Tag(name) = first else {
             return Some(Piece::Positional(first));
         };
         let row = find_tag(name.as_slice(), self.tags);
-        let (comparator, rest) = split_comparator(row, behind);
+        let (comparator, rest) = split_comparator(row, following);
         self.rest = rest;
         Some(Piece::Tagged(row, comparator))
     }

@@ -148,7 +148,7 @@ fn fits(form: &Form, arguments: &Arguments) -> bool
     for piece in Pieces::new(form, arguments) {
         if let Piece::Positional(argument) = piece {
             match expected.split_first() {
-                Some((place, behind)) if place.takes(argument) => expected = behind,
+                Some((place, following)) if place.takes(argument) => expected = following,
                 _ => return false,
             }
         }

@@ -6,9 +6,9 @@ ghost use Rattle.sieve_check.specs.Rules.{command_in_order, ending_in_order, rol
 ghost use Rattle.sieve_check.specs.Lookup.{command_named};
 ghost use Rattle.sieve_check.specs.Walk.{start, after_command, walk, context_view, passed_view, refusal_view};
 
+use crate::command_faults::command_fault;
 use crate::context::Context;
 use crate::fault::CheckFault;
-use crate::judge::command_fault;
 use crate::lookup::find_command;
 use crate::named::Named;
 use sieve_syntax::{Arguments, Command, Ending, Script};
@@ -58,8 +58,8 @@ fn pass_command(
     if let Some(fault) = command_fault(context, row, command, follows_branch) {
         return Err(fault);
     }
-    let behind = context.after(row.role.is_require(), &command.arguments);
-    let context = pass_ending(&command.ending, behind)?;
+    let following = context.after(row.role.is_require(), &command.arguments);
+    let context = pass_ending(&command.ending, following)?;
     Ok((context, row.role.is_branch()))
 }
 
@@ -74,8 +74,8 @@ fn pass_ending(ending: &Ending, context: Context) -> Result<Context, CheckFault>
             let mut known = context;
             let mut follows_branch = false;
             for command in commands.as_slice() {
-                let (behind, is_branch) = pass_command(command, known, follows_branch)?;
-                known = behind;
+                let (following, is_branch) = pass_command(command, known, follows_branch)?;
+                known = following;
                 follows_branch = is_branch;
             }
             Ok(known)
@@ -90,8 +90,8 @@ pub fn pass_script(script: &Script) -> Result<(), CheckFault>
     let mut known = Context::start();
     let mut follows_branch = false;
     for command in &script.commands {
-        let (behind, is_branch) = pass_command(command, known, follows_branch)?;
-        known = behind;
+        let (following, is_branch) = pass_command(command, known, follows_branch)?;
+        known = following;
         follows_branch = is_branch;
     }
     Ok(())

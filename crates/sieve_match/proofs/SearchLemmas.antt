@@ -88,11 +88,11 @@ star_is c (One ∷ is) (b ∷ bs) next e = absurd cc
 star_is c (Any ∷ is) text next e = cc
 
 -- one octet further
-pub record Goes (c : Comparator) (items : List Item) (rest : List ℕ) (next : List Item) (behind : List ℕ) : Type 0 where
-  pub ahead : (n : ℕ) → Matches c items (drop n rest) → Matches c next (drop n behind)
-  pub back : Matches c next behind → Matches c items rest
+pub record Goes (c : Comparator) (items : List Item) (rest : List ℕ) (next : List Item) (following : List ℕ) : Type 0 where
+  pub ahead : (n : ℕ) → Matches c items (drop n rest) → Matches c next (drop n following)
+  pub back : Matches c next following → Matches c items rest
   pub item : length items ≡ suc (length next)
-  pub octet : length rest ≡ suc (length behind)
+  pub octet : length rest ≡ suc (length following)
   pub before : fixed items ≡ suc (fixed next)
   pub octets : octet_count items ≡ compared items rest + octet_count next
 
@@ -133,14 +133,14 @@ same_goes a x b y e = (cc, cc)
 moved : (c : Comparator) (items : List Item) (rest : List ℕ) (a x : List Item) (b y : List ℕ) → Goes c items rest a b → goes a b ≡ goes x y → Goes c items rest x y
 moved c items rest a x b y g e = let s = same_goes a x b y e in rw (← s.0, ← s.1) g
 
-goes_is : (c : Comparator) (items : List Item) (rest : List ℕ) (next : List Item) (behind : List ℕ) → turn_of c items rest ≡ goes next behind → Goes c items rest next behind
-goes_is c [] [] next behind e = absurd cc
-goes_is c [] (b ∷ bs) next behind e = absurd cc
-goes_is c (Octet o ∷ is) [] next behind e = absurd cc
-goes_is c (Octet o ∷ is) (b ∷ bs) next behind e = elim (chosen (eqb (folded c o) (folded c b)) (goes is bs) stuck (goes next behind) e) [ inl h ↦ moved c (Octet o ∷ is) (b ∷ bs) is next bs behind (goes_made c o b is bs (eqb-true _ _ h.0)) h.1 | inr h ↦ absurd cc ]
-goes_is c (One ∷ is) [] next behind e = absurd cc
-goes_is c (One ∷ is) (b ∷ bs) next behind e = moved c (One ∷ is) (b ∷ bs) is next bs behind (one_made c b is bs) e
-goes_is c (Any ∷ is) text next behind e = absurd cc
+goes_is : (c : Comparator) (items : List Item) (rest : List ℕ) (next : List Item) (following : List ℕ) → turn_of c items rest ≡ goes next following → Goes c items rest next following
+goes_is c [] [] next following e = absurd cc
+goes_is c [] (b ∷ bs) next following e = absurd cc
+goes_is c (Octet o ∷ is) [] next following e = absurd cc
+goes_is c (Octet o ∷ is) (b ∷ bs) next following e = elim (chosen (eqb (folded c o) (folded c b)) (goes is bs) stuck (goes next following) e) [ inl h ↦ moved c (Octet o ∷ is) (b ∷ bs) is next bs following (goes_made c o b is bs (eqb-true _ _ h.0)) h.1 | inr h ↦ absurd cc ]
+goes_is c (One ∷ is) [] next following e = absurd cc
+goes_is c (One ∷ is) (b ∷ bs) next following e = moved c (One ∷ is) (b ∷ bs) is next bs following (one_made c b is bs) e
+goes_is c (Any ∷ is) text next following e = absurd cc
 
 -- no star has been met: what is left decides, and each comparison has used an item
 pub record Fresh (c : Comparator) (all : List Item) (value : List ℕ) (items : List Item) (rest : List ℕ) (count : ℕ) : Type 0 where
@@ -176,8 +176,8 @@ Fresh-first c all value = record {
   least = omega arith;
 }
 
-pub Fresh-goes : (c : Comparator) (all : List Item) (value : List ℕ) (items next : List Item) (rest behind : List ℕ) (count more : ℕ) → Fresh c all value items rest count → Goes c items rest next behind → more ≡ compared items rest → Fresh c all value next behind (count + more)
-Fresh-goes c all value items next rest behind count more h g m = record {
+pub Fresh-goes : (c : Comparator) (all : List Item) (value : List ℕ) (items next : List Item) (rest following : List ℕ) (count more : ℕ) → Fresh c all value items rest count → Goes c items rest next following → more ≡ compared items rest → Fresh c all value next following (count + more)
+Fresh-goes c all value items next rest following count more h g m = record {
   to = λ x. g.ahead 0 (h.to x);
   from = λ x. h.from (g.back x);
   short = omega (arith, h.short, g.octet);
@@ -185,8 +185,8 @@ Fresh-goes c all value items next rest behind count more h g m = record {
   least = omega (arith, h.least, g.octets, m);
 }
 
-pub Tried-goes : (c : Comparator) (all : List Item) (value : List ℕ) (items next : List Item) (rest behind : List ℕ) (after : List Item) (since : List ℕ) (count more : ℕ) → Tried c all value items rest after since count → Goes c items rest next behind → more ≡ compared items rest → Tried c all value next behind after since (count + more)
-Tried-goes c all value items next rest behind after since count more h g m = record {
+pub Tried-goes : (c : Comparator) (all : List Item) (value : List ℕ) (items next : List Item) (rest following : List ℕ) (after : List Item) (since : List ℕ) (count more : ℕ) → Tried c all value items rest after since count → Goes c items rest next following → more ≡ compared items rest → Tried c all value next following after since (count + more)
+Tried-goes c all value items next rest following after since count more h g m = record {
   to = h.to;
   from = h.from;
   walked = record { ahead = λ n x. g.ahead n (h.walked.ahead n x); back = λ x. h.walked.back (g.back x) };
@@ -253,11 +253,11 @@ Tried-star c all value next rest after since count more h m =
     place_to : SomeTail c after since → SomeTail c next rest
     place_to x = let y = h.walked.ahead x.0 x.1 in (x.0 + y.0, subst (λ (t : List ℕ). Matches c next t) (drop-drop y.0 x.0 rest) y.1)
 
-pub Tried-stuck : (c : Comparator) (all : List Item) (value : List ℕ) (items : List Item) (rest : List ℕ) (after : List Item) (b : ℕ) (behind : List ℕ) (count more : ℕ) → Tried c all value items rest after (b ∷ behind) count → (Matches c items rest → ⊥) → more ≤ fixed items → Tried c all value after behind after behind (count + more)
-Tried-stuck c all value items rest after b behind count more h refused m = record {
+pub Tried-stuck : (c : Comparator) (all : List Item) (value : List ℕ) (items : List Item) (rest : List ℕ) (after : List Item) (b : ℕ) (following : List ℕ) (count more : ℕ) → Tried c all value items rest after (b ∷ following) count → (Matches c items rest → ⊥) → more ≤ fixed items → Tried c all value after following after following (count + more)
+Tried-stuck c all value items rest after b following count more h refused m = record {
   to = λ x. past (h.to x);
   from = λ x. h.from (suc x.0, x.1);
-  walked = walked_none c after behind;
+  walked = walked_none c after following;
   done = h.done;
   done_is = h.done_is;
   gone = suc h.gone;
@@ -271,7 +271,7 @@ Tried-stuck c all value items rest after b behind count more h refused m = recor
   least_since = omega (arith, h.least_since);
 }
   where
-    past : SomeTail c after (b ∷ behind) → SomeTail c after behind
+    past : SomeTail c after (b ∷ following) → SomeTail c after following
     past (zero, x) = absurd (refused (h.walked.ahead 0 x))
     past (suc n, x) = (n, x)
 
@@ -296,16 +296,16 @@ abbrev pub left : List ℕ → Option (Bor (List ℕ) × Bor (List ℕ)) → ℕ
 left value None = length value
 left value (Some s) = length s.1.now
 
-pub State-goes : (c : Comparator) (all : List Item) (value : List ℕ) (items next : List Item) (rest behind : List ℕ) (s : Option (Bor (List ℕ) × Bor (List ℕ))) (count more : ℕ) → State c all value items rest s count → turn_of c items rest ≡ goes next behind → more ≡ compared items rest → State c all value next behind s (count + more)
-State-goes c all value items next rest behind None count more h g m = Fresh-goes c all value items next rest behind count more h (goes_is c items rest next behind g) m
-State-goes c all value items next rest behind (Some s) count more h g m = Tried-goes c all value items next rest behind (items_of s.0.now) s.1.now count more h (goes_is c items rest next behind g) m
+pub State-goes : (c : Comparator) (all : List Item) (value : List ℕ) (items next : List Item) (rest following : List ℕ) (s : Option (Bor (List ℕ) × Bor (List ℕ))) (count more : ℕ) → State c all value items rest s count → turn_of c items rest ≡ goes next following → more ≡ compared items rest → State c all value next following s (count + more)
+State-goes c all value items next rest following None count more h g m = Fresh-goes c all value items next rest following count more h (goes_is c items rest next following g) m
+State-goes c all value items next rest following (Some s) count more h g m = Tried-goes c all value items next rest following (items_of s.0.now) s.1.now count more h (goes_is c items rest next following g) m
 
 pub State-star : (c : Comparator) (all : List Item) (value : List ℕ) (items next : List Item) (rest : List ℕ) (s : Option (Bor (List ℕ) × Bor (List ℕ))) (count more : ℕ) → State c all value items rest s count → turn_of c items rest ≡ star next → more ≡ compared items rest → Tried c all value next rest next rest (count + more)
 State-star c all value items next rest None count more h g m = Fresh-star c all value next rest count more (rw (star_is c items rest next g) at h) (omega (arith, m, compared-one items rest))
 State-star c all value items next rest (Some s) count more h g m = Tried-star c all value next rest (items_of s.0.now) s.1.now count more (rw (star_is c items rest next g) at h) (omega (arith, m, compared-one items rest))
 
-pub State-stuck : (c : Comparator) (all : List Item) (value : List ℕ) (items : List Item) (rest : List ℕ) (after : List Item) (since : List ℕ) (b : ℕ) (behind : List ℕ) (count more : ℕ) → Tried c all value items rest after since count → since ≡ b ∷ behind → turn_of c items rest ≡ stuck → more ≡ compared items rest → Tried c all value after behind after behind (count + more)
-State-stuck c all value items rest after since b behind count more h e g m = Tried-stuck c all value items rest after b behind count more (rw e at h) (stuck_is c items rest g) (omega (arith, m, compared-le items rest))
+pub State-stuck : (c : Comparator) (all : List Item) (value : List ℕ) (items : List Item) (rest : List ℕ) (after : List Item) (since : List ℕ) (b : ℕ) (following : List ℕ) (count more : ℕ) → Tried c all value items rest after since count → since ≡ b ∷ following → turn_of c items rest ≡ stuck → more ≡ compared items rest → Tried c all value after following after following (count + more)
+State-stuck c all value items rest after since b following count more h e g m = Tried-stuck c all value items rest after b following count more (rw e at h) (stuck_is c items rest g) (omega (arith, m, compared-le items rest))
 
 pub State-bound : (c : Comparator) (all : List Item) (value : List ℕ) (items : List Item) (rest : List ℕ) (s : Option (Bor (List ℕ) × Bor (List ℕ))) (count more : ℕ) → State c all value items rest s count → more ≡ compared items rest → count + more ≤ (length all + 1) * (length value + 1)
 State-bound c all value items rest None count more h m = Fresh-bound c all value items rest count more h (omega (arith, m, compared-le items rest))

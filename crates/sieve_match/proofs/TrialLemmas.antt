@@ -52,22 +52,22 @@ later_try : (c : Comparator) (items : List Item) (text : List ℕ) (answer : Boo
 later_try c items text answer n h = search_from c true (Some (items, text)) items text answer n (trial c items text) refl h.later h.after h.count (inr (refl, refl))
 
 -- one octet further in a try
-record SameTry (c : Comparator) (items : List Item) (rest : List ℕ) (next : List Item) (behind : List ℕ) : Type 0 where
-  trial_is : trial c items rest ≡ trial c next behind
-  count_is : comparisons c items rest ≡ compared items rest + comparisons c next behind
+record SameTry (c : Comparator) (items : List Item) (rest : List ℕ) (next : List Item) (following : List ℕ) : Type 0 where
+  trial_is : trial c items rest ≡ trial c next following
+  count_is : comparisons c items rest ≡ compared items rest + comparisons c next following
 
-octet_goes : (c : Comparator) (o b : ℕ) (is next : List Item) (bs behind : List ℕ) (t : Bool) → eqb (folded c o) (folded c b) ≡ t → cond t (goes is bs) stuck ≡ goes next behind → SameTry c (Octet o ∷ is) (b ∷ bs) next behind
-octet_goes c o b is next bs behind true e f = let i : is ≡ next = cc in let r : bs ≡ behind = cc in rw (← i, ← r) (record { trial_is = rw e refl; count_is = rw e (omega arith) })
-octet_goes c o b is next bs behind false e f = absurd cc
+octet_goes : (c : Comparator) (o b : ℕ) (is next : List Item) (bs following : List ℕ) (t : Bool) → eqb (folded c o) (folded c b) ≡ t → cond t (goes is bs) stuck ≡ goes next following → SameTry c (Octet o ∷ is) (b ∷ bs) next following
+octet_goes c o b is next bs following true e f = let i : is ≡ next = cc in let r : bs ≡ following = cc in rw (← i, ← r) (record { trial_is = rw e refl; count_is = rw e (omega arith) })
+octet_goes c o b is next bs following false e f = absurd cc
 
-goes_on : (c : Comparator) (items : List Item) (rest : List ℕ) (next : List Item) (behind : List ℕ) → turn_of c items rest ≡ goes next behind → SameTry c items rest next behind
-goes_on c [] [] next behind e = absurd cc
-goes_on c [] (b ∷ bs) next behind e = absurd cc
-goes_on c (Octet o ∷ is) [] next behind e = absurd cc
-goes_on c (Octet o ∷ is) (b ∷ bs) next behind e = octet_goes c o b is next bs behind (eqb (folded c o) (folded c b)) refl e
-goes_on c (One ∷ is) [] next behind e = absurd cc
-goes_on c (One ∷ is) (b ∷ bs) next behind e = let i : is ≡ next = cc in let r : bs ≡ behind = cc in rw (← i, ← r) (record { trial_is = refl; count_is = omega arith })
-goes_on c (Any ∷ is) text next behind e = absurd cc
+goes_on : (c : Comparator) (items : List Item) (rest : List ℕ) (next : List Item) (following : List ℕ) → turn_of c items rest ≡ goes next following → SameTry c items rest next following
+goes_on c [] [] next following e = absurd cc
+goes_on c [] (b ∷ bs) next following e = absurd cc
+goes_on c (Octet o ∷ is) [] next following e = absurd cc
+goes_on c (Octet o ∷ is) (b ∷ bs) next following e = octet_goes c o b is next bs following (eqb (folded c o) (folded c b)) refl e
+goes_on c (One ∷ is) [] next following e = absurd cc
+goes_on c (One ∷ is) (b ∷ bs) next following e = let i : is ≡ next = cc in let r : bs ≡ following = cc in rw (← i, ← r) (record { trial_is = refl; count_is = omega arith })
+goes_on c (Any ∷ is) text next following e = absurd cc
 
 -- the end of a try
 record EndsTry (c : Comparator) (items : List Item) (rest : List ℕ) (t : Trial) : Type 0 where
@@ -104,9 +104,9 @@ counted c all value answer m n e h = subst (λ (k : ℕ). Search c false all val
 pub Exact-first : (c : Comparator) (all : List Item) (value : List ℕ) → Exact c all value None all value 0
 Exact-first c all value = λ answer n h. counted c all value answer n (0 + n) (omega arith) (first_try c all value answer n h)
 
-pub Exact-goes : (c : Comparator) (all : List Item) (value : List ℕ) (again : Again) (items next : List Item) (rest behind : List ℕ) (count more : ℕ) → Exact c all value again items rest count → turn_of c items rest ≡ goes next behind → more ≡ compared items rest → Exact c all value again next behind (count + more)
-Exact-goes c all value again items next rest behind count more h e m = λ answer n k.
-    let g = goes_on c items rest next behind e in
+pub Exact-goes : (c : Comparator) (all : List Item) (value : List ℕ) (again : Again) (items next : List Item) (rest following : List ℕ) (count more : ℕ) → Exact c all value again items rest count → turn_of c items rest ≡ goes next following → more ≡ compared items rest → Exact c all value again next following (count + more)
+Exact-goes c all value again items next rest following count more h e m = λ answer n k.
+    let g = goes_on c items rest next following e in
     counted c all value answer (count + (more + n)) (count + more + n) (omega arith) (h answer (more + n) (record {
       later = k.later;
       after = subst (λ (t : Trial). After c again t answer k.later) (sym g.trial_is) k.after;
@@ -122,10 +122,10 @@ Exact-star c all value again items next rest count more h e m = λ answer n k.
       count = omega (arith, m, g.count_is);
     }))
 
-pub Exact-stuck : (c : Comparator) (all : List Item) (value : List ℕ) (items : List Item) (rest : List ℕ) (after : List Item) (since : List ℕ) (b : ℕ) (behind : List ℕ) (count more : ℕ) → Exact c all value (Some (after, since)) items rest count → since ≡ b ∷ behind → turn_of c items rest ≡ stuck → more ≡ compared items rest → Exact c all value (Some (after, behind)) after behind (count + more)
-Exact-stuck c all value items rest after since b behind count more h place e m = λ answer n k.
+pub Exact-stuck : (c : Comparator) (all : List Item) (value : List ℕ) (items : List Item) (rest : List ℕ) (after : List Item) (since : List ℕ) (b : ℕ) (following : List ℕ) (count more : ℕ) → Exact c all value (Some (after, since)) items rest count → since ≡ b ∷ following → turn_of c items rest ≡ stuck → more ≡ compared items rest → Exact c all value (Some (after, following)) after following (count + more)
+Exact-stuck c all value items rest after since b following count more h place e m = λ answer n k.
     let g = misfits c items rest e in
-    let left : AfterMisfit c (Some (after, since)) answer n = subst (λ (xs : List ℕ). AfterMisfit c (Some (after, xs)) answer n) (sym place) (later_try c after behind answer n k) in
+    let left : AfterMisfit c (Some (after, since)) answer n = subst (λ (xs : List ℕ). AfterMisfit c (Some (after, xs)) answer n) (sym place) (later_try c after following answer n k) in
     counted c all value answer (count + (more + n)) (count + more + n) (omega arith) (h answer (more + n) (record {
       later = n;
       after = subst (λ (t : Trial). After c (Some (after, since)) t answer n) (sym g.trial_is) left;

@@ -35,7 +35,7 @@ fn next_item(pattern: &[u8]) -> Option<(Item, &[u8])>
         b'*' => Some((Item::Any, rest)),
         b'?' => Some((Item::One, rest)),
         b'\\' => match rest.split_first() {
-            Some((&escaped, behind)) => Some((Item::Octet(escaped), behind)),
+            Some((&escaped, following)) => Some((Item::Octet(escaped), following)),
             None => Some((Item::Octet(b'\\'), rest)),
         },
         _ => Some((Item::Octet(octet), rest)),
@@ -62,12 +62,12 @@ fn first_step<'a>(comparator: Comparator, pattern: &'a [u8], text: &'a [u8]) -> 
         None => (Step::Stuck, 0),
         Some((Item::Any, after)) => (Step::Star(after), 0),
         Some((Item::One, after)) => match text.split_first() {
-            Some((_, behind)) => (Step::Goes(after, behind), 0),
+            Some((_, following)) => (Step::Goes(after, following), 0),
             None => (Step::Stuck, 0),
         },
         Some((Item::Octet(item), after)) => match text.split_first() {
-            Some((&octet, behind)) => match compare(comparator, item, octet) {
-                (true, compared) => (Step::Goes(after, behind), compared),
+            Some((&octet, following)) => match compare(comparator, item, octet) {
+                (true, compared) => (Step::Goes(after, following), compared),
                 (false, compared) => (Step::Stuck, compared),
             },
             None => (Step::Stuck, 0),
@@ -101,9 +101,9 @@ pub fn matches_counted(pattern: &[u8], value: &[u8], comparator: Comparator) -> 
         count += compared;
         match step {
             Step::Ends => return (true, count),
-            Step::Goes(after, behind) => {
+            Step::Goes(after, following) => {
                 items = after;
-                rest = behind;
+                rest = following;
             }
             Step::Star(after) => {
                 items = after;
@@ -113,12 +113,12 @@ pub fn matches_counted(pattern: &[u8], value: &[u8], comparator: Comparator) -> 
                 let Some((after, from)) = star else {
                     return (false, count);
                 };
-                let Some((_, behind)) = from.split_first() else {
+                let Some((_, following)) = from.split_first() else {
                     return (false, count);
                 };
                 items = after;
-                rest = behind;
-                star = Some((after, behind));
+                rest = following;
+                star = Some((after, following));
             }
         }
     }

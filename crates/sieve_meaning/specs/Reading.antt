@@ -31,11 +31,11 @@ has_tag name args = list_any (is_tag name) args
 
 -- the string lists, skipping one directly after `:comparator`; the flag tells that the tag has just come
 unfoldable pub string_lists : Bool → List Argument → List StringList
-string_lists behind [] = []
+string_lists follows_tag [] = []
 string_lists true (arguments.Strings l ∷ args) = string_lists false args
 string_lists false (arguments.Strings l ∷ args) = l ∷ string_lists false args
-string_lists behind (arguments.Number n ∷ args) = string_lists false args
-string_lists behind (arguments.Tag t ∷ args) = string_lists (same_word t (codes "comparator")) args
+string_lists follows_tag (arguments.Number n ∷ args) = string_lists false args
+string_lists follows_tag (arguments.Tag t ∷ args) = string_lists (same_word t (codes "comparator")) args
 
 -- the comparator of a name: `i;octet` by these exact octets, `i;ascii-casemap` by any others
 abbrev pub comparator_named : List ℕ → Comparator
@@ -44,11 +44,11 @@ comparator_named s = if bytes_eq s (codes "i;octet") then comparators.Octet else
 -- the comparator; the flag tells that `:comparator` has just come. It is `i;ascii-casemap` where none is named (RFC
 -- 5228, section 2.7.3)
 unfoldable pub comparator_from : Bool → List Argument → Comparator
-comparator_from behind [] = comparators.Casemap
+comparator_from follows_tag [] = comparators.Casemap
 comparator_from true (arguments.Strings l ∷ args) = comparator_named (first_of l)
 comparator_from false (arguments.Strings l ∷ args) = comparator_from false args
-comparator_from behind (arguments.Number n ∷ args) = comparator_from false args
-comparator_from behind (arguments.Tag t ∷ args) = comparator_from (same_word t (codes "comparator")) args
+comparator_from follows_tag (arguments.Number n ∷ args) = comparator_from false args
+comparator_from follows_tag (arguments.Tag t ∷ args) = comparator_from (same_word t (codes "comparator")) args
 
 -- `:is` where no match type is named (RFC 5228, section 2.7.1)
 abbrev pub match_type : List Argument → MatchType

@@ -33,18 +33,18 @@ pub fn has_tag(arguments: &[Argument], name: &[u8]) -> bool
 pub fn next_string_list(arguments: &[Argument]) -> Option<(&StringList, &[Argument])>
     ensures { MatchOption result (string_lists false arguments.now ≡ []) (λ x. string_lists false arguments.now ≡ x.0.now ∷ string_lists false x.1.now) }
 {
-    let mut behind = false;
+    let mut follows_tag = false;
     let mut rest = arguments;
     while let Some((argument, after)) = rest.split_first() {
         match argument {
             Argument::Strings(list) => {
-                if !behind {
+                if !follows_tag {
                     return Some((list, after));
                 }
-                behind = false;
+                follows_tag = false;
             }
-            Argument::Number(_) => behind = false,
-            Argument::Tag(tag) => behind = is_word(tag.as_slice(), b"comparator"),
+            Argument::Number(_) => follows_tag = false,
+            Argument::Tag(tag) => follows_tag = is_word(tag.as_slice(), b"comparator"),
         }
         rest = after;
     }
@@ -77,17 +77,17 @@ fn named_comparator(name: &[u8]) -> Comparator
 pub fn comparator(arguments: &[Argument]) -> Comparator
     ensures { result ≡ comparator_from false arguments.now }
 {
-    let mut behind = false;
+    let mut follows_tag = false;
     for argument in arguments {
         match argument {
             Argument::Strings(list) => {
-                if behind {
+                if follows_tag {
                     return named_comparator(list.first().as_slice());
                 }
-                behind = false;
+                follows_tag = false;
             }
-            Argument::Number(_) => behind = false,
-            Argument::Tag(tag) => behind = is_word(tag.as_slice(), b"comparator"),
+            Argument::Number(_) => follows_tag = false,
+            Argument::Tag(tag) => follows_tag = is_word(tag.as_slice(), b"comparator"),
         }
     }
     Comparator::Casemap

@@ -198,10 +198,10 @@ mutual
   ending_reads semicolon d b rest = refl
   ending_reads (block cs) d zero rest = refl
   ending_reads (block cs) d (suc b) rest =
-      let behind = tokens.Mark CloseBrace ∷ rest in
-      let assoc : (commands_tokens cs ++ tokens.Mark CloseBrace ∷ []) ++ rest ≡ commands_tokens cs ++ behind = append_assoc (commands_tokens cs) (tokens.Mark CloseBrace ∷ []) rest in
+      let following = tokens.Mark CloseBrace ∷ rest in
+      let assoc : (commands_tokens cs ++ tokens.Mark CloseBrace ∷ []) ++ rest ≡ commands_tokens cs ++ following = append_assoc (commands_tokens cs) (tokens.Mark CloseBrace ∷ []) rest in
       ap (λ (w : List TokenKind). ending_with (inside_at d (suc b)) (tokens.Mark OpenBrace ∷ w)) assoc
-      ∙ answer_map (inside_at d (suc b) (commands_tokens cs ++ behind)) _ (commands_fit cs d b) (cs, behind) (block cs, rest) (commands_by cs d b behind (many_commands cs d b (length (commands_tokens cs ++ behind)) behind refl (omega (arith, length-append (commands_tokens cs) behind)))) refl
+      ∙ answer_map (inside_at d (suc b) (commands_tokens cs ++ following)) _ (commands_fit cs d b) (cs, following) (block cs, rest) (commands_by cs d b following (many_commands cs d b (length (commands_tokens cs ++ following)) following refl (omega (arith, length-append (commands_tokens cs) following)))) refl
 
   many_commands : (cs : CommandTrees) (d b n : ℕ) (rest : List TokenKind) → command_with d (inside_at d b) rest ≡ Ok None → length (commands_tokens cs) ≤ n → many_at (command_with d (inside_at d b)) n (commands_tokens cs ++ rest) ≡ answer (commands_fit cs d b) (commands_list cs, rest)
   many_commands no_commands d b n rest h k = many_stop (command_with d (inside_at d b)) n rest h

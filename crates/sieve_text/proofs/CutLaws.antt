@@ -45,19 +45,19 @@ at_gap script at gap rest cut g none =
     (n, drop_more at (gap_len 0 (drop at script)) script ∙ dropped (drop at script) gap rest cut (gap_len 0 (drop at script)) (sym n))
 
 -- a token by the grammar is read
-pub record IsNext (script : List ℕ) (at : ℕ) (t : Token) (behind : List ℕ) : Type 0 where
+pub record IsNext (script : List ℕ) (at : ℕ) (t : Token) (following : List ℕ) : Type 0 where
   pub read : token_at script at ≡ Ok (Some t)
-  pub left : drop t.end script ≡ behind
+  pub left : drop t.end script ≡ following
   pub within : t.end ≤ length script
 
-token_next : (script : List ℕ) (at : ℕ) (t : Token) (behind : List ℕ) → at ≤ length script → IsFirst at (drop at script) t behind → IsNext script at t behind
-token_next script at t behind within h =
-    let g = at_gap script at h.gap (h.octets ++ behind) h.cut h.gap_is (lexeme_gap t.kind h.octets behind h.token.spelled) in
+token_next : (script : List ℕ) (at : ℕ) (t : Token) (following : List ℕ) → at ≤ length script → IsFirst at (drop at script) t following → IsNext script at t following
+token_next script at t following within h =
+    let g = at_gap script at h.gap (h.octets ++ following) h.cut h.gap_is (lexeme_gap t.kind h.octets following h.token.spelled) in
     let start : ℕ = at + gap_len 0 (drop at script) in
-    let found = kind_found t.kind h.octets behind h.token in
-    let some = kind_within (h.octets ++ behind) (t.kind, length h.octets) found in
-    let d = ap length h.cut ∙ length-append h.gap (h.octets ++ behind) in
-    let l = length-append h.octets behind in
+    let found = kind_found t.kind h.octets following h.token in
+    let some = kind_within (h.octets ++ following) (t.kind, length h.octets) found in
+    let d = ap length h.cut ∙ length-append h.gap (h.octets ++ following) in
+    let l = length-append h.octets following in
     let m = length-drop at script in
     let at_start : t.start ≡ start = h.start ∙ ap (λ n. at + n) (sym g.0) in
     let at_end : t.end ≡ start + length h.octets = h.end ∙ ap (λ n. n + length h.octets) at_start in
@@ -65,7 +65,7 @@ token_next script at t behind within h =
     let e = h.end in
     record {
       read = token_is script at (t.kind, length h.octets) (omega arith) (ap kind_at g.1 ∙ found) ∙ ap (λ (u : Token). Ok (Some u)) (same_token t t.kind start (start + length h.octets) refl at_start at_end);
-      left = ap (λ n. drop n script) at_end ∙ drop_more start (length h.octets) script ∙ dropped (drop start script) h.octets behind g.1 (length h.octets) refl;
+      left = ap (λ n. drop n script) at_end ∙ drop_more start (length h.octets) script ∙ dropped (drop start script) h.octets following g.1 (length h.octets) refl;
       within = omega arith;
     }
 

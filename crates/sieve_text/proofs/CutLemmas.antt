@@ -56,18 +56,18 @@ token_cut script at t e =
     let g = gap_sound (drop at script) in
     let k = kind_sound (drop t.start script) p.kind p.read in
     let rest : drop t.start script ≡ g.rest = ap (λ n. drop n script) p.begins ∙ drop_more at (gap_len 0 (drop at script)) script ∙ dropped (drop at script) g.gap g.rest g.cut (gap_len 0 (drop at script)) g.long in
-    let behind : drop t.end script ≡ k.behind = ap (λ n. drop n script) p.ends ∙ drop_more t.start p.kind.1 script ∙ dropped (drop t.start script) k.octets k.behind k.cut p.kind.1 k.long in
-    subst (λ cs. IsFirst at (drop at script) t cs) (sym behind) (record {
+    let following : drop t.end script ≡ k.following = ap (λ n. drop n script) p.ends ∙ drop_more t.start p.kind.1 script ∙ dropped (drop t.start script) k.octets k.following k.cut p.kind.1 k.long in
+    subst (λ cs. IsFirst at (drop at script) t cs) (sym following) (record {
       gap = g.gap;
       octets = k.octets;
       cut = g.cut ∙ ap (λ cs. g.gap ++ cs) (sym rest ∙ k.cut);
       gap_is = subst (λ cs. Gap g.gap cs) (sym rest ∙ k.cut) g.gap_is;
       start = p.begins ∙ ap (λ n. at + n) (sym g.long);
       end = p.ends ∙ ap (λ n. t.start + n) (sym k.long);
-      token = subst (λ (kind : TokenKind). IsToken kind k.octets k.behind) (sym p.says) (record {
+      token = subst (λ (kind : TokenKind). IsToken kind k.octets k.following) (sym p.says) (record {
         spelled = k.spelled;
         longest = λ kind more others same lexeme. (let s = lexeme_short kind more others p.kind lexeme (sym (ap kind_at (k.cut ∙ same)) ∙ p.read) in let l = k.long in omega arith);
-        apart = kind_apart p.kind.0 k.octets k.behind k.spelled p.kind.1 (sym (ap kind_at k.cut) ∙ p.read);
+        apart = kind_apart p.kind.0 k.octets k.following k.spelled p.kind.1 (sym (ap kind_at k.cut) ∙ p.read);
         limited = k.limited;
       });
     })

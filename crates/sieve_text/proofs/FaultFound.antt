@@ -22,7 +22,7 @@ use Rattle.sieve_text.proofs.GapGrammar.{before}
 use Rattle.sieve_text.proofs.GapLemmas.{gap_none}
 use Rattle.sieve_text.proofs.GrammarParts.{mark_octet}
 use Rattle.sieve_text.proofs.KindGrammar.{line_rest, line_alone, no_last, dot_line, suc_eqb, line_end_taken}
-use Rattle.sieve_text.proofs.Longest.{t_starts, hash_first, opening_whole, behind_opening, behind_line}
+use Rattle.sieve_text.proofs.Longest.{t_starts, hash_first, opening_whole, after_opening, after_line}
 use Rattle.sieve_text.proofs.KindFound.{number_found, quoted_found, multi_line_found, text_kind, unbound, blanks_read, opening_read, quote_kind, tag_kind}
 
 -- the refusal, and its place
@@ -84,16 +84,16 @@ mark_gap OpenBracket bs = no_gap 91 bs refl refl refl
 mark_gap CloseBracket bs = no_gap 93 bs refl refl refl
 mark_gap Comma bs = no_gap 44 bs refl refl refl
 
-pub name_gap : (name behind : List ℕ) → begins is_start name ≡ true → gap_len 0 (name ++ behind) ≡ 0
-name_gap [] behind h = absurd (false≢true h)
-name_gap (b ∷ bs) behind h = plain_gap is_start start_first b (bs ++ behind) h
+pub name_gap : (name following : List ℕ) → begins is_start name ≡ true → gap_len 0 (name ++ following) ≡ 0
+name_gap [] following h = absurd (false≢true h)
+name_gap (b ∷ bs) following h = plain_gap is_start start_first b (bs ++ following) h
 
-pub digits_gap : (ds behind : List ℕ) → 0 < length ds → list_all is_ascii_digit ds ≡ true → gap_len 0 (ds ++ behind) ≡ 0
-digits_gap [] behind some all = absurd (omega arith)
-digits_gap (d ∷ ds) behind some all = plain_gap is_ascii_digit digit_first d (ds ++ behind) (and_parts (is_ascii_digit d) (list_all is_ascii_digit ds) all).0
+pub digits_gap : (ds following : List ℕ) → 0 < length ds → list_all is_ascii_digit ds ≡ true → gap_len 0 (ds ++ following) ≡ 0
+digits_gap [] following some all = absurd (omega arith)
+digits_gap (d ∷ ds) following some all = plain_gap is_ascii_digit digit_first d (ds ++ following) (and_parts (is_ascii_digit d) (list_all is_ascii_digit ds) all).0
 
-pub text_gap : (word behind : List ℕ) → begins_text (word ++ behind) ≡ true → gap_len 0 (word ++ behind) ≡ 0
-text_gap word behind t = first (word ++ behind) t
+pub text_gap : (word following : List ℕ) → begins_text (word ++ following) ≡ true → gap_len 0 (word ++ following) ≡ 0
+text_gap word following t = first (word ++ following) t
   where
     first : (bs : List ℕ) → begins_text bs ≡ true → gap_len 0 bs ≡ 0
     first [] t = absurd (false≢true t)
@@ -134,7 +134,7 @@ unfolding tag_at
 tag_refused bs h = rw h refl
 
 -- the line of "text:"
-no_line_end : (bs : List ℕ) → ((end behind : List ℕ) → bs ≡ end ++ behind → IsLineEnd end → ⊥) → line_end_len bs ≡ 0
+no_line_end : (bs : List ℕ) → ((end following : List ℕ) → bs ≡ end ++ following → IsLineEnd end → ⊥) → line_end_len bs ≡ 0
 no_line_end bs none = elim (cases_lt 0 (line_end_len bs)) [
   | inl h ↦ absurd (none (take (line_end_len bs) bs) (drop (line_end_len bs) bs) (sym (take-append-drop (line_end_len bs) bs)) (line_end_taken bs h))
   | inr h ↦ omega arith
@@ -162,10 +162,10 @@ text_place word blanks from w all stops =
     rw k.1 (omega arith)
 
 no_token_found : (before : ℕ) (bs : List ℕ) → NoTokenAt before bs → IsRefused bs NoToken before
-no_token_found _ _ (no_beginning b behind h) = nothing_found b behind h
-no_token_found _ _ (no_tag behind h) = (tag_kind behind ∙ tag_refused behind h, refl)
-no_token_found _ _ (no_opening word blanks behind w all h) =
-    ((text_kind word (blanks ++ behind) w).0 ∙ multi_line_refused blanks behind NoToken all h.blank (opening_refused behind h), text_place word blanks behind w all h.blank)
+no_token_found _ _ (no_beginning b following h) = nothing_found b following h
+no_token_found _ _ (no_tag following h) = (tag_kind following ∙ tag_refused following h, refl)
+no_token_found _ _ (no_opening word blanks following w all h) =
+    ((text_kind word (blanks ++ following) w).0 ∙ multi_line_refused blanks following NoToken all h.blank (opening_refused following h), text_place word blanks following w all h.blank)
 
 -- OPEN STRINGS
 
@@ -229,7 +229,7 @@ lines_on _ _ (line content bs says whole dot r) last all no_dot =
     let l = length-append content (10 ∷ rest) in
     let s = no_last (content ++ 10 ∷ rest) (dot_line content rest whole ∙ dot) in
     let t = line_rest (content ++ 10 ∷ rest) (omega arith) in
-    let d : drop (suc (prefix_len not_lf (content ++ 10 ∷ rest))) (content ++ 10 ∷ rest) ≡ rest = ap (λ m. drop (suc m) (content ++ 10 ∷ rest)) n ∙ behind_line content rest in
+    let d : drop (suc (prefix_len not_lf (content ++ 10 ∷ rest))) (content ++ 10 ∷ rest) ≡ rest = ap (λ m. drop (suc m) (content ++ 10 ∷ rest)) n ∙ after_line content rest in
     let u = ap (λ cs. lines_len true cs) d in
     let r1 = lines_on bs says r last all no_dot in
     let l1 = length-append content (10 ∷ bs) in
@@ -252,7 +252,7 @@ open_found _ (open_lines word blanks comment end body text last w all c en ls cl
     let l = length-append body last in
     (text_kind word (blanks ++ from) w).0
     ∙ opening_read blanks from (length comment + length end) all o.1 o.0
-    ∙ ap (λ (cs : List ℕ). lines_at (5 + (length blanks + (length comment + length end))) cs) (behind_opening comment end rest)
+    ∙ ap (λ (cs : List ℕ). lines_at (5 + (length blanks + (length comment + length end))) cs) (after_opening comment end rest)
     ∙ lines_refused (5 + (length blanks + (length comment + length end))) rest (omega arith)
 
 -- OPEN COMMENTS
@@ -285,15 +285,15 @@ too_long value n h = rw (lt-ltb 65535 (length value) h) refl
 long_found : (bs : List ℕ) → IsLongString bs → kind_at bs ≡ Err StringTooLong
 long_found bs h = go h.string
   where
-    go : IsQuoted h.value h.octets ⊎ IsMultiLine h.value h.octets h.behind → kind_at bs ≡ Err StringTooLong
+    go : IsQuoted h.value h.octets ⊎ IsMultiLine h.value h.octets h.following → kind_at bs ≡ Err StringTooLong
     go (inl q) =
-        ap kind_at (h.cut ∙ ap (λ (cs : List ℕ). cs ++ h.behind) q.cut) ∙ quoted_found q.body q.text h.behind q.spells
+        ap kind_at (h.cut ∙ ap (λ (cs : List ℕ). cs ++ h.following) q.cut) ∙ quoted_found q.body q.text h.following q.spells
         ∙ ap (λ (v : List ℕ). string_kind v (length (34 ∷ (q.body ++ 34 ∷ [])))) (sym q.says) ∙ too_long h.value (length (34 ∷ (q.body ++ 34 ∷ []))) h.long
-    go (inr m) = ap kind_at h.cut ∙ multi_line_found h.octets h.value h.behind m ∙ too_long h.value (length h.octets) h.long
+    go (inr m) = ap kind_at h.cut ∙ multi_line_found h.octets h.value h.following m ∙ too_long h.value (length h.octets) h.long
 
 large_found : (bs : List ℕ) → IsLargeNumber bs → kind_at bs ≡ Err NumberTooLarge
 large_found bs h =
-    ap kind_at h.cut ∙ number_found h.octets h.behind h.value h.number (λ other more rest same number. h.longest other more rest (h.cut ∙ same) number)
+    ap kind_at h.cut ∙ number_found h.octets h.following h.value h.number (λ other more rest same number. h.longest other more rest (h.cut ∙ same) number)
     ∙ ap (λ (t : Bool). if t then Err NumberTooLarge else Ok (kinds.Number h.value, length h.octets)) (lt-ltb 9223372036854775807 h.value h.large)
 
 pub fault_found : (refusal : ScanRefusal) (before : ℕ) (bs : List ℕ) → IsFaultHere refusal before bs → IsRefused bs refusal before
@@ -307,22 +307,22 @@ fault_found StringTooLong before bs h = (long_found bs h.1, sym h.0)
 
 -- NO GAP BEFORE A TOKEN OR A FAULT
 
-string_gap : (value octets behind : List ℕ) → IsQuoted value octets ⊎ IsMultiLine value octets behind → gap_len 0 (octets ++ behind) ≡ 0
-string_gap value octets behind (inl q) = rw q.cut (quote_gap ((q.body ++ 34 ∷ []) ++ behind))
-string_gap value octets behind (inr m) =
+string_gap : (value octets following : List ℕ) → IsQuoted value octets ⊎ IsMultiLine value octets following → gap_len 0 (octets ++ following) ≡ 0
+string_gap value octets following (inl q) = rw q.cut (quote_gap ((q.body ++ 34 ∷ []) ++ following))
+string_gap value octets following (inr m) =
     let from : List ℕ = m.blanks ++ (m.comment ++ (m.end ++ (m.body ++ 46 ∷ m.last))) in
-    let e : octets ++ behind ≡ m.word ++ (from ++ behind) = ap (λ (cs : List ℕ). cs ++ behind) m.cut ∙ append_assoc m.word from behind in
-    rw e (text_gap m.word (from ++ behind) (text_kind m.word (from ++ behind) m.word_is).1)
+    let e : octets ++ following ≡ m.word ++ (from ++ following) = ap (λ (cs : List ℕ). cs ++ following) m.cut ∙ append_assoc m.word from following in
+    rw e (text_gap m.word (from ++ following) (text_kind m.word (from ++ following) m.word_is).1)
 
-number_gap : (octets behind : List ℕ) (value : ℕ) → IsNumber value octets → gap_len 0 (octets ++ behind) ≡ 0
-number_gap octets behind value h = rw (h.cut, append_assoc) (digits_gap h.digits (h.quantifier ++ behind) h.some h.all)
+number_gap : (octets following : List ℕ) (value : ℕ) → IsNumber value octets → gap_len 0 (octets ++ following) ≡ 0
+number_gap octets following value h = rw (h.cut, append_assoc) (digits_gap h.digits (h.quantifier ++ following) h.some h.all)
 
-pub lexeme_gap : (kind : TokenKind) (octets behind : List ℕ) → Lexeme kind octets behind → gap_len 0 (octets ++ behind) ≡ 0
-lexeme_gap (kinds.Identifier xs) octets behind h = rw h.0 (name_gap xs behind h.1.0)
-lexeme_gap (kinds.Tag xs) octets behind h = rw h.0 (colon_gap (xs ++ behind))
-lexeme_gap (kinds.Number n) octets behind h = number_gap octets behind n h
-lexeme_gap (kinds.StringValue value) octets behind h = string_gap value octets behind h
-lexeme_gap (kinds.Mark m) octets behind h = rw h (mark_gap m behind)
+pub lexeme_gap : (kind : TokenKind) (octets following : List ℕ) → Lexeme kind octets following → gap_len 0 (octets ++ following) ≡ 0
+lexeme_gap (kinds.Identifier xs) octets following h = rw h.0 (name_gap xs following h.1.0)
+lexeme_gap (kinds.Tag xs) octets following h = rw h.0 (colon_gap (xs ++ following))
+lexeme_gap (kinds.Number n) octets following h = number_gap octets following n h
+lexeme_gap (kinds.StringValue value) octets following h = string_gap value octets following h
+lexeme_gap (kinds.Mark m) octets following h = rw h (mark_gap m following)
 
 open_gap : (bs : List ℕ) → OpenString bs → gap_len 0 bs ≡ 0
 open_gap _ (open_quoted body text q) = quote_gap body
@@ -331,18 +331,18 @@ open_gap _ (open_opening word blanks comment w all c) = text_gap word (blanks ++
 open_gap _ (open_lines word blanks comment end body text last w all c en ls clean no_dot) = let from : List ℕ = blanks ++ (comment ++ (end ++ (body ++ last))) in text_gap word from (text_kind word from w).1
 
 no_token_gap : (before : ℕ) (bs : List ℕ) → NoTokenAt before bs → gap_len 0 bs ≡ 0
-no_token_gap _ _ (no_beginning b behind h) = no_gap b behind h.white h.hash (slash_false b behind h.comment)
-no_token_gap _ _ (no_tag behind h) = colon_gap behind
-no_token_gap _ _ (no_opening word blanks behind w all h) = text_gap word (blanks ++ behind) (text_kind word (blanks ++ behind) w).1
+no_token_gap _ _ (no_beginning b following h) = no_gap b following h.white h.hash (slash_false b following h.comment)
+no_token_gap _ _ (no_tag following h) = colon_gap following
+no_token_gap _ _ (no_opening word blanks following w all h) = text_gap word (blanks ++ following) (text_kind word (blanks ++ following) w).1
 
 pub fault_gap : (refusal : ScanRefusal) (before : ℕ) (bs : List ℕ) → IsFaultHere refusal before bs → gap_len 0 bs ≡ 0
 fault_gap NotUtf8 before bs h = absurd h
 fault_gap NoToken before bs h = no_token_gap before bs h
 fault_gap StringNotClosed before bs h = open_gap bs h.1
 fault_gap CommentNotClosed before bs h = rw h.1.1 (open_comment_gap h.1.0 h.1.2)
-fault_gap NumberTooLarge before bs h = rw h.1.cut (number_gap h.1.octets h.1.behind h.1.value h.1.number)
+fault_gap NumberTooLarge before bs h = rw h.1.cut (number_gap h.1.octets h.1.following h.1.value h.1.number)
 fault_gap ScriptTooLong before bs h = absurd h
-fault_gap StringTooLong before bs h = rw h.1.cut (string_gap h.1.value h.1.octets h.1.behind h.1.string)
+fault_gap StringTooLong before bs h = rw h.1.cut (string_gap h.1.value h.1.octets h.1.following h.1.string)
 
 -- A FAULT HAS AN OCTET
 
@@ -350,12 +350,12 @@ text_some : (bs : List ℕ) → begins_text bs ≡ true → 0 < length bs
 text_some [] t = absurd (false≢true t)
 text_some (b ∷ bs) t = omega arith
 
-string_some : (value octets behind : List ℕ) → IsQuoted value octets ⊎ IsMultiLine value octets behind → 0 < length (octets ++ behind)
-string_some value octets behind (inl q) = rw q.cut (omega arith)
-string_some value octets behind (inr m) =
+string_some : (value octets following : List ℕ) → IsQuoted value octets ⊎ IsMultiLine value octets following → 0 < length (octets ++ following)
+string_some value octets following (inl q) = rw q.cut (omega arith)
+string_some value octets following (inr m) =
     let from : List ℕ = m.blanks ++ (m.comment ++ (m.end ++ (m.body ++ 46 ∷ m.last))) in
-    let e : octets ++ behind ≡ m.word ++ (from ++ behind) = ap (λ (cs : List ℕ). cs ++ behind) m.cut ∙ append_assoc m.word from behind in
-    rw e (text_some (m.word ++ (from ++ behind)) (text_kind m.word (from ++ behind) m.word_is).1)
+    let e : octets ++ following ≡ m.word ++ (from ++ following) = ap (λ (cs : List ℕ). cs ++ following) m.cut ∙ append_assoc m.word from following in
+    rw e (text_some (m.word ++ (from ++ following)) (text_kind m.word (from ++ following) m.word_is).1)
 
 open_some : (bs : List ℕ) → OpenString bs → 0 < length bs
 open_some _ (open_quoted body text q) = omega arith
@@ -364,9 +364,9 @@ open_some _ (open_opening word blanks comment w all c) = text_some (word ++ (bla
 open_some _ (open_lines word blanks comment end body text last w all c en ls clean no_dot) = let from : List ℕ = blanks ++ (comment ++ (end ++ (body ++ last))) in text_some (word ++ from) (text_kind word from w).1
 
 no_token_some : (before : ℕ) (bs : List ℕ) → NoTokenAt before bs → 0 < length bs
-no_token_some _ _ (no_beginning b behind h) = omega arith
-no_token_some _ _ (no_tag behind h) = omega arith
-no_token_some _ _ (no_opening word blanks behind w all h) = text_some (word ++ (blanks ++ behind)) (text_kind word (blanks ++ behind) w).1
+no_token_some _ _ (no_beginning b following h) = omega arith
+no_token_some _ _ (no_tag following h) = omega arith
+no_token_some _ _ (no_opening word blanks following w all h) = text_some (word ++ (blanks ++ following)) (text_kind word (blanks ++ following) w).1
 
 comment_some : (bs body : List ℕ) → bs ≡ 47 ∷ 42 ∷ body → 0 < length bs
 comment_some bs body e = let n = ap length e in omega arith
@@ -375,7 +375,7 @@ large_some : (bs : List ℕ) → IsLargeNumber bs → 0 < length bs
 large_some bs h =
     let n = h.number in
     let a = ap length h.cut in
-    let b = length-append h.octets h.behind in
+    let b = length-append h.octets h.following in
     let c = ap length n.cut in
     let d = length-append n.digits n.quantifier in
     let s = n.some in
@@ -388,4 +388,4 @@ fault_some StringNotClosed before bs h = open_some bs h.1
 fault_some CommentNotClosed before bs h = comment_some bs h.1.0 h.1.1
 fault_some NumberTooLarge before bs h = large_some bs h.1
 fault_some ScriptTooLong before bs h = absurd h
-fault_some StringTooLong before bs h = rw h.1.cut (string_some h.1.value h.1.octets h.1.behind h.1.string)
+fault_some StringTooLong before bs h = rw h.1.cut (string_some h.1.value h.1.octets h.1.following h.1.string)

@@ -19,7 +19,7 @@ use Rattle.sieve_text.specs.Tokens.{mark_of, mark_kind, string_kind, quoted_at, 
 use Rattle.sieve_text.specs.TokenGrammar.{IsNumber, QuotedText, quoted_end, quoted_plain, quoted_pair, IsLineEnd, is_dot, without_dot, Lines, no_lines, line, IsTextColon, IsHashComment, octet_of, closes}
 use Rattle.sieve_text.specs.FaultGrammar.{IsNoBeginning, IsNoOpening, NoTokenAt, no_beginning, no_tag, no_opening, OpenString, open_quoted, open_escape, open_opening, open_lines, IsLargeNumber, IsLongString, IsFaultHere}
 use Rattle.sieve_text.proofs.GapLemmas.{drop_more}
-use Rattle.sieve_text.proofs.GapGrammar.{before, closes_behind, prefix_passes, prefix_ends}
+use Rattle.sieve_text.proofs.GapGrammar.{before, closes_from_after, prefix_passes, prefix_ends}
 use Rattle.sieve_text.proofs.GrammarParts.{octet_mark, quantifier_taken, quantifier_counts}
 use Rattle.sieve_text.proofs.KindGrammar.{IsString, IsOpening, quoted_cut, lines_cut, opening_sound, word_taken, last_here, no_last, line_rest, line_says, dot_line, at_line_feed}
 use Rattle.sieve_text.proofs.KindLemmas.{read_as}
@@ -67,7 +67,7 @@ large_number bs some large =
     record {
       value = digits_value 10 (take n bs) * (factor_at rest).0;
       octets = take n bs ++ take f rest;
-      behind = drop f rest;
+      following = drop f rest;
       cut = sym (append_assoc (take n bs) (take f rest) (drop f rest) ∙ ap (λ cs. take n bs ++ cs) (take-append-drop f rest) ∙ take-append-drop n bs);
       number = record {
         digits = take n bs;
@@ -79,7 +79,7 @@ large_number bs some large =
         counts = quantifier_taken rest;
         says = refl;
       };
-      longest = λ other more behind same h. (let a = length-append (take n bs) (take f rest) in let k = number_longest bs other more behind same h in omega arith);
+      longest = λ other more following same h. (let a = length-append (take n bs) (take f rest) in let k = number_longest bs other more following same h in omega arith);
       large = large;
     }
 
@@ -114,7 +114,7 @@ tag_refusal b bs r e t = elim (went (begins is_start bs) (Ok (kinds.Tag (take (p
 
 long_refusal : (bs value : List ℕ) (n : ℕ) (r : ScanRefusal) → IsString bs value n → string_kind value n ≡ Err r → Goal bs r
 long_refusal bs value n r s e = elim (went (nat_lt 65535 (length value)) (refused_as StringTooLong) (Ok (kinds.StringValue value, n)) (Err r) e) [
-  | inl h ↦ subst (Goal bs) (same_refusal {A = TokenKind × ℕ} StringTooLong r h.1) (refl, record { value = value; octets = s.octets; behind = s.behind; cut = s.cut; string = s.spelled; long = ltb-true 65535 (length value) h.0 })
+  | inl h ↦ subst (Goal bs) (same_refusal {A = TokenKind × ℕ} StringTooLong r h.1) (refl, record { value = value; octets = s.octets; following = s.following; cut = s.cut; string = s.spelled; long = ltb-true 65535 (length value) h.0 })
   | inr h ↦ absurd (no_answer (kinds.StringValue value, n) r h.1)
 ]
 
@@ -234,7 +234,7 @@ first_line bs word blanks from r whole w all stops place e = elim (went (length 
             some = some_from from (eqb-false (length from) 0 h.0);
             blank = stops;
             hash = h1.0;
-            line_end = λ end behind same is. no_end from end behind same is none;
+            line_end = λ end following same is. no_end from end following same is none;
           })))
     ]
   ]
@@ -244,9 +244,9 @@ first_line bs word blanks from r whole w all stops place e = elim (went (length 
     some_from [] h = absurd (h refl)
     some_from (b ∷ bs) h = omega arith
 
-    no_end : (from end behind : List ℕ) → from ≡ end ++ behind → IsLineEnd end → line_end_len from ≤ 0 → ⊥
-    no_end from end behind same (inl e) none = let k : 1 ≤ 0 = rw (same, e) at none in omega arith
-    no_end from end behind same (inr e) none = let k : 2 ≤ 0 = rw (same, e) at none in omega arith
+    no_end : (from end following : List ℕ) → from ≡ end ++ following → IsLineEnd end → line_end_len from ≤ 0 → ⊥
+    no_end from end following same (inl e) none = let k : 1 ≤ 0 = rw (same, e) at none in omega arith
+    no_end from end following same (inr e) none = let k : 2 ≤ 0 = rw (same, e) at none in omega arith
 
 lines_refusal : (bs word blanks comment end rest : List ℕ) → bs ≡ word ++ (blanks ++ (comment ++ (end ++ rest))) → IsTextColon word → list_all is_blank blanks ≡ true → IsHashComment comment → IsLineEnd end → (before : ℕ) → before ≡ length word + (length blanks + (length comment + length end)) → (r : ScanRefusal) → lines_at before rest ≡ Err r → Goal bs r
 unfolding lines_at
@@ -321,9 +321,9 @@ closes_none true [] h = refl
 closes_none false [] h = refl
 closes_none true (b ∷ bs) h = elim (cases_Bool (b == 47)) [
   | inl e ↦ (let k = rw e at h in absurd (omega arith))
-  | inr e ↦ (let k = rw e at h in let r = closes_behind b bs (closes_none (b == 42) bs (omega arith)) in rw e r)
+  | inr e ↦ (let k = rw e at h in let r = closes_from_after b bs (closes_none (b == 42) bs (omega arith)) in rw e r)
 ]
-closes_none false (b ∷ bs) h = closes_behind b bs (closes_none (b == 42) bs (omega arith))
+closes_none false (b ∷ bs) h = closes_from_after b bs (closes_none (b == 42) bs (omega arith))
 
 not_closed : (b c : ℕ) (body : List ℕ) → (b == 35) ≡ false → opens_bracketed (b ∷ c ∷ body) ≡ true → comment_len (b ∷ c ∷ body) ≡ 0 → closes body ≡ false
 unfolding comment_len

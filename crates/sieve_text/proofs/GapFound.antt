@@ -19,17 +19,17 @@ exactly p (x ∷ xs) ys h n =
     rw t.0 (omega arith)
 
 -- the octets of a comment, and the rest after it
-after_comment : (comment behind : List ℕ) → begins is_white (comment ++ behind) ≡ false → comment_len (comment ++ behind) ≡ length comment → 0 < length comment → gap_len 0 (comment ++ behind) ≡ length comment + gap_len 0 behind
-after_comment comment behind white long some =
-    let l = length-append comment behind in
-    let g = gap_comment (comment ++ behind) white (omega arith) (omega arith) in
-    let d : drop (comment_len (comment ++ behind)) (comment ++ behind) ≡ behind = ap (λ n. drop n (comment ++ behind)) long ∙ drop-append_seam comment behind in
+after_comment : (comment following : List ℕ) → begins is_white (comment ++ following) ≡ false → comment_len (comment ++ following) ≡ length comment → 0 < length comment → gap_len 0 (comment ++ following) ≡ length comment + gap_len 0 following
+after_comment comment following white long some =
+    let l = length-append comment following in
+    let g = gap_comment (comment ++ following) white (omega arith) (omega arith) in
+    let d : drop (comment_len (comment ++ following)) (comment ++ following) ≡ following = ap (λ n. drop n (comment ++ following)) long ∙ drop-append_seam comment following in
     let e = ap (λ cs. gap_len 0 cs) d in
     omega arith
 
-hash_long : (text behind : List ℕ) → list_all not_lf text ≡ true → begins not_lf behind ≡ false → comment_len (35 ∷ (text ++ behind)) ≡ suc (length text)
+hash_long : (text following : List ℕ) → list_all not_lf text ≡ true → begins not_lf following ≡ false → comment_len (35 ∷ (text ++ following)) ≡ suc (length text)
 unfolding comment_len
-hash_long text behind all stops = let e = exactly not_lf text behind all stops in omega arith
+hash_long text following all stops = let e = exactly not_lf text following all stops in omega arith
 
 -- a text without "*/" has none after its first octet either
 pub closes_rest : (b : ℕ) (bs : List ℕ) → closes (b ∷ bs) ≡ false → closes bs ≡ false
@@ -48,40 +48,40 @@ closes_after b bs h = elim (cases_Bool (b == 42)) [
   | inr e ↦ rw e (closes_rest b bs h)
 ]
 
-bracketed_found : (after_star : Bool) (text behind : List ℕ) → closes (before after_star (text ++ 42 ∷ [])) ≡ false → bracketed_len after_star (text ++ 42 ∷ 47 ∷ behind) ≡ suc (length text)
+bracketed_found : (after_star : Bool) (text following : List ℕ) → closes (before after_star (text ++ 42 ∷ [])) ≡ false → bracketed_len after_star (text ++ 42 ∷ 47 ∷ following) ≡ suc (length text)
 unfolding bracketed_len
-bracketed_found true [] behind h = refl
-bracketed_found false [] behind h = refl
-bracketed_found true (b ∷ text) behind h = elim (cases_Bool (b == 47)) [
+bracketed_found true [] following h = refl
+bracketed_found false [] following h = refl
+bracketed_found true (b ∷ text) following h = elim (cases_Bool (b == 47)) [
   | inl e ↦ absurd (true≢false (rw e at h))
-  | inr e ↦ rw e (ap suc (bracketed_found (b == 42) text behind (closes_after b (text ++ 42 ∷ []) (closes_rest 42 (b ∷ (text ++ 42 ∷ [])) h))))
+  | inr e ↦ rw e (ap suc (bracketed_found (b == 42) text following (closes_after b (text ++ 42 ∷ []) (closes_rest 42 (b ∷ (text ++ 42 ∷ [])) h))))
 ]
-bracketed_found false (b ∷ text) behind h = ap suc (bracketed_found (b == 42) text behind (closes_after b (text ++ 42 ∷ []) h))
+bracketed_found false (b ∷ text) following h = ap suc (bracketed_found (b == 42) text following (closes_after b (text ++ 42 ∷ []) h))
 
-bracketed_long : (text behind : List ℕ) → closes (text ++ 42 ∷ []) ≡ false → comment_len (47 ∷ 42 ∷ (text ++ 42 ∷ 47 ∷ behind)) ≡ length text + 4
+bracketed_long : (text following : List ℕ) → closes (text ++ 42 ∷ []) ≡ false → comment_len (47 ∷ 42 ∷ (text ++ 42 ∷ 47 ∷ following)) ≡ length text + 4
 unfolding comment_len
-bracketed_long text behind h =
-    let n = bracketed_found false text behind h in
-    let l = length-append text (42 ∷ 47 ∷ behind) in
-    let t = lt-ltb (bracketed_len false (text ++ 42 ∷ 47 ∷ behind)) (length (text ++ 42 ∷ 47 ∷ behind)) (omega arith) in
+bracketed_long text following h =
+    let n = bracketed_found false text following h in
+    let l = length-append text (42 ∷ 47 ∷ following) in
+    let t = lt-ltb (bracketed_len false (text ++ 42 ∷ 47 ∷ following)) (length (text ++ 42 ∷ 47 ∷ following)) (omega arith) in
     rw t (omega arith)
 
-pub gap_found : (gap behind : List ℕ) → Gap gap behind → gap_len 0 behind ≡ 0 → gap_len 0 (gap ++ behind) ≡ length gap
-gap_found _ _ (gap_end behind) h = h
-gap_found _ _ (gap_white b bs behind w g) h = white_more b (bs ++ behind) w ∙ ap suc (gap_found bs behind g h)
-gap_found _ _ (gap_hash text bs behind all stops g) h =
+pub gap_found : (gap following : List ℕ) → Gap gap following → gap_len 0 following ≡ 0 → gap_len 0 (gap ++ following) ≡ length gap
+gap_found _ _ (gap_end following) h = h
+gap_found _ _ (gap_white b bs following w g) h = white_more b (bs ++ following) w ∙ ap suc (gap_found bs following g h)
+gap_found _ _ (gap_hash text bs following all stops g) h =
     let comment : List ℕ = 35 ∷ text in
-    let r = gap_found bs behind g h in
-    let a = after_comment comment (bs ++ behind) refl (hash_long text (bs ++ behind) all stops) (omega arith) in
+    let r = gap_found bs following g h in
+    let a = after_comment comment (bs ++ following) refl (hash_long text (bs ++ following) all stops) (omega arith) in
     let l = length-append text bs in
     rw append_assoc (omega arith)
-gap_found _ _ (gap_bracketed text bs behind c g) h =
+gap_found _ _ (gap_bracketed text bs following c g) h =
     let comment : List ℕ = 47 ∷ 42 ∷ (text ++ 42 ∷ 47 ∷ []) in
-    let r = gap_found bs behind g h in
-    let joined : text ++ (42 ∷ 47 ∷ (bs ++ behind)) ≡ (text ++ 42 ∷ 47 ∷ []) ++ (bs ++ behind) = sym (append_assoc text (42 ∷ 47 ∷ []) (bs ++ behind)) in
-    let long : comment_len (comment ++ (bs ++ behind)) ≡ length comment = ap (λ cs. comment_len (47 ∷ 42 ∷ cs)) (sym joined) ∙ bracketed_long text (bs ++ behind) c ∙ four text in
-    let a = after_comment comment (bs ++ behind) refl long (omega arith) in
-    let w : gap_len 0 ((47 ∷ 42 ∷ (text ++ 42 ∷ 47 ∷ bs)) ++ behind) ≡ gap_len 0 (comment ++ (bs ++ behind)) = ap (λ cs. gap_len 0 (47 ∷ 42 ∷ cs)) (append_assoc text (42 ∷ 47 ∷ bs) behind ∙ joined) in
+    let r = gap_found bs following g h in
+    let joined : text ++ (42 ∷ 47 ∷ (bs ++ following)) ≡ (text ++ 42 ∷ 47 ∷ []) ++ (bs ++ following) = sym (append_assoc text (42 ∷ 47 ∷ []) (bs ++ following)) in
+    let long : comment_len (comment ++ (bs ++ following)) ≡ length comment = ap (λ cs. comment_len (47 ∷ 42 ∷ cs)) (sym joined) ∙ bracketed_long text (bs ++ following) c ∙ four text in
+    let a = after_comment comment (bs ++ following) refl long (omega arith) in
+    let w : gap_len 0 ((47 ∷ 42 ∷ (text ++ 42 ∷ 47 ∷ bs)) ++ following) ≡ gap_len 0 (comment ++ (bs ++ following)) = ap (λ cs. gap_len 0 (47 ∷ 42 ∷ cs)) (append_assoc text (42 ∷ 47 ∷ bs) following ∙ joined) in
     let l = length-append text (42 ∷ 47 ∷ bs) in
     let m = length-append text (42 ∷ 47 ∷ []) in
     omega arith

@@ -32,8 +32,8 @@ abbrev pub before : Bool → List ℕ → List ℕ
 before true bs = 42 ∷ bs
 before false bs = bs
 
-pub closes_behind : (b : ℕ) (bs : List ℕ) → closes (before (b == 42) bs) ≡ false → closes (b ∷ bs) ≡ false
-closes_behind b bs h = elim (cases_Bool (b == 42)) [
+pub closes_from_after : (b : ℕ) (bs : List ℕ) → closes (before (b == 42) bs) ≡ false → closes (b ∷ bs) ≡ false
+closes_from_after b bs h = elim (cases_Bool (b == 42)) [
   | inl e ↦ rw e (rw e at h)
   | inr e ↦ rw e (rw e at h)
 ]
@@ -44,17 +44,17 @@ unfolding bracketed_len
 bracketed_closes after_star [] h = absurd (omega arith)
 bracketed_closes true (b ∷ bs) h = elim (cases_Bool (b == 47)) [
   | inl e ↦ rw e refl
-  | inr e ↦ (let r = rw e at h in let c = closes_behind b (take (bracketed_len (b == 42) bs) bs) (bracketed_closes (b == 42) bs (omega arith)) in rw (e, e) c)
+  | inr e ↦ (let r = rw e at h in let c = closes_from_after b (take (bracketed_len (b == 42) bs) bs) (bracketed_closes (b == 42) bs (omega arith)) in rw (e, e) c)
 ]
-bracketed_closes false (b ∷ bs) h = closes_behind b (take (bracketed_len (b == 42) bs) bs) (bracketed_closes (b == 42) bs (omega arith))
+bracketed_closes false (b ∷ bs) h = closes_from_after b (take (bracketed_len (b == 42) bs) bs) (bracketed_closes (b == 42) bs (omega arith))
 
 -- a star comes before the slash
 Starred : Bool → List ℕ → Type 0
 Starred after_star bs = (text : List ℕ) × (before after_star bs ≡ text ++ 42 ∷ [])
 
-starred_behind : (after_star : Bool) (b : ℕ) (bs : List ℕ) → Starred (b == 42) bs → Starred after_star (b ∷ bs)
+starred_after : (after_star : Bool) (b : ℕ) (bs : List ℕ) → Starred (b == 42) bs → Starred after_star (b ∷ bs)
 unfolding Starred
-starred_behind after_star b bs h = go after_star (elim (cases_Bool (b == 42)) [
+starred_after after_star b bs h = go after_star (elim (cases_Bool (b == 42)) [
   | inl e ↦ (let t = rw e at h in (t.0, ap (λ c. c ∷ bs) (eqb-true b 42 e) ∙ t.1))
   | inr e ↦ (let t = rw e at h in (b ∷ t.0, ap (λ cs. b ∷ cs) t.1))
 ])
@@ -68,9 +68,9 @@ unfolding Starred bracketed_len
 bracketed_starred after_star [] h = absurd (omega arith)
 bracketed_starred true (b ∷ bs) h = elim (cases_Bool (b == 47)) [
   | inl e ↦ rw e ([], refl)
-  | inr e ↦ (let r = rw e at h in rw e (starred_behind true b (take (bracketed_len (b == 42) bs) bs) (bracketed_starred (b == 42) bs (omega arith))))
+  | inr e ↦ (let r = rw e at h in rw e (starred_after true b (take (bracketed_len (b == 42) bs) bs) (bracketed_starred (b == 42) bs (omega arith))))
 ]
-bracketed_starred false (b ∷ bs) h = starred_behind false b (take (bracketed_len (b == 42) bs) bs) (bracketed_starred (b == 42) bs (omega arith))
+bracketed_starred false (b ∷ bs) h = starred_after false b (take (bracketed_len (b == 42) bs) bs) (bracketed_starred (b == 42) bs (omega arith))
 
 bracketed_slash : (after_star : Bool) (bs : List ℕ) → bracketed_len after_star bs < length bs → drop (bracketed_len after_star bs) bs ≡ 47 ∷ drop (suc (bracketed_len after_star bs)) bs
 unfolding bracketed_len
@@ -87,7 +87,7 @@ pub record IsComment (bs : List ℕ) : Type 0 where
   pub rest : List ℕ
   pub cut : bs ≡ comment ++ rest
   pub long : length comment ≡ comment_len bs
-  pub joins : (gap behind : List ℕ) → rest ≡ gap ++ behind → Gap gap behind → Gap (comment ++ gap) behind
+  pub joins : (gap following : List ℕ) → rest ≡ gap ++ following → Gap gap following → Gap (comment ++ gap) following
 
 hash_at : (bs : List ℕ) → IsComment (35 ∷ bs)
 unfolding comment_len
@@ -96,7 +96,7 @@ hash_at bs = record {
   rest = drop (prefix_len not_lf bs) bs;
   cut = ap (λ cs. 35 ∷ cs) (sym (take-append-drop (prefix_len not_lf bs) bs));
   long = (let w = length-take-le (prefix_len not_lf bs) bs (prefix_len-le-length not_lf bs) in omega arith);
-  joins = λ gap behind e g. gap_hash (take (prefix_len not_lf bs) bs) gap behind (prefix_passes not_lf bs) (rw (← e) (prefix_ends not_lf bs)) g;
+  joins = λ gap following e g. gap_hash (take (prefix_len not_lf bs) bs) gap following (prefix_passes not_lf bs) (rw (← e) (prefix_ends not_lf bs)) g;
 }
 
 hash_comment : (bs : List ℕ) → begins_with 35 bs ≡ true → IsComment bs
@@ -119,7 +119,7 @@ bracketed_at body h c =
       rest = drop (suc n) body;
       cut = ap (λ cs. 47 ∷ 42 ∷ cs) (whole ∙ sym (append_assoc text (42 ∷ 47 ∷ []) (drop (suc n) body)));
       long = omega (arith, length-append text (42 ∷ []), length-append text (42 ∷ 47 ∷ []));
-      joins = λ gap behind e g. rw append_assoc (gap_bracketed text gap behind closes_not g);
+      joins = λ gap following e g. rw append_assoc (gap_bracketed text gap following closes_not g);
     }
   where
     joined : (front back text rest : List ℕ) → front ≡ text ++ 42 ∷ [] → back ≡ 47 ∷ rest → front ++ back ≡ text ++ (42 ∷ 47 ∷ rest)
@@ -184,13 +184,13 @@ gap_from (suc turns) (b ∷ bs) enough = elim (cases_Bool (is_white b)) [
         let lc = k.long in
         let m = gap_comment (b ∷ bs) w some (omega arith) in
         let r = gap_from turns k.rest (omega arith) in
-        let behind = dropped (b ∷ bs) k.comment k.rest k.cut (comment_len (b ∷ bs)) k.long in
+        let following = dropped (b ∷ bs) k.comment k.rest k.cut (comment_len (b ∷ bs)) k.long in
         let lr = r.long in
         record {
           gap = k.comment ++ r.gap;
           rest = r.rest;
           cut = k.cut ∙ ap (λ cs. k.comment ++ cs) r.cut ∙ sym (append_assoc k.comment r.gap r.rest);
-          long = (let g = rw behind at m in omega (arith, length-append k.comment r.gap));
+          long = (let g = rw following at m in omega (arith, length-append k.comment r.gap));
           gap_is = k.joins r.gap r.rest r.cut r.gap_is;
           stops = r.stops;
         })

@@ -44,9 +44,9 @@ opened : (b : ℕ) (bs : List ℕ) → is_white b ≡ false → nat_lt 0 (commen
 unfolding gap_len
 opened b bs h t = rw (h, t) refl
 
-behind_first : (n : ℕ) (b : ℕ) (bs : List ℕ) → 0 < n → drop n (b ∷ bs) ≡ drop (n - 1) bs
-behind_first zero b bs some = absurd (omega arith)
-behind_first (suc n) b bs some = ap (λ k. drop k bs) (omega arith)
+after_first : (n : ℕ) (b : ℕ) (bs : List ℕ) → 0 < n → drop n (b ∷ bs) ≡ drop (n - 1) bs
+after_first zero b bs some = absurd (omega arith)
+after_first (suc n) b bs some = ap (λ k. drop k bs) (omega arith)
 
 pub gap_nothing : (bs : List ℕ) → bs ≡ [] → gap_len 0 bs ≡ 0
 unfolding gap_len
@@ -63,7 +63,7 @@ gap_comment (b ∷ bs) h some within =
     let t = lt-ltb 0 (comment_len (b ∷ bs)) some in
     let e = opened b bs h t in
     let i = gap_inside (comment_len (b ∷ bs) - 1) bs (omega arith) in
-    let d = behind_first (comment_len (b ∷ bs)) b bs some in
+    let d = after_first (comment_len (b ∷ bs)) b bs some in
     rw d (omega arith)
 
 -- and the gap ends if no comment follows the white space

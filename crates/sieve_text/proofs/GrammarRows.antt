@@ -22,9 +22,9 @@ text_blank h = refl
 text_foo : IsFaultHere NoToken 5 (codes "text:foo")
 text_foo = no_opening (codes "text:") [] (codes "foo") refl refl (record { some = omega arith; blank = refl; hash = refl; line_end = none })
   where
-    none : (end behind : List ℕ) → codes "foo" ≡ end ++ behind → IsLineEnd end → ⊥
-    none end behind same (inl e) = let f : ◌≡◌ {A = ℕ} 102 10 = first_is 102 10 (codes "oo") behind (rw e at same) in omega arith
-    none end behind same (inr e) = let f : ◌≡◌ {A = ℕ} 102 13 = first_is 102 13 (codes "oo") (10 ∷ behind) (rw e at same) in omega arith
+    none : (end following : List ℕ) → codes "foo" ≡ end ++ following → IsLineEnd end → ⊥
+    none end following same (inl e) = let f : ◌≡◌ {A = ℕ} 102 10 = first_is 102 10 (codes "oo") following (rw e at same) in omega arith
+    none end following same (inr e) = let f : ◌≡◌ {A = ℕ} 102 13 = first_is 102 13 (codes "oo") (10 ∷ following) (rw e at same) in omega arith
 
 text_end : IsFaultHere StringNotClosed 0 (codes "text: # a")
 text_end = (refl, open_opening (codes "text:") (codes " ") (codes "# a") refl refl (inr (refl, refl)))

@@ -23,7 +23,7 @@ use Rattle.sieve_text.proofs.GapLemmas.{drop_more}
 use Rattle.sieve_text.proofs.GrammarParts.{quantifier_taken, quantifier_counts}
 use Rattle.sieve_text.proofs.KindGrammar.{line_says}
 use Rattle.sieve_text.proofs.WithinLemmas.{factor_within}
-use Rattle.sieve_text.proofs.Longest.{lower_below, lower_above, lower_between, colon_only, t_starts, digit_no_t, digit_no_start, digit_no_factor, no_word, quoted_whole, lines_whole, opening_whole, last_whole, behind_opening, begins_word}
+use Rattle.sieve_text.proofs.Longest.{lower_below, lower_above, lower_between, colon_only, t_starts, digit_no_t, digit_no_start, digit_no_factor, no_word, quoted_whole, lines_whole, opening_whole, last_whole, after_opening, begins_word}
 
 -- NAMES
 
@@ -54,13 +54,13 @@ Letters [] = Unit {0}
 Letters (w ∷ ws) = ((b : ℕ) → to_ascii_lowercase b ≡ w → is_word b ≡ true) × Letters ws
 
 -- where letters and ":" begin a text whose longest name ends before the rest, that name is the letters
-letters_split : (ws : List ℕ) → Letters ws → (xs behind : List ℕ) → list_all is_word xs ≡ true → begins is_word behind ≡ false → begins_as (ws ++ 58 ∷ []) (xs ++ behind) ≡ true → (map to_ascii_lowercase xs ≡ ws) × (begins_with 58 behind ≡ true)
+letters_split : (ws : List ℕ) → Letters ws → (xs following : List ℕ) → list_all is_word xs ≡ true → begins is_word following ≡ false → begins_as (ws ++ 58 ∷ []) (xs ++ following) ≡ true → (map to_ascii_lowercase xs ≡ ws) × (begins_with 58 following ≡ true)
 unfolding Letters
 letters_split [] l [] [] h stops t = absurd (false≢true t)
 letters_split [] l [] (b ∷ bs) h stops t =
     let p = and_parts (to_ascii_lowercase b == 58) true t in
     (refl, eq-eqb b 58 (colon_only b (eqb-true (to_ascii_lowercase b) 58 p.0)))
-letters_split [] l (x ∷ xs) behind h stops t =
+letters_split [] l (x ∷ xs) following h stops t =
     let p = and_parts (to_ascii_lowercase x == 58) true t in
     let q = and_parts (is_word x) (list_all is_word xs) h in
     absurd (no_word x (eqb-true (to_ascii_lowercase x) 58 p.0) q.0)
@@ -68,10 +68,10 @@ letters_split (w ∷ ws) l [] [] h stops t = absurd (false≢true t)
 letters_split (w ∷ ws) l [] (b ∷ bs) h stops t =
     let p = and_parts (to_ascii_lowercase b == w) (begins_as (ws ++ 58 ∷ []) bs) t in
     absurd (both_ways (is_word b) stops (l.0 b (eqb-true (to_ascii_lowercase b) w p.0)))
-letters_split (w ∷ ws) l (x ∷ xs) behind h stops t =
-    let p = and_parts (to_ascii_lowercase x == w) (begins_as (ws ++ 58 ∷ []) (xs ++ behind)) t in
+letters_split (w ∷ ws) l (x ∷ xs) following h stops t =
+    let p = and_parts (to_ascii_lowercase x == w) (begins_as (ws ++ 58 ∷ []) (xs ++ following)) t in
     let q = and_parts (is_word x) (list_all is_word xs) h in
-    let r = letters_split ws l.1 xs behind q.1 stops p.1 in
+    let r = letters_split ws l.1 xs following q.1 stops p.1 in
     (both (to_ascii_lowercase x) w (map to_ascii_lowercase xs) ws (eqb-true (to_ascii_lowercase x) w p.0) r.0, r.1)
   where
     both : (a b : ℕ) (cs ds : List ℕ) → a ≡ b → cs ≡ ds → a ∷ cs ≡ b ∷ ds
@@ -81,29 +81,29 @@ text_letters : Letters (codes "text")
 unfolding Letters
 text_letters = (λ b e. word_start b (t_starts b e), (λ b e. word_start b (e_starts b e), (λ b e. word_start b (x_starts b e), (λ b e. word_start b (t_starts b e), tt))))
 
-pub text_split : (xs behind : List ℕ) → list_all is_word xs ≡ true → begins is_word behind ≡ false → begins_text (xs ++ behind) ≡ true → (map to_ascii_lowercase xs ≡ codes "text") × (begins_with 58 behind ≡ true)
-text_split xs behind h stops t = letters_split (codes "text") text_letters xs behind h stops t
+pub text_split : (xs following : List ℕ) → list_all is_word xs ≡ true → begins is_word following ≡ false → begins_text (xs ++ following) ≡ true → (map to_ascii_lowercase xs ≡ codes "text") × (begins_with 58 following ≡ true)
+text_split xs following h stops t = letters_split (codes "text") text_letters xs following h stops t
 
 name_kind : (b : ℕ) (bs : List ℕ) → begins_text (b ∷ bs) ≡ false → is_start b ≡ true → kind_at (b ∷ bs) ≡ identifier_at (b ∷ bs)
 unfolding kind_at
 name_kind b bs t s = rw (t, s) refl
 
-name_read : (xs behind : List ℕ) → prefix_len is_word (xs ++ behind) ≡ length xs → identifier_at (xs ++ behind) ≡ Ok (kinds.Identifier xs, length xs)
-name_read xs behind e =
-    ap (λ n. Ok (kinds.Identifier (take n (xs ++ behind)), n)) e ∙ ap (λ (ys : List ℕ). Ok (kinds.Identifier ys, length xs)) (take-append_seam xs behind)
+name_read : (xs following : List ℕ) → prefix_len is_word (xs ++ following) ≡ length xs → identifier_at (xs ++ following) ≡ Ok (kinds.Identifier xs, length xs)
+name_read xs following e =
+    ap (λ n. Ok (kinds.Identifier (take n (xs ++ following)), n)) e ∙ ap (λ (ys : List ℕ). Ok (kinds.Identifier ys, length xs)) (take-append_seam xs following)
 
-name_found : (xs behind : List ℕ) → IsName xs → begins is_word behind ≡ false → (map to_ascii_lowercase xs ≡ codes "text" → begins_with 58 behind ≡ false) → kind_at (xs ++ behind) ≡ Ok (kinds.Identifier xs, length xs)
-name_found [] behind h stops apart = absurd (false≢true h.0)
-name_found (b ∷ bs) behind h stops apart = name_kind b (bs ++ behind) plain h.0 ∙ name_read (b ∷ bs) behind (exactly is_word (b ∷ bs) behind h.1 stops)
+name_found : (xs following : List ℕ) → IsName xs → begins is_word following ≡ false → (map to_ascii_lowercase xs ≡ codes "text" → begins_with 58 following ≡ false) → kind_at (xs ++ following) ≡ Ok (kinds.Identifier xs, length xs)
+name_found [] following h stops apart = absurd (false≢true h.0)
+name_found (b ∷ bs) following h stops apart = name_kind b (bs ++ following) plain h.0 ∙ name_read (b ∷ bs) following (exactly is_word (b ∷ bs) following h.1 stops)
   where
-    plain : begins_text (b ∷ (bs ++ behind)) ≡ false
-    plain = elim (cases_Bool (begins_text (b ∷ (bs ++ behind)))) [
-      | inl e ↦ (let s = text_split (b ∷ bs) behind h.1 stops e in absurd (both_ways (begins_with 58 behind) (apart s.0) s.1))
+    plain : begins_text (b ∷ (bs ++ following)) ≡ false
+    plain = elim (cases_Bool (begins_text (b ∷ (bs ++ following)))) [
+      | inl e ↦ (let s = text_split (b ∷ bs) following h.1 stops e in absurd (both_ways (begins_with 58 following) (apart s.0) s.1))
       | inr e ↦ e
     ]
 
 -- the longest name ends where no octet of a name follows
-name_stops : (xs behind : List ℕ) → IsName xs → ((more rest : List ℕ) → xs ++ behind ≡ more ++ rest → IsName more → length more ≤ length xs) → begins is_word behind ≡ false
+name_stops : (xs following : List ℕ) → IsName xs → ((more rest : List ℕ) → xs ++ following ≡ more ++ rest → IsName more → length more ≤ length xs) → begins is_word following ≡ false
 name_stops xs [] h longest = refl
 name_stops xs (b ∷ bs) h longest = elim (cases_Bool (is_word b)) [
   | inr e ↦ e
@@ -123,16 +123,16 @@ pub tag_kind : (bs : List ℕ) → kind_at (58 ∷ bs) ≡ tag_at bs
 unfolding kind_at
 tag_kind bs = refl
 
-name_first : (xs behind : List ℕ) → IsName xs → begins is_start (xs ++ behind) ≡ true
-name_first [] behind h = absurd (false≢true h.0)
-name_first (b ∷ bs) behind h = h.0
+name_first : (xs following : List ℕ) → IsName xs → begins is_start (xs ++ following) ≡ true
+name_first [] following h = absurd (false≢true h.0)
+name_first (b ∷ bs) following h = h.0
 
-tag_read : (xs behind : List ℕ) → IsName xs → prefix_len is_word (xs ++ behind) ≡ length xs → tag_at (xs ++ behind) ≡ Ok (kinds.Tag xs, suc (length xs))
+tag_read : (xs following : List ℕ) → IsName xs → prefix_len is_word (xs ++ following) ≡ length xs → tag_at (xs ++ following) ≡ Ok (kinds.Tag xs, suc (length xs))
 unfolding tag_at
-tag_read xs behind h e = rw (name_first xs behind h) (ap (λ n. Ok (kinds.Tag (take n (xs ++ behind)), suc n)) e ∙ ap (λ (ys : List ℕ). Ok (kinds.Tag ys, suc (length xs))) (take-append_seam xs behind))
+tag_read xs following h e = rw (name_first xs following h) (ap (λ n. Ok (kinds.Tag (take n (xs ++ following)), suc n)) e ∙ ap (λ (ys : List ℕ). Ok (kinds.Tag ys, suc (length xs))) (take-append_seam xs following))
 
-tag_found : (xs behind : List ℕ) → IsName xs → begins is_word behind ≡ false → kind_at (58 ∷ (xs ++ behind)) ≡ Ok (kinds.Tag xs, suc (length xs))
-tag_found xs behind h stops = tag_kind (xs ++ behind) ∙ tag_read xs behind h (exactly is_word xs behind h.1 stops)
+tag_found : (xs following : List ℕ) → IsName xs → begins is_word following ≡ false → kind_at (58 ∷ (xs ++ following)) ≡ Ok (kinds.Tag xs, suc (length xs))
+tag_found xs following h stops = tag_kind (xs ++ following) ∙ tag_read xs following h (exactly is_word xs following h.1 stops)
 
 -- NUMBERS
 
@@ -166,10 +166,10 @@ factor_none (b ∷ bs) e = elim (cases_Bool ((b == 75) || (b == 107))) [
 
 -- a number has no more octets than these
 abbrev pub IsLongest : List ℕ → List ℕ → Type 0
-IsLongest octets behind = (other : ℕ) (more rest : List ℕ) → octets ++ behind ≡ more ++ rest → IsNumber other more → length more ≤ length octets
+IsLongest octets following = (other : ℕ) (more rest : List ℕ) → octets ++ following ≡ more ++ rest → IsNumber other more → length more ≤ length octets
 
 -- after digits without a quantifier comes neither a digit nor a quantifier, if they are the longest number
-no_digit_after : (ds behind : List ℕ) → 0 < length ds → list_all is_ascii_digit ds ≡ true → IsLongest ds behind → begins is_ascii_digit behind ≡ false
+no_digit_after : (ds following : List ℕ) → 0 < length ds → list_all is_ascii_digit ds ≡ true → IsLongest ds following → begins is_ascii_digit following ≡ false
 no_digit_after ds [] some all longest = refl
 no_digit_after ds (b ∷ bs) some all longest = elim (cases_Bool (is_ascii_digit b)) [
   | inr e ↦ e
@@ -188,24 +188,24 @@ no_digit_after ds (b ∷ bs) some all longest = elim (cases_Bool (is_ascii_digit
       absurd (omega arith))
 ]
 
-no_factor_after : (ds behind : List ℕ) → 0 < length ds → list_all is_ascii_digit ds ≡ true → IsLongest ds behind → factor_at behind ≡ (1, 0)
-no_factor_after ds behind some all longest =
-    let f : ℕ = (factor_at behind).1 in
-    let q = quantifier_taken behind in
-    let l = longest (digits_value 10 ds * (factor_at behind).0) (ds ++ take f behind) (drop f behind) (ap (λ (bs : List ℕ). ds ++ bs) (sym (take_drop f behind)) ∙ sym (append_assoc ds (take f behind) (drop f behind))) (record {
+no_factor_after : (ds following : List ℕ) → 0 < length ds → list_all is_ascii_digit ds ≡ true → IsLongest ds following → factor_at following ≡ (1, 0)
+no_factor_after ds following some all longest =
+    let f : ℕ = (factor_at following).1 in
+    let q = quantifier_taken following in
+    let l = longest (digits_value 10 ds * (factor_at following).0) (ds ++ take f following) (drop f following) (ap (λ (bs : List ℕ). ds ++ bs) (sym (take_drop f following)) ∙ sym (append_assoc ds (take f following) (drop f following))) (record {
       digits = ds;
-      quantifier = take f behind;
-      factor = (factor_at behind).0;
+      quantifier = take f following;
+      factor = (factor_at following).0;
       cut = refl;
       some = some;
       all = all;
       counts = q;
       says = refl;
     }) in
-    let m = length-append ds (take f behind) in
-    let c = ap (λ (p : ℕ × ℕ). p.1) (quantifier_counts (take f behind) (factor_at behind).0 q) in
-    let w = ap (λ (p : ℕ × ℕ). p.1) (quantifier_counts (take f behind) (factor_at behind).0 q) in
-    factor_none behind (let k = taken_long behind in omega arith)
+    let m = length-append ds (take f following) in
+    let c = ap (λ (p : ℕ × ℕ). p.1) (quantifier_counts (take f following) (factor_at following).0 q) in
+    let w = ap (λ (p : ℕ × ℕ). p.1) (quantifier_counts (take f following) (factor_at following).0 q) in
+    factor_none following (let k = taken_long following in omega arith)
   where
     take_drop : (n : ℕ) (bs : List ℕ) → take n bs ++ drop n bs ≡ bs
     take_drop n bs = take-append-drop n bs
@@ -213,24 +213,24 @@ no_factor_after ds behind some all longest =
     taken_long : (bs : List ℕ) → length (take (factor_at bs).1 bs) ≡ (factor_at bs).1
     taken_long bs = length-take-le (factor_at bs).1 bs (factor_within bs)
 
-quantifier_first : (quantifier behind : List ℕ) (factor : ℕ) → Quantifier quantifier factor → 0 < length quantifier → (begins is_ascii_digit (quantifier ++ behind) ≡ false) × (factor_at (quantifier ++ behind) ≡ (factor, length quantifier))
-quantifier_first _ behind _ no_quantifier some = absurd (omega arith)
-quantifier_first _ behind _ (kilo b (inl e)) some = rw e (refl, refl)
-quantifier_first _ behind _ (kilo b (inr e)) some = rw e (refl, refl)
-quantifier_first _ behind _ (mega b (inl e)) some = rw e (refl, refl)
-quantifier_first _ behind _ (mega b (inr e)) some = rw e (refl, refl)
-quantifier_first _ behind _ (giga b (inl e)) some = rw e (refl, refl)
-quantifier_first _ behind _ (giga b (inr e)) some = rw e (refl, refl)
+quantifier_first : (quantifier following : List ℕ) (factor : ℕ) → Quantifier quantifier factor → 0 < length quantifier → (begins is_ascii_digit (quantifier ++ following) ≡ false) × (factor_at (quantifier ++ following) ≡ (factor, length quantifier))
+quantifier_first _ following _ no_quantifier some = absurd (omega arith)
+quantifier_first _ following _ (kilo b (inl e)) some = rw e (refl, refl)
+quantifier_first _ following _ (kilo b (inr e)) some = rw e (refl, refl)
+quantifier_first _ following _ (mega b (inl e)) some = rw e (refl, refl)
+quantifier_first _ following _ (mega b (inr e)) some = rw e (refl, refl)
+quantifier_first _ following _ (giga b (inl e)) some = rw e (refl, refl)
+quantifier_first _ following _ (giga b (inr e)) some = rw e (refl, refl)
 
-number_parts_read : (ds quantifier behind : List ℕ) (factor : ℕ) → 0 < length ds → list_all is_ascii_digit ds ≡ true → Quantifier quantifier factor → IsLongest (ds ++ quantifier) behind → number_at (ds ++ (quantifier ++ behind)) ≡ number_kind (digits_value 10 ds * factor) (length ds + length quantifier)
-number_parts_read ds [] behind factor some all counts longest =
+number_parts_read : (ds quantifier following : List ℕ) (factor : ℕ) → 0 < length ds → list_all is_ascii_digit ds ≡ true → Quantifier quantifier factor → IsLongest (ds ++ quantifier) following → number_at (ds ++ (quantifier ++ following)) ≡ number_kind (digits_value 10 ds * factor) (length ds + length quantifier)
+number_parts_read ds [] following factor some all counts longest =
     let same = append-nil ds in
-    let l : IsLongest ds behind = subst (λ (xs : List ℕ). IsLongest xs behind) same longest in
+    let l : IsLongest ds following = subst (λ (xs : List ℕ). IsLongest xs following) same longest in
     let one : factor ≡ 1 = ap (λ (p : ℕ × ℕ). p.0) (sym (quantifier_counts [] factor counts)) in
-    rw one (number_read ds behind 1 0 (exactly is_ascii_digit ds behind all (no_digit_after ds behind some all l)) (no_factor_after ds behind some all l))
-number_parts_read ds (q ∷ more) behind factor some all counts longest =
-    let f = quantifier_first (q ∷ more) behind factor counts (omega arith) in
-    number_read ds (q ∷ (more ++ behind)) factor (suc (length more)) (exactly is_ascii_digit ds (q ∷ (more ++ behind)) all f.0) f.1
+    rw one (number_read ds following 1 0 (exactly is_ascii_digit ds following all (no_digit_after ds following some all l)) (no_factor_after ds following some all l))
+number_parts_read ds (q ∷ more) following factor some all counts longest =
+    let f = quantifier_first (q ∷ more) following factor counts (omega arith) in
+    number_read ds (q ∷ (more ++ following)) factor (suc (length more)) (exactly is_ascii_digit ds (q ∷ (more ++ following)) all f.0) f.1
 
 number_branch : (d : ℕ) (bs : List ℕ) → is_ascii_digit d ≡ true → kind_at (d ∷ bs) ≡ number_at (d ∷ bs)
 unfolding kind_at
@@ -242,13 +242,13 @@ number_branch d bs h = rw (plain, digit_no_start d h, h) refl
       | inr e ↦ e
     ]
 
-pub number_found : (octets behind : List ℕ) (value : ℕ) → IsNumber value octets → IsLongest octets behind → kind_at (octets ++ behind) ≡ number_kind value (length octets)
-number_found octets behind value h longest =
-    let l : IsLongest (h.digits ++ h.quantifier) behind = subst (λ (xs : List ℕ). IsLongest xs behind) h.cut longest in
+pub number_found : (octets following : List ℕ) (value : ℕ) → IsNumber value octets → IsLongest octets following → kind_at (octets ++ following) ≡ number_kind value (length octets)
+number_found octets following value h longest =
+    let l : IsLongest (h.digits ++ h.quantifier) following = subst (λ (xs : List ℕ). IsLongest xs following) h.cut longest in
     let n = length-append h.digits h.quantifier in
-    let whole : octets ++ behind ≡ h.digits ++ (h.quantifier ++ behind) = ap (λ (xs : List ℕ). xs ++ behind) h.cut ∙ append_assoc h.digits h.quantifier behind in
-    ap kind_at whole ∙ first h.digits (h.quantifier ++ behind) h.some h.all
-    ∙ number_parts_read h.digits h.quantifier behind h.factor h.some h.all h.counts l
+    let whole : octets ++ following ≡ h.digits ++ (h.quantifier ++ following) = ap (λ (xs : List ℕ). xs ++ following) h.cut ∙ append_assoc h.digits h.quantifier following in
+    ap kind_at whole ∙ first h.digits (h.quantifier ++ following) h.some h.all
+    ∙ number_parts_read h.digits h.quantifier following h.factor h.some h.all h.counts l
     ∙ ap (λ v. number_kind v (length h.digits + length h.quantifier)) (sym h.says)
     ∙ ap (λ m. number_kind value m) (sym n ∙ ap length (sym h.cut))
   where
@@ -268,21 +268,21 @@ quoted_says _ _ quoted_end = refl
 quoted_says _ _ (quoted_plain b bs says n34 n92 q) = rw (ne_eqb b 92 n92) (ap (λ (cs : List ℕ). b ∷ cs) (quoted_says bs says q))
 quoted_says _ _ (quoted_pair b bs says q) = ap (λ (cs : List ℕ). b ∷ cs) (quoted_says bs says q)
 
-quoted_read : (body text behind : List ℕ) → QuotedText body text → quoted_at (body ++ 34 ∷ behind) ≡ string_kind (with_crlf false text) (length body + 2)
+quoted_read : (body text following : List ℕ) → QuotedText body text → quoted_at (body ++ 34 ∷ following) ≡ string_kind (with_crlf false text) (length body + 2)
 unfolding quoted_at
-quoted_read body text behind q =
-    let n = quoted_whole body text q behind in
-    let l = length-append body (34 ∷ behind) in
-    let lt = lt-ltb (length body) (length (body ++ 34 ∷ behind)) (omega arith) in
-    ap (λ m. if nat_lt m (length (body ++ 34 ∷ behind)) then string_kind (quoted_value (take m (body ++ 34 ∷ behind))) (m + 2) else Err StringNotClosed) n
-    ∙ ap (λ (t : Bool). if t then string_kind (quoted_value (take (length body) (body ++ 34 ∷ behind))) (length body + 2) else Err StringNotClosed) lt
-    ∙ ap (λ (cs : List ℕ). string_kind (quoted_value cs) (length body + 2)) (take-append_seam body (34 ∷ behind))
+quoted_read body text following q =
+    let n = quoted_whole body text q following in
+    let l = length-append body (34 ∷ following) in
+    let lt = lt-ltb (length body) (length (body ++ 34 ∷ following)) (omega arith) in
+    ap (λ m. if nat_lt m (length (body ++ 34 ∷ following)) then string_kind (quoted_value (take m (body ++ 34 ∷ following))) (m + 2) else Err StringNotClosed) n
+    ∙ ap (λ (t : Bool). if t then string_kind (quoted_value (take (length body) (body ++ 34 ∷ following))) (length body + 2) else Err StringNotClosed) lt
+    ∙ ap (λ (cs : List ℕ). string_kind (quoted_value cs) (length body + 2)) (take-append_seam body (34 ∷ following))
     ∙ ap (λ (cs : List ℕ). string_kind (with_crlf false cs) (length body + 2)) (quoted_says body text q)
 
-pub quoted_found : (body text behind : List ℕ) → QuotedText body text → kind_at ((34 ∷ (body ++ 34 ∷ [])) ++ behind) ≡ string_kind (with_crlf false text) (length (34 ∷ (body ++ 34 ∷ [])))
-quoted_found body text behind q =
+pub quoted_found : (body text following : List ℕ) → QuotedText body text → kind_at ((34 ∷ (body ++ 34 ∷ [])) ++ following) ≡ string_kind (with_crlf false text) (length (34 ∷ (body ++ 34 ∷ [])))
+quoted_found body text following q =
     let l = length-append body (34 ∷ []) in
-    ap (λ (cs : List ℕ). kind_at (34 ∷ cs)) (append_assoc body (34 ∷ []) behind) ∙ quote_kind (body ++ 34 ∷ behind) ∙ quoted_read body text behind q ∙ ap (λ m. string_kind (with_crlf false text) m) (long body)
+    ap (λ (cs : List ℕ). kind_at (34 ∷ cs)) (append_assoc body (34 ∷ []) following) ∙ quote_kind (body ++ 34 ∷ following) ∙ quoted_read body text following q ∙ ap (λ m. string_kind (with_crlf false text) m) (long body)
   where
     long : (body : List ℕ) → length body + 2 ≡ length (34 ∷ (body ++ 34 ∷ []))
     long body = let l = length-append body (34 ∷ []) in omega arith
@@ -333,17 +333,17 @@ unfolding unstuffed
 lines_say _ _ no_lines = refl
 lines_say _ _ (line content bs says all dot r) = line_says content bs all ∙ ap (λ (cs : List ℕ). without_dot content ++ 10 ∷ cs) (lines_say bs says r)
 
-last_long : (last behind : List ℕ) → IsLineEnd last ⊎ ((last ≡ []) × (behind ≡ [])) → line_end_len (last ++ behind) ≡ length last
-last_long last behind (inl (inl e)) = rw e refl
-last_long last behind (inl (inr e)) = rw e refl
-last_long last behind (inr e) = rw (e.0, e.1) refl
+last_long : (last following : List ℕ) → IsLineEnd last ⊎ ((last ≡ []) × (following ≡ [])) → line_end_len (last ++ following) ≡ length last
+last_long last following (inl (inl e)) = rw e refl
+last_long last following (inl (inr e)) = rw e refl
+last_long last following (inr e) = rw (e.0, e.1) refl
 
-lines_read : (before : ℕ) (body text last behind : List ℕ) → Lines body text → IsLineEnd last ⊎ ((last ≡ []) × (behind ≡ [])) → lines_at before (body ++ 46 ∷ (last ++ behind)) ≡ string_kind (with_crlf false text) (before + (length body + (1 + length last)))
+lines_read : (before : ℕ) (body text last following : List ℕ) → Lines body text → IsLineEnd last ⊎ ((last ≡ []) × (following ≡ [])) → lines_at before (body ++ 46 ∷ (last ++ following)) ≡ string_kind (with_crlf false text) (before + (length body + (1 + length last)))
 unfolding lines_at
-lines_read before body text last behind ls la =
-    let more : List ℕ = last ++ behind in
+lines_read before body text last following ls la =
+    let more : List ℕ = last ++ following in
     let rest : List ℕ = body ++ 46 ∷ more in
-    let n : lines_len true rest ≡ length body = lines_whole body text ls more (last_whole last behind la).0 in
+    let n : lines_len true rest ≡ length body = lines_whole body text ls more (last_whole last following la).0 in
     let l = length-append body (46 ∷ more) in
     let lt = lt-ltb (length body) (length rest) (omega arith) in
     let d : drop (length body + 1) rest ≡ more = drop-append-add body (46 ∷ more) 1 in
@@ -351,24 +351,24 @@ lines_read before body text last behind ls la =
     ∙ ap (λ (t : Bool). if t then string_kind (lines_value (take (length body) rest)) (before + (length body + (1 + line_end_len (drop (length body + 1) rest)))) else Err StringNotClosed) lt
     ∙ ap (λ (cs : List ℕ). string_kind (lines_value cs) (before + (length body + (1 + line_end_len (drop (length body + 1) rest))))) (take-append_seam body (46 ∷ more))
     ∙ ap (λ (cs : List ℕ). string_kind (with_crlf false cs) (before + (length body + (1 + line_end_len (drop (length body + 1) rest))))) (lines_say body text ls)
-    ∙ ap (λ m. string_kind (with_crlf false text) (before + (length body + (1 + m)))) (ap line_end_len d ∙ last_long last behind la)
+    ∙ ap (λ m. string_kind (with_crlf false text) (before + (length body + (1 + m)))) (ap line_end_len d ∙ last_long last following la)
 
-pub multi_line_found : (octets value behind : List ℕ) → IsMultiLine value octets behind → kind_at (octets ++ behind) ≡ string_kind value (length octets)
-multi_line_found octets value behind h =
-    let rest : List ℕ = h.body ++ 46 ∷ (h.last ++ behind) in
+pub multi_line_found : (octets value following : List ℕ) → IsMultiLine value octets following → kind_at (octets ++ following) ≡ string_kind value (length octets)
+multi_line_found octets value following h =
+    let rest : List ℕ = h.body ++ 46 ∷ (h.last ++ following) in
     let from : List ℕ = h.comment ++ (h.end ++ rest) in
     let o = opening_whole h.comment h.end rest h.comment_is h.end_is in
     let five : length h.word ≡ 5 = sym (length-map h.word to_ascii_lowercase) ∙ ap length h.word_is in
-    ap kind_at (ap (λ (cs : List ℕ). cs ++ behind) h.cut ∙ apart h.word h.blanks h.comment h.end h.body h.last behind)
+    ap kind_at (ap (λ (cs : List ℕ). cs ++ following) h.cut ∙ apart h.word h.blanks h.comment h.end h.body h.last following)
     ∙ (text_kind h.word (h.blanks ++ from) h.word_is).0
     ∙ opening_read h.blanks from (length h.comment + length h.end) h.blanks_are o.1 o.0
-    ∙ ap (λ (cs : List ℕ). lines_at (5 + (length h.blanks + (length h.comment + length h.end))) cs) (behind_opening h.comment h.end rest)
-    ∙ lines_read (5 + (length h.blanks + (length h.comment + length h.end))) h.body h.text h.last behind h.body_is h.last_is
+    ∙ ap (λ (cs : List ℕ). lines_at (5 + (length h.blanks + (length h.comment + length h.end))) cs) (after_opening h.comment h.end rest)
+    ∙ lines_read (5 + (length h.blanks + (length h.comment + length h.end))) h.body h.text h.last following h.body_is h.last_is
     ∙ ap (λ (v : List ℕ). string_kind v (5 + (length h.blanks + (length h.comment + length h.end)) + (length h.body + (1 + length h.last)))) (sym h.says)
     ∙ ap (λ m. string_kind value m) (long h.word h.blanks h.comment h.end h.body h.last five ∙ ap length (sym h.cut))
   where
-    apart : (word blanks comment end body last behind : List ℕ) → (word ++ (blanks ++ (comment ++ (end ++ (body ++ 46 ∷ last))))) ++ behind ≡ word ++ (blanks ++ (comment ++ (end ++ (body ++ 46 ∷ (last ++ behind)))))
-    apart word blanks comment end body last behind = simp append_assoc
+    apart : (word blanks comment end body last following : List ℕ) → (word ++ (blanks ++ (comment ++ (end ++ (body ++ 46 ∷ last))))) ++ following ≡ word ++ (blanks ++ (comment ++ (end ++ (body ++ 46 ∷ (last ++ following)))))
+    apart word blanks comment end body last following = simp append_assoc
 
     long : (word blanks comment end body last : List ℕ) → length word ≡ 5 → 5 + (length blanks + (length comment + length end)) + (length body + (1 + length last)) ≡ length (word ++ (blanks ++ (comment ++ (end ++ (body ++ 46 ∷ last)))))
     long word blanks comment end body last five = let l = summed word blanks comment end body last in omega arith
@@ -394,25 +394,25 @@ mark_found Comma bs = refl
 within : (value : List ℕ) (n : ℕ) → length value ≤ 65535 → string_kind value n ≡ Ok (kinds.StringValue value, n)
 within value n h = rw (le-ltb 65535 (length value) h) refl
 
-pub kind_found : (kind : TokenKind) (octets behind : List ℕ) → IsToken kind octets behind → kind_at (octets ++ behind) ≡ Ok (kind, length octets)
-kind_found (kinds.Identifier xs) octets behind h =
+pub kind_found : (kind : TokenKind) (octets following : List ℕ) → IsToken kind octets following → kind_at (octets ++ following) ≡ Ok (kind, length octets)
+kind_found (kinds.Identifier xs) octets following h =
     let e = h.spelled.0 in
-    let stops = name_stops xs behind h.spelled.1 (λ more rest same name. rw e at (h.longest (kinds.Identifier more) more rest (ap (λ (cs : List ℕ). cs ++ behind) e ∙ same) (refl, name))) in
-    rw e (name_found xs behind h.spelled.1 stops h.apart)
-kind_found (kinds.Tag xs) octets behind h =
+    let stops = name_stops xs following h.spelled.1 (λ more rest same name. rw e at (h.longest (kinds.Identifier more) more rest (ap (λ (cs : List ℕ). cs ++ following) e ∙ same) (refl, name))) in
+    rw e (name_found xs following h.spelled.1 stops h.apart)
+kind_found (kinds.Tag xs) octets following h =
     let e = h.spelled.0 in
-    let shorter : (more rest : List ℕ) → xs ++ behind ≡ more ++ rest → IsName more → length more ≤ length xs = λ more rest same name. (
-    let l = h.longest (kinds.Tag more) (58 ∷ more) rest (ap (λ (cs : List ℕ). cs ++ behind) e ∙ ap (λ (cs : List ℕ). 58 ∷ cs) same) (refl, name) in
+    let shorter : (more rest : List ℕ) → xs ++ following ≡ more ++ rest → IsName more → length more ≤ length xs = λ more rest same name. (
+    let l = h.longest (kinds.Tag more) (58 ∷ more) rest (ap (λ (cs : List ℕ). cs ++ following) e ∙ ap (λ (cs : List ℕ). 58 ∷ cs) same) (refl, name) in
     let n = ap length e in
     omega arith) in
-    rw e (tag_found xs behind h.spelled.1 (name_stops xs behind h.spelled.1 shorter))
-kind_found (kinds.Number n) octets behind h =
-    number_found octets behind n h.spelled (λ other more rest same number. h.longest (kinds.Number other) more rest same number)
+    rw e (tag_found xs following h.spelled.1 (name_stops xs following h.spelled.1 shorter))
+kind_found (kinds.Number n) octets following h =
+    number_found octets following n h.spelled (λ other more rest same number. h.longest (kinds.Number other) more rest same number)
     ∙ ap (λ (t : Bool). if t then Err NumberTooLarge else Ok (kinds.Number n, length octets)) (le-ltb 9223372036854775807 n h.limited)
-kind_found (kinds.StringValue value) octets behind h = string_found h.spelled
+kind_found (kinds.StringValue value) octets following h = string_found h.spelled
   where
-    string_found : Lexeme (kinds.StringValue value) octets behind → kind_at (octets ++ behind) ≡ Ok (kinds.StringValue value, length octets)
+    string_found : Lexeme (kinds.StringValue value) octets following → kind_at (octets ++ following) ≡ Ok (kinds.StringValue value, length octets)
     string_found (inl q) =
-        rw q.cut (quoted_found q.body q.text behind q.spells ∙ ap (λ (v : List ℕ). string_kind v (length (34 ∷ (q.body ++ 34 ∷ [])))) (sym q.says) ∙ within value (length (34 ∷ (q.body ++ 34 ∷ []))) h.limited)
-    string_found (inr m) = multi_line_found octets value behind m ∙ within value (length octets) h.limited
-kind_found (kinds.Mark mark) octets behind h = rw h.spelled (mark_found mark behind)
+        rw q.cut (quoted_found q.body q.text following q.spells ∙ ap (λ (v : List ℕ). string_kind v (length (34 ∷ (q.body ++ 34 ∷ [])))) (sym q.says) ∙ within value (length (34 ∷ (q.body ++ 34 ∷ []))) h.limited)
+    string_found (inr m) = multi_line_found octets value following m ∙ within value (length octets) h.limited
+kind_found (kinds.Mark mark) octets following h = rw h.spelled (mark_found mark following)

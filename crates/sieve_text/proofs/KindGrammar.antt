@@ -24,10 +24,10 @@ use Rattle.sieve_text.proofs.WithinLemmas.{line_end_within, factor_within, one_m
 -- a token that begins here, and the rest after it
 pub record IsSpelled (bs : List ℕ) (k : TokenKind × ℕ) : Type 0 where
   pub octets : List ℕ
-  pub behind : List ℕ
-  pub cut : bs ≡ octets ++ behind
+  pub following : List ℕ
+  pub cut : bs ≡ octets ++ following
   pub long : length octets ≡ k.1
-  pub spelled : Lexeme k.0 octets behind
+  pub spelled : Lexeme k.0 octets following
   pub limited : IsWithinLimits k.0
 
 spelled_as : (bs : List ℕ) (k l : TokenKind × ℕ) → k ≡ l → IsSpelled bs k → IsSpelled bs l
@@ -47,7 +47,7 @@ is_name bs h = (name_begins bs h, prefix_passes is_word bs)
 name_sound : (bs : List ℕ) → begins is_start bs ≡ true → IsSpelled bs (kinds.Identifier (take (prefix_len is_word bs) bs), prefix_len is_word bs)
 name_sound bs h = record {
   octets = take (prefix_len is_word bs) bs;
-  behind = drop (prefix_len is_word bs) bs;
+  following = drop (prefix_len is_word bs) bs;
   cut = sym (take-append-drop (prefix_len is_word bs) bs);
   long = length-take-le (prefix_len is_word bs) bs (prefix_len-le-length is_word bs);
   spelled = (refl, is_name bs h);
@@ -57,7 +57,7 @@ name_sound bs h = record {
 tag_sound : (b : ℕ) (bs : List ℕ) → b ≡ 58 → begins is_start bs ≡ true → IsSpelled (b ∷ bs) (kinds.Tag (take (prefix_len is_word bs) bs), suc (prefix_len is_word bs))
 tag_sound b bs e h = record {
   octets = b ∷ take (prefix_len is_word bs) bs;
-  behind = drop (prefix_len is_word bs) bs;
+  following = drop (prefix_len is_word bs) bs;
   cut = ap (λ cs. b ∷ cs) (sym (take-append-drop (prefix_len is_word bs) bs));
   long = ap suc (length-take-le (prefix_len is_word bs) bs (prefix_len-le-length is_word bs));
   spelled = (ap (λ c. c ∷ take (prefix_len is_word bs) bs) e, is_name bs h);
@@ -74,7 +74,7 @@ number_sound bs some small =
     let m = length-take-le f rest (factor_within rest) in
     record {
       octets = take n bs ++ take f rest;
-      behind = drop f rest;
+      following = drop f rest;
       cut = sym (append_assoc (take n bs) (take f rest) (drop f rest) ∙ ap (λ cs. take n bs ++ cs) (take-append-drop f rest) ∙ take-append-drop n bs);
       long = (let a = length-append (take n bs) (take f rest) in omega arith);
       spelled = record {
@@ -118,13 +118,13 @@ quoted_text (b ∷ c ∷ bs) h = elim (cases_Bool (b == 34)) [
 -- a string of any length that begins here, with its length as written
 pub record IsString (bs value : List ℕ) (n : ℕ) : Type 0 where
   pub octets : List ℕ
-  pub behind : List ℕ
-  pub cut : bs ≡ octets ++ behind
+  pub following : List ℕ
+  pub cut : bs ≡ octets ++ following
   pub long : length octets ≡ n
-  pub spelled : IsQuoted value octets ⊎ IsMultiLine value octets behind
+  pub spelled : IsQuoted value octets ⊎ IsMultiLine value octets following
 
 string_spelled : (bs value : List ℕ) (n : ℕ) → IsString bs value n → length value ≤ 65535 → IsSpelled bs (kinds.StringValue value, n)
-string_spelled bs value n s small = record { octets = s.octets; behind = s.behind; cut = s.cut; long = s.long; spelled = s.spelled; limited = small }
+string_spelled bs value n s small = record { octets = s.octets; following = s.following; cut = s.cut; long = s.long; spelled = s.spelled; limited = small }
 
 pub quoted_cut : (b : ℕ) (bs : List ℕ) → b ≡ 34 → quoted_len false bs < length bs → IsString (b ∷ bs) (quoted_value (take (quoted_len false bs) bs)) (quoted_len false bs + 2)
 quoted_cut b bs e h =
@@ -134,7 +134,7 @@ quoted_cut b bs e h =
     let l = length-take-le n bs (omega arith) in
     record {
       octets = b ∷ (take n bs ++ 34 ∷ []);
-      behind = drop (suc n) bs;
+      following = drop (suc n) bs;
       cut = ap (λ cs. b ∷ cs) whole;
       long = (let a = length-append (take n bs) (34 ∷ []) in omega arith);
       spelled = inl (record {
@@ -390,8 +390,8 @@ word_taken (x ∷ xs) (b ∷ bs) h =
     both : (b x : ℕ) (bs xs : List ℕ) → b ≡ x → bs ≡ xs → b ∷ bs ≡ x ∷ xs
     both b x bs xs e f = rw (e, f) refl
 
-joined : (bs word blanks comment end body last behind rest more : List ℕ) → bs ≡ word ++ (blanks ++ (comment ++ (end ++ rest))) → rest ≡ body ++ 46 ∷ more → more ≡ last ++ behind → bs ≡ (word ++ (blanks ++ (comment ++ (end ++ (body ++ 46 ∷ last))))) ++ behind
-joined bs word blanks comment end body last behind rest more e f g = rw (e, f, g) (sym (simp append_assoc))
+joined : (bs word blanks comment end body last following rest more : List ℕ) → bs ≡ word ++ (blanks ++ (comment ++ (end ++ rest))) → rest ≡ body ++ 46 ∷ more → more ≡ last ++ following → bs ≡ (word ++ (blanks ++ (comment ++ (end ++ (body ++ 46 ∷ last))))) ++ following
+joined bs word blanks comment end body last following rest more e f g = rw (e, f, g) (sym (simp append_assoc))
 
 pub lines_cut : (bs word blanks comment end rest : List ℕ) → bs ≡ word ++ (blanks ++ (comment ++ (end ++ rest))) → IsTextColon word → list_all is_blank blanks ≡ true → IsHashComment comment → IsLineEnd end → (before : ℕ) → before ≡ length word + (length blanks + (length comment + length end)) → lines_len true rest < length rest → IsString bs (lines_value (take (lines_len true rest) rest)) (before + (lines_len true rest + (1 + line_end_len (drop (lines_len true rest + 1) rest))))
 lines_cut bs word blanks comment end rest whole w b c en before count some =
@@ -401,12 +401,12 @@ lines_cut bs word blanks comment end rest whole w b c en before count some =
     let m : ℕ = line_end_len more in
     let l = length-take-le n rest (omega arith) in
     let lm = length-take-le m more (line_end_within more) in
-    let behind : drop (n + 1) rest ≡ more = drop_more n 1 rest ∙ ap (λ cs. drop 1 cs) last.cut in
+    let following : drop (n + 1) rest ≡ more = drop_more n 1 rest ∙ ap (λ cs. drop 1 cs) last.cut in
     let pieces : rest ≡ take n rest ++ 46 ∷ more = sym (take-append-drop n rest) ∙ ap (λ cs. take n rest ++ cs) last.cut in
-    let count_is : before + (n + (1 + line_end_len (drop (n + 1) rest))) ≡ before + (n + (1 + m)) = ap (λ cs. before + (n + (1 + line_end_len cs))) behind in
+    let count_is : before + (n + (1 + line_end_len (drop (n + 1) rest))) ≡ before + (n + (1 + m)) = ap (λ cs. before + (n + (1 + line_end_len cs))) following in
     record {
       octets = word ++ (blanks ++ (comment ++ (end ++ (take n rest ++ 46 ∷ take m more))));
-      behind = drop m more;
+      following = drop m more;
       cut = joined bs word blanks comment end (take n rest) (take m more) (drop m more) rest more whole pieces (sym (take-append-drop m more));
       long = simp length-append (omega arith);
       spelled = inr (record {
@@ -460,5 +460,5 @@ kind_sound (b ∷ bs) k e = elim (branch b bs k e) [
   | quote t h ↦ (let p = quoted_parts bs k h in spelled_as (b ∷ bs) (kinds.StringValue (quoted_value (take (quoted_len false bs) bs)), quoted_len false bs + 2) k p.2 (string_spelled (b ∷ bs) (quoted_value (take (quoted_len false bs) bs)) (quoted_len false bs + 2) (quoted_cut b bs t p.0) p.1))
   | one s d c q h ↦ (
       let p = mark_parts (mark_of b) k h in
-      spelled_as (b ∷ bs) (kinds.Mark p.0, 1) k p.2 (record { octets = b ∷ []; behind = bs; cut = refl; long = refl; spelled = ap (λ c. c ∷ []) (mark_octet b p.0 p.1); limited = tt }))
+      spelled_as (b ∷ bs) (kinds.Mark p.0, 1) k p.2 (record { octets = b ∷ []; following = bs; cut = refl; long = refl; spelled = ap (λ c. c ∷ []) (mark_octet b p.0 p.1); limited = tt }))
 ]

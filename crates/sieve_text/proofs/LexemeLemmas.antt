@@ -9,15 +9,15 @@ use Rattle.sieve_text.specs.declared.fault.ScanRefusal.{ScanRefusal}
 use Rattle.sieve_text.specs.declared.fault.ScanRefusal.TheVariants.{NoToken}
 use Rattle.sieve_text.specs.Gaps.{gap_len}
 use Rattle.sieve_text.specs.Grammar.{kinds}
-use Rattle.sieve_text.specs.Lexemes.{first_and, kinds_within, kinds_in, left_behind, left_within, left_in}
+use Rattle.sieve_text.specs.Lexemes.{first_and, kinds_within, kinds_in, left_after, left_within, left_in}
 use Rattle.sieve_text.specs.Tokens.{kind_at, token_at, Reads, IsSound, IsScan, IsFaulty, ◌>>=◌}
 use Rattle.sieve_text.proofs.ScanLemmas.{some_verdict, sound_once}
 use Rattle.sieve_text.proofs.KindLemmas.{read_as, tested, bound_parts}
 use Rattle.sieve_text.proofs.GapLemmas.{drop_more}
 use Rattle.sieve_text.proofs.WithinLemmas.{kind_within, token_parts, token_within}
 
-shorter_behind : (bs : List ℕ) (k : TokenKind × ℕ) → kind_at bs ≡ Ok k → length (drop k.1 bs) < length bs
-shorter_behind bs k e = let w = kind_within bs k e in let d = length-drop k.1 bs in omega arith
+shorter_after : (bs : List ℕ) (k : TokenKind × ℕ) → kind_at bs ≡ Ok k → length (drop k.1 bs) < length bs
+shorter_after bs k e = let w = kind_within bs k e in let d = length-drop k.1 bs in omega arith
 
 first_same : (f g : List ℕ → List TokenKind) (bs : List ℕ) (read : Result (TokenKind × ℕ) ScanRefusal) → ((k : TokenKind × ℕ) → read ≡ Ok k → f (drop k.1 bs) ≡ g (drop k.1 bs)) → first_and f bs read ≡ first_and g bs read
 first_same f g bs (Ok k) h = ap (λ (ts : List TokenKind). k.0 ∷ ts) (h k refl)
@@ -38,17 +38,17 @@ enough (suc m) (suc n) (b ∷ bs) h l =
     let rest : List ℕ = drop (gap_len 0 (b ∷ bs)) (b ∷ bs) in
     let d = length-drop (gap_len 0 (b ∷ bs)) (b ∷ bs) in
     first_same (kinds_within m) (kinds_within n) rest (kind_at rest) (λ (k : TokenKind × ℕ) (e : kind_at rest ≡ Ok k).
-    let s = shorter_behind rest k e in enough m n (drop k.1 rest) (omega arith) (omega arith))
+    let s = shorter_after rest k e in enough m n (drop k.1 rest) (omega arith) (omega arith))
 
 first_within : (m : ℕ) (bs : List ℕ) (k : TokenKind × ℕ) → length bs ≤ m → kind_at (drop (gap_len 0 bs) bs) ≡ Ok k → kinds_within m bs ≡ k.0 ∷ kinds_in (drop k.1 (drop (gap_len 0 bs) bs))
 unfolding kinds_within
 first_within zero bs k h e =
-    let s = shorter_behind (drop (gap_len 0 bs) bs) k e in
+    let s = shorter_after (drop (gap_len 0 bs) bs) k e in
     let d = length-drop (gap_len 0 bs) bs in
     absurd (omega arith)
 first_within (suc m) bs k h e =
     let rest : List ℕ = drop (gap_len 0 bs) bs in
-    let s = shorter_behind rest k e in
+    let s = shorter_after rest k e in
     let d = length-drop (gap_len 0 bs) bs in
     rw e (ap (λ (ts : List TokenKind). k.0 ∷ ts) (enough m (length (drop k.1 rest)) (drop k.1 rest) (omega arith) (omega arith)))
 
@@ -103,10 +103,10 @@ read_from script at (t ∷ ts) end w h e =
     let i = token_within script at t w h.0 in
     let gap : ℕ = gap_len 0 (drop at script) in
     let start : drop t.start script ≡ drop gap (drop at script) = ap (λ (n : ℕ). drop n script) p.begins ∙ drop_more at gap script in
-    let behind : drop t.end script ≡ drop p.kind.1 (drop gap (drop at script)) = ap (λ (n : ℕ). drop n script) p.ends ∙ drop_more t.start p.kind.1 script ∙ ap (λ (bs : List ℕ). drop p.kind.1 bs) start in
+    let following : drop t.end script ≡ drop p.kind.1 (drop gap (drop at script)) = ap (λ (n : ℕ). drop n script) p.ends ∙ drop_more t.start p.kind.1 script ∙ ap (λ (bs : List ℕ). drop p.kind.1 bs) start in
     let first = first_in (drop at script) p.kind (ap kind_at (sym start) ∙ p.read) in
     let rest = read_from script t.end ts end (omega (arith, i.2)) h.1 e in
-    same_list p.kind.0 t.kind (kinds ts) (kinds_in (drop p.kind.1 (drop gap (drop at script)))) p.says (rest ∙ ap kinds_in behind) ∙ sym first
+    same_list p.kind.0 t.kind (kinds ts) (kinds_in (drop p.kind.1 (drop gap (drop at script)))) p.says (rest ∙ ap kinds_in following) ∙ sym first
 
 pub read_all : (script : List ℕ) (ts : List Token) → IsScan script ts → kinds ts ≡ kinds_in script
 read_all script ts h = read_from script 0 ts h.1.0 (omega arith) h.1.1 h.1.2
@@ -116,7 +116,7 @@ unfolding left_within kind_at gap_len
 left_nothing zero = refl
 left_nothing (suc n) = refl
 
-left_same : (f g : List ℕ → List ℕ) (bs : List ℕ) (read : Result (TokenKind × ℕ) ScanRefusal) → ((k : TokenKind × ℕ) → read ≡ Ok k → f (drop k.1 bs) ≡ g (drop k.1 bs)) → left_behind f bs read ≡ left_behind g bs read
+left_same : (f g : List ℕ → List ℕ) (bs : List ℕ) (read : Result (TokenKind × ℕ) ScanRefusal) → ((k : TokenKind × ℕ) → read ≡ Ok k → f (drop k.1 bs) ≡ g (drop k.1 bs)) → left_after f bs read ≡ left_after g bs read
 left_same f g bs (Ok k) h = h k refl
 left_same f g bs (Err refusal) h = refl
 
@@ -129,17 +129,17 @@ left_enough (suc m) (suc n) (b ∷ bs) h l =
     let rest : List ℕ = drop (gap_len 0 (b ∷ bs)) (b ∷ bs) in
     let d = length-drop (gap_len 0 (b ∷ bs)) (b ∷ bs) in
     left_same (left_within m) (left_within n) rest (kind_at rest) (λ (k : TokenKind × ℕ) (e : kind_at rest ≡ Ok k).
-    let s = shorter_behind rest k e in left_enough m n (drop k.1 rest) (omega arith) (omega arith))
+    let s = shorter_after rest k e in left_enough m n (drop k.1 rest) (omega arith) (omega arith))
 
 left_first_within : (m : ℕ) (bs : List ℕ) (k : TokenKind × ℕ) → length bs ≤ m → kind_at (drop (gap_len 0 bs) bs) ≡ Ok k → left_within m bs ≡ left_in (drop k.1 (drop (gap_len 0 bs) bs))
 unfolding left_within
 left_first_within zero bs k h e =
-    let s = shorter_behind (drop (gap_len 0 bs) bs) k e in
+    let s = shorter_after (drop (gap_len 0 bs) bs) k e in
     let d = length-drop (gap_len 0 bs) bs in
     absurd (omega arith)
 left_first_within (suc m) bs k h e =
     let rest : List ℕ = drop (gap_len 0 bs) bs in
-    let s = shorter_behind rest k e in
+    let s = shorter_after rest k e in
     let d = length-drop (gap_len 0 bs) bs in
     rw e (left_enough m (length (drop k.1 rest)) (drop k.1 rest) (omega arith) (omega arith))
 
@@ -163,9 +163,9 @@ left_from script at (t ∷ ts) end w h =
     let i = token_within script at t w h.0 in
     let gap : ℕ = gap_len 0 (drop at script) in
     let start : drop t.start script ≡ drop gap (drop at script) = ap (λ (n : ℕ). drop n script) p.begins ∙ drop_more at gap script in
-    let behind : drop t.end script ≡ drop p.kind.1 (drop gap (drop at script)) = ap (λ (n : ℕ). drop n script) p.ends ∙ drop_more t.start p.kind.1 script ∙ ap (λ (bs : List ℕ). drop p.kind.1 bs) start in
+    let following : drop t.end script ≡ drop p.kind.1 (drop gap (drop at script)) = ap (λ (n : ℕ). drop n script) p.ends ∙ drop_more t.start p.kind.1 script ∙ ap (λ (bs : List ℕ). drop p.kind.1 bs) start in
     let first = left_first (drop at script) p.kind (ap kind_at (sym start) ∙ p.read) in
-    first ∙ ap left_in (sym behind) ∙ left_from script t.end ts end (omega (arith, i.2)) h.1
+    first ∙ ap left_in (sym following) ∙ left_from script t.end ts end (omega (arith, i.2)) h.1
 
 abbrev fault_as : ScanRefusal → Result (Option Token) ScanRefusal
 fault_as r = Err r

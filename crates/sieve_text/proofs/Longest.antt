@@ -78,30 +78,30 @@ digit_no_factor b bs h =
 pub no_word : (b : ℕ) → to_ascii_lowercase b ≡ 58 → is_word b ≡ true → ⊥
 no_word b e h = false≢true (rw (colon_only b e) at h)
 
-before_colon : (xs behind : List ℕ) → list_all is_word xs ≡ true → begins_text (xs ++ behind) ≡ true → length xs ≤ 4
-before_colon [] behind h t = omega arith
-before_colon (a ∷ []) behind h t = omega arith
-before_colon (a ∷ b ∷ []) behind h t = omega arith
-before_colon (a ∷ b ∷ c ∷ []) behind h t = omega arith
-before_colon (a ∷ b ∷ c ∷ d ∷ []) behind h t = omega arith
-before_colon (a ∷ b ∷ c ∷ d ∷ e ∷ xs) behind h t =
+before_colon : (xs following : List ℕ) → list_all is_word xs ≡ true → begins_text (xs ++ following) ≡ true → length xs ≤ 4
+before_colon [] following h t = omega arith
+before_colon (a ∷ []) following h t = omega arith
+before_colon (a ∷ b ∷ []) following h t = omega arith
+before_colon (a ∷ b ∷ c ∷ []) following h t = omega arith
+before_colon (a ∷ b ∷ c ∷ d ∷ []) following h t = omega arith
+before_colon (a ∷ b ∷ c ∷ d ∷ e ∷ xs) following h t =
     let h1 = and_parts (is_word a) (list_all is_word (b ∷ c ∷ d ∷ e ∷ xs)) h in
     let h2 = and_parts (is_word b) (list_all is_word (c ∷ d ∷ e ∷ xs)) h1.1 in
     let h3 = and_parts (is_word c) (list_all is_word (d ∷ e ∷ xs)) h2.1 in
     let h4 = and_parts (is_word d) (list_all is_word (e ∷ xs)) h3.1 in
     let h5 = and_parts (is_word e) (list_all is_word xs) h4.1 in
-    let t1 = and_parts (to_ascii_lowercase a == 116) (begins_as (codes "ext:") (b ∷ c ∷ d ∷ e ∷ (xs ++ behind))) t in
-    let t2 = and_parts (to_ascii_lowercase b == 101) (begins_as (codes "xt:") (c ∷ d ∷ e ∷ (xs ++ behind))) t1.1 in
-    let t3 = and_parts (to_ascii_lowercase c == 120) (begins_as (codes "t:") (d ∷ e ∷ (xs ++ behind))) t2.1 in
-    let t4 = and_parts (to_ascii_lowercase d == 116) (begins_as (codes ":") (e ∷ (xs ++ behind))) t3.1 in
+    let t1 = and_parts (to_ascii_lowercase a == 116) (begins_as (codes "ext:") (b ∷ c ∷ d ∷ e ∷ (xs ++ following))) t in
+    let t2 = and_parts (to_ascii_lowercase b == 101) (begins_as (codes "xt:") (c ∷ d ∷ e ∷ (xs ++ following))) t1.1 in
+    let t3 = and_parts (to_ascii_lowercase c == 120) (begins_as (codes "t:") (d ∷ e ∷ (xs ++ following))) t2.1 in
+    let t4 = and_parts (to_ascii_lowercase d == 116) (begins_as (codes ":") (e ∷ (xs ++ following))) t3.1 in
     let t5 = and_parts (to_ascii_lowercase e == 58) true t4.1 in
     absurd (no_word e (eqb-true (to_ascii_lowercase e) 58 t5.0) h5.0)
 
-name_short : (xs behind : List ℕ) (k : TokenKind × ℕ) → IsName xs → kind_at (xs ++ behind) ≡ Ok k → length xs ≤ k.1
-name_short [] behind k h e = omega arith
-name_short (b ∷ bs) behind k h e = elim (branch b (bs ++ behind) k e) [
-  | lines t m ↦ (let w = multi_line_within (drop 5 (b ∷ (bs ++ behind))) k m in let l = before_colon (b ∷ bs) behind h.1 t in omega arith)
-  | name t s m ↦ (let n = ends_at (kinds.Identifier (take (prefix_len is_word (b ∷ (bs ++ behind))) (b ∷ (bs ++ behind))), prefix_len is_word (b ∷ (bs ++ behind))) k m in let l = at_least is_word (b ∷ bs) behind h.1 in omega arith)
+name_short : (xs following : List ℕ) (k : TokenKind × ℕ) → IsName xs → kind_at (xs ++ following) ≡ Ok k → length xs ≤ k.1
+name_short [] following k h e = omega arith
+name_short (b ∷ bs) following k h e = elim (branch b (bs ++ following) k e) [
+  | lines t m ↦ (let w = multi_line_within (drop 5 (b ∷ (bs ++ following))) k m in let l = before_colon (b ∷ bs) following h.1 t in omega arith)
+  | name t s m ↦ (let n = ends_at (kinds.Identifier (take (prefix_len is_word (b ∷ (bs ++ following))) (b ∷ (bs ++ following))), prefix_len is_word (b ∷ (bs ++ following))) k m in let l = at_least is_word (b ∷ bs) following h.1 in omega arith)
   | digits t s m ↦ absurd (both_ways (is_start b) t h.0)
   | colon t m ↦ absurd (false≢true (rw t at h.0))
   | quote t m ↦ absurd (false≢true (rw t at h.0))
@@ -109,15 +109,15 @@ name_short (b ∷ bs) behind k h e = elim (branch b (bs ++ behind) k e) [
 ]
 
 -- a tag
-tag_short : (xs behind : List ℕ) (k : TokenKind × ℕ) → IsName xs → kind_at (58 ∷ (xs ++ behind)) ≡ Ok k → suc (length xs) ≤ k.1
-tag_short xs behind k h e = elim (branch 58 (xs ++ behind) k e) [
+tag_short : (xs following : List ℕ) (k : TokenKind × ℕ) → IsName xs → kind_at (58 ∷ (xs ++ following)) ≡ Ok k → suc (length xs) ≤ k.1
+tag_short xs following k h e = elim (branch 58 (xs ++ following) k e) [
   | lines t m ↦ absurd (false≢true t)
   | name t s m ↦ absurd (false≢true s)
   | digits t s m ↦ absurd (false≢true s)
   | colon t m ↦ (
-      let p = tag_parts (xs ++ behind) k m in
-      let n = ends_at (kinds.Tag (take (prefix_len is_word (xs ++ behind)) (xs ++ behind)), suc (prefix_len is_word (xs ++ behind))) k p.1 in
-      let l = at_least is_word xs behind h.1 in
+      let p = tag_parts (xs ++ following) k m in
+      let n = ends_at (kinds.Tag (take (prefix_len is_word (xs ++ following)) (xs ++ following)), suc (prefix_len is_word (xs ++ following))) k p.1 in
+      let l = at_least is_word xs following h.1 in
       omega arith)
   | quote t m ↦ absurd (omega arith)
   | one s d c q m ↦ absurd (true≢false c)
@@ -127,31 +127,31 @@ tag_short xs behind k h e = elim (branch 58 (xs ++ behind) k e) [
 factor_short : (b : ℕ) (bs : List ℕ) → (factor_at (b ∷ bs)).1 ≤ 1
 factor_short b bs = if_le_1 ((b == 75) || (b == 107)) (1024, 1) _ 1 (omega arith) (if_le_1 ((b == 77) || (b == 109)) (1048576, 1) _ 1 (omega arith) (if_le_1 ((b == 71) || (b == 103)) (1073741824, 1) (1, 0) 1 (omega arith) (omega arith)))
 
-pub digits_short : (ds quantifier behind : List ℕ) (factor : ℕ) → list_all is_ascii_digit ds ≡ true → factor_at quantifier ≡ (factor, length quantifier) → length ds + length quantifier ≤ prefix_len is_ascii_digit (ds ++ (quantifier ++ behind)) + (factor_at (drop (prefix_len is_ascii_digit (ds ++ (quantifier ++ behind))) (ds ++ (quantifier ++ behind)))).1
-digits_short ds [] behind factor h f = let l = at_least is_ascii_digit ds behind h in omega arith
-digits_short ds (q ∷ more) behind factor h f =
+pub digits_short : (ds quantifier following : List ℕ) (factor : ℕ) → list_all is_ascii_digit ds ≡ true → factor_at quantifier ≡ (factor, length quantifier) → length ds + length quantifier ≤ prefix_len is_ascii_digit (ds ++ (quantifier ++ following)) + (factor_at (drop (prefix_len is_ascii_digit (ds ++ (quantifier ++ following))) (ds ++ (quantifier ++ following)))).1
+digits_short ds [] following factor h f = let l = at_least is_ascii_digit ds following h in omega arith
+digits_short ds (q ∷ more) following factor h f =
     let one_octet : (factor_at (q ∷ more)).1 ≡ suc (length more) = ap (λ (x : ℕ × ℕ). x.1) f in
     let short = factor_short q more in
     let plain : is_ascii_digit q ≡ false = no_digit (is_ascii_digit q) refl in
-    let n = exactly is_ascii_digit ds (q ∷ (more ++ behind)) h plain in
-    let d = drop-append_seam ds (q ∷ (more ++ behind)) in
+    let n = exactly is_ascii_digit ds (q ∷ (more ++ following)) h plain in
+    let d = drop-append_seam ds (q ∷ (more ++ following)) in
     rw (n, d) (omega arith)
   where
     no_digit : (t : Bool) → is_ascii_digit q ≡ t → t ≡ false
     no_digit true e = let z = digit_no_factor q more e in let o = ap (λ (x : ℕ × ℕ). x.1) f in absurd (omega arith)
     no_digit false e = refl
 
-number_short : (ds quantifier behind : List ℕ) (factor : ℕ) (k : TokenKind × ℕ) → 0 < length ds → list_all is_ascii_digit ds ≡ true → factor_at quantifier ≡ (factor, length quantifier) → kind_at (ds ++ (quantifier ++ behind)) ≡ Ok k → length ds + length quantifier ≤ k.1
-number_short [] quantifier behind factor k some h f e = absurd (omega arith)
-number_short (d ∷ ds) quantifier behind factor k some h f e =
+number_short : (ds quantifier following : List ℕ) (factor : ℕ) (k : TokenKind × ℕ) → 0 < length ds → list_all is_ascii_digit ds ≡ true → factor_at quantifier ≡ (factor, length quantifier) → kind_at (ds ++ (quantifier ++ following)) ≡ Ok k → length ds + length quantifier ≤ k.1
+number_short [] quantifier following factor k some h f e = absurd (omega arith)
+number_short (d ∷ ds) quantifier following factor k some h f e =
     let t = and_parts (is_ascii_digit d) (list_all is_ascii_digit ds) h in
-    elim (branch d (ds ++ (quantifier ++ behind)) k e) [
-      | lines x m ↦ absurd (digit_no_t d t.0 (eqb-true (to_ascii_lowercase d) 116 (and_parts (to_ascii_lowercase d == 116) (begins_as (codes "ext:") (ds ++ (quantifier ++ behind))) x).0))
+    elim (branch d (ds ++ (quantifier ++ following)) k e) [
+      | lines x m ↦ absurd (digit_no_t d t.0 (eqb-true (to_ascii_lowercase d) 116 (and_parts (to_ascii_lowercase d == 116) (begins_as (codes "ext:") (ds ++ (quantifier ++ following))) x).0))
       | name x s m ↦ absurd (both_ways (is_start d) (digit_no_start d t.0) s)
       | digits x s m ↦ (
-          let p = number_parts (d ∷ (ds ++ (quantifier ++ behind))) k m in
+          let p = number_parts (d ∷ (ds ++ (quantifier ++ following))) k m in
           let n = ap (λ (k : TokenKind × ℕ). k.1) p.1 in
-          let l = digits_short (d ∷ ds) quantifier behind factor h f in
+          let l = digits_short (d ∷ ds) quantifier following factor h f in
           omega arith)
       | colon x m ↦ absurd (false≢true (rw x at t.0))
       | quote x m ↦ absurd (false≢true (rw x at t.0))
@@ -159,30 +159,30 @@ number_short (d ∷ ds) quantifier behind factor k some h f e =
     ]
 
 -- a quoted string
-pub quoted_whole : (body text : List ℕ) → QuotedText body text → (behind : List ℕ) → quoted_len false (body ++ 34 ∷ behind) ≡ length body
+pub quoted_whole : (body text : List ℕ) → QuotedText body text → (following : List ℕ) → quoted_len false (body ++ 34 ∷ following) ≡ length body
 unfolding quoted_len
-quoted_whole _ _ quoted_end behind = refl
-quoted_whole _ _ (quoted_plain b bs says n34 n92 q) behind = rw (ne_eqb b 34 n34, ne_eqb b 92 n92) (ap suc (quoted_whole bs says q behind))
-quoted_whole _ _ (quoted_pair b bs says q) behind = ap (λ n. suc (suc n)) (quoted_whole bs says q behind)
+quoted_whole _ _ quoted_end following = refl
+quoted_whole _ _ (quoted_plain b bs says n34 n92 q) following = rw (ne_eqb b 34 n34, ne_eqb b 92 n92) (ap suc (quoted_whole bs says q following))
+quoted_whole _ _ (quoted_pair b bs says q) following = ap (λ n. suc (suc n)) (quoted_whole bs says q following)
 
-quoted_short : (body text behind : List ℕ) (k : TokenKind × ℕ) → QuotedText body text → kind_at (34 ∷ (body ++ 34 ∷ behind)) ≡ Ok k → length body + 2 ≤ k.1
-quoted_short body text behind k h e = elim (branch 34 (body ++ 34 ∷ behind) k e) [
+quoted_short : (body text following : List ℕ) (k : TokenKind × ℕ) → QuotedText body text → kind_at (34 ∷ (body ++ 34 ∷ following)) ≡ Ok k → length body + 2 ≤ k.1
+quoted_short body text following k h e = elim (branch 34 (body ++ 34 ∷ following) k e) [
   | lines t m ↦ absurd (false≢true t)
   | name t s m ↦ absurd (false≢true s)
   | digits t s m ↦ absurd (false≢true s)
   | colon t m ↦ absurd (omega arith)
   | quote t m ↦ (
-      let p = quoted_parts (body ++ 34 ∷ behind) k m in
+      let p = quoted_parts (body ++ 34 ∷ following) k m in
       let n = ap (λ (k : TokenKind × ℕ). k.1) p.2 in
-      let w = quoted_whole body text h behind in
+      let w = quoted_whole body text h following in
       omega arith)
   | one s d c q m ↦ absurd (true≢false q)
 ]
 
 -- a multi-line string
-pub behind_line : (content rest : List ℕ) → drop (suc (length content)) (content ++ 10 ∷ rest) ≡ rest
-behind_line [] rest = refl
-behind_line (c ∷ content) rest = behind_line content rest
+pub after_line : (content rest : List ℕ) → drop (suc (length content)) (content ++ 10 ∷ rest) ≡ rest
+after_line [] rest = refl
+after_line (c ∷ content) rest = after_line content rest
 
 pub lines_whole : (body text : List ℕ) → Lines body text → (more : List ℕ) → is_last_line (46 ∷ more) ≡ true → lines_len true (body ++ 46 ∷ more) ≡ length body
 lines_whole _ _ no_lines more h = last_here (46 ∷ more) h
@@ -193,7 +193,7 @@ lines_whole _ _ (line content bs says all dot r) more h =
     let l = length-append content (10 ∷ rest) in
     let s = no_last (content ++ 10 ∷ rest) (dot_line content rest all ∙ dot) in
     let t = line_rest (content ++ 10 ∷ rest) (omega arith) in
-    let d : drop (suc (prefix_len not_lf (content ++ 10 ∷ rest))) (content ++ 10 ∷ rest) ≡ rest = ap (λ m. drop (suc m) (content ++ 10 ∷ rest)) n ∙ behind_line content rest in
+    let d : drop (suc (prefix_len not_lf (content ++ 10 ∷ rest))) (content ++ 10 ∷ rest) ≡ rest = ap (λ m. drop (suc m) (content ++ 10 ∷ rest)) n ∙ after_line content rest in
     let u = ap (λ cs. lines_len true cs) d in
     let r1 = lines_whole bs says r more h in
     let l1 = length-append content (10 ∷ bs) in
@@ -230,18 +230,18 @@ opening_whole comment end rest (inr c) (inr e) =
     let two : length comment + 2 ≡ suc (length (comment ++ 13 ∷ [])) = omega arith in
     rw (e, two) (hash_opens (comment ++ 13 ∷ 10 ∷ rest) (length (comment ++ 13 ∷ [])) f.0 n (omega arith), f.1)
 
-pub last_whole : (last behind : List ℕ) → IsLineEnd last ⊎ ((last ≡ []) × (behind ≡ [])) → (is_last_line (46 ∷ (last ++ behind)) ≡ true) × (length last ≤ line_end_len (last ++ behind))
-last_whole last behind (inl (inl e)) = rw (e, suc_eqb (length behind)) (refl, omega arith)
-last_whole last behind (inl (inr e)) = rw (e, suc_eqb (suc (length behind))) (refl, omega arith)
-last_whole last behind (inr e) = rw (e.0, e.1) (refl, omega arith)
+pub last_whole : (last following : List ℕ) → IsLineEnd last ⊎ ((last ≡ []) × (following ≡ [])) → (is_last_line (46 ∷ (last ++ following)) ≡ true) × (length last ≤ line_end_len (last ++ following))
+last_whole last following (inl (inl e)) = rw (e, suc_eqb (length following)) (refl, omega arith)
+last_whole last following (inl (inr e)) = rw (e, suc_eqb (suc (length following))) (refl, omega arith)
+last_whole last following (inr e) = rw (e.0, e.1) (refl, omega arith)
 
-pub behind_opening : (comment end rest : List ℕ) → drop (length comment + length end) (comment ++ (end ++ rest)) ≡ rest
-behind_opening comment end rest = drop-append-add comment (end ++ rest) (length end) ∙ drop-append_seam end rest
+pub after_opening : (comment end rest : List ℕ) → drop (length comment + length end) (comment ++ (end ++ rest)) ≡ rest
+after_opening comment end rest = drop-append-add comment (end ++ rest) (length end) ∙ drop-append_seam end rest
 
 -- after "text:"
-multi_line_whole : (blanks comment end body text last behind : List ℕ) (k : TokenKind × ℕ) → list_all is_blank blanks ≡ true → (comment ≡ []) ⊎ ((begins_with 35 comment ≡ true) × (list_all not_lf comment ≡ true)) → IsLineEnd end → Lines body text → IsLineEnd last ⊎ ((last ≡ []) × (behind ≡ [])) → multi_line_at (blanks ++ (comment ++ (end ++ (body ++ 46 ∷ (last ++ behind))))) ≡ Ok k → 5 + (length blanks + (length comment + (length end + (length body + suc (length last))))) ≤ k.1
-multi_line_whole blanks comment end body text last behind k b c en ls la e =
-    let more : List ℕ = last ++ behind in
+multi_line_whole : (blanks comment end body text last following : List ℕ) (k : TokenKind × ℕ) → list_all is_blank blanks ≡ true → (comment ≡ []) ⊎ ((begins_with 35 comment ≡ true) × (list_all not_lf comment ≡ true)) → IsLineEnd end → Lines body text → IsLineEnd last ⊎ ((last ≡ []) × (following ≡ [])) → multi_line_at (blanks ++ (comment ++ (end ++ (body ++ 46 ∷ (last ++ following))))) ≡ Ok k → 5 + (length blanks + (length comment + (length end + (length body + suc (length last))))) ≤ k.1
+multi_line_whole blanks comment end body text last following k b c en ls la e =
+    let more : List ℕ = last ++ following in
     let rest : List ℕ = body ++ 46 ∷ more in
     let from : List ℕ = comment ++ (end ++ rest) in
     let all : List ℕ = blanks ++ from in
@@ -251,10 +251,10 @@ multi_line_whole blanks comment end body text last behind k b c en ls la e =
     let from_is : drop (prefix_len is_blank all) all ≡ from = ap (λ m. drop m all) nb ∙ drop-append_seam blanks from in
     let opened : opening_end_at from ≡ Ok p.0 = sym (ap opening_end_at from_is) ∙ p.1 in
     let n : length comment + length end ≡ p.0 = same_kind (length comment + length end) p.0 (sym o.0 ∙ opened) in
-    let rest_is : drop (prefix_len is_blank all + p.0) all ≡ rest = drop_more (prefix_len is_blank all) p.0 all ∙ ap (λ cs. drop p.0 cs) from_is ∙ ap (λ m. drop m from) (sym n) ∙ behind_opening comment end rest in
+    let rest_is : drop (prefix_len is_blank all + p.0) all ≡ rest = drop_more (prefix_len is_blank all) p.0 all ∙ ap (λ cs. drop p.0 cs) from_is ∙ ap (λ m. drop m from) (sym n) ∙ after_opening comment end rest in
     let read : lines_at (5 + (prefix_len is_blank all + p.0)) rest ≡ Ok k = sym (ap (λ cs. lines_at (5 + (prefix_len is_blank all + p.0)) cs) rest_is) ∙ p.2 in
     let q = lines_parts (5 + (prefix_len is_blank all + p.0)) rest k read in
-    let l = last_whole last behind la in
+    let l = last_whole last following la in
     let w = lines_whole body text ls more l.0 in
     let more_is : drop (lines_len true rest + 1) rest ≡ more = ap (λ m. drop (m + 1) rest) w ∙ drop-append-add body (46 ∷ more) 1 in
     let end_is = ap line_end_len more_is in
@@ -297,43 +297,43 @@ word_short (a ∷ word) from k n w more e =
       | one x y c q m ↦ absurd (both_ways (is_start a) x s)
     ]
 
-multi_line_short : (octets value behind : List ℕ) (k : TokenKind × ℕ) → IsMultiLine value octets behind → kind_at (octets ++ behind) ≡ Ok k → length octets ≤ k.1
-multi_line_short octets value behind k h e =
+multi_line_short : (octets value following : List ℕ) (k : TokenKind × ℕ) → IsMultiLine value octets following → kind_at (octets ++ following) ≡ Ok k → length octets ≤ k.1
+multi_line_short octets value following k h e =
     let n : ℕ = length h.blanks + (length h.comment + (length h.end + (length h.body + suc (length h.last)))) in
-    let whole : octets ++ behind ≡ h.word ++ (h.blanks ++ (h.comment ++ (h.end ++ (h.body ++ 46 ∷ (h.last ++ behind))))) = ap (λ cs. cs ++ behind) h.cut ∙ apart h.word h.blanks h.comment h.end h.body h.last behind in
-    let s = word_short h.word (h.blanks ++ (h.comment ++ (h.end ++ (h.body ++ 46 ∷ (h.last ++ behind))))) k n h.word_is (λ (k : TokenKind × ℕ) (m : multi_line_at (h.blanks ++ (h.comment ++ (h.end ++ (h.body ++ 46 ∷ (h.last ++ behind))))) ≡ Ok k). multi_line_whole h.blanks h.comment h.end h.body h.text h.last behind k h.blanks_are h.comment_is h.end_is h.body_is h.last_is m) (sym (ap kind_at whole) ∙ e) in
+    let whole : octets ++ following ≡ h.word ++ (h.blanks ++ (h.comment ++ (h.end ++ (h.body ++ 46 ∷ (h.last ++ following))))) = ap (λ cs. cs ++ following) h.cut ∙ apart h.word h.blanks h.comment h.end h.body h.last following in
+    let s = word_short h.word (h.blanks ++ (h.comment ++ (h.end ++ (h.body ++ 46 ∷ (h.last ++ following))))) k n h.word_is (λ (k : TokenKind × ℕ) (m : multi_line_at (h.blanks ++ (h.comment ++ (h.end ++ (h.body ++ 46 ∷ (h.last ++ following))))) ≡ Ok k). multi_line_whole h.blanks h.comment h.end h.body h.text h.last following k h.blanks_are h.comment_is h.end_is h.body_is h.last_is m) (sym (ap kind_at whole) ∙ e) in
     let l : length octets ≡ length h.word + n = ap length h.cut ∙ summed h.word h.blanks h.comment h.end h.body h.last in
     omega arith
   where
-    apart : (word blanks comment end body last behind : List ℕ) → (word ++ (blanks ++ (comment ++ (end ++ (body ++ 46 ∷ last))))) ++ behind ≡ word ++ (blanks ++ (comment ++ (end ++ (body ++ 46 ∷ (last ++ behind)))))
-    apart word blanks comment end body last behind = simp append_assoc
+    apart : (word blanks comment end body last following : List ℕ) → (word ++ (blanks ++ (comment ++ (end ++ (body ++ 46 ∷ last))))) ++ following ≡ word ++ (blanks ++ (comment ++ (end ++ (body ++ 46 ∷ (last ++ following)))))
+    apart word blanks comment end body last following = simp append_assoc
 
     summed : (word blanks comment end body last : List ℕ) → length (word ++ (blanks ++ (comment ++ (end ++ (body ++ 46 ∷ last))))) ≡ length word + (length blanks + (length comment + (length end + (length body + suc (length last)))))
     summed word blanks comment end body last = simp length-append
 
 -- any token
-pub lexeme_short : (kind : TokenKind) (octets behind : List ℕ) (k : TokenKind × ℕ) → Lexeme kind octets behind → kind_at (octets ++ behind) ≡ Ok k → length octets ≤ k.1
-lexeme_short (kinds.Identifier xs) octets behind k h e = rw h.0 (name_short xs behind k h.1 (rw h.0 at e))
-lexeme_short (kinds.Tag xs) octets behind k h e = rw h.0 (tag_short xs behind k h.1 (rw h.0 at e))
-lexeme_short (kinds.Number n) octets behind k h e =
+pub lexeme_short : (kind : TokenKind) (octets following : List ℕ) (k : TokenKind × ℕ) → Lexeme kind octets following → kind_at (octets ++ following) ≡ Ok k → length octets ≤ k.1
+lexeme_short (kinds.Identifier xs) octets following k h e = rw h.0 (name_short xs following k h.1 (rw h.0 at e))
+lexeme_short (kinds.Tag xs) octets following k h e = rw h.0 (tag_short xs following k h.1 (rw h.0 at e))
+lexeme_short (kinds.Number n) octets following k h e =
     let l = length-append h.digits h.quantifier in
-    let s = number_short h.digits h.quantifier behind h.factor k h.some h.all (quantifier_counts h.quantifier h.factor h.counts) (rw (h.cut, append_assoc) at e) in
+    let s = number_short h.digits h.quantifier following h.factor k h.some h.all (quantifier_counts h.quantifier h.factor h.counts) (rw (h.cut, append_assoc) at e) in
     rw h.cut (omega arith)
-lexeme_short (kinds.StringValue value) octets behind k (inl h) e =
+lexeme_short (kinds.StringValue value) octets following k (inl h) e =
     let l = length-append h.body (34 ∷ []) in
-    let s = quoted_short h.body h.text behind k h.spells (rw (h.cut, append_assoc) at e) in
+    let s = quoted_short h.body h.text following k h.spells (rw (h.cut, append_assoc) at e) in
     rw h.cut (omega arith)
-lexeme_short (kinds.StringValue value) octets behind k (inr h) e = multi_line_short octets value behind k h e
-lexeme_short (kinds.Mark mark) octets behind k h e = let w = kind_within (octets ++ behind) k e in rw h (omega arith)
+lexeme_short (kinds.StringValue value) octets following k (inr h) e = multi_line_short octets value following k h e
+lexeme_short (kinds.Mark mark) octets following k h e = let w = kind_within (octets ++ following) k e in rw h (omega arith)
 
 -- what is read as an identifier is no "text" before ":"
-word_begins : (ws xs behind : List ℕ) → map to_ascii_lowercase xs ≡ ws → begins_with 58 behind ≡ true → begins_as (ws ++ 58 ∷ []) (xs ++ behind) ≡ true
+word_begins : (ws xs following : List ℕ) → map to_ascii_lowercase xs ≡ ws → begins_with 58 following ≡ true → begins_as (ws ++ 58 ∷ []) (xs ++ following) ≡ true
 word_begins [] [] [] e h = absurd (false≢true h)
 word_begins [] [] (b ∷ bs) e h = let is : b ≡ 58 = eqb-true b 58 h in rw is refl
-word_begins [] (x ∷ xs) behind e h = cc
-word_begins (w ∷ ws) [] behind e h = cc
-word_begins (w ∷ ws) (x ∷ xs) behind e h =
-    and_from (to_ascii_lowercase x == w) (begins_as (ws ++ 58 ∷ []) (xs ++ behind)) (eq-eqb (to_ascii_lowercase x) w (first (to_ascii_lowercase x) w (map to_ascii_lowercase xs) ws e)) (word_begins ws xs behind (others (to_ascii_lowercase x) w (map to_ascii_lowercase xs) ws e) h)
+word_begins [] (x ∷ xs) following e h = cc
+word_begins (w ∷ ws) [] following e h = cc
+word_begins (w ∷ ws) (x ∷ xs) following e h =
+    and_from (to_ascii_lowercase x == w) (begins_as (ws ++ 58 ∷ []) (xs ++ following)) (eq-eqb (to_ascii_lowercase x) w (first (to_ascii_lowercase x) w (map to_ascii_lowercase xs) ws e)) (word_begins ws xs following (others (to_ascii_lowercase x) w (map to_ascii_lowercase xs) ws e) h)
   where
     first : (a b : ℕ) (bs cs : List ℕ) → a ∷ bs ≡ b ∷ cs → a ≡ b
     first a b bs cs e = cc
@@ -341,15 +341,15 @@ word_begins (w ∷ ws) (x ∷ xs) behind e h =
     others : (a b : ℕ) (bs cs : List ℕ) → a ∷ bs ≡ b ∷ cs → bs ≡ cs
     others a b bs cs e = cc
 
-name_apart : (xs behind : List ℕ) (n : ℕ) → IsName xs → kind_at (xs ++ behind) ≡ Ok (kinds.Identifier xs, n) → map to_ascii_lowercase xs ≡ codes "text" → begins_with 58 behind ≡ false
-name_apart [] behind n h e t = absurd (false≢true h.0)
-name_apart (b ∷ bs) behind n h e t = elim (cases_Bool (begins_with 58 behind)) [
+name_apart : (xs following : List ℕ) (n : ℕ) → IsName xs → kind_at (xs ++ following) ≡ Ok (kinds.Identifier xs, n) → map to_ascii_lowercase xs ≡ codes "text" → begins_with 58 following ≡ false
+name_apart [] following n h e t = absurd (false≢true h.0)
+name_apart (b ∷ bs) following n h e t = elim (cases_Bool (begins_with 58 following)) [
   | inr none ↦ none
   | inl is ↦ (
-      let word = word_begins (codes "text") (b ∷ bs) behind t is in
-      elim (branch b (bs ++ behind) (kinds.Identifier (b ∷ bs), n) e) [
-        | lines x m ↦ (let p = multi_line_parts (drop 5 (b ∷ (bs ++ behind))) (kinds.Identifier (b ∷ bs), n) m in let q = lines_parts _ _ _ p.2 in absurd (no_string (lines_value (take (lines_len true _) _)) (b ∷ bs) (ap (λ (k : TokenKind × ℕ). k.0) q.2)))
-        | name x s m ↦ absurd (both_ways (begins_text (b ∷ (bs ++ behind))) x word)
+      let word = word_begins (codes "text") (b ∷ bs) following t is in
+      elim (branch b (bs ++ following) (kinds.Identifier (b ∷ bs), n) e) [
+        | lines x m ↦ (let p = multi_line_parts (drop 5 (b ∷ (bs ++ following))) (kinds.Identifier (b ∷ bs), n) m in let q = lines_parts _ _ _ p.2 in absurd (no_string (lines_value (take (lines_len true _) _)) (b ∷ bs) (ap (λ (k : TokenKind × ℕ). k.0) q.2)))
+        | name x s m ↦ absurd (both_ways (begins_text (b ∷ (bs ++ following))) x word)
         | digits x s m ↦ absurd (both_ways (is_start b) x h.0)
         | colon x m ↦ absurd (false≢true (rw x at h.0))
         | quote x m ↦ absurd (false≢true (rw x at h.0))
@@ -360,9 +360,9 @@ name_apart (b ∷ bs) behind n h e t = elim (cases_Bool (begins_with 58 behind))
     no_string : (value xs : List ℕ) → kinds.StringValue value ≡ kinds.Identifier xs → ⊥
     no_string value xs e = cc
 
-pub kind_apart : (kind : TokenKind) (octets behind : List ℕ) → Lexeme kind octets behind → (n : ℕ) → kind_at (octets ++ behind) ≡ Ok (kind, n) → IsApart kind behind
-kind_apart (kinds.Identifier xs) octets behind h n e = name_apart xs behind n h.1 (rw h.0 at e)
-kind_apart (kinds.Tag xs) octets behind h n e = tt
-kind_apart (kinds.Number m) octets behind h n e = tt
-kind_apart (kinds.StringValue value) octets behind h n e = tt
-kind_apart (kinds.Mark mark) octets behind h n e = tt
+pub kind_apart : (kind : TokenKind) (octets following : List ℕ) → Lexeme kind octets following → (n : ℕ) → kind_at (octets ++ following) ≡ Ok (kind, n) → IsApart kind following
+kind_apart (kinds.Identifier xs) octets following h n e = name_apart xs following n h.1 (rw h.0 at e)
+kind_apart (kinds.Tag xs) octets following h n e = tt
+kind_apart (kinds.Number m) octets following h n e = tt
+kind_apart (kinds.StringValue value) octets following h n e = tt
+kind_apart (kinds.Mark mark) octets following h n e = tt

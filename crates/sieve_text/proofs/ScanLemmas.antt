@@ -110,14 +110,14 @@ one_fault script a b (inr h) (inr k) = first_once script a b h.1 k.1
 abbrev Verdict : List ℕ → ℕ → Type 0
 Verdict script at = ((ts : List Token) × (end : ℕ) × Reads script at ts end × (token_at script end ≡ Ok None)) ⊎ ((refusal : ScanRefusal) × (ts : List Token) × (end : ℕ) × Reads script at ts end × (token_at script end ≡ Err refusal))
 
-behind_one : (script : List ℕ) (at : ℕ) (t : Token) → token_at script at ≡ Ok (Some t) → Verdict script t.end → Verdict script at
-behind_one script at t e (inl h) = inl (t ∷ h.0, h.1, (e, h.2), h.3)
-behind_one script at t e (inr h) = inr (h.0, t ∷ h.1, h.2, (e, h.3), h.4)
+after_one : (script : List ℕ) (at : ℕ) (t : Token) → token_at script at ≡ Ok (Some t) → Verdict script t.end → Verdict script at
+after_one script at t e (inl h) = inl (t ∷ h.0, h.1, (e, h.2), h.3)
+after_one script at t e (inr h) = inr (h.0, t ∷ h.1, h.2, (e, h.3), h.4)
 
 verdict_at : (script : List ℕ) (at : ℕ) (answer : Result (Option Token) ScanRefusal) → token_at script at ≡ answer → ((t : Token) → token_at script at ≡ Ok (Some t) → Verdict script t.end) → Verdict script at
-verdict_at script at (Ok None) e behind = inl ([], at, refl, e)
-verdict_at script at (Ok (Some t)) e behind = behind_one script at t e (behind t e)
-verdict_at script at (Err refusal) e behind = inr (refusal, [], at, refl, e)
+verdict_at script at (Ok None) e following = inl ([], at, refl, e)
+verdict_at script at (Ok (Some t)) e following = after_one script at t e (following t e)
+verdict_at script at (Err refusal) e following = inr (refusal, [], at, refl, e)
 
 verdict_from : (turns : ℕ) (script : List ℕ) (at : ℕ) → at ≤ length script → length script < at + turns → Verdict script at
 verdict_from zero script at within enough = absurd (omega arith)

@@ -27,8 +27,8 @@ gap_again zero (b ∷ bs) = elim (cases_Bool (is_white b)) [
 again : (bs : List ℕ) (read : Result (TokenKind × ℕ) ScanRefusal) → kind_at (drop (gap_len 0 bs) bs) ≡ read → kind_at (drop (gap_len 0 (drop (gap_len 0 bs) bs)) (drop (gap_len 0 bs) bs)) ≡ read
 again bs read e = subst (λ (n : ℕ). kind_at (drop n (drop (gap_len 0 bs) bs)) ≡ read) (sym (gap_again 0 bs)) e
 
-pub kinds_behind : (bs : List ℕ) → kinds_in (drop (gap_len 0 bs) bs) ≡ kinds_in bs
-kinds_behind bs = go (kind_at rest) refl
+pub kinds_after : (bs : List ℕ) → kinds_in (drop (gap_len 0 bs) bs) ≡ kinds_in bs
+kinds_after bs = go (kind_at rest) refl
   where
     rest : List ℕ
     rest = drop (gap_len 0 bs) bs
@@ -37,8 +37,8 @@ kinds_behind bs = go (kind_at rest) refl
     go (Ok k) e = subst (λ (n : ℕ). kinds_in rest ≡ k.0 ∷ kinds_in (drop k.1 (drop n rest))) (gap_again 0 bs) (first_in rest k (again bs (Ok k) e)) ∙ sym (first_in bs k e)
     go (Err refusal) e = none_in rest refusal (again bs (Err refusal) e) ∙ sym (none_in bs refusal e)
 
-pub left_behind_gap : (bs : List ℕ) → left_in (drop (gap_len 0 bs) bs) ≡ left_in bs
-left_behind_gap bs = go (kind_at rest) refl
+pub left_after_gap : (bs : List ℕ) → left_in (drop (gap_len 0 bs) bs) ≡ left_in bs
+left_after_gap bs = go (kind_at rest) refl
   where
     rest : List ℕ
     rest = drop (gap_len 0 bs) bs

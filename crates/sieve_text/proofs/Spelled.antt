@@ -11,7 +11,7 @@ use Rattle.sieve_syntax.specs.declared.token.TokenKind.TheVariants as tokens
 use Rattle.sieve_syntax.specs.Tree.{TestTree, test, InnerTests, no_tests, one_test, listed_tests, CommandTree, command, semicolon, block, CommandTrees, other_string_tokens, string_list_tokens, argument_tokens, arguments_tokens, test_tokens, inner_tokens, row_tokens, command_tokens, ending_tokens, commands_tokens}
 use Rattle.sieve_syntax.specs.View.{row_of, commands_of}
 use Rattle.sieve_text.specs.declared.parser.stop.Misfit.{Misfit}
-use Rattle.sieve_text.specs.Reading.{◌>>=◌, Reads, Tries, many_with, many_at, next_with, string_at, behind_bracket, behind_paren, behind_brace, other_strings_at, string_list_at, argument_at, arguments_at, test_list_with, inner_with, test_with, refused_at, test_at, ending_with, command_with, commands_with, inside_at, whole_of, script_at}
+use Rattle.sieve_text.specs.Reading.{◌>>=◌, Reads, Tries, many_with, many_at, next_with, string_at, after_bracket, after_paren, after_brace, other_strings_at, string_list_at, argument_at, arguments_at, test_list_with, inner_with, test_with, refused_at, test_at, ending_with, command_with, commands_with, inside_at, whole_of, script_at}
 
 pub bind_ok : {A B : Type 0} (r : Result A Misfit) (f : A → Result B Misfit) (y : B) → (r >>= f) ≡ Ok y → (x : A) × (r ≡ Ok x) × (f x ≡ Ok y)
 bind_ok (Ok x) f y e = (x, refl, e)
@@ -63,17 +63,17 @@ string_sound [] x e = absurd cc
 string_sound (tokens.StringValue s ∷ ts) x e = along (λ (s : List ℕ). tokens.StringValue s ∷ []) (tokens.StringValue s ∷ ts) (s, ts) x e refl
 string_sound (t ∷ ts) x e = absurd cc
 
-bracket_sound : (ts rest : List TokenKind) → behind_bracket ts ≡ Ok rest → ts ≡ tokens.Mark CloseBracket ∷ rest
+bracket_sound : (ts rest : List TokenKind) → after_bracket ts ≡ Ok rest → ts ≡ tokens.Mark CloseBracket ∷ rest
 bracket_sound [] rest e = absurd cc
 bracket_sound (tokens.Mark CloseBracket ∷ ts) rest e = ap (λ (w : List TokenKind). tokens.Mark CloseBracket ∷ w) (ok_is ts rest e)
 bracket_sound (t ∷ ts) rest e = absurd cc
 
-paren_sound : (ts rest : List TokenKind) → behind_paren ts ≡ Ok rest → ts ≡ tokens.Mark CloseParen ∷ rest
+paren_sound : (ts rest : List TokenKind) → after_paren ts ≡ Ok rest → ts ≡ tokens.Mark CloseParen ∷ rest
 paren_sound [] rest e = absurd cc
 paren_sound (tokens.Mark CloseParen ∷ ts) rest e = ap (λ (w : List TokenKind). tokens.Mark CloseParen ∷ w) (ok_is ts rest e)
 paren_sound (t ∷ ts) rest e = absurd cc
 
-brace_sound : (ts rest : List TokenKind) → behind_brace ts ≡ Ok rest → ts ≡ tokens.Mark CloseBrace ∷ rest
+brace_sound : (ts rest : List TokenKind) → after_brace ts ≡ Ok rest → ts ≡ tokens.Mark CloseBrace ∷ rest
 brace_sound [] rest e = absurd cc
 brace_sound (tokens.Mark CloseBrace ∷ ts) rest e = ap (λ (w : List TokenKind). tokens.Mark CloseBrace ∷ w) (ok_is ts rest e)
 brace_sound (t ∷ ts) rest e = absurd cc
@@ -88,7 +88,7 @@ unfolding string_list_at other_strings_at
 string_list_sound ts x e =
     let a = bind_ok (string_at ts) _ x e in
     let b = bind_ok (other_strings_at a.0.1) _ x a.2 in
-    let d = bind_ok (behind_bracket b.0.1) _ x b.2 in
+    let d = bind_ok (after_bracket b.0.1) _ x b.2 in
     let first : ts ≡ tokens.StringValue a.0.0 ∷ a.0.1 = string_sound ts a.0 a.1 in
     let more : a.0.1 ≡ printed (λ s. tokens.Mark Comma ∷ tokens.StringValue s ∷ []) b.0.0 ++ b.0.1 = many_sound (λ (s : List ℕ). tokens.Mark Comma ∷ tokens.StringValue s ∷ []) (next_with string_at) (next_sound (λ (s : List ℕ). tokens.StringValue s ∷ []) string_at string_sound) (length a.0.1) a.0.1 b.0 b.1 in
     let last : b.0.1 ≡ tokens.Mark CloseBracket ∷ d.0 = bracket_sound b.0.1 d.0 d.1 in
@@ -127,7 +127,7 @@ test_list_sound : (read : Reads TestTree) → IsSound test_tokens read → (ts :
 test_list_sound read h ts x e =
     let a = bind_ok (read ts) _ x e in
     let b = bind_ok (many_at (next_with read) (length a.0.1) a.0.1) _ x a.2 in
-    let d = bind_ok (behind_paren b.0.1) _ x b.2 in
+    let d = bind_ok (after_paren b.0.1) _ x b.2 in
     let print : TestTree → List TokenKind = λ t. tokens.Mark Comma ∷ test_tokens t in
     let first : ts ≡ test_tokens a.0.0 ++ a.0.1 = h ts a.0 a.1 in
     let more : a.0.1 ≡ printed print b.0.0 ++ b.0.1 = many_sound print (next_with read) (next_sound test_tokens read h) (length a.0.1) a.0.1 b.0 b.1 in
@@ -170,7 +170,7 @@ ending_sound read h [] x e = absurd cc
 ending_sound read h (tokens.Mark Semicolon ∷ ts) x e = along ending_tokens (tokens.Mark Semicolon ∷ ts) (semicolon, ts) x e refl
 ending_sound read h (tokens.Mark OpenBrace ∷ ts) x e =
     let a = bind_ok (read ts) _ x e in
-    let b = bind_ok (behind_brace a.0.1) _ x a.2 in
+    let b = bind_ok (after_brace a.0.1) _ x a.2 in
     let last : a.0.1 ≡ tokens.Mark CloseBrace ∷ b.0 = brace_sound a.0.1 b.0 b.1 in
     along ending_tokens (tokens.Mark OpenBrace ∷ ts) (block a.0.0, b.0) x b.2
     (ap (λ (w : List TokenKind). tokens.Mark OpenBrace ∷ w)

@@ -34,11 +34,11 @@ not_stray b bs none = elim (cases_Bool (is_stray b bs)) [
   | inr e ↦ e
 ]
 
-pub clean_long : (bs behind : List ℕ) → IsClean bs behind → stray_len (bs ++ behind) ≡ length bs + stray_len behind
-clean_long _ _ (clean_end behind) = omega arith
-clean_long _ _ (clean_octet b bs behind none c) =
-    let s = stray_later b (bs ++ behind) (not_stray b (bs ++ behind) none) in
-    let r = clean_long bs behind c in
+pub clean_long : (bs following : List ℕ) → IsClean bs following → stray_len (bs ++ following) ≡ length bs + stray_len following
+clean_long _ _ (clean_end following) = omega arith
+clean_long _ _ (clean_octet b bs following none c) =
+    let s = stray_later b (bs ++ following) (not_stray b (bs ++ following) none) in
+    let r = clean_long bs following c in
     omega arith
 
 no_stray : (b : ℕ) (bs : List ℕ) → is_stray b bs ≡ false → IsStray b bs → ⊥
@@ -65,16 +65,16 @@ whole_clean bs c =
 pub stray_at : (bs : List ℕ) → stray_len bs < length bs → IsStrayAt bs (stray_len bs)
 stray_at [] h = absurd (omega arith)
 stray_at (b ∷ bs) h = elim (cases_Bool (is_stray b bs)) [
-  | inl e ↦ record { front = []; octet = b; behind = bs; cut = refl; clean = clean_end (b ∷ bs); stray = stray_is b bs e; place_is = stray_here b bs e }
+  | inl e ↦ record { front = []; octet = b; following = bs; cut = refl; clean = clean_end (b ∷ bs); stray = stray_is b bs e; place_is = stray_here b bs e }
   | inr e ↦ (
       let s = stray_later b bs e in
       let r = stray_at bs (omega arith) in
       record {
         front = b ∷ r.front;
         octet = r.octet;
-        behind = r.behind;
+        following = r.following;
         cut = ap (λ (cs : List ℕ). b ∷ cs) r.cut;
-        clean = clean_octet b r.front (r.octet ∷ r.behind) (rw (← r.cut) (no_stray b bs e)) r.clean;
+        clean = clean_octet b r.front (r.octet ∷ r.following) (rw (← r.cut) (no_stray b bs e)) r.clean;
         stray = r.stray;
         place_is = s ∙ ap suc r.place_is;
       })
@@ -82,10 +82,10 @@ stray_at (b ∷ bs) h = elim (cases_Bool (is_stray b bs)) [
 
 pub at_stray : (bs : List ℕ) (place : ℕ) → IsStrayAt bs place → (stray_len bs < length bs) × (place ≡ stray_len bs)
 at_stray bs place h =
-    let l = clean_long h.front (h.octet ∷ h.behind) h.clean in
-    let s = stray_here h.octet h.behind (stray_told h.octet h.behind h.stray) in
+    let l = clean_long h.front (h.octet ∷ h.following) h.clean in
+    let s = stray_here h.octet h.following (stray_told h.octet h.following h.stray) in
     let e = ap stray_len h.cut in
     let m = ap length h.cut in
-    let n = length-append h.front (h.octet ∷ h.behind) in
+    let n = length-append h.front (h.octet ∷ h.following) in
     let p = h.place_is in
     (omega arith, omega arith)

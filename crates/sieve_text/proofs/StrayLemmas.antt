@@ -5,10 +5,10 @@ use Rattle.std.proofs.lemmas.Bool.{cases_Bool}
 use Rattle.memchr.specs.Find.{IsFirstByte, is_byte2}
 use Rattle.sieve_text.specs.Octets.{begins_with, is_stray, stray_len}
 
-neither : (zero cr behind : Bool) → (zero || cr ≡ true → ⊥) → zero || (cr && behind) ≡ false
-neither true cr behind h = absurd (h refl)
-neither false true behind h = absurd (h refl)
-neither false false behind h = refl
+neither : (zero cr following : Bool) → (zero || cr ≡ true → ⊥) → zero || (cr && following) ≡ false
+neither true cr following h = absurd (h refl)
+neither false true following h = absurd (h refl)
+neither false false following h = refl
 
 none_stray : (bs : List ℕ) → ((k : ℕ) → k < length bs → is_byte2 0 13 (get_or bs k 0) ≡ true → ⊥) → stray_len bs ≡ length bs
 unfolding stray_len

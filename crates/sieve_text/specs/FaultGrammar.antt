@@ -11,7 +11,7 @@ use Rattle.sieve_text.specs.Octets.{is_blank, is_white, is_start, not_lf, begins
 use Rattle.sieve_text.specs.TokenGrammar.{IsNumber, QuotedText, IsQuoted, IsLineEnd, Lines, IsTextColon, IsHashComment, IsMultiLine, octet_of, closes, Gap, IsFront}
 
 -- an octet that begins no token, no white space and no comment; "/" begins a comment only before "*"
-pub record IsNoBeginning (b : ℕ) (behind : List ℕ) : Type 0 where
+pub record IsNoBeginning (b : ℕ) (following : List ℕ) : Type 0 where
   pub white : is_white b ≡ false
   pub hash : (b == 35) ≡ false
   pub name : is_start b ≡ false
@@ -19,20 +19,20 @@ pub record IsNoBeginning (b : ℕ) (behind : List ℕ) : Type 0 where
   pub colon : (b == 58) ≡ false
   pub quote : (b == 34) ≡ false
   pub mark : (mark : Mark) → b ≡ octet_of mark → ⊥
-  pub comment : b ≡ 47 → begins_with 42 behind ≡ false
+  pub comment : b ≡ 47 → begins_with 42 following ≡ false
 
 -- what cannot follow "text:" and blanks: an octet that is no blank, no "#" and no line end
 pub record IsNoOpening (bs : List ℕ) : Type 0 where
   pub some : 0 < length bs
   pub blank : begins is_blank bs ≡ false
   pub hash : begins_with 35 bs ≡ false
-  pub line_end : (end behind : List ℕ) → bs ≡ end ++ behind → IsLineEnd end → ⊥
+  pub line_end : (end following : List ℕ) → bs ≡ end ++ following → IsLineEnd end → ⊥
 
 -- 11: no token begins here; the number is how many octets come before the one that cannot be there
 pub data NoTokenAt : ℕ → List ℕ → Type 0 where
-  no_beginning : (b : ℕ) (behind : List ℕ) → IsNoBeginning b behind → NoTokenAt 0 (b ∷ behind)
-  no_tag : (behind : List ℕ) → begins is_start behind ≡ false → NoTokenAt 0 (58 ∷ behind)
-  no_opening : (word blanks behind : List ℕ) → IsTextColon word → list_all is_blank blanks ≡ true → IsNoOpening behind → NoTokenAt (length word + length blanks) (word ++ (blanks ++ behind))
+  no_beginning : (b : ℕ) (following : List ℕ) → IsNoBeginning b following → NoTokenAt 0 (b ∷ following)
+  no_tag : (following : List ℕ) → begins is_start following ≡ false → NoTokenAt 0 (58 ∷ following)
+  no_opening : (word blanks following : List ℕ) → IsTextColon word → list_all is_blank blanks ≡ true → IsNoOpening following → NoTokenAt (length word + length blanks) (word ++ (blanks ++ following))
 
 -- 12: a string that is open at the script's end: a quoted one, whose last octet may be a backslash; one that ends on
 -- the line of "text:"; or one after lines of which none is a single dot
@@ -46,8 +46,8 @@ pub data OpenString : List ℕ → Type 0 where
 pub record IsLargeNumber (bs : List ℕ) : Type 0 where
   pub value : ℕ
   pub octets : List ℕ
-  pub behind : List ℕ
-  pub cut : bs ≡ octets ++ behind
+  pub following : List ℕ
+  pub cut : bs ≡ octets ++ following
   pub number : IsNumber value octets
   pub longest : (other : ℕ) (more rest : List ℕ) → bs ≡ more ++ rest → IsNumber other more → length more ≤ length octets
   pub large : 9223372036854775807 < value
@@ -56,9 +56,9 @@ pub record IsLargeNumber (bs : List ℕ) : Type 0 where
 pub record IsLongString (bs : List ℕ) : Type 0 where
   pub value : List ℕ
   pub octets : List ℕ
-  pub behind : List ℕ
-  pub cut : bs ≡ octets ++ behind
-  pub string : IsQuoted value octets ⊎ IsMultiLine value octets behind
+  pub following : List ℕ
+  pub cut : bs ≡ octets ++ following
+  pub string : IsQuoted value octets ⊎ IsMultiLine value octets following
   pub long : 65535 < length value
 
 -- a refusal of what begins here; the number is how many octets come before its place
@@ -87,21 +87,21 @@ pub record IsFaultAt (script : List ℕ) (refusal : ScanRefusal) (place : ℕ) :
 
 -- octet 0, or a CR without LF
 abbrev pub IsStray : ℕ → List ℕ → Type 0
-IsStray b behind = (b ≡ 0) ⊎ ((b ≡ 13) × (begins_with 10 behind ≡ false))
+IsStray b following = (b ≡ 0) ⊎ ((b ≡ 13) × (begins_with 10 following ≡ false))
 
 -- octets before others, none of them stray
 pub data IsClean : List ℕ → List ℕ → Type 0 where
-  clean_end : (behind : List ℕ) → IsClean [] behind
-  clean_octet : (b : ℕ) (bs behind : List ℕ) → (IsStray b (bs ++ behind) → ⊥) → IsClean bs behind → IsClean (b ∷ bs) behind
+  clean_end : (following : List ℕ) → IsClean [] following
+  clean_octet : (b : ℕ) (bs following : List ℕ) → (IsStray b (bs ++ following) → ⊥) → IsClean bs following → IsClean (b ∷ bs) following
 
 -- the first stray octet of a script
 pub record IsStrayAt (script : List ℕ) (place : ℕ) : Type 0 where
   pub front : List ℕ
   pub octet : ℕ
-  pub behind : List ℕ
-  pub cut : script ≡ front ++ octet ∷ behind
-  pub clean : IsClean front (octet ∷ behind)
-  pub stray : IsStray octet behind
+  pub following : List ℕ
+  pub cut : script ≡ front ++ octet ∷ following
+  pub clean : IsClean front (octet ∷ following)
+  pub stray : IsStray octet following
   pub place_is : place ≡ length front
 
 -- the check before any token: at most 262,144 octets, UTF-8, and none of them stray

@@ -47,14 +47,14 @@ kinds_within (suc n) bs = first_and (kinds_within n) (drop (gap_len 0 bs) bs) (k
 abbrev pub kinds_in : List ℕ → List TokenKind
 kinds_in bs = kinds_within (length bs) bs
 
-abbrev pub left_behind : (List ℕ → List ℕ) → List ℕ → Result (TokenKind × ℕ) ScanRefusal → List ℕ
-left_behind more bs (Ok k) = more (drop k.1 bs)
-left_behind more bs (Err refusal) = bs
+abbrev pub left_after : (List ℕ → List ℕ) → List ℕ → Result (TokenKind × ℕ) ScanRefusal → List ℕ
+left_after more bs (Ok k) = more (drop k.1 bs)
+left_after more bs (Err refusal) = bs
 
 -- the rest of a text from the first place on where no token begins; the number bounds how many tokens come before
 unfoldable pub left_within : ℕ → List ℕ → List ℕ
 left_within zero bs = bs
-left_within (suc n) bs = left_behind (left_within n) (drop (gap_len 0 bs) bs) (kind_at (drop (gap_len 0 bs) bs))
+left_within (suc n) bs = left_after (left_within n) (drop (gap_len 0 bs) bs) (kind_at (drop (gap_len 0 bs) bs))
 
 -- the rest of a text from the first place on where no token begins: nothing if tokens go on to its end
 abbrev pub left_in : List ℕ → List ℕ

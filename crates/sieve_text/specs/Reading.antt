@@ -53,8 +53,8 @@ many_at read zero ts = Ok ([], ts)
 many_at read (suc n) ts = read ts >>= many_with (many_at read n) ts
 
 -- what was read before, and then what is read now
-abbrev pub behind : {A : Type 0} → List A → Result (List A × List TokenKind) Misfit → Result (List A × List TokenKind) Misfit
-behind before r = r >>= λ x. Ok (before ++ x.0, x.1)
+abbrev pub following : {A : Type 0} → List A → Result (List A × List TokenKind) Misfit → Result (List A × List TokenKind) Misfit
+following before r = r >>= λ x. Ok (before ++ x.0, x.1)
 
 -- a thing after a comma
 abbrev pub next_with : {A : Type 0} → Reads A → Tries A
@@ -67,20 +67,20 @@ string_at [] = Err Syntax
 string_at (tokens.StringValue s ∷ ts) = Ok (s, ts)
 string_at (t ∷ ts) = Err Syntax
 
-abbrev pub behind_bracket : List TokenKind → Result (List TokenKind) Misfit
-behind_bracket [] = Err Syntax
-behind_bracket (tokens.Mark CloseBracket ∷ ts) = Ok ts
-behind_bracket (t ∷ ts) = Err Syntax
+abbrev pub after_bracket : List TokenKind → Result (List TokenKind) Misfit
+after_bracket [] = Err Syntax
+after_bracket (tokens.Mark CloseBracket ∷ ts) = Ok ts
+after_bracket (t ∷ ts) = Err Syntax
 
-abbrev pub behind_paren : List TokenKind → Result (List TokenKind) Misfit
-behind_paren [] = Err Syntax
-behind_paren (tokens.Mark CloseParen ∷ ts) = Ok ts
-behind_paren (t ∷ ts) = Err Syntax
+abbrev pub after_paren : List TokenKind → Result (List TokenKind) Misfit
+after_paren [] = Err Syntax
+after_paren (tokens.Mark CloseParen ∷ ts) = Ok ts
+after_paren (t ∷ ts) = Err Syntax
 
-abbrev pub behind_brace : List TokenKind → Result (List TokenKind) Misfit
-behind_brace [] = Err Syntax
-behind_brace (tokens.Mark CloseBrace ∷ ts) = Ok ts
-behind_brace (t ∷ ts) = Err Syntax
+abbrev pub after_brace : List TokenKind → Result (List TokenKind) Misfit
+after_brace [] = Err Syntax
+after_brace (tokens.Mark CloseBrace ∷ ts) = Ok ts
+after_brace (t ∷ ts) = Err Syntax
 
 unfoldable pub other_strings_at : Reads (List (List ℕ))
 other_strings_at ts = many_at (next_with string_at) (length ts) ts
@@ -90,7 +90,7 @@ unfoldable pub string_list_at : Reads StringList
 string_list_at ts =
     string_at ts >>= λ first.
     other_strings_at first.1 >>= λ others.
-    behind_bracket others.1 >>= λ rest.
+    after_bracket others.1 >>= λ rest.
     Ok (string_lists.Listed first.0 others.0, rest)
 
 unfoldable pub argument_at : Tries Argument
@@ -109,7 +109,7 @@ abbrev pub test_list_with : Reads TestTree → Reads InnerTests
 test_list_with read ts =
     read ts >>= λ first.
     many_at (next_with read) (length first.1) first.1 >>= λ others.
-    behind_paren others.1 >>= λ rest.
+    after_paren others.1 >>= λ rest.
     Ok (listed_tests first.0 (row_of others.0), rest)
 
 abbrev pub inner_with : Reads TestTree → Reads InnerTests
@@ -143,7 +143,7 @@ ending_with read [] = Err Syntax
 ending_with read (tokens.Mark Semicolon ∷ ts) = Ok (semicolon, ts)
 ending_with read (tokens.Mark OpenBrace ∷ ts) =
     read ts >>= λ cs.
-    behind_brace cs.1 >>= λ rest.
+    after_brace cs.1 >>= λ rest.
     Ok (block cs.0, rest)
 ending_with read (t ∷ ts) = Err Syntax
 

@@ -78,7 +78,7 @@ abbrev pub IsHashComment : List ℕ → Type 0
 IsHashComment comment = (comment ≡ []) ⊎ ((begins_with 35 comment ≡ true) × (list_all not_lf comment ≡ true))
 
 -- "text:" *(SP / HTAB) [hash-comment] line-end lines "." line-end, where the last line-end may be the script's end
-pub record IsMultiLine (value octets behind : List ℕ) : Type 0 where
+pub record IsMultiLine (value octets following : List ℕ) : Type 0 where
   pub word : List ℕ
   pub blanks : List ℕ
   pub comment : List ℕ
@@ -92,7 +92,7 @@ pub record IsMultiLine (value octets behind : List ℕ) : Type 0 where
   pub comment_is : IsHashComment comment
   pub end_is : IsLineEnd end
   pub body_is : Lines body text
-  pub last_is : IsLineEnd last ⊎ ((last ≡ []) × (behind ≡ []))
+  pub last_is : IsLineEnd last ⊎ ((last ≡ []) × (following ≡ []))
   pub says : value ≡ with_crlf false text
 
 abbrev pub octet_of : Mark → ℕ
@@ -107,11 +107,11 @@ octet_of Comma = 44
 
 -- the octets of a token, before others
 abbrev pub Lexeme : TokenKind → List ℕ → List ℕ → Type 0
-Lexeme (kinds.Identifier name) octets behind = (octets ≡ name) × IsName name
-Lexeme (kinds.Tag name) octets behind = (octets ≡ 58 ∷ name) × IsName name
-Lexeme (kinds.Number n) octets behind = IsNumber n octets
-Lexeme (kinds.StringValue value) octets behind = IsQuoted value octets ⊎ IsMultiLine value octets behind
-Lexeme (kinds.Mark mark) octets behind = octets ≡ octet_of mark ∷ []
+Lexeme (kinds.Identifier name) octets following = (octets ≡ name) × IsName name
+Lexeme (kinds.Tag name) octets following = (octets ≡ 58 ∷ name) × IsName name
+Lexeme (kinds.Number n) octets following = IsNumber n octets
+Lexeme (kinds.StringValue value) octets following = IsQuoted value octets ⊎ IsMultiLine value octets following
+Lexeme (kinds.Mark mark) octets following = octets ≡ octet_of mark ∷ []
 
 -- a number is at most 2^63 - 1, a string has at most 65,535 octets
 abbrev pub IsWithinLimits : TokenKind → Type 0
@@ -123,17 +123,17 @@ IsWithinLimits (kinds.Mark mark) = Unit {0}
 
 -- "text:" begins a multi-line string: the name "text", in letters of either case, is no identifier before ":"
 abbrev pub IsApart : TokenKind → List ℕ → Type 0
-IsApart (kinds.Identifier name) behind = map to_ascii_lowercase name ≡ codes "text" → begins_with 58 behind ≡ false
-IsApart (kinds.Tag name) behind = Unit {0}
-IsApart (kinds.Number n) behind = Unit {0}
-IsApart (kinds.StringValue value) behind = Unit {0}
-IsApart (kinds.Mark mark) behind = Unit {0}
+IsApart (kinds.Identifier name) following = map to_ascii_lowercase name ≡ codes "text" → begins_with 58 following ≡ false
+IsApart (kinds.Tag name) following = Unit {0}
+IsApart (kinds.Number n) following = Unit {0}
+IsApart (kinds.StringValue value) following = Unit {0}
+IsApart (kinds.Mark mark) following = Unit {0}
 
 -- a token with these octets, before others: the longest that fits
-pub record IsToken (kind : TokenKind) (octets behind : List ℕ) : Type 0 where
-  pub spelled : Lexeme kind octets behind
-  pub longest : (other : TokenKind) (more rest : List ℕ) → octets ++ behind ≡ more ++ rest → Lexeme other more rest → length more ≤ length octets
-  pub apart : IsApart kind behind
+pub record IsToken (kind : TokenKind) (octets following : List ℕ) : Type 0 where
+  pub spelled : Lexeme kind octets following
+  pub longest : (other : TokenKind) (more rest : List ℕ) → octets ++ following ≡ more ++ rest → Lexeme other more rest → length more ≤ length octets
+  pub apart : IsApart kind following
   pub limited : IsWithinLimits kind
 
 -- whether "*/" occurs
@@ -144,27 +144,27 @@ closes (b ∷ bs) = ((b == 42) && begins_with 47 bs) || closes bs
 -- white space and comments before other octets. A hash comment extends to its line's end, or to the script's end; a
 -- bracketed one ends with the first "*/"
 pub data Gap : List ℕ → List ℕ → Type 0 where
-  gap_end : (behind : List ℕ) → Gap [] behind
-  gap_white : (b : ℕ) (bs behind : List ℕ) → is_white b ≡ true → Gap bs behind → Gap (b ∷ bs) behind
-  gap_hash : (text bs behind : List ℕ) → list_all not_lf text ≡ true → begins not_lf (bs ++ behind) ≡ false → Gap bs behind → Gap (35 ∷ (text ++ bs)) behind
-  gap_bracketed : (text bs behind : List ℕ) → closes (text ++ 42 ∷ []) ≡ false → Gap bs behind → Gap (47 ∷ 42 ∷ (text ++ 42 ∷ 47 ∷ bs)) behind
+  gap_end : (following : List ℕ) → Gap [] following
+  gap_white : (b : ℕ) (bs following : List ℕ) → is_white b ≡ true → Gap bs following → Gap (b ∷ bs) following
+  gap_hash : (text bs following : List ℕ) → list_all not_lf text ≡ true → begins not_lf (bs ++ following) ≡ false → Gap bs following → Gap (35 ∷ (text ++ bs)) following
+  gap_bracketed : (text bs following : List ℕ) → closes (text ++ 42 ∷ []) ≡ false → Gap bs following → Gap (47 ∷ 42 ∷ (text ++ 42 ∷ 47 ∷ bs)) following
 
 -- a token comes first, after a gap, from an offset on
-pub record IsFirst (at : ℕ) (bs : List ℕ) (t : Token) (behind : List ℕ) : Type 0 where
+pub record IsFirst (at : ℕ) (bs : List ℕ) (t : Token) (following : List ℕ) : Type 0 where
   pub gap : List ℕ
   pub octets : List ℕ
-  pub cut : bs ≡ gap ++ (octets ++ behind)
-  pub gap_is : Gap gap (octets ++ behind)
+  pub cut : bs ≡ gap ++ (octets ++ following)
+  pub gap_is : Gap gap (octets ++ following)
   pub start : t.start ≡ at + length gap
   pub end : t.end ≡ t.start + length octets
-  pub token : IsToken t.kind octets behind
+  pub token : IsToken t.kind octets following
 
 -- gaps and tokens in turn, from an offset on to the script's end
 abbrev pub IsCut : ℕ → List ℕ → List Token → Type 0
 IsCut at bs [] = Gap bs []
-IsCut at bs (t ∷ ts) = (behind : List ℕ) × IsFirst at bs t behind × IsCut t.end behind ts
+IsCut at bs (t ∷ ts) = (following : List ℕ) × IsFirst at bs t following × IsCut t.end following ts
 
 -- gaps and tokens in turn, from one offset up to another, and the rest from there
 abbrev pub IsFront : ℕ → List ℕ → List Token → ℕ → List ℕ → Type 0
 IsFront at bs [] end rest = (at ≡ end) × (bs ≡ rest)
-IsFront at bs (t ∷ ts) end rest = (behind : List ℕ) × IsFirst at bs t behind × IsFront t.end behind ts end rest
+IsFront at bs (t ∷ ts) end rest = (following : List ℕ) × IsFirst at bs t following × IsFront t.end following ts end rest

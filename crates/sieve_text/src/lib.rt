@@ -18,4 +18,4 @@ mod scanner;
 pub use fault::{ScanFault, ScanRefusal, TextFault, TextRefusal};
 pub use laws::{cut, one_scan, one_verdict, refused_place, some_verdict};
 pub use parser::{one_tree, parse};
-pub use scanner::{MOST_OCTETS, scan};
+pub use scanner::{MAX_OCTETS, scan};

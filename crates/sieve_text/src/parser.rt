@@ -21,7 +21,7 @@ mod stop;
 mod test_lists;
 
 use crate::fault::{ScanFault, TextFault, TextRefusal};
-use crate::scanner::{count_tokens, judge, split_lexeme};
+use crate::scanner::{check_text, count_tokens, split_lexeme};
 use commands::commands;
 pub use laws::one_tree;
 use sieve_syntax::{Command, Script};
@@ -96,7 +96,7 @@ pub fn parse(alloc: Global, script: &[u8]) -> Result<Script, TextFault>
     // Each refusal says what the text lacks.
     ensures refused { IfErr result (λ e. Explains script.now e) }
 {
-    judge(script)?;
+    check_text(script)?;
     let read = all_commands(alloc, script);
     judge_tokens(script, &read)?;
     answer(read, script.len())

@@ -28,7 +28,7 @@ use std::str;
 pub use strings::string_text;
 
 /// The greatest length of a script in octets; a longer one is refused (15).
-pub const MOST_OCTETS: usize = 262_144;
+pub const MAX_OCTETS: usize = 262_144;
 
 #[inline(always)]
 fn mark(b: u8) -> Option<Mark>
@@ -57,19 +57,19 @@ fn identifier(rest: &[u8]) -> (Lexeme<'_>, usize)
     (Lexeme::Identifier(&rest[..n]), n)
 }
 
-/// A tag: `behind` is the text after its colon, which is at this offset.
+/// A tag: `following` is the text after its colon, which is at this offset.
 #[tactic(auto, unfolding(crate::specs::Tokens::tag_at))]
 #[inline(always)]
-fn tag(behind: &[u8], at: usize) -> Result<(Lexeme<'_>, usize), FaultyPlace>
-    ensures value { Gives read_of result (tag_at behind.now) }
-    ensures within { IfOk result (λ x. x.1 ≤ suc (length behind.now)) }
+fn tag(following: &[u8], at: usize) -> Result<(Lexeme<'_>, usize), FaultyPlace>
+    ensures value { Gives read_of result (tag_at following.now) }
+    ensures within { IfOk result (λ x. x.1 ≤ suc (length following.now)) }
     ensures some { IfOk result (λ x. 0 < x.1) }
     ensures place { (first : ℕ) → IfErr result (λ e. StandsAt (either_place first at) e) }
 {
-    match behind {
+    match following {
         [b, ..] if octets::starts_word(*b) => {
-            let n = octets::word_length(behind);
-            Ok((Lexeme::Tag(&behind[..n]), n + 1))
+            let n = octets::word_length(following);
+            Ok((Lexeme::Tag(&following[..n]), n + 1))
         }
         _ => Err(FaultyPlace::new(ScanRefusal::NoToken, at)),
     }
@@ -85,20 +85,20 @@ fn lexeme(rest: &[u8], at: usize) -> Result<(Lexeme<'_>, usize), FaultyPlace>
     ensures some { IfOk result (λ x. 0 < x.1) }
     ensures place { IfErr result (λ e. StandsAt (either_place at (at + text_len rest.now)) e) }
 {
-    let Some((&b, behind)) = rest.split_first() else {
+    let Some((&b, following)) = rest.split_first() else {
         return Err(FaultyPlace::new(ScanRefusal::NoToken, at));
     };
     if multi_line::begins(rest) {
-        let (_, behind) = rest.split_at(5);
-        multi_line::token(behind, at)
+        let (_, following) = rest.split_at(5);
+        multi_line::token(following, at)
     } else if octets::starts_word(b) {
         Ok(identifier(rest))
     } else if b.is_ascii_digit() {
         number::token(rest, at)
     } else if b == b':' {
-        tag(behind, at)
+        tag(following, at)
     } else if b == b'"' {
-        quoted::token(behind, at)
+        quoted::token(following, at)
     } else if gap::opens_bracketed(rest) {
         Err(FaultyPlace::new(ScanRefusal::CommentNotClosed, at))
     } else {
@@ -113,14 +113,14 @@ fn lexeme(rest: &[u8], at: usize) -> Result<(Lexeme<'_>, usize), FaultyPlace>
 #[tactic(auto, unfolding(crate::specs::Tokens::token_at))]
 #[inline(always)]
 fn placed_lexeme(script: &[u8], at: usize) -> Result<Option<PlacedLexeme<'_>>, FaultyPlace>
-    requires length { length script.now ≤ MOST_OCTETS }
+    requires length { length script.now ≤ MAX_OCTETS }
     requires within { at ≤ length script.now }
     ensures value { Gives (option_map token_of) result (token_at script.now at) }
     ensures within { IfOk result (λ x. IfSome x (λ t. (at < t.end) × (t.end ≤ length script.now))) }
     ensures place { IfErr result (λ e. StandsAt (fault_place script.now at) e) }
 {
-    let (_, behind) = script.split_at(at);
-    let start = at + gap::gap_length(behind);
+    let (_, following) = script.split_at(at);
+    let start = at + gap::gap_length(following);
     if start == script.len() {
         return Ok(None);
     }
@@ -135,12 +135,12 @@ fn placed_lexeme(script: &[u8], at: usize) -> Result<Option<PlacedLexeme<'_>>, F
 
 /// Judges a script as a whole: its length (15), then that it is UTF-8 (10), then that it has no octet 0 and no CR
 /// without LF (11).
-pub fn judge(script: &[u8]) -> Result<(), ScanFault>
+pub fn check_text(script: &[u8]) -> Result<(), ScanFault>
     ensures sound { OnOk result (IsSound script.now) }
     ensures fault { IfErr result (λ e. FaultsBy script.now e) }
     ensures place { IfErr result (λ e. StandsIn script.now e) }
 {
-    if script.len() > MOST_OCTETS {
+    if script.len() > MAX_OCTETS {
         return Err(ScanFault::Refused(ScanRefusal::ScriptTooLong, 0));
     }
     if str::from_utf8(script).is_err() {
@@ -158,8 +158,8 @@ pub fn judge(script: &[u8]) -> Result<(), ScanFault>
 fn split_mark(text: &[u8]) -> Option<(Mark, &[u8])>
     ensures { IfSome result (λ x. (octet : ℕ) × (text.now ≡ octet ∷ x.1.now) × (mark_of octet ≡ Some x.0)) }
 {
-    let (&first, behind) = text.split_first()?;
-    Some((mark(first)?, behind))
+    let (&first, following) = text.split_first()?;
+    Some((mark(first)?, following))
 }
 
 /// The mark at the front of a text, with no gap before it.
@@ -190,12 +190,12 @@ fn split_other(text: &[u8]) -> Option<(Lexeme<'_>, &[u8])>
     ensures fewer { IfSome result (λ x. length (kinds_in x.1.now) < length (kinds_in text.now)) }
     ensures left { MatchOption result (left_in text.now ≡ drop (gap_len 0 text.now) text.now) (λ x. left_in x.1.now ≡ left_in text.now) }
 {
-    let rest = gap::behind_gap(text);
+    let rest = gap::after_gap(text);
     let Ok((lexeme, length)) = lexeme(rest, 0) else {
         return None;
     };
-    let (_, behind) = rest.split_at(length);
-    Some((lexeme, gap::behind_gap(behind)))
+    let (_, following) = rest.split_at(length);
+    Some((lexeme, gap::after_gap(following)))
 }
 
 /// The first token of a text, as written, and the text after it and after the gap that follows it. As the gap is
@@ -207,8 +207,8 @@ pub fn split_lexeme(text: &[u8]) -> Option<(Lexeme<'_>, &[u8])>
     ensures fewer { IfSome result (λ x. length (kinds_in x.1.now) < length (kinds_in text.now)) }
     ensures left { MatchOption result (left_in text.now ≡ drop (gap_len 0 text.now) text.now) (λ x. left_in x.1.now ≡ left_in text.now) }
 {
-    if let Some((mark, behind)) = split_mark(text) {
-        return Some((Lexeme::Mark(mark), gap::behind_gap(behind)));
+    if let Some((mark, following)) = split_mark(text) {
+        return Some((Lexeme::Mark(mark), gap::after_gap(following)));
     }
     split_other(text)
 }
@@ -219,7 +219,7 @@ pub fn count_tokens(script: &[u8]) -> Result<usize, ScanFault>
     ensures fault { IfErr result (λ e. FaultsBy script.now e) }
     ensures place { IfErr result (λ e. StandsIn script.now e) }
 {
-    judge(script)?;
+    check_text(script)?;
     let mut count = 0;
     let mut at = 0;
     while let Some(next) = placed_lexeme(script, at)? {

@@ -6,7 +6,7 @@ use crate::bench::memory::peak;
 use crate::desks::{desk_in_memory, desk_over};
 use anyhow::{Context, Result, bail};
 use class_plan::day_of;
-use filing_commands::{GREATEST_MESSAGE, Payload};
+use filing_commands::{MAX_MESSAGE_OCTETS, Payload};
 use filing_desk::Desk;
 use filing_session::memory::{MemorySink, MemorySource};
 use filing_session::serve;
@@ -215,9 +215,9 @@ fn tell_times(
 
 /// A message of 8 MiB that the script files.
 fn large_message(alloc: Global) -> Result<Vec<u8>, AllocError> {
-    let mut message = Vec::with_capacity(alloc, GREATEST_MESSAGE)?;
+    let mut message = Vec::with_capacity(alloc, MAX_MESSAGE_OCTETS)?;
     message.extend_from_slice(LARGE_HEADER)?;
-    message.resize(GREATEST_MESSAGE, b'a')?;
+    message.resize(MAX_MESSAGE_OCTETS, b'a')?;
     Ok(message)
 }
 

@@ -4,7 +4,7 @@
 use crate::bench::inputs::repeated;
 use crate::bench::memory::peak;
 use anyhow::Result;
-use filing_commands::GREATEST_MESSAGE;
+use filing_commands::MAX_MESSAGE_OCTETS;
 use filing_gen::{Library, compile};
 use filing_machine::{WholeCase, run};
 use sieve_check::{Checked, check};
@@ -108,7 +108,7 @@ impl Texts {
         library.set_global(b"a", included).ok()?;
         let main = checked(alloc, &self.script)?;
         let program = compile(alloc, &main, None, &library).ok()?;
-        if self.message.len() > GREATEST_MESSAGE {
+        if self.message.len() > MAX_MESSAGE_OCTETS {
             return None;
         }
         let case = WholeCase::from_message(alloc, &self.message, BTreeSet::new(alloc)).ok()?;

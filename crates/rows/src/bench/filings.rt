@@ -2,7 +2,7 @@
 
 use crate::bench::inputs::repeated;
 use crate::desks::desk_in_memory;
-use filing_commands::GREATEST_MESSAGE;
+use filing_commands::MAX_MESSAGE_OCTETS;
 use filing_gen::{Library, compile};
 use filing_image::decode;
 use filing_machine::{Case, WholeCase};
@@ -129,7 +129,7 @@ pub fn compiled(alloc: Global, script: &[u8]) -> Option<Verified> {
 
 /// The case of a message and the script's class; none for a message that is too long.
 pub fn case_of(alloc: Global, message: &[u8]) -> Result<Option<WholeCase>, AllocError> {
-    if message.len() > GREATEST_MESSAGE {
+    if message.len() > MAX_MESSAGE_OCTETS {
         return Ok(None);
     }
     let mut paths = BTreeSet::new(alloc);

@@ -13,7 +13,7 @@ use crate::bench::trees::octets_of_tree;
 use mail_head::{HeadReader, read_head};
 use mail_words::value_of;
 use sieve_match::{Comparator, contains, matches};
-use sieve_text::{MOST_OCTETS, parse};
+use sieve_text::{MAX_OCTETS, parse};
 use std::alloc::{AllocError, Global};
 
 /// A part of Mailfile on one kind of input.
@@ -171,13 +171,13 @@ impl Measure {
                 alloc,
                 b"",
                 text.repeated(),
-                (octets / 4).min(MOST_OCTETS),
+                (octets / 4).min(MAX_OCTETS),
             ),
             Measure::Hostile(text) => repeated(
                 alloc,
                 b"",
                 text.repeated(),
-                (octets / 4).min(MOST_OCTETS),
+                (octets / 4).min(MAX_OCTETS),
             ),
             Measure::HardOctet | Measure::HardCasemap | Measure::Stars => repeated(
                 alloc, b"", b"a", octets,

@@ -4,7 +4,7 @@ use crate::bench::command_memory;
 use crate::bench::filings::message;
 use crate::bench::inputs::repeated;
 use anyhow::{Context, Result};
-use filing_commands::GREATEST_MESSAGE;
+use filing_commands::MAX_MESSAGE_OCTETS;
 use filing_machine::{Case, PieceCase, WholeCase};
 use std::alloc::Global;
 use std::collections::BTreeSet;
@@ -73,7 +73,7 @@ fn fields_in_pieces(alloc: Global, message: &[u8]) -> Result<usize> {
 fn fields_of_many(alloc: Global, message: &[u8]) -> Result<usize> {
     let mut cases = Vec::new(alloc);
     for _ in 0..MESSAGES {
-        if message.len() <= GREATEST_MESSAGE {
+        if message.len() <= MAX_MESSAGE_OCTETS {
             cases.push(WholeCase::read(alloc, message, BTreeSet::new(alloc))?)?;
         }
     }
@@ -126,7 +126,7 @@ pub fn tell<R: Files + Clock + Print + AllocGlobal>(rt: &R, index: usize) -> Res
         rt.alloc(),
         b"X:",
         header.text,
-        GREATEST_MESSAGE.saturating_sub(2),
+        MAX_MESSAGE_OCTETS.saturating_sub(2),
     )?;
     tell_row(rt, header.title, "6", &input, 1)
 }

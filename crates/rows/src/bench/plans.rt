@@ -4,7 +4,7 @@ use class_plan::Plan;
 use std::alloc::{AllocError, Global};
 
 /// The most classes beside `unfiled`.
-pub const MOST_CLASSES: usize = 4_095;
+pub const MAX_CLASSES: usize = 4_095;
 
 /// The octets of a plan file for each class.
 const CLASS_OCTETS: usize = 256;
@@ -22,7 +22,7 @@ pub fn class_path(alloc: Global, number: usize) -> Result<String, AllocError> {
 /// A plan file of `octets` octets, with a class for each 256 of them, and with 4,095 at most.
 pub fn plan_text(alloc: Global, octets: usize) -> Result<Vec<u8>, AllocError> {
     let mut text = Vec::from_slice(alloc, b"root = \"permanent\"\n")?;
-    for number in 0..MOST_CLASSES.min(octets / CLASS_OCTETS) {
+    for number in 0..MAX_CLASSES.min(octets / CLASS_OCTETS) {
         let path = class_path(alloc, number)?;
         let class = format!(in alloc;
             "[[class]]\npath = \"{path}\"\nschedule = \"7 years destroy\"\n"

@@ -3,7 +3,7 @@
 use crate::bench::filings::{INVOICE_SCRIPT, case_of, compiled, judged, message};
 use crate::bench::includes::{Linked, Texts};
 use crate::bench::measures::Measure;
-use crate::bench::plans::{MOST_CLASSES, plan_of};
+use crate::bench::plans::{MAX_CLASSES, plan_of};
 use crate::bench::stages::{Results, Stage};
 use class_plan::Plan;
 use filing_machine::{WholeCase, run};
@@ -29,7 +29,7 @@ impl Setting {
     pub fn of(alloc: Global, measure: Measure, input: &[u8]) -> Result<Setting, AllocError> {
         let plan = match measure {
             Measure::ScheduleOfFew => plan_of(alloc, 8)?,
-            Measure::ScheduleOfMany => plan_of(alloc, MOST_CLASSES)?,
+            Measure::ScheduleOfMany => plan_of(alloc, MAX_CLASSES)?,
             _ => Plan::new(alloc)?,
         };
         let program = match measure {

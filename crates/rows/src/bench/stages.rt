@@ -12,7 +12,7 @@ use sieve_text::{parse, scan};
 use std::alloc::{AllocError, Global};
 
 /// The most header tests of the script.
-const MOST_TESTS: usize = 2_000;
+const MAX_TESTS: usize = 2_000;
 
 /// A stage of the processing.
 #[derive(Clone, Copy)]
@@ -88,7 +88,7 @@ fn checked(alloc: Global, script: &[u8]) -> Option<Checked> {
 impl Stage {
     /// A script with a header test in every 500 of `octets` octets, or the session that files a message by it.
     pub fn input(self, alloc: Global, octets: usize) -> Result<Vec<u8>, AllocError> {
-        let script = script_of_tests(alloc, octets, MOST_TESTS)?;
+        let script = script_of_tests(alloc, octets, MAX_TESTS)?;
         match self {
             Stage::File => session_of_tests(alloc, &script),
             _ => Ok(script),

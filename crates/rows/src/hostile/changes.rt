@@ -4,7 +4,7 @@ use crate::made::chance::Chance;
 use std::alloc::{AllocError, Global};
 
 /// How many octets are left out or doubled at once, at most.
-const MOST_AT_ONCE: u64 = 12;
+const MAX_AT_ONCE: u64 = 12;
 
 /// Some octets in two parts, cut anywhere.
 fn part<'a>(chance: &mut Chance, octets: &'a [u8]) -> (&'a [u8], &'a [u8]) {
@@ -31,7 +31,7 @@ fn changed(
     words: &[&'static str],
 ) -> Result<Vec<u8>, AllocError> {
     let (front, back) = part(chance, octets);
-    let few = (chance.below(MOST_AT_ONCE) as usize).min(back.len());
+    let few = (chance.below(MAX_AT_ONCE) as usize).min(back.len());
     let mut out = Vec::from_slice(alloc, front)?;
     match chance.below(10) {
         0 => {}

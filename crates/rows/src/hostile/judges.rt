@@ -85,7 +85,7 @@ impl Judges {
     }
 
     /// Makes an input of a kind, and adds what it is answered.
-    pub fn judge(&mut self, chance: &mut Chance, tally: &mut Tally, kind: Kind) -> Result<()> {
+    pub fn try_input(&mut self, chance: &mut Chance, tally: &mut Tally, kind: Kind) -> Result<()> {
         let answer = match kind {
             Kind::Image => self.image(chance)?,
             Kind::Script => self.script(chance)?,

@@ -2,7 +2,7 @@
 
 ghost use Rattle.std.specs.Prelude.{◌≡◌, ◌≤◌, ◌<◌, length, true, Ok, None, IfOk, IfSome, option_map};
 ghost use Rattle.sieve_text.specs.Lexemes.{kinds_in, left_in};
-ghost use Rattle.sieve_text.specs.Reading.{Gives, string_at, behind_bracket, next_with, other_strings_at, string_list_at, argument_at, arguments_at};
+ghost use Rattle.sieve_text.specs.Reading.{Gives, string_at, after_bracket, next_with, other_strings_at, string_list_at, argument_at, arguments_at};
 
 use crate::lexeme::Lexeme;
 use crate::parser::rows;
@@ -36,8 +36,8 @@ fn next_string(alloc: Global, text: &[u8]) -> Result<Option<(Text, &[u8])>, Stop
 }
 
 /// The tokens after a closing bracket.
-fn behind_bracket(text: &[u8]) -> Result<&[u8], Stop>
-    ensures value { Gives (λ x. kinds_in x.now) result (behind_bracket (kinds_in text.now)) }
+fn after_bracket(text: &[u8]) -> Result<&[u8], Stop>
+    ensures value { Gives (λ x. kinds_in x.now) result (after_bracket (kinds_in text.now)) }
     ensures fewer { IfOk result (λ x. length (kinds_in x.now) < length (kinds_in text.now)) }
     ensures left { IfOk result (λ x. left_in x.now ≡ left_in text.now) }
 {
@@ -71,7 +71,7 @@ fn string_list(alloc: Global, text: &[u8]) -> Result<(StringList, &[u8]), Stop>
 {
     let (first, rest) = read_string(alloc, text)?;
     let (others, rest) = other_strings(alloc, rest)?;
-    let rest = behind_bracket(rest)?;
+    let rest = after_bracket(rest)?;
     Ok((StringList::Listed(first, others), rest))
 }
 

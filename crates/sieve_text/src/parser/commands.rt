@@ -3,7 +3,7 @@
 ghost use Rattle.std.specs.Prelude.{◌≡◌, ◌≤◌, ◌<◌, length, map, IfOk, IfSome, option_map, Ok};
 ghost use Rattle.sieve_syntax.specs.View.{command_of, ending_of, commands_of, inner_of};
 ghost use Rattle.sieve_text.specs.Lexemes.{kinds_in, left_in};
-ghost use Rattle.sieve_text.specs.Reading.{Gives, many_at, inside_at, inner_with, test_at, command_with, commands_with, ending_with, behind_brace};
+ghost use Rattle.sieve_text.specs.Reading.{Gives, many_at, inside_at, inner_with, test_at, command_with, commands_with, ending_with, after_brace};
 
 use crate::lexeme::Lexeme;
 use crate::parser::arguments::arguments;
@@ -90,7 +90,7 @@ fn read_ending(alloc: Global, depth: u8, text: &[u8]) -> Result<(Ending, &[u8]),
                 return Err(Stop::Refused(Misfit::Nesting, left_from(text)));
             }
             let (inside, rest) = commands(alloc, depth - 1, rest)?;
-            let rest = behind_brace(rest)?;
+            let rest = after_brace(rest)?;
             Ok((Ending::Block(Box::new(alloc, inside)?), rest))
         }
         _ => Err(syntax(text)),
@@ -98,8 +98,8 @@ fn read_ending(alloc: Global, depth: u8, text: &[u8]) -> Result<(Ending, &[u8]),
 }
 
 /// The tokens after the brace that closes a block.
-fn behind_brace(text: &[u8]) -> Result<&[u8], Stop>
-    ensures value { Gives (λ x. kinds_in x.now) result (behind_brace (kinds_in text.now)) }
+fn after_brace(text: &[u8]) -> Result<&[u8], Stop>
+    ensures value { Gives (λ x. kinds_in x.now) result (after_brace (kinds_in text.now)) }
     ensures fewer { IfOk result (λ x. length (kinds_in x.now) < length (kinds_in text.now)) }
     ensures left { IfOk result (λ x. left_in x.now ≡ left_in text.now) }
 {

@@ -5,7 +5,7 @@ ghost use Rattle.sieve_syntax.specs.declared.token.TokenKind.TheVariants as kind
 ghost use Rattle.sieve_syntax.specs.Tree.{TestTree, no_tests};
 ghost use Rattle.sieve_syntax.specs.View.{test_of, inner_of};
 ghost use Rattle.sieve_text.specs.Lexemes.{kinds_in, left_in};
-ghost use Rattle.sieve_text.specs.Reading.{Gives, Reads, behind_paren, next_with, many_at, test_at, test_list_with, inner_with};
+ghost use Rattle.sieve_text.specs.Reading.{Gives, Reads, after_paren, next_with, many_at, test_at, test_list_with, inner_with};
 
 use crate::lexeme::Lexeme;
 use crate::parser::arguments::arguments;
@@ -15,7 +15,7 @@ use crate::scanner::{first_mark, split_lexeme};
 use sieve_syntax::{Mark, Test, TestList, Tests, Text};
 use std::alloc::Global;
 
-/// A test whose name comes first in a text, with at most `depth` nested tests, itself counted; `behind` is the text
+/// A test whose name comes first in a text, with at most `depth` nested tests, itself counted; `following` is the text
 /// after the name.
 #[cycle(test_reader)]
 #[tactic(auto, unfolding(crate::specs::Reading::test_at))]
@@ -24,10 +24,10 @@ fn named_test<'a>(
     depth: u8,
     text: &'a [u8],
     name: &'a [u8],
-    behind: &'a [u8],
+    following: &'a [u8],
 ) -> Result<(Test, &'a [u8]), Stop>
-    requires first { kinds_in text.now ≡ kinds.Identifier name.now ∷ kinds_in behind.now }
-    requires left { left_in behind.now ≡ left_in text.now }
+    requires first { kinds_in text.now ≡ kinds.Identifier name.now ∷ kinds_in following.now }
+    requires left { left_in following.now ≡ left_in text.now }
     ensures value { Gives (λ x. (test_of x.0, kinds_in x.1.now)) result (test_at depth (kinds_in text.now)) }
     ensures fewer { IfOk result (λ x. length (kinds_in x.1.now) < length (kinds_in text.now)) }
     ensures left { IfOk result (λ x. left_in x.1.now ≡ left_in text.now) }
@@ -35,7 +35,7 @@ fn named_test<'a>(
     if depth == 0 {
         return Err(Stop::Refused(Misfit::Nesting, left_from(text)));
     }
-    let (arguments, rest) = arguments(alloc, behind)?;
+    let (arguments, rest) = arguments(alloc, following)?;
     let (tests, rest) = inner_tests(alloc, depth - 1, rest)?;
     let name = Text::from_slice(alloc, name)?;
     Ok((
@@ -57,7 +57,9 @@ fn read_test(alloc: Global, depth: u8, text: &[u8]) -> Result<(Test, &[u8]), Sto
     ensures left { IfOk result (λ x. left_in x.1.now ≡ left_in text.now) }
 {
     match split_lexeme(text) {
-        Some((Lexeme::Identifier(name), behind)) => named_test(alloc, depth, text, name, behind),
+        Some((Lexeme::Identifier(name), following)) => named_test(
+            alloc, depth, text, name, following,
+        ),
         _ => Err(syntax(text)),
     }
 }
@@ -85,8 +87,8 @@ pub fn inner_tests(alloc: Global, depth: u8, text: &[u8]) -> Result<(Tests, &[u8
         return Ok((Tests::None, text));
     }
     match split_lexeme(text) {
-        Some((Lexeme::Identifier(name), behind)) => {
-            let (only, rest) = named_test(alloc, depth, text, name, behind)?;
+        Some((Lexeme::Identifier(name), following)) => {
+            let (only, rest) = named_test(alloc, depth, text, name, following)?;
             Ok((Tests::One(Box::new(alloc, only)?), rest))
         }
         Some((Lexeme::Mark(Mark::OpenParen), rest)) => test_list(alloc, depth, rest),
@@ -103,7 +105,7 @@ fn test_list(alloc: Global, depth: u8, text: &[u8]) -> Result<(Tests, &[u8]), St
 {
     let (first, rest) = read_test(alloc, depth, text)?;
     let (others, rest) = other_tests(alloc, depth, rest)?;
-    let rest = behind_paren(rest)?;
+    let rest = after_paren(rest)?;
     let list = Box::new(alloc, TestList { first, others })?;
     Ok((Tests::Listed(list), rest))
 }
@@ -139,8 +141,8 @@ fn next_test(alloc: Global, depth: u8, text: &[u8]) -> Result<Option<(Test, &[u8
 }
 
 /// The tokens after the bracket that closes a list of tests.
-fn behind_paren(text: &[u8]) -> Result<&[u8], Stop>
-    ensures value { Gives (λ x. kinds_in x.now) result (behind_paren (kinds_in text.now)) }
+fn after_paren(text: &[u8]) -> Result<&[u8], Stop>
+    ensures value { Gives (λ x. kinds_in x.now) result (after_paren (kinds_in text.now)) }
     ensures fewer { IfOk result (λ x. length (kinds_in x.now) < length (kinds_in text.now)) }
     ensures left { IfOk result (λ x. left_in x.now ≡ left_in text.now) }
 {

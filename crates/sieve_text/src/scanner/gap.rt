@@ -10,7 +10,7 @@ pub fn opens_bracketed(rest: &[u8]) -> bool
     ensures { result ≡ opens rest.now }
 {
     match rest.split_first() {
-        Some((b'/', behind)) => octets::starts_with(behind, b'*'),
+        Some((b'/', following)) => octets::starts_with(following, b'*'),
         _ => false,
     }
 }
@@ -55,10 +55,10 @@ pub fn gap_length(rest: &[u8]) -> usize
 {
     let mut at = 0;
     'gap: while at < rest.len() {
-        let (_, behind) = rest.split_at(at);
-        let white = octets::white_length(behind);
-        let (_, behind) = behind.split_at(white);
-        let comment = comment_length(behind);
+        let (_, following) = rest.split_at(at);
+        let white = octets::white_length(following);
+        let (_, following) = following.split_at(white);
+        let comment = comment_length(following);
         at += white + comment;
         if comment == 0 {
             return at;
@@ -69,7 +69,7 @@ pub fn gap_length(rest: &[u8]) -> usize
 
 /// The text after the white space and closed comments that it begins with.
 #[inline(always)]
-pub fn behind_gap(text: &[u8]) -> &[u8]
+pub fn after_gap(text: &[u8]) -> &[u8]
     ensures { result.now ≡ drop (gap_len 0 text.now) text.now }
 {
     let (_, rest) = text.split_at(octets::white_length(text));

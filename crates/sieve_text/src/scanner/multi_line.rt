@@ -58,7 +58,7 @@ fn ends_lines(rest: &[u8]) -> bool
     ensures { result ≡ is_last_line rest.now }
 {
     match rest.split_first() {
-        Some((b'.', behind)) => behind.is_empty() || octets::line_end_length(behind) > 0,
+        Some((b'.', following)) => following.is_empty() || octets::line_end_length(following) > 0,
         _ => false,
     }
 }
@@ -72,12 +72,12 @@ fn lines_length(lines: &[u8]) -> usize
     let mut rest = lines;
     let mut at_start = true;
     let mut n = 0;
-    'octets: while let Some((&b, behind)) = rest.split_first() {
+    'octets: while let Some((&b, following)) = rest.split_first() {
         if at_start && ends_lines(rest) {
             return n;
         }
         at_start = b == b'\n';
-        rest = behind;
+        rest = following;
         n += 1;
     }
     n
@@ -92,8 +92,8 @@ pub fn value(alloc: Global, lines: &[u8]) -> Result<Vec<u8>, AllocError>
     let mut rest = lines;
     let mut at_start = true;
     let mut after_cr = false;
-    'octets: while let Some((&b, behind)) = rest.split_first() {
-        if at_start && b == b'.' && octets::starts_with(behind, b'.') {
+    'octets: while let Some((&b, following)) = rest.split_first() {
+        if at_start && b == b'.' && octets::starts_with(following, b'.') {
             at_start = false;
         } else {
             if b == b'\n' && !after_cr {
@@ -103,7 +103,7 @@ pub fn value(alloc: Global, lines: &[u8]) -> Result<Vec<u8>, AllocError>
             at_start = b == b'\n';
             after_cr = b == b'\r';
         }
-        rest = behind;
+        rest = following;
     }
     Ok(octets)
 }
@@ -120,24 +120,24 @@ fn lines_token(lines: &[u8], before: usize, at: usize) -> Result<(Lexeme<'_>, us
     if n == lines.len() {
         return Err(FaultyPlace::new(ScanRefusal::StringNotClosed, at));
     }
-    let (_, behind) = lines.split_at(n + 1);
-    let end = octets::line_end_length(behind);
+    let (_, following) = lines.split_at(n + 1);
+    let end = octets::line_end_length(following);
     let written = WrittenString::Lines(&lines[..n]);
     string(written, before + (n + (1 + end)), at)
 }
 
-/// A multi-line string: `behind` is the text after its `text:`, which is at this offset.
+/// A multi-line string: `following` is the text after its `text:`, which is at this offset.
 #[tactic(auto, unfolding(crate::specs::Tokens::multi_line_at))]
-pub fn token(behind: &[u8], at: usize) -> Result<(Lexeme<'_>, usize), FaultyPlace>
-    requires { at + (5 + length behind.now) < 2 ^ 64 }
-    ensures value { Gives read_of result (multi_line_at behind.now) }
-    ensures within { IfOk result (λ x. x.1 ≤ 5 + length behind.now) }
+pub fn token(following: &[u8], at: usize) -> Result<(Lexeme<'_>, usize), FaultyPlace>
+    requires { at + (5 + length following.now) < 2 ^ 64 }
+    ensures value { Gives read_of result (multi_line_at following.now) }
+    ensures within { IfOk result (λ x. x.1 ≤ 5 + length following.now) }
     ensures some { IfOk result (λ x. 0 < x.1) }
-    ensures place { IfErr result (λ e. StandsAt (either_place at (at + (5 + prefix_len is_blank behind.now))) e) }
+    ensures place { IfErr result (λ e. StandsAt (either_place at (at + (5 + prefix_len is_blank following.now))) e) }
 {
-    let blanks = octets::blank_length(behind);
-    let (_, rest) = behind.split_at(blanks);
+    let blanks = octets::blank_length(following);
+    let (_, rest) = following.split_at(blanks);
     let n = opening_end(rest, at, at + (5 + blanks))?;
-    let (_, lines) = behind.split_at(blanks + n);
+    let (_, lines) = following.split_at(blanks + n);
     lines_token(lines, 5 + (blanks + n), at)
 }

@@ -11,7 +11,7 @@ use crate::fault::{FaultyPlace, ScanRefusal};
 use crate::lexeme::Lexeme;
 
 /// 2^63 - 1.
-const LARGEST: u64 = 9_223_372_036_854_775_807;
+const MAX_NUMBER: u64 = 9_223_372_036_854_775_807;
 
 /// The factor of the quantifier that comes first, K, M or G in either case, and its length 1; 1 and 0 if there is none.
 fn factor(rest: &[u8]) -> (u64, usize)
@@ -42,7 +42,7 @@ fn decimal(digits: &[u8]) -> Option<u64>
     let mut value = 0;
     for &b in digits {
         let digit = u64::from(b - b'0');
-        if value > (LARGEST - digit) / 10 {
+        if value > (MAX_NUMBER - digit) / 10 {
             return None;
         }
         value = value * 10 + digit;
@@ -59,13 +59,13 @@ pub fn token(rest: &[u8], at: usize) -> Result<(Lexeme<'_>, usize), FaultyPlace>
     ensures place { (octet : ℕ) → IfErr result (λ e. StandsAt (either_place at octet) e) }
 {
     let n = digits_length(rest);
-    let (digits, behind) = rest.split_at(n);
-    let (factor, quantifier) = factor(behind);
+    let (digits, following) = rest.split_at(n);
+    let (factor, quantifier) = factor(following);
     let Some(value) = decimal(digits) else {
         return Err(FaultyPlace::new(ScanRefusal::NumberTooLarge, at));
     };
     match value.checked_mul(factor) {
-        Some(value) if value <= LARGEST => Ok((Lexeme::Number(value), n + quantifier)),
+        Some(value) if value <= MAX_NUMBER => Ok((Lexeme::Number(value), n + quantifier)),
         _ => Err(FaultyPlace::new(ScanRefusal::NumberTooLarge, at)),
     }
 }

@@ -98,7 +98,7 @@ pub fn line_end_length(rest: &[u8]) -> usize
 {
     match rest.split_first() {
         Some((b'\n', _)) => 1,
-        Some((b'\r', behind)) if starts_with(behind, b'\n') => 2,
+        Some((b'\r', following)) if starts_with(following, b'\n') => 2,
         _ => 0,
     }
 }
@@ -111,12 +111,12 @@ fn first_stray(script: &[u8]) -> usize
 {
     let mut rest = script;
     let mut n = 0;
-    'octets: while let Some((&b, behind)) = rest.split_first() {
-        if b == 0 || (b == b'\r' && !starts_with(behind, b'\n')) {
+    'octets: while let Some((&b, following)) = rest.split_first() {
+        if b == 0 || (b == b'\r' && !starts_with(following, b'\n')) {
             return n;
         }
         n += 1;
-        rest = behind;
+        rest = following;
     }
     n
 }

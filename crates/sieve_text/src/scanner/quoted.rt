@@ -53,17 +53,17 @@ pub fn value(alloc: Global, body: &[u8]) -> Result<Vec<u8>, AllocError>
     Ok(octets)
 }
 
-/// A string: `behind` is the text after its opening quotation mark, which is at this offset.
+/// A string: `following` is the text after its opening quotation mark, which is at this offset.
 #[tactic(auto, unfolding(crate::specs::Tokens::quoted_at))]
-pub fn token(behind: &[u8], at: usize) -> Result<(Lexeme<'_>, usize), FaultyPlace>
-    ensures value { Gives read_of result (quoted_at behind.now) }
-    ensures within { IfOk result (λ x. x.1 ≤ suc (length behind.now)) }
+pub fn token(following: &[u8], at: usize) -> Result<(Lexeme<'_>, usize), FaultyPlace>
+    ensures value { Gives read_of result (quoted_at following.now) }
+    ensures within { IfOk result (λ x. x.1 ≤ suc (length following.now)) }
     ensures some { IfOk result (λ x. 0 < x.1) }
     ensures place { (octet : ℕ) → IfErr result (λ e. StandsAt (either_place at octet) e) }
 {
-    let n = body_length(behind);
-    if n == behind.len() {
+    let n = body_length(following);
+    if n == following.len() {
         return Err(FaultyPlace::new(ScanRefusal::StringNotClosed, at));
     }
-    string(WrittenString::Quoted(&behind[..n]), n + 2, at)
+    string(WrittenString::Quoted(&following[..n]), n + 2, at)
 }

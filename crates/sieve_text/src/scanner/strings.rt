@@ -12,7 +12,7 @@ use sieve_syntax::Text;
 use std::alloc::{AllocError, Global};
 
 /// The greatest length of a string's value in octets.
-const MOST_OCTETS: usize = 65_535;
+const MAX_OCTETS: usize = 65_535;
 
 /// A string of at most this many octets as written is within the limit, as no octet yields more than two.
 const FEW_OCTETS: usize = 32_767;
@@ -22,7 +22,7 @@ const FEW_OCTETS: usize = 32_767;
 fn quoted_too_long(body: &[u8]) -> bool
     ensures { result ≡ nat_lt 65535 (length (quoted_value body.now)) }
 {
-    let mut room = MOST_OCTETS;
+    let mut room = MAX_OCTETS;
     let mut escaped = false;
     let mut after_cr = false;
     for &b in body {
@@ -46,12 +46,12 @@ fn quoted_too_long(body: &[u8]) -> bool
 fn lines_too_long(lines: &[u8]) -> bool
     ensures { result ≡ nat_lt 65535 (length (lines_value lines.now)) }
 {
-    let mut room = MOST_OCTETS;
+    let mut room = MAX_OCTETS;
     let mut rest = lines;
     let mut at_start = true;
     let mut after_cr = false;
-    'octets: while let Some((&b, behind)) = rest.split_first() {
-        if at_start && b == b'.' && octets::starts_with(behind, b'.') {
+    'octets: while let Some((&b, following)) = rest.split_first() {
+        if at_start && b == b'.' && octets::starts_with(following, b'.') {
             at_start = false;
         } else {
             let octets = if b == b'\n' && !after_cr { 2 } else { 1 };
@@ -62,7 +62,7 @@ fn lines_too_long(lines: &[u8]) -> bool
             at_start = b == b'\n';
             after_cr = b == b'\r';
         }
-        rest = behind;
+        rest = following;
     }
     false
 }

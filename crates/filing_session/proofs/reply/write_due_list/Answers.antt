@@ -2,7 +2,7 @@ use Rattle.std.proofs.Common.{◌++◌, List, ℕ, subst}
 use Rattle.std.specs.Prelude.{codes, flat_map, map}
 use Rattle.record_store.specs.Stores.{line_view}
 use Rattle.filing_session.specs.Replies.{line_octets, list_octets}
-use Rattle.filing_session.specs.Streams.{IsBehind}
+use Rattle.filing_session.specs.Streams.{IsAfter}
 use Rattle.filing_session.specs.Written.{Writes}
 use Rattle.filing_session.proofs.Listed.{list_is}
 use Rattle.filing_session.proofs.Pieces.{extends, writes_after, as_fault}
@@ -12,7 +12,7 @@ pub returns-in_err-write_list-clause-written : goal.returns-in_err-write_list-cl
 returns-in_err-write_list-clause-written g c = λ k.
     let old = g.K.Sink.written c.args.sink.now in
     let new = g.K.Sink.written c.write_list.new.sink in
-    let P : List ℕ → Type 0 = λ s. IsBehind old s new in
+    let P : List ℕ → Type 0 = λ s. IsAfter old s new in
     as_fault c.from_residual.result old (list_octets (map line_view c.args.lines.now) ++ codes "ok\n") new c.from_residual.ensures.0
     (extends old (list_octets (map line_view c.args.lines.now)) (codes "ok\n") new (subst P (list_is c.args.lines.now) (c.in_err-write_list.ensures.written k)))
 

@@ -1,7 +1,7 @@
 use Rattle.std.proofs.Common.{subst, arith}
 use Rattle.filing_session.specs.Replies.{line_octets}
-use Rattle.filing_session.specs.Streams.{IsBehind}
-use Rattle.filing_session.proofs.Pieces.{as_fault, behind_next}
+use Rattle.filing_session.specs.Streams.{IsAfter}
+use Rattle.filing_session.proofs.Pieces.{as_fault, after_next}
 use Rattle.filing_session.proofs.reply.write_list.Goals as goal
 
 pub returns-in_err-write_record-clause-written : goal.returns-in_err-write_record-clause-written
@@ -10,7 +10,7 @@ returns-in_err-write_record-clause-written g c = λ k.
     let mid = g.K.Sink.written c.loop-line.sink in
     let new = g.K.Sink.written c.write_record.new.sink in
     let lines = c.args.lines.now in
-    let P : _ → Type 0 = λ l. IsBehind mid (line_octets l) new in
+    let P : _ → Type 0 = λ l. IsAfter mid (line_octets l) new in
     let next = subst P c.line-item.is (c.in_err-write_record.ensures.written k) in
     as_fault c.from_residual.result _ _ _ c.from_residual.ensures.0
-    (behind_next line_octets lines c.loop-line.line-index c.line-item.result old mid new (omega arith) (c.loop-line.invariant.written k) next)
+    (after_next line_octets lines c.loop-line.line-index c.line-item.result old mid new (omega arith) (c.loop-line.invariant.written k) next)

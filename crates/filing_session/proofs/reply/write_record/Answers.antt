@@ -3,13 +3,13 @@ use Rattle.std.specs.Prelude.{codes, option_map}
 use Rattle.class_plan.specs.Calendar.{number_of_day}
 use Rattle.filing_session.specs.Dates.{due_octets}
 use Rattle.filing_session.specs.Replies.{head_octets}
-use Rattle.filing_session.specs.Streams.{IsBehind}
+use Rattle.filing_session.specs.Streams.{IsAfter}
 use Rattle.filing_session.proofs.Pieces.{extends, writes_after, as_fault}
 use Rattle.filing_session.proofs.reply.write_record.Goals as goal
 
 pub returns-in_err-write_head-clause-written : goal.returns-in_err-write_head-clause-written
 returns-in_err-write_head-clause-written g c = λ k.
-    let P : List ℕ → Type 0 = λ path. IsBehind (g.K.Sink.written c.args.sink.now) (head_octets c.args.line.now.number path) (g.K.Sink.written c.write_head.new.sink) in
+    let P : List ℕ → Type 0 = λ path. IsAfter (g.K.Sink.written c.args.sink.now) (head_octets c.args.line.now.number path) (g.K.Sink.written c.write_head.new.sink) in
     as_fault c.from_residual.result _ (head_octets c.args.line.now.number c.args.line.now.path.items ++ (due_octets (option_map number_of_day c.args.line.now.due) ++ codes "\n")) _ c.from_residual.ensures.0
     (extends (g.K.Sink.written c.args.sink.now) (head_octets c.args.line.now.number c.args.line.now.path.items) (due_octets (option_map number_of_day c.args.line.now.due) ++ codes "\n") (g.K.Sink.written c.write_head.new.sink) (subst P c.as_slice.ensures.value (c.in_err-write_head.ensures.written k)))
 

@@ -63,8 +63,8 @@ returns-then-is_err-clause-unsaid g c = λ s k is.
     let P : ℕ → Type 0 = λ n. Served (Calls g.R.Registry.clean g.R.Registry.stands) n (session_of 1000000 (g.S.Source.left c.args.source.now)) c.args.registry.now (g.K.Sink.written c.args.sink.now) (g.S.Source.left c.loop.source) c.loop.registry (g.K.Sink.written c.loop.sink) in
     let Q : Said → Type 0 = λ x. Answers (Calls g.R.Registry.clean g.R.Registry.stands) c.loop.registry (heard (g.S.Source.left c.loop.source)) x c.next.new.registry (g.S.Source.left c.next.new.source) in
     let a = subst Q c.in-Reply.is (c.in-Ok.ensures.said s) in
-    let behind = written_fault c.write_reply.result (g.K.Sink.written c.loop.sink) (reply_octets (answer_of c.in-Reply.reply)) (g.K.Sink.written c.write_reply.new.sink) (c.write_reply.ensures.written k) (sym c.is_err.ensures.value ∙ c.if-is_err.true) in
-    inl (cut_in_answer (Calls g.R.Registry.clean g.R.Registry.stands) _ _ _ _ _ _ _ a.0 (answer_of c.in-Reply.reply) _ _ _ (subst P (one_less c.loop.counter c.loop-test.true) (c.loop.invariant.served s k)) a.1 a.2 behind)
+    let following = written_fault c.write_reply.result (g.K.Sink.written c.loop.sink) (reply_octets (answer_of c.in-Reply.reply)) (g.K.Sink.written c.write_reply.new.sink) (c.write_reply.ensures.written k) (sym c.is_err.ensures.value ∙ c.if-is_err.true) in
+    inl (cut_in_answer (Calls g.R.Registry.clean g.R.Registry.stands) _ _ _ _ _ _ _ a.0 (answer_of c.in-Reply.reply) _ _ _ (subst P (one_less c.loop.counter c.loop-test.true) (c.loop.invariant.served s k)) a.1 a.2 following)
 
 pub returns-in-End-clause-ok : goal.returns-in-End-clause-ok
 returns-in-End-clause-ok g c = λ s k.

@@ -12,16 +12,16 @@ pub returns-in_default : goal.returns-in_default
 returns-in_default c = Decoding-bad c.args.charset (unfolded c.args.text.now) (unfolded c.groups.rest.now) c.args.shown.now.items c.groups.shown.items c.groups.invariant (symbols_read c.read_symbols-count.new.symbols (unfolded c.groups.rest.now) c.read_symbols-count.result.0 None c.read_symbols-count.ensures.read c.in_default.ensures.value)
 
 pub returns-then-not-is_empty : goal.returns-then-not-is_empty
-returns-then-not-is_empty c = Decoding-short c.args.charset (unfolded c.args.text.now) (unfolded c.groups.rest.now) (unfolded c.read_symbols-count.result.1.now) c.args.shown.now.items c.groups.shown.items (take c.in-Some.size c.decode_symbols.new.octets) c.groups.invariant (symbols_read c.read_symbols-count.new.symbols (unfolded c.groups.rest.now) c.read_symbols-count.result.0 (Some (take c.in-Some.size c.decode_symbols.new.octets)) c.read_symbols-count.ensures.read c.in-Some.ensures.value) (omega (arith, c.in-Some.ensures.size, c.if-size-lt-OCTETS.true)) (not_nil (unfolded c.read_symbols-count.result.1.now) (sym c.is_empty-then-size-lt-OCTETS.ensures ∙ c.if-not-is_empty.true)) c.read_symbols-count.ensures.behind
+returns-then-not-is_empty c = Decoding-short c.args.charset (unfolded c.args.text.now) (unfolded c.groups.rest.now) (unfolded c.read_symbols-count.result.1.now) c.args.shown.now.items c.groups.shown.items (take c.in-Some.size c.decode_symbols.new.octets) c.groups.invariant (symbols_read c.read_symbols-count.new.symbols (unfolded c.groups.rest.now) c.read_symbols-count.result.0 (Some (take c.in-Some.size c.decode_symbols.new.octets)) c.read_symbols-count.ensures.read c.in-Some.ensures.value) (omega (arith, c.in-Some.ensures.size, c.if-size-lt-OCTETS.true)) (not_nil (unfolded c.read_symbols-count.result.1.now) (sym c.is_empty-then-size-lt-OCTETS.ensures ∙ c.if-not-is_empty.true)) c.read_symbols-count.ensures.following
 
 pub groups-smaller : goal.groups-smaller
-groups-smaller c = some_left (unfolded c.groups.rest.now) (unfolded c.read_symbols-count.result.1.now) (sym c.is_empty.ensures ∙ c.groups-test.true) c.read_symbols-count.ensures.behind
+groups-smaller c = some_left (unfolded c.groups.rest.now) (unfolded c.read_symbols-count.result.1.now) (sym c.is_empty.ensures ∙ c.groups-test.true) c.read_symbols-count.ensures.following
 
 pub groups-preserved : goal.groups-preserved
 groups-preserved c = Decoding-more c.args.charset (unfolded c.args.text.now) (unfolded c.groups.rest.now) (unfolded c.read_symbols-count.result.1.now) c.args.shown.now.items c.groups.shown.items c.append_octets.new.shown.items (take c.in-Some.size c.decode_symbols.new.octets) c.groups.invariant (symbols_read c.read_symbols-count.new.symbols (unfolded c.groups.rest.now) c.read_symbols-count.result.0 (Some (take c.in-Some.size c.decode_symbols.new.octets)) c.read_symbols-count.ensures.read c.in-Some.ensures.value) (elim c.else-size-lt-OCTETS.branch [
   | else-size-lt-OCTETS-via-then-size-lt-OCTETS+else-not-is_empty w ↦ inr (nil_from (unfolded c.read_symbols-count.result.1.now) (sym w.is_empty-then-size-lt-OCTETS.ensures ∙ w.if-not-is_empty.false))
   | else-size-lt-OCTETS-via-else-size-lt-OCTETS w ↦ inl (let size = c.in-Some.ensures.size in let most = c.in-Some.ensures.within in let least = w.if-size-lt-OCTETS.false in omega (arith, size, most, least))
-]) c.read_symbols-count.ensures.behind c.in_ok-append_octets.ensures
+]) c.read_symbols-count.ensures.following c.in_ok-append_octets.ensures
 
 pub returns : goal.returns
 returns c = Decoding-all c.args.charset (unfolded c.args.text.now) (unfolded c.groups.rest.now) c.args.shown.now.items c.groups.shown.items c.groups.invariant (nil_from (unfolded c.groups.rest.now) (sym c.is_empty.ensures ∙ c.groups-test.false))

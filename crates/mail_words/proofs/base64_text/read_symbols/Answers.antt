@@ -5,11 +5,11 @@ use Rattle.mail_words.proofs.base64_text.read_symbols.Goals as goal
 pub returns-in_default-clause-read : goal.returns-in_default-clause-read
 returns-in_default-clause-read c = (read_all (unfolded c.args.text.now) c.loop-count.symbols (unfolded c.loop-count.rest.now) c.loop-count.count c.loop-count.invariant.read c.in_default.ensures c.loop-count.invariant.within).0
 
-pub returns-in_default-clause-behind : goal.returns-in_default-clause-behind
-returns-in_default-clause-behind c = (read_all (unfolded c.args.text.now) c.loop-count.symbols (unfolded c.loop-count.rest.now) c.loop-count.count c.loop-count.invariant.read c.in_default.ensures c.loop-count.invariant.within).1
+pub returns-in_default-clause-following : goal.returns-in_default-clause-following
+returns-in_default-clause-following c = (read_all (unfolded c.args.text.now) c.loop-count.symbols (unfolded c.loop-count.rest.now) c.loop-count.count c.loop-count.invariant.read c.in_default.ensures c.loop-count.invariant.within).1
 
 pub returns-clause-read : goal.returns-clause-read
 returns-clause-read c = (read_part (unfolded c.args.text.now) c.loop-count.symbols (unfolded c.loop-count.rest.now) c.loop-count.count c.loop-count.invariant.read c.loop-count.invariant.within c.loop-count.invariant.long c.loop-count-test.false).0
 
-pub returns-clause-behind : goal.returns-clause-behind
-returns-clause-behind c = (read_part (unfolded c.args.text.now) c.loop-count.symbols (unfolded c.loop-count.rest.now) c.loop-count.count c.loop-count.invariant.read c.loop-count.invariant.within c.loop-count.invariant.long c.loop-count-test.false).1
+pub returns-clause-following : goal.returns-clause-following
+returns-clause-following c = (read_part (unfolded c.args.text.now) c.loop-count.symbols (unfolded c.loop-count.rest.now) c.loop-count.count c.loop-count.invariant.read c.loop-count.invariant.within c.loop-count.invariant.long c.loop-count-test.false).1

@@ -10,7 +10,7 @@ loop-standing-init c = Showing-none c.args.shown.now.items (unfolded c.args.text
 pub loop-standing-preserved : goal.loop-standing-preserved
 loop-standing-preserved c =
     let shown = Showing-put (c.args.shown.now.items ++ words_shown (unfolded c.args.text.now)) c.loop-standing.shown.items (unfolded c.loop-standing.rest.now) c.in-Some.standing.0 c.in-Some.standing.2 c.append_word.new.shown.items c.in-Some.standing.1 c.loop-standing.after_good c.in_ok-good.good c.loop-standing.invariant c.in-Some.ensures.first c.in-Some.ensures.spelled c.in_ok-good.ensures in
-    Showing-next (c.args.shown.now.items ++ words_shown (unfolded c.args.text.now)) c.append_word.new.shown.items c.in-Some.standing.2 (unfolded c.behind-rest.result.now) c.in_ok-good.good shown c.behind-rest.ensures
+    Showing-next (c.args.shown.now.items ++ words_shown (unfolded c.args.text.now)) c.append_word.new.shown.items c.in-Some.standing.2 (unfolded c.following-rest.result.now) c.in_ok-good.good shown c.following-rest.ensures
 
 pub returns : goal.returns
 returns c =

@@ -4,7 +4,7 @@ use Rattle.sieve_check.specs.Findings.{nothing_found}
 use Rattle.sieve_check.specs.Pieces.{pieces}
 use Rattle.sieve_check.specs.Rules.{piece_lacks, is_unknown_tag, lacks_string, is_unknown_comparator}
 use Rattle.sieve_check.specs.Views.{form_view}
-use Rattle.sieve_check.proofs.FoundLemmas.{any_found, tag_behind_found, two_tags_found}
+use Rattle.sieve_check.proofs.FoundLemmas.{any_found, tag_after_found, two_tags_found}
 use Rattle.sieve_check.proofs.findings.gather.Goals as goal
 
 pub returns-clause-capability : goal.returns-clause-capability
@@ -15,8 +15,8 @@ pub returns-clause-tag : goal.returns-clause-tag
 returns-clause-tag c =
     let ps = pieces (form_view c.args.form.now).tags c.args.arguments.now in
     let unknown = any_found (has_of c.args.named) (λ f. f.unknown_tag) is_unknown_tag (λ f p. refl) nothing_found ps in
-    let behind = tag_behind_found (has_of c.args.named) ps in
-    rw (c.go_over.ensures, unknown, behind)
+    let following = tag_after_found (has_of c.args.named) ps in
+    rw (c.go_over.ensures, unknown, following)
 
 pub returns-clause-twice : goal.returns-clause-twice
 returns-clause-twice c =

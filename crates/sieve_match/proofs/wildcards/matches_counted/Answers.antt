@@ -24,8 +24,8 @@ pub search-preserved-in-Goes : goal.search-preserved-in-Goes
 search-preserved-in-Goes c =
     let turn = sym c.first_step-compared.ensures.value ∙ ap turn_view c.in-Goes.is in
     record {
-      state = State-goes c.args.comparator (items_of c.args.pattern.now) c.args.value.now (items_of c.search.items.now) (items_of c.in-Goes.after.now) c.search.rest.now c.in-Goes.behind.now c.search.star c.search.count c.first_step-compared.result.1 c.search.invariant.state turn c.first_step-compared.ensures.count;
-      exact = Exact-goes c.args.comparator (items_of c.args.pattern.now) c.args.value.now (again_of c.search.star) (items_of c.search.items.now) (items_of c.in-Goes.after.now) c.search.rest.now c.in-Goes.behind.now c.search.count c.first_step-compared.result.1 c.search.invariant.exact turn c.first_step-compared.ensures.count;
+      state = State-goes c.args.comparator (items_of c.args.pattern.now) c.args.value.now (items_of c.search.items.now) (items_of c.in-Goes.after.now) c.search.rest.now c.in-Goes.following.now c.search.star c.search.count c.first_step-compared.result.1 c.search.invariant.state turn c.first_step-compared.ensures.count;
+      exact = Exact-goes c.args.comparator (items_of c.args.pattern.now) c.args.value.now (again_of c.search.star) (items_of c.search.items.now) (items_of c.in-Goes.after.now) c.search.rest.now c.in-Goes.following.now c.search.count c.first_step-compared.result.1 c.search.invariant.exact turn c.first_step-compared.ensures.count;
     }
 
 pub search-preserved-in-Star : goal.search-preserved-in-Star
@@ -42,8 +42,8 @@ search-preserved c =
     let state = rw c.in-Some.is at c.search.invariant.state in
     let exact = rw c.in-Some.is at c.search.invariant.exact in
     record {
-      state = State-stuck c.args.comparator (items_of c.args.pattern.now) c.args.value.now (items_of c.search.items.now) c.search.rest.now (items_of c.in-Some.after.now) c.in-Some.from.now c.in-Some-split_first.field-0-0.now c.in-Some-split_first.behind.now c.search.count c.first_step-compared.result.1 state c.in-Some-split_first.ensures.cases.0 turn c.first_step-compared.ensures.count;
-      exact = Exact-stuck c.args.comparator (items_of c.args.pattern.now) c.args.value.now (items_of c.search.items.now) c.search.rest.now (items_of c.in-Some.after.now) c.in-Some.from.now c.in-Some-split_first.field-0-0.now c.in-Some-split_first.behind.now c.search.count c.first_step-compared.result.1 exact c.in-Some-split_first.ensures.cases.0 turn c.first_step-compared.ensures.count;
+      state = State-stuck c.args.comparator (items_of c.args.pattern.now) c.args.value.now (items_of c.search.items.now) c.search.rest.now (items_of c.in-Some.after.now) c.in-Some.from.now c.in-Some-split_first.field-0-0.now c.in-Some-split_first.following.now c.search.count c.first_step-compared.result.1 state c.in-Some-split_first.ensures.cases.0 turn c.first_step-compared.ensures.count;
+      exact = Exact-stuck c.args.comparator (items_of c.args.pattern.now) c.args.value.now (items_of c.search.items.now) c.search.rest.now (items_of c.in-Some.after.now) c.in-Some.from.now c.in-Some-split_first.field-0-0.now c.in-Some-split_first.following.now c.search.count c.first_step-compared.result.1 exact c.in-Some-split_first.ensures.cases.0 turn c.first_step-compared.ensures.count;
     }
 
 pub returns-in-Ends-clause-test : goal.returns-in-Ends-clause-test

@@ -5,20 +5,20 @@ use Rattle.sieve_text.proofs.LexemeLemmas.{read_all}
 use Rattle.sieve_text.proofs.ScriptLaws.{script_found, script_only, script_deep, script_faulty, script_explained, fault_only, fault_deep, fault_faulty}
 use Rattle.sieve_text.proofs.parser.parse.Goals as goal
 
-pub returns-in_err-judge-clause-only : goal.returns-in_err-judge-clause-only
-returns-in_err-judge-clause-only c =
+pub returns-in_err-check_text-clause-only : goal.returns-in_err-check_text-clause-only
+returns-in_err-check_text-clause-only c =
     let p = err_from_is_err_and c.from_residual.result c.from_residual.ensures.1 in
-    rw (p.1, p.2) (fault_only c.args.script.now c.in_err-judge.field-0.0 c.in_err-judge.ensures.fault)
+    rw (p.1, p.2) (fault_only c.args.script.now c.in_err-check_text.field-0.0 c.in_err-check_text.ensures.fault)
 
-pub returns-in_err-judge-clause-nests : goal.returns-in_err-judge-clause-nests
-returns-in_err-judge-clause-nests c =
+pub returns-in_err-check_text-clause-nests : goal.returns-in_err-check_text-clause-nests
+returns-in_err-check_text-clause-nests c =
     let p = err_from_is_err_and c.from_residual.result c.from_residual.ensures.1 in
-    rw (p.1, p.2) (λ t i d. fault_deep c.args.script.now c.in_err-judge.field-0.0 c.in_err-judge.ensures.fault t i)
+    rw (p.1, p.2) (λ t i d. fault_deep c.args.script.now c.in_err-check_text.field-0.0 c.in_err-check_text.ensures.fault t i)
 
-pub returns-in_err-judge-clause-faulty : goal.returns-in_err-judge-clause-faulty
-returns-in_err-judge-clause-faulty c =
+pub returns-in_err-check_text-clause-faulty : goal.returns-in_err-check_text-clause-faulty
+returns-in_err-check_text-clause-faulty c =
     let p = err_from_is_err_and c.from_residual.result c.from_residual.ensures.1 in
-    rw (p.1, p.2) (fault_faulty c.args.script.now c.in_err-judge.field-0.0 c.in_err-judge.ensures.fault)
+    rw (p.1, p.2) (fault_faulty c.args.script.now c.in_err-check_text.field-0.0 c.in_err-check_text.ensures.fault)
 
 pub returns-in_err-judge_tokens-clause-only : goal.returns-in_err-judge_tokens-clause-only
 returns-in_err-judge_tokens-clause-only c =
