@@ -29,7 +29,8 @@ in_year (suc k) y m n = if nat_lt n (days_in_month (pos y) m) then record { year
 -- the date n days after the first day of a year: whole years are counted off first
 abbrev pub from_year : ℕ → ℕ → ℕ → Civil
 from_year zero y n = in_year 11 y 1 n
-from_year (suc k) y n = if nat_lt n (days_in_year (pos y)) then in_year 11 y 1 n else from_year k (y + 1) (n - days_in_year (pos y))
+from_year (suc k) y n = if nat_lt n (days_in_year (pos y)) then in_year 11 y 1 n
+    else from_year k (y + 1) (n - days_in_year (pos y))
 
 -- the date with a day number
 abbrev pub civil : ℕ → Civil

@@ -58,7 +58,8 @@ IsDue d (After n u a true) (Some e) = IsYearEndAfter d n u e
 
 -- the first date comes before the second, by year, then by month, then by day
 abbrev pub IsEarlier : Date → Date → Type 0
-IsEarlier a b = (a.year <ℤ b.year) ⊎ ((a.year ≡ b.year) × ((a.month < b.month) ⊎ ((a.month ≡ b.month) × (a.day < b.day))))
+IsEarlier a b = (a.year <ℤ b.year) ⊎
+    ((a.year ≡ b.year) × ((a.month < b.month) ⊎ ((a.month ≡ b.month) × (a.day < b.day))))
 
 -- neither is a date, or both have the same year, month and day
 abbrev pub IsSameDay : Option Date → Option Date → Type 0

@@ -41,7 +41,8 @@ class_of_parts _ _ _ _ = None
 
 -- a class from its table
 unfoldable pub class_of : Members → Option Entry
-class_of ms = class_of_parts (has_only is_class_key ms) (option_and_then as_str (get_member (codes "path") ms)) (optional as_bool (get_member (codes "open") ms)) (optional as_str (get_member (codes "schedule") ms))
+class_of ms = class_of_parts (has_only is_class_key ms) (option_and_then as_str (get_member (codes "path") ms))
+    (optional as_bool (get_member (codes "open") ms)) (optional as_str (get_member (codes "schedule") ms))
 
 unfoldable pub entry_of : Data → Option Entry
 entry_of d = as_table d >>= class_of
@@ -66,7 +67,8 @@ contents_of_parts _ _ _ = None
 
 -- the contents of a table; None where the table has another shape
 unfoldable pub contents_of : Members → Option Contents
-contents_of ms = contents_of_parts (has_only is_file_key ms) (option_and_then as_str (get_member (codes "root") ms)) (listed_of (get_member (codes "class") ms))
+contents_of ms = contents_of_parts (has_only is_file_key ms) (option_and_then as_str (get_member (codes "root") ms))
+    (listed_of (get_member (codes "class") ms))
 
 -- what the lists of a file show
 abbrev pub shown_lists : Lists → Contents

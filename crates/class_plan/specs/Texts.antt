@@ -23,10 +23,12 @@ count_of [] = None
 count_of (c ∷ cs) = if c == 48 then None else count_from 0 (c ∷ cs)
 
 abbrev pub unit_of : List ℕ → Option TimeUnit
-unit_of t = if bytes_eq t (codes "days") then Some Days else if bytes_eq t (codes "months") then Some Months else if bytes_eq t (codes "years") then Some Years else None
+unit_of t = if bytes_eq t (codes "days") then Some Days else if bytes_eq t (codes "months") then Some Months
+    else if bytes_eq t (codes "years") then Some Years else None
 
 abbrev pub action_of : List ℕ → Option Action
-action_of t = if bytes_eq t (codes "review") then Some Review else if bytes_eq t (codes "transfer") then Some Transfer else if bytes_eq t (codes "destroy") then Some Destroy else None
+action_of t = if bytes_eq t (codes "review") then Some Review else if bytes_eq t (codes "transfer") then Some Transfer
+    else if bytes_eq t (codes "destroy") then Some Destroy else None
 
 infixl 10 ◌>>=◌
 abbrev pub ◌>>=◌ : {A B : Type 0} → Option A → (A → Option B) → Option B
@@ -61,7 +63,9 @@ period_of a b c = do
 
 -- the schedule of a text
 unfoldable pub schedule_of_bytes : List ℕ → Option Schedule
-schedule_of_bytes t = if bytes_eq t (codes "permanent") then Some Permanent else (let rest = after_first is_space t in period_of (before_first is_space t) (before_first is_space rest) (after_first is_space rest))
+schedule_of_bytes t = if bytes_eq t (codes "permanent") then Some Permanent
+    else (let rest = after_first is_space t in period_of (before_first is_space t) (before_first is_space rest)
+    (after_first is_space rest))
 
 abbrev pub unit_word : TimeUnit → List ℕ
 unit_word Days = codes "days"

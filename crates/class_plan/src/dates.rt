@@ -51,7 +51,8 @@ fn period_after(day: Date, count: u32, unit: Unit) -> Date
 /// 2199-12-31T23:59:59Z.
 pub fn day_of(moment: u64) -> Option<Date>
     ensures capture { IfSome result (λ d. IsCaptureDay d) }
-    ensures date { MatchOption result (7258118399 < moment) (λ d. (moment ≤ 7258118399) × (epoch_day d ≡ pos (moment / 86400))) }
+    ensures date { MatchOption result (7258118399 < moment) (λ d. (moment ≤ 7258118399) ×
+        (epoch_day d ≡ pos (moment / 86400))) }
 {
     if moment > LAST_MOMENT {
         return None;
@@ -94,7 +95,8 @@ pub fn due_date(day: Date, schedule: Schedule) -> Option<Date>
 pub fn day_number(day: Date) -> i64
     ensures capture { IsCaptureDay day → IsBetween (pos 0) (pos 84005) result }
     ensures number { result ≡ epoch_day day }
-    ensures ordered { (e : Date) → (IsEarlier day e → result <ℤ epoch_day e) × (result <ℤ epoch_day e → IsEarlier day e) }
+    ensures ordered { (e : Date) → (IsEarlier day e → result <ℤ epoch_day e) ×
+        (result <ℤ epoch_day e → IsEarlier day e) }
 {
     date(1970, 1, 1).duration_until(day).as_hours() / 24
 }
@@ -103,8 +105,10 @@ pub fn day_number(day: Date) -> i64
 /// 2,932,896, which is 9999-12-31. No other date has that number.
 pub fn date_of(number: i64) -> Option<Date>
     ensures capture { IfSome result (λ d. number ≤ℤ pos 84005 → IsCaptureDay d) }
-    ensures date { MatchOption result (¬ (IsBetween (pos 0) (pos 2932896) number)) (λ d. IsBetween (pos 0) (pos 2932896) number × (epoch_day d ≡ number)) }
-    ensures only { (e : Date) → epoch_day e ≡ number → IsBetween (pos 0) (pos 2932896) number → IsSameDay (Some e) result }
+    ensures date { MatchOption result (¬ (IsBetween (pos 0) (pos 2932896) number))
+        (λ d. IsBetween (pos 0) (pos 2932896) number × (epoch_day d ≡ number)) }
+    ensures only { (e : Date) → epoch_day e ≡ number → IsBetween (pos 0) (pos 2932896) number →
+        IsSameDay (Some e) result }
 {
     if number < 0 || number > LAST_DAY {
         return None;

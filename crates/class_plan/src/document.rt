@@ -23,7 +23,8 @@ fn text_at<'a>(table: &'a Table, key: &str) -> Option<&'a str>
 
 /// The text at a key that may be missing; `None` where the key holds no text.
 fn optional_text<'a>(table: &'a Table, key: &str) -> Option<Option<&'a str>>
-    ensures { option_map (λ o. option_map (λ s. s.now) o) result ≡ optional as_str (get_member key.now (table_view table.now)) }
+    ensures { option_map (λ o. option_map (λ s. s.now) o) result ≡
+        optional as_str (get_member key.now (table_view table.now)) }
 {
     match table.get(key) {
         Some(value) => match value.as_str() {
@@ -149,7 +150,8 @@ fn all_listed(alloc: Global, values: &Vec<Value>) -> Result<Option<Vec<Listed<'_
 
 /// The classes that the file lists: none where it has no key `class`.
 fn classes_at<'a>(alloc: Global, table: &'a Table) -> Result<Option<Vec<Listed<'a>>>, AllocError>
-    ensures { IfOk result (λ o. option_map (λ v. map shown v.items) o ≡ listed_of (get_member (codes "class") (table_view table.now))) }
+    ensures { IfOk result (λ o. option_map (λ v. map shown v.items) o ≡
+        listed_of (get_member (codes "class") (table_view table.now))) }
 {
     match table.get("class") {
         Some(value) => match value.as_array() {

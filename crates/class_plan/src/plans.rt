@@ -49,8 +49,10 @@ impl Model for Plan {
 }
 
 pub(crate) fn class_at(classes: &BTreeMap<Vec<u8>, Class>, path: &[u8]) -> Option<Class>
-    ensures open { option_map (λ c. c.is_open) result ≡ option_map (λ r. r.is_open) (found path.now (rows_in classes.now)) }
-    ensures schedule { option_map (λ c. c.schedule) result ≡ option_map (λ r. r.schedule) (found path.now (rows_in classes.now)) }
+    ensures open { option_map (λ c. c.is_open) result ≡
+        option_map (λ r. r.is_open) (found path.now (rows_in classes.now)) }
+    ensures schedule { option_map (λ c. c.schedule) result ≡
+        option_map (λ r. r.schedule) (found path.now (rows_in classes.now)) }
     ensures some { is_some result ≡ has (rows_in classes.now) path.now }
 {
     classes.get(path).copied()
@@ -123,7 +125,8 @@ impl Plan {
     pub fn add(&mut self, path: &[u8]) -> Result<(), PlanFault>
         ensures ok { OnOk result (added self.old path.now ≡ Ok self.new) }
         ensures refused { IfErr result (λ f. f ≢ NoMemory → added self.old path.now ≡ Err f) }
-        ensures smallest { MatchResult result (λ _. HoldsNone (speaks_against self.old path.now)) (λ f. f ≢ NoMemory → IsSmallest (speaks_against self.old path.now) f) }
+        ensures smallest { MatchResult result (λ _. HoldsNone (speaks_against self.old path.now)) (λ f. f ≢ NoMemory →
+            IsSmallest (speaks_against self.old path.now) f) }
         ensures memory { result ≡ Err NoMemory → HoldsNone (speaks_against self.old path.now) }
         ensures unchanged { OnErr result (self.new ≡ self.old) }
         ensures plans { IsPlan self.old × IsPlan self.new }

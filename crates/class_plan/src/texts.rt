@@ -36,7 +36,8 @@ fn first_space(text: &[u8]) -> Option<usize>
 
 /// The text before the first space and the text after it; `None` without a space.
 fn split_at_space(text: &[u8]) -> Option<(&[u8], &[u8])>
-    ensures { MatchOption result (position_or_len is_space text.now ≡ length text.now) (λ p. (p.0.now ≡ before_first is_space text.now) × (p.1.now ≡ after_first is_space text.now)) }
+    ensures { MatchOption result (position_or_len is_space text.now ≡
+        length text.now) (λ p. (p.0.now ≡ before_first is_space text.now) × (p.1.now ≡ after_first is_space text.now)) }
 {
     match first_space(text) {
         Some(end) => Some((&text[..end], &text[end + 1..])),

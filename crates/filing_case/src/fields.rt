@@ -131,10 +131,12 @@ fn room_for(text: &[u8]) -> Room
 /// Appends a field's name and its value, and answers where they end.
 fn append_field(octets: &mut Vec<u8>, field: &Field<'_>) -> Result<FieldEnds, AllocError>
     requires { (length octets.old.items + length field.now.0) + 4 * length field.now.1 < 2 ^ 32 }
-    ensures octets { IfOk result (λ _. octets.new.items ≡ octets.old.items ++ (field.now.0 ++ value_of_body field.now.1)) }
+    ensures octets { IfOk result (λ _. octets.new.items ≡ octets.old.items ++
+        (field.now.0 ++ value_of_body field.now.1)) }
     ensures name { IfOk result (λ ends. ends.name ≡ length octets.old.items + length field.now.0) }
     ensures value { IfOk result (λ ends. ends.value ≡ length octets.new.items) }
-    ensures short { IfOk result (λ _. length octets.new.items ≤ (length octets.old.items + length field.now.0) + 4 * length field.now.1) }
+    ensures short { IfOk result (λ _. length octets.new.items ≤
+        (length octets.old.items + length field.now.0) + 4 * length field.now.1) }
 {
     octets.extend_from_slice(field.name())?;
     let name = octets.len() as u32;

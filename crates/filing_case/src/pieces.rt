@@ -49,8 +49,10 @@ impl PieceCase {
     /// than 8,388,608 octets, and at every call after that. `NoMemory` (99) where an allocation was refused, and the
     /// case is then unchanged.
     pub fn feed(&mut self, piece: &[u8]) -> Result<(), HeadFault>
-        ensures fed { (message : List ℕ) → self.old.reader ≡ reader_of message → OnOk result (self.new.reader ≡ reader_of (message ++ piece.now)) }
-        ensures too_long { (result ≡ Err TooLong) ↔ (IsTrue self.old.reader.refuses ⊎ (MAX_OCTETS < self.old.reader.size + length piece.now)) }
+        ensures fed { (message : List ℕ) → self.old.reader ≡ reader_of message →
+            OnOk result (self.new.reader ≡ reader_of (message ++ piece.now)) }
+        ensures too_long { (result ≡ Err TooLong) ↔
+            (IsTrue self.old.reader.refuses ⊎ (MAX_OCTETS < self.old.reader.size + length piece.now)) }
         ensures for_good { result ≡ Err TooLong → self.new.reader ≡ record self.old.reader { refuses = true } }
         ensures no_memory { result ≡ Err HeadFault.NoMemory → self.new ≡ self.old }
         ensures paths { self.new.paths ≡ self.old.paths }
@@ -62,8 +64,10 @@ impl PieceCase {
     /// with the value of its body; each value is decoded once, here. `TooLong` (1) exactly where a `feed` answered it,
     /// and `NoMemory` (99) where an allocation was refused. Both hand the case back unchanged.
     pub fn finish(self) -> Result<WholeCase, (HeadFault, PieceCase)>
-        ensures whole { (message : List ℕ) → self.reader ≡ reader_of message → IfOk result (λ c. facts_of c ≡ case_of message (is_among self.paths)) }
-        ensures too_long { MatchResult result (λ _. self.reader.refuses ≡ false) (λ e. (e.0 ≡ TooLong) ↔ IsTrue self.reader.refuses) }
+        ensures whole { (message : List ℕ) → self.reader ≡ reader_of message →
+            IfOk result (λ c. facts_of c ≡ case_of message (is_among self.paths)) }
+        ensures too_long { MatchResult result (λ _. self.reader.refuses ≡ false) (λ e. (e.0 ≡ TooLong) ↔
+            IsTrue self.reader.refuses) }
         ensures back { IfErr result (λ e. e.1 ≡ self) }
     {
         match fields_fed(self.alloc, &self.header) {

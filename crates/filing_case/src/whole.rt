@@ -61,7 +61,8 @@ fn fed_buffer(alloc: Global, msg: &[u8]) -> Result<HeaderBuffer, HeadFault>
 /// The fields of the message that a buffer was fed, with their values, in order. `TooLong` (1) exactly where the buffer
 /// refuses, and `NoMemory` (99) where an allocation was refused.
 pub fn fields_fed(alloc: Global, buffer: &HeaderBuffer) -> Result<FieldValues, HeadFault>
-    ensures fields { (message : List ℕ) → buffer.now ≡ reader_of message → IfOk result (λ v. v ≡ map field_in (fields_of message)) }
+    ensures fields { (message : List ℕ) → buffer.now ≡ reader_of message →
+        IfOk result (λ v. v ≡ map field_in (fields_of message)) }
     ensures too_long { IsErrOf result TooLong ↔ IsTrue buffer.now.refuses }
 {
     let octets = buffer.octets()?;

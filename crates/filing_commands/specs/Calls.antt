@@ -17,24 +17,28 @@ pub record Leads {D : Type 0} (stands : D → Standing → Type 0) (desk : D) (S
 
 -- A command has this answer. Where the desk is clean afterwards, it was clean before, and each state that it
 -- represented leads by the command to one that it represents.
-pub record Calls {D : Type 0} (clean : D → Type 0) (stands : D → Standing → Type 0) (old : D) (c : Command) (a : Answer) (new : D) : Type 0 where
+pub record Calls {D : Type 0} (clean : D → Type 0) (stands : D → Standing → Type 0) (old : D) (c : Command)
+    (a : Answer) (new : D) : Type 0 where
   pub was_clean : clean new → clean old
   pub leads : clean new → (s : Standing) → stands old s → Leads stands new (Step s c a)
 
 -- The same for a command with a payload, for all octets that the payload may be of.
-abbrev pub CallsWith : {D : Type 0} (clean : D → Type 0) (stands : D → Standing → Type 0) → (old : D) → (limit : ℕ) → Payload
+abbrev pub CallsWith : {D : Type 0} (clean : D → Type 0) (stands : D → Standing → Type 0) → (old : D) → (limit : ℕ) →
+    Payload
     → (List ℕ → Command) → Answer → (new : D) → Type 0
 CallsWith clean stands old limit payload command a new =
     (octets : List ℕ) → IsOf limit payload octets → Calls clean stands old (command octets) a new
 
 -- The same for a command with two payloads.
-abbrev pub CallsWithTwo : {D : Type 0} (clean : D → Type 0) (stands : D → Standing → Type 0) → (old : D) → (limits : ℕ × ℕ)
+abbrev pub CallsWithTwo : {D : Type 0} (clean : D → Type 0) (stands : D → Standing → Type 0) → (old : D) →
+    (limits : ℕ × ℕ)
     → (first second : Payload) → (List ℕ → List ℕ → Command) → Answer → (new : D) → Type 0
 CallsWithTwo clean stands old limits first second command a new =
     (x y : List ℕ) → IsOf limits.0 first x → IsOf limits.1 second y → Calls clean stands old (command x y) a new
 
 -- The same for a command with a day of 1970 to 9999, which the command has in days since 1970-01-01.
-abbrev pub CallsOn : {D : Type 0} (clean : D → Type 0) (stands : D → Standing → Type 0) → (old : D) → Date → (ℕ → Command) → Answer
+abbrev pub CallsOn : {D : Type 0} (clean : D → Type 0) (stands : D → Standing → Type 0) → (old : D) → Date →
+    (ℕ → Command) → Answer
     → (new : D) → Type 0
 CallsOn clean stands old day command a new =
     (n : ℕ) → epoch_day day ≡ pos n → n ≤ last_day → Calls clean stands old (command n) a new

@@ -87,7 +87,8 @@ pub record IsFiled (s : Office) (script message : List ℕ) (o : meaning.Outcome
   pub tree : CommandTrees
   pub good : IsGood script tree
   pub short : length message ≤ greatest_message
-  pub outcome : o ≡ meaning.outcome (case_of message (is_open_in s.archive.plan)) (library [] s.globals) None (program_of tree)
+  pub outcome : o ≡ meaning.outcome (case_of message (is_open_in s.archive.plan)) (library [] s.globals) None
+      (program_of tree)
 
 -- An image captures a message with this outcome, by its run on the message and the open classes of the plan.
 pub record IsTried (s : Office) (octets message : List ℕ) (o : meaning.Outcome) : Type 0 where
@@ -116,9 +117,12 @@ abbrev pub Settles : Office → PlainCommand → Office → Type 0
 Settles s (add_class path) new = IsMade s (archives.add_class s.archive path) new
 Settles s (set_plan text) new = (p : Listing) × IsPlanOf text p × IsMade s (archives.revise s.archive p) new
 Settles s (set_script officer name text) new =
-    (scripts : List (List ℕ × Commands)) × IsKept (s.officers officer).scripts name text scripts × (new ≡ with_officer s officer (with_scripts (s.officers officer) scripts))
-Settles s (set_global name text) new = (scripts : List (List ℕ × Commands)) × IsKept s.globals name text scripts × (new ≡ with_globals s scripts)
-Settles s (activate officer name) new = (is_some (script_at name (s.officers officer).scripts) ≡ true) × (new ≡ setting s officer (script_named name))
+    (scripts : List (List ℕ × Commands)) × IsKept (s.officers officer).scripts name text scripts ×
+    (new ≡ with_officer s officer (with_scripts (s.officers officer) scripts))
+Settles s (set_global name text) new = (scripts : List (List ℕ × Commands)) × IsKept s.globals name text scripts ×
+    (new ≡ with_globals s scripts)
+Settles s (activate officer name) new = (is_some (script_at name (s.officers officer).scripts) ≡ true) ×
+    (new ≡ setting s officer (script_named name))
 Settles s (deactivate officer) new = new ≡ setting s officer no_program
 Settles s (set_image officer octets) new = (p : Program) × IsGoodImage octets p × (new ≡ setting s officer (image p))
 Settles s (file script message) new = ⊥

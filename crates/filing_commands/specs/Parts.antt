@@ -80,7 +80,8 @@ pub record DropsPath (old : Listing) (text : List ℕ) (number : ℕ) : Type 0 w
 
 -- a plan is refused with this number: by its length, or else by its text, or else for a path that it drops
 abbrev pub RefusesPlan : (old : Listing) (text : List ℕ) (number : ℕ) → Type 0
-RefusesPlan old text number = ((greatest_plan < length text) × (number ≡ 58)) ⊎ (IsNoPlan text number ⊎ DropsPath old text number)
+RefusesPlan old text number = ((greatest_plan < length text) × (number ≡ 58)) ⊎
+    (IsNoPlan text number ⊎ DropsPath old text number)
 
 -- the octets are the image of a program
 pub record IsImageOf (image : List ℕ) (program : Program) : Type 0 where

@@ -13,6 +13,8 @@ IsOf limit payload.TooLong octets = limit < length octets
 IsOf limit payload.NoMemory octets = length octets ≤ limit
 
 -- the octets within their limit, or the fault that they are too many, or no memory for octets within their limit
-abbrev pub IsOffered : (limit : ℕ) → (too_long : DeskFault) → (octets : List ℕ) → Result (Bor (List ℕ)) DeskFault → Type 0
+abbrev pub IsOffered : (limit : ℕ) → (too_long : DeskFault) → (octets : List ℕ) → Result (Bor (List ℕ)) DeskFault →
+    Type 0
 IsOffered limit too_long octets (Ok there) = (there.now ≡ octets) × (length octets ≤ limit)
-IsOffered limit too_long octets (Err fault) = ((limit < length octets) × (fault ≡ too_long)) ⊎ ((length octets ≤ limit) × (fault ≡ faults.NoMemory))
+IsOffered limit too_long octets (Err fault) = ((limit < length octets) × (fault ≡ too_long)) ⊎
+    ((length octets ≤ limit) × (fault ≡ faults.NoMemory))

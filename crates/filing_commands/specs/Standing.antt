@@ -91,7 +91,8 @@ pub record IsPinned (f : Flight) : Type 0 where
   pub length : IsLength f.stood f.pinned f.run_length
 
 -- A capture begins with this ticket and budget, and this is the state afterwards.
-pub record Begins (s : Standing) (officer : List ℕ) (moment : ℕ) (message : List ℕ) (t b : ℕ) (new : Standing) : Type 0 where
+pub record Begins (s : Standing) (officer : List ℕ) (moment : ℕ) (message : List ℕ) (t b : ℕ)
+    (new : Standing) : Type 0 where
   pub allowed : begin_refusal (length s.flights) s.last moment (length message) ≡ None
   pub flight : Flight
   pub pinned : IsPinned flight
@@ -105,11 +106,13 @@ pub record Begins (s : Standing) (officer : List ℕ) (moment : ℕ) (message : 
 -- The refusal of a beginning: the first reason against it, or 99 where there is none.
 abbrev pub RefusesBegin : Standing → (moment size number : ℕ) → Type 0
 RefusesBegin s moment size n =
-    (begin_refusal (length s.flights) s.last moment size ≡ Some n) ⊎ ((begin_refusal (length s.flights) s.last moment size ≡ None) × (n ≡ 99))
+    (begin_refusal (length s.flights) s.last moment size ≡ Some n) ⊎
+    ((begin_refusal (length s.flights) s.last moment size ≡ None) × (n ≡ 99))
 
 abbrev pub BeginStep : Standing → (officer : List ℕ) → (moment : ℕ) → (message : List ℕ) → Answer → Standing → Type 0
 BeginStep s officer moment message (begun t b) new = Begins s officer moment message t b new
-BeginStep s officer moment message (refused n at) new = (new ≡ s) × (at ≡ None) × RefusesBegin s moment (length message) n
+BeginStep s officer moment message (refused n at) new = (new ≡ s) × (at ≡ None) ×
+    RefusesBegin s moment (length message) n
 BeginStep s officer moment message _ new = ⊥
 
 -- What a capture answers after a number of turns in all.
@@ -133,8 +136,10 @@ TurnStep s t k (Some f) a new =
 -- What a whole capture answers, and the archive afterwards: its outcome's fault and the lines of its records, or 87.
 abbrev pub Files : Archive → Stood → Answer → Archive → Type 0
 Files a stood (filed fault lines) new =
-    (o : Outcome) × IsAlone stood o × (fault ≡ o.fault) × (capture a stood.message stood.day o.classes ≡ Ok new) × (lines ≡ captured_lines a stood.day o.classes)
-Files a stood (refused n at) new = (n ≡ 87) × (at ≡ None) × (new ≡ a) × ((o : Outcome) × IsAlone stood o × (capture a stood.message stood.day o.classes ≡ Err Full))
+    (o : Outcome) × IsAlone stood o × (fault ≡ o.fault) × (capture a stood.message stood.day o.classes ≡ Ok new) ×
+    (lines ≡ captured_lines a stood.day o.classes)
+Files a stood (refused n at) new = (n ≡ 87) × (at ≡ None) × (new ≡ a) ×
+    ((o : Outcome) × IsAlone stood o × (capture a stood.message stood.day o.classes ≡ Err Full))
 Files a stood _ new = ⊥
 
 -- A ticket is given up by an answer that is no refusal.

@@ -31,38 +31,45 @@ pub trait Registry {
     /// Adds a class that is open and has no schedule of its own. Refused with the smallest that applies of 52 (the path
     /// is not well made), 53 (no parent class), 54 (already there) and 56 (4,096 classes are there).
     fn add_class(&mut self, path: &[u8]) -> Result<(), DeskFault>
-        ensures { Calls clean stands self.old (commands.plain (office.add_class path.now)) (told_done result) self.new };
+        ensures { Calls clean stands self.old (commands.plain (office.add_class path.now))
+            (told_done result) self.new };
 
     /// Takes over the plan of a text, a TOML document. Refused in this order: 58 for more than 1,048,576 octets, the
     /// smallest of 50 to 56 that applies to the text, and 57 where it drops a path of the plan so far.
     fn set_plan(&mut self, text: &Payload) -> Result<(), DeskFault>
-        ensures { CallsWith clean stands self.old greatest_plan text.now (λ t. commands.plain (office.set_plan t)) (told_done result) self.new };
+        ensures { CallsWith clean stands self.old greatest_plan text.now (λ t. commands.plain (office.set_plan t))
+            (told_done result) self.new };
 
     /// Keeps a script of an officer under a name, in the place of the one that has the name. Refused in this order: by
     /// its text (10 to 16, 20, 21), by the check (30 to 41), and where thirty-two scripts of the officer have other
     /// names (96).
     fn set_script(&mut self, officer: &[u8], name: &[u8], text: &Payload) -> Result<(), DeskFault>
-        ensures { CallsWith clean stands self.old greatest_script text.now (λ t. commands.plain (office.set_script officer.now name.now t))
+        ensures { CallsWith clean stands self.old greatest_script text.now
+            (λ t. commands.plain (office.set_script officer.now name.now t))
             (told_done result) self.new };
 
     /// The same for the global scripts, which scripts of all officers include by `:global` (RFC 6609, section 3.2).
     fn set_global(&mut self, name: &[u8], text: &Payload) -> Result<(), DeskFault>
-        ensures { CallsWith clean stands self.old greatest_script text.now (λ t. commands.plain (office.set_global name.now t))
+        ensures { CallsWith clean stands self.old greatest_script text.now
+            (λ t. commands.plain (office.set_global name.now t))
             (told_done result) self.new };
 
     /// Sets the script of that name as an officer's program: the one that has the name when a capture begins. Refused
     /// where the officer has no script of that name (93).
     fn activate(&mut self, officer: &[u8], name: &[u8]) -> Result<(), DeskFault>
-        ensures { Calls clean stands self.old (commands.plain (office.activate officer.now name.now)) (told_done result) self.new };
+        ensures { Calls clean stands self.old (commands.plain (office.activate officer.now name.now))
+            (told_done result) self.new };
 
     /// Sets no program for an officer. It is never refused.
     fn deactivate(&mut self, officer: &[u8])
-        ensures { Calls clean stands self.old (commands.plain (office.deactivate officer.now)) (told_done (Ok tt)) self.new };
+        ensures { Calls clean stands self.old (commands.plain (office.deactivate officer.now))
+            (told_done (Ok tt)) self.new };
 
     /// Sets an image as an officer's program. Refused in this order: by its length (61 for more than 16,777,216
     /// octets), its form (60) and its code (62 to 66).
     fn set_image(&mut self, officer: &[u8], image: &Payload) -> Result<(), DeskFault>
-        ensures { CallsWith clean stands self.old greatest_image image.now (λ i. commands.plain (office.set_image officer.now i))
+        ensures { CallsWith clean stands self.old greatest_image image.now
+            (λ i. commands.plain (office.set_image officer.now i))
             (told_done result) self.new };
 
     /// What a script captures a message in: a dry run that stores nothing. Refused in this order: by the script's text
@@ -82,11 +89,13 @@ pub trait Registry {
     /// Places a hold of that name on a record. Refused where there is no such record (80), where the record is
     /// destroyed (84), and where a hold of that name is on it already (86).
     fn hold(&mut self, name: &[u8], number: u64) -> Result<(), DeskFault>
-        ensures { Calls clean stands self.old (commands.plain (office.hold name.now number)) (told_done result) self.new };
+        ensures { Calls clean stands self.old (commands.plain (office.hold name.now number))
+            (told_done result) self.new };
 
     /// Ends the hold of that name on a record. Refused where there is no such record (80) or no such hold (85).
     fn release(&mut self, name: &[u8], number: u64) -> Result<(), DeskFault>
-        ensures { Calls clean stands self.old (commands.plain (office.release name.now number)) (told_done result) self.new };
+        ensures { Calls clean stands self.old (commands.plain (office.release name.now number))
+            (told_done result) self.new };
 
     /// The records without a hold that are due by a day, ordered by due day and then by number. The caller ensures that
     /// the day is in the years 1970 to 9999.
@@ -97,7 +106,8 @@ pub trait Registry {
     /// (81), its schedule's action is not to destroy (83), it is not due by the day (82). The caller ensures that the
     /// day is in the years 1970 to 9999. The message is removed with the last of its records that was not destroyed.
     fn destroy(&mut self, number: u64, day: Date) -> Result<(), DeskFault>
-        ensures { CallsOn clean stands self.old day (λ n. commands.plain (office.destroy number n)) (told_done result) self.new };
+        ensures { CallsOn clean stands self.old day (λ n. commands.plain (office.destroy number n))
+            (told_done result) self.new };
 
     /// Begins a capture of a message by an officer's program at a moment, in seconds since 1970-01-01T00:00:00Z.
     /// Answers its ticket, and the budget of its run in steps. Refused in this order: where the moment is after 2199
@@ -109,7 +119,8 @@ pub trait Registry {
         moment: u64,
         message: Payload,
     ) -> Result<(u32, u32), DeskFault>
-        ensures { CallsWith clean stands self.old greatest_message message (λ m. commands.begin officer.now moment m) (told_ticket result) self.new };
+        ensures { CallsWith clean stands self.old greatest_message message (λ m. commands.begin officer.now moment m)
+            (told_ticket result) self.new };
 
     /// Grants turns to a capture: it makes `count` steps, or fewer where it comes to its end. Refused where no capture
     /// in flight has the ticket (91). Where there is no memory (99), the steps that were made before are kept.

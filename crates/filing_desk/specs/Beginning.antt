@@ -43,7 +43,8 @@ pub record KeepsAll {S : Type 0} (old new : Desk S) : Type 0 where
   pub last : new.last ≡ old.last
 
 -- a new capture of what stands at a desk, with no step made
-pub record IsEntered {S : Type 0} (desk : Desk S) (officer : List ℕ) (ticket : ℕ) (message : List ℕ) (day : Date) (x : Held) : Type 0 where
+pub record IsEntered {S : Type 0} (desk : Desk S) (officer : List ℕ) (ticket : ℕ) (message : List ℕ) (day : Date)
+    (x : Held) : Type 0 where
   pub program : Program
   pub paths : List (List ℕ)
   pub open_paths : is_among paths ≡ is_open_in desk.store.plan

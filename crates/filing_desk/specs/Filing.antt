@@ -22,6 +22,7 @@ pub record IsNotFiled (a : Archive) (body : List ℕ) (on : ℕ) (classes : List
 abbrev pub Files : {S : Type 0} → Ghosts S → (old new : Store S) → (body : List ℕ) (day : ℕ) (classes : List (List ℕ))
     → Result (Vec Line Global) DeskFault → Type 0
 Files g old new body day classes (Ok lines) =
-    (a : Archive) → StandsFor g old a → Becomes g new (capture a body day classes) × (map line_view lines.items ≡ captured_lines a day classes)
+    (a : Archive) → StandsFor g old a → Becomes g new (capture a body day classes) ×
+    (map line_view lines.items ≡ captured_lines a day classes)
 Files g old new body day classes (Err f) =
     (a : Archive) → StandsFor g old a → AreClasses a.plan classes → StandsFor g new a × IsNotFiled a body day classes f

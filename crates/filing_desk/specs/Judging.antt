@@ -13,4 +13,5 @@ IsTooLong message number = (greatest_message < length message) × (number ≡ 95
 -- within its limit
 abbrev pub IsFaultOf : (Refuses : ℕ → Type 0) (limit : ℕ) (payload : List ℕ) → DeskFault → Type 0
 IsFaultOf Refuses limit payload f =
-    ((is_some (refusal_of f).offset ≡ has_place (refusal_of f).number) × Refuses (refusal_of f).number) ⊎ ((f ≡ NoMemory) × (length payload ≤ limit))
+    ((is_some (refusal_of f).offset ≡ has_place (refusal_of f).number) × Refuses (refusal_of f).number) ⊎
+    ((f ≡ NoMemory) × (length payload ≤ limit))

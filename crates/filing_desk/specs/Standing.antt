@@ -41,4 +41,5 @@ pub record StandsFor {S : Type 0} (g : Ghosts S) (desk : Desk S) (s : Standing) 
 -- and its run's length
 abbrev pub IsShownBy : Option Flight → Program → Stored → Type 0
 IsShownBy None program machine = ⊥
-IsShownBy (Some f) program machine = (program ≡ f.pinned) × Stands program (case_in f.stood) machine × (machine.steps ≡ min f.granted f.run_length)
+IsShownBy (Some f) program machine = (program ≡ f.pinned) × Stands program (case_in f.stood) machine ×
+    (machine.steps ≡ min f.granted f.run_length)

@@ -49,7 +49,8 @@ impl<S: Alter> Desk<S> {
     /// Adds an open class without a schedule of its own, as `Registry` says. Refused with the smallest of 52 (no path),
     /// 53 (no parent), 54 (there already) and 56 (4,096 classes).
     pub fn add_class(&mut self, path: &[u8]) -> Result<(), DeskFault>
-        ensures { Calls (IsClean S.Store) (StandsFor S.Store) self.old (commands.plain (office.add_class path.now)) (told_done result) self.new }
+        ensures { Calls (IsClean S.Store) (StandsFor S.Store) self.old (commands.plain (office.add_class path.now))
+            (told_done result) self.new }
     {
         self.store.add_class(path)?;
         self.open_paths = None;
@@ -59,7 +60,8 @@ impl<S: Alter> Desk<S> {
     /// Takes over a plan, a TOML document, as `Registry` says. Refused with 58 (more than 1,048,576 octets), then the
     /// smallest of 50 to 56 that holds of its text, then 57 (it drops a path).
     pub fn set_plan(&mut self, text: &Payload) -> Result<(), DeskFault>
-        ensures { CallsWith (IsClean S.Store) (StandsFor S.Store) self.old greatest_plan text.now (λ t. commands.plain (office.set_plan t))
+        ensures { CallsWith (IsClean S.Store) (StandsFor S.Store) self.old greatest_plan text.now
+            (λ t. commands.plain (office.set_plan t))
             (told_done result) self.new }
     {
         let octets = text.octets(MAX_PLAN_OCTETS, DeskFault::PlanTooLong)?;
@@ -72,7 +74,8 @@ impl<S: Alter> Desk<S> {
     /// Places a hold of a name on a record, as `Registry` says. Refused with 80 (no such record), 84 (destroyed) or 86
     /// (that hold is there).
     pub fn hold(&mut self, name: &[u8], number: u64) -> Result<(), DeskFault>
-        ensures { Calls (IsClean S.Store) (StandsFor S.Store) self.old (commands.plain (office.hold name.now number)) (told_done result) self.new }
+        ensures { Calls (IsClean S.Store) (StandsFor S.Store) self.old (commands.plain (office.hold name.now number))
+            (told_done result) self.new }
     {
         let number = record_number(number)?;
         self.store.hold(name, number)?;
@@ -81,7 +84,8 @@ impl<S: Alter> Desk<S> {
 
     /// Ends a hold of a name on a record, as `Registry` says. Refused with 80 (no such record) or 85 (no such hold).
     pub fn release(&mut self, name: &[u8], number: u64) -> Result<(), DeskFault>
-        ensures { Calls (IsClean S.Store) (StandsFor S.Store) self.old (commands.plain (office.release name.now number)) (told_done result) self.new }
+        ensures { Calls (IsClean S.Store) (StandsFor S.Store) self.old
+            (commands.plain (office.release name.now number)) (told_done result) self.new }
     {
         let number = record_number(number)?;
         self.store.release(name, number)?;
@@ -91,7 +95,8 @@ impl<S: Alter> Desk<S> {
     /// The due list of a day of the years 1970 to 9999, as `Registry` says: the live records without a hold that are
     /// due by then, by due day and then by number.
     pub fn due(&mut self, day: Date) -> Result<Vec<Line>, DeskFault>
-        ensures { CallsOn (IsClean S.Store) (StandsFor S.Store) self.old day (λ n. commands.plain (office.due n)) (told_lines result) self.new }
+        ensures { CallsOn (IsClean S.Store) (StandsFor S.Store) self.old day (λ n. commands.plain (office.due n))
+            (told_lines result) self.new }
     {
         let lines = self.store.due(day_from_1970(day))?;
         Ok(lines)
@@ -100,7 +105,8 @@ impl<S: Alter> Desk<S> {
     /// Destroys a record that is due by a day of the years 1970 to 9999, as `Registry` says. Refused with 80 (no such
     /// record), 84 (destroyed), 81 (held), 83 (its schedule does not destroy) or 82 (due later), in this order.
     pub fn destroy(&mut self, number: u64, day: Date) -> Result<(), DeskFault>
-        ensures { CallsOn (IsClean S.Store) (StandsFor S.Store) self.old day (λ n. commands.plain (office.destroy number n))
+        ensures { CallsOn (IsClean S.Store) (StandsFor S.Store) self.old day
+            (λ n. commands.plain (office.destroy number n))
             (told_done result) self.new }
     {
         let number = record_number(number)?;

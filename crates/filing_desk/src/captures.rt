@@ -61,7 +61,8 @@ fn file_outcome<S: Alter>(
     flight: &Flight,
     classes: &Paths,
 ) -> Result<Vec<Line>, DeskFault>
-    ensures files { Files S.Store store.old store.new flight.now.message (number_of_day flight.now.day) classes.now result }
+    ensures files { Files S.Store store.old store.new flight.now.message
+        (number_of_day flight.now.day) classes.now result }
     ensures falls { Falls S.Store store.old store.new }
 {
     let classes = class_paths(alloc, classes)?;
@@ -81,7 +82,8 @@ impl<S: Alter> Desk<S> {
         ensures day { IfOk result (λ d. IsCaptureDay d × (epoch_day d ≡ pos (moment / 86400))) }
         ensures short { OnOk result (IsShort greatest_message message.now) }
         ensures few { OnOk result ((length self.now.flights < 64) × (self.now.last < 4294967295)) }
-        ensures allowed { (m : List ℕ) → IsOf greatest_message message.now m → OnOk result (against_begin self.now moment (length m) ≡ None) }
+        ensures allowed { (m : List ℕ) → IsOf greatest_message message.now m →
+            OnOk result (against_begin self.now moment (length m) ≡ None) }
         ensures refused { (m : List ℕ) → IsOf greatest_message message.now m
             → IfErr result (λ f. IsNumbered f (against_begin self.now moment (length m))) }
     {
@@ -103,8 +105,10 @@ impl<S: Alter> Desk<S> {
     /// The open paths of the plan, which captures share until the plan is changed.
     fn shared_paths(&mut self) -> Result<PinnedPaths, AllocError>
         ensures same { KeepsAll self.old self.new }
-        ensures kept { AreOpenPaths self.old.open_paths self.old.store.plan → AreOpenPaths self.new.open_paths self.old.store.plan }
-        ensures open { AreOpenPaths self.old.open_paths self.old.store.plan → IfOk result (λ p. is_among p ≡ is_open_in self.old.store.plan) }
+        ensures kept { AreOpenPaths self.old.open_paths self.old.store.plan →
+            AreOpenPaths self.new.open_paths self.old.store.plan }
+        ensures open { AreOpenPaths self.old.open_paths self.old.store.plan →
+            IfOk result (λ p. is_among p ≡ is_open_in self.old.store.plan) }
     {
         if let Some(paths) = &self.open_paths {
             return paths.clone();
@@ -126,8 +130,10 @@ impl<S: Alter> Desk<S> {
         requires length { length message.items ≤ greatest_message }
         requires day { IsCaptureDay day }
         ensures same { KeepsAll self.old self.new }
-        ensures kept { AreOpenPaths self.old.open_paths self.old.store.plan → AreOpenPaths self.new.open_paths self.old.store.plan }
-        ensures entered { AreOpenPaths self.old.open_paths self.old.store.plan → IfOk result (IsEntered self.old officer.now ticket message.items day) }
+        ensures kept { AreOpenPaths self.old.open_paths self.old.store.plan →
+            AreOpenPaths self.new.open_paths self.old.store.plan }
+        ensures entered { AreOpenPaths self.old.open_paths self.old.store.plan →
+            IfOk result (IsEntered self.old officer.now ticket message.items day) }
     {
         let program = self.officers.pin(officer)?;
         let paths = self.shared_paths()?;
@@ -144,7 +150,8 @@ impl<S: Alter> Desk<S> {
         moment: u64,
         message: Payload,
     ) -> Result<(u32, u32), DeskFault>
-        ensures { CallsWith (IsClean S.Store) (StandsFor S.Store) self.old greatest_message message (λ m. commands.begin officer.now moment m)
+        ensures { CallsWith (IsClean S.Store) (StandsFor S.Store) self.old greatest_message message
+            (λ m. commands.begin officer.now moment m)
             (told_ticket result) self.new }
     {
         let day = self.judge_begin(moment, &message)?;
@@ -160,7 +167,8 @@ impl<S: Alter> Desk<S> {
     /// Grants `count` turns to the capture of a ticket, as `Registry` says. Refused with 91 (no such ticket). Where
     /// there is no memory (99), the steps that were made before are kept.
     pub fn turn(&mut self, ticket: u64, count: u32) -> Result<Turn, DeskFault>
-        ensures { Calls (IsClean S.Store) (StandsFor S.Store) self.old (commands.turn ticket count) (told_turn result) self.new }
+        ensures { Calls (IsClean S.Store) (StandsFor S.Store) self.old (commands.turn ticket count)
+            (told_turn result) self.new }
     {
         self.flights.turn(ticket, count)
     }
@@ -168,7 +176,8 @@ impl<S: Alter> Desk<S> {
     /// Makes the records of a capture that has come to its end, and gives its ticket up, as `Registry` says. Refused
     /// with 91 (no such ticket), 92 (not ended) or 87 (numbers of records used up); the ticket is then kept.
     pub fn finish(&mut self, ticket: u64) -> Result<Capture, DeskFault>
-        ensures { Calls (IsClean S.Store) (StandsFor S.Store) self.old (commands.finish ticket) (told_capture result) self.new }
+        ensures { Calls (IsClean S.Store) (StandsFor S.Store) self.old (commands.finish ticket)
+            (told_capture result) self.new }
     {
         let Some(flight) = self.flights.get(ticket) else {
             return Err(DeskFault::NoTicket);

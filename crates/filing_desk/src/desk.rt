@@ -32,7 +32,8 @@ impl<S: Alter> Desk<S> {
     /// A desk over a store, with no script, no program of an officer and no capture in flight. The only error is no
     /// memory (99), and it hands the store back.
     pub fn new(alloc: Global, store: Store<S>) -> Result<Desk<S>, Store<S>>
-        ensures opens { IfOk result (λ d. (a : Archive) → stores.StandsFor S.Store store a → StandsFor S.Store d (opening a)) }
+        ensures opens { IfOk result (λ d. (a : Archive) → stores.StandsFor S.Store store a →
+            StandsFor S.Store d (opening a)) }
         ensures over { IfOk result (λ d. d.store ≡ store) }
         ensures handed_back { IfErr result (λ s. s ≡ store) }
     {

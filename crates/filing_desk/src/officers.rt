@@ -45,7 +45,8 @@ impl<S: Alter> Desk<S> {
     /// Sets the script of a name as an officer's program, as `Registry` says. Refused with 93 where the officer has
     /// none of that name.
     pub fn activate(&mut self, officer: &[u8], name: &[u8]) -> Result<(), DeskFault>
-        ensures { Calls (IsClean S.Store) (StandsFor S.Store) self.old (commands.plain (office.activate officer.now name.now)) (told_done result) self.new }
+        ensures { Calls (IsClean S.Store) (StandsFor S.Store) self.old
+            (commands.plain (office.activate officer.now name.now)) (told_done result) self.new }
     {
         self.officers.activate(officer, name)?;
         Ok(())
@@ -53,7 +54,8 @@ impl<S: Alter> Desk<S> {
 
     /// Sets no program for an officer, as `Registry` says. It is never refused.
     pub fn deactivate(&mut self, officer: &[u8])
-        ensures { Calls (IsClean S.Store) (StandsFor S.Store) self.old (commands.plain (office.deactivate officer.now)) (told_done (Ok tt)) self.new }
+        ensures { Calls (IsClean S.Store) (StandsFor S.Store) self.old (commands.plain (office.deactivate officer.now))
+            (told_done (Ok tt)) self.new }
     {
         self.officers.deactivate(officer);
     }

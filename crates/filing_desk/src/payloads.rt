@@ -37,7 +37,8 @@ fn judge_text(alloc: Global, text: &[u8]) -> Result<Checked, DeskFault>
 pub fn judge_script(alloc: Global, script: &Payload) -> Result<Checked, DeskFault>
     ensures short { (s : List ℕ) → IsOf greatest_script script.now s → OnOk result (length s ≤ greatest_script) }
     ensures good { (s : List ℕ) → IsOf greatest_script script.now s → IfOk result (λ c. IsGood s (tree_of c.script)) }
-    ensures refused { (s : List ℕ) → IsOf greatest_script script.now s → IfErr result (IsFaultOf (RefusesScript s) greatest_script s) }
+    ensures refused { (s : List ℕ) → IsOf greatest_script script.now s →
+        IfErr result (IsFaultOf (RefusesScript s) greatest_script s) }
 {
     let too_long = TextRefusal::Scan(ScanRefusal::ScriptTooLong);
     match script.octets(MAX_SCRIPT_OCTETS, DeskFault::Text(too_long, 0)) {
@@ -63,7 +64,8 @@ fn judge_octets(alloc: Global, image: &[u8]) -> Result<Verified, DeskFault>
 pub fn judge_image(alloc: Global, image: &Payload) -> Result<Verified, DeskFault>
     ensures short { (i : List ℕ) → IsOf greatest_image image.now i → OnOk result (length i ≤ greatest_image) }
     ensures good { (i : List ℕ) → IsOf greatest_image image.now i → IfOk result (λ v. IsGoodImage i v) }
-    ensures refused { (i : List ℕ) → IsOf greatest_image image.now i → IfErr result (IsFaultOf (RefusesImage i) greatest_image i) }
+    ensures refused { (i : List ℕ) → IsOf greatest_image image.now i →
+        IfErr result (IsFaultOf (RefusesImage i) greatest_image i) }
 {
     match image.octets(MAX_IMAGE_OCTETS, DeskFault::ImageTooLong) {
         Ok(octets) => judge_octets(alloc, octets),
@@ -81,7 +83,8 @@ pub fn judge_message<'a>(
     ensures short { (m : List ℕ) → IsOf greatest_message message.now m → OnOk result (length m ≤ greatest_message) }
     ensures case { (m : List ℕ) → IsOf greatest_message message.now m
         → IfOk result (λ c. facts_by (λ p. is_open_in (p.0).now) c ≡ case_of m (is_open_in plan.now)) }
-    ensures refused { (m : List ℕ) → IsOf greatest_message message.now m → IfErr result (IsFaultOf (IsTooLong m) greatest_message m) }
+    ensures refused { (m : List ℕ) → IsOf greatest_message message.now m →
+        IfErr result (IsFaultOf (IsTooLong m) greatest_message m) }
 {
     let octets = message.octets(MAX_MESSAGE_OCTETS, DeskFault::MessageTooLong)?;
     let case = WholeCase::from_message(alloc, octets, PlanClasses(plan))?;

@@ -63,7 +63,8 @@ impl<S: Alter> Desk<S> {
         moment: u64,
         pieces: &[&[u8]],
     ) -> Result<(u32, u32), DeskFault>
-        ensures { Calls (IsClean S.Store) (StandsFor S.Store) self.old (commands.begin officer.now moment (joined pieces.now))
+        ensures { Calls (IsClean S.Store) (StandsFor S.Store) self.old
+            (commands.begin officer.now moment (joined pieces.now))
             (told_ticket result) self.new }
     {
         let message = payload_of(self.alloc, pieces);

@@ -8,7 +8,8 @@ use Rattle.filing_commands.specs.Standing.{Flight, IsPinned}
 use Rattle.filing_flights.specs.Held.{Held, Holds}
 
 -- a flight of a ticket, a program, a message, open paths and a day, which was granted no turns
-pub record IsBegun (number : ℕ) (p : Program) (octets : List ℕ) (opened : List (List ℕ)) (on : Date) (f : Flight) : Type 0 where
+pub record IsBegun (number : ℕ) (p : Program) (octets : List ℕ) (opened : List (List ℕ)) (on : Date)
+    (f : Flight) : Type 0 where
   pub ticket : f.ticket ≡ number
   pub program : f.pinned ≡ p
   pub pinned : IsPinned f

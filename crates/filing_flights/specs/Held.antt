@@ -51,7 +51,8 @@ IsGranted old count new = (f : Flight) → Holds old f → Holds new (granting_m
 
 -- memory ran out after some of the turns, and the flight was granted those
 abbrev pub StopsShort : (old : Held) → (count : ℕ) → (new : Held) → Type 0
-StopsShort old count new = (f : Flight) → Holds old f → (made : ℕ) × IsInterrupted f count made × Holds new (granting_more f made)
+StopsShort old count new = (f : Flight) → Holds old f → (made : ℕ) × IsInterrupted f count made ×
+    Holds new (granting_more f made)
 
 -- the answer is whether the flight was granted at least as many turns as its run has steps
 abbrev pub TellsEnd : Held → Bool → Type 0

@@ -33,7 +33,9 @@ with_stack f es = if nat_lt 32 (length es) then Stuck else FallsThrough f es
 -- files under a path where it is open, and ends with fault 1 where it is not; 0 cancels the implicit keep, and 1 is a
 -- copy (RFC 3894, section 3)
 abbrev pub filing : Facts → Filing → List Entry → ℕ → List ℕ → Exit
-filing c f es a path = if c.is_open path then FallsThrough (record f { filed = insert_path path f.filed; cancelled = f.cancelled || nat_eq a 0 }) es else EndsRun (Some 1) f
+filing c f es a path = if c.is_open path
+    then FallsThrough (record f { filed = insert_path path f.filed; cancelled = f.cancelled || nat_eq a 0 }) es
+    else EndsRun (Some 1) f
 
 abbrev pub action_effect : Facts → Action → Filing → List Entry → Exit
 action_effect c (Push b) f es = with_stack f (T b ∷ es)

@@ -30,8 +30,11 @@ outcome_from fault f = outcome_at fault f.filed f.kept f.cancelled
 -- A program of sound code runs on the table machine as its code runs in blocks: where the code ends the run, the run of
 -- the program ends, with the same fault and the same outcome.
 abbrev pub RunsAsItsCode : Type 0
-RunsAsItsCode = (p : Program) (c : Facts) (a : Flow) (fault : Option ℕ) (f : Filing) → IsCodeOf p a → IsSound p.slots a → effect c (whole a) nothing_done [] ≡ EndsRun fault f → (n : ℕ) × HasOutcome p c n (outcome_from fault f)
+RunsAsItsCode = (p : Program) (c : Facts) (a : Flow) (fault : Option ℕ) (f : Filing) → IsCodeOf p a →
+    IsSound p.slots a → effect c (whole a) nothing_done [] ≡ EndsRun fault f → (n : ℕ) ×
+    HasOutcome p c n (outcome_from fault f)
 
 -- A program of code that has a type and is sound may run, where its budget has a step for each operation.
 abbrev pub TypedIsWell : Type 0
-TypedIsWell = (p : Program) (a : Flow) → IsCodeOf p a → HasType (block a) [] [] [] → IsSound p.slots a → p.slots ≤ 64 → size a + 1 ≤ p.budget → p.budget < 2 ^ 16 → IsWell p
+TypedIsWell = (p : Program) (a : Flow) → IsCodeOf p a → HasType (block a) [] [] [] → IsSound p.slots a → p.slots ≤ 64 →
+    size a + 1 ≤ p.budget → p.budget < 2 ^ 16 → IsWell p

@@ -41,4 +41,5 @@ pub record Alike (marking : Marking) (n : ℕ) (e : Ending) (x : Exit) : Type 0 
 
 -- The code of each include does what the include does.
 abbrev pub Agrees : Facts → Marking → (Include → Flow) → Included → Type 0
-Agrees c marking g h = (i : Include) (n : ℕ) (f : Filing) (s : code.Filing) → Related marking f s → Alike marking n (h i f) (effect c (g i) s [])
+Agrees c marking g h = (i : Include) (n : ℕ) (f : Filing) (s : code.Filing) → Related marking f s →
+    Alike marking n (h i f) (effect c (g i) s [])

@@ -50,7 +50,8 @@ plain_long w word args = 0
 
 -- of a command by its part
 abbrev pub part_long : (Include → ℕ) → Part → CommandTree → ℕ
-part_long w Branch (command name args inner finish) = size (test_flow (only_in inner)) + commands_long w (block_in finish) + 2
+part_long w Branch (command name args inner finish) = size (test_flow (only_in inner)) + commands_long w
+    (block_in finish) + 2
 part_long w Otherwise (command name args inner finish) = commands_long w (block_in finish)
 part_long w Plain (command name args inner finish) = plain_long w (command_word name) args
 
@@ -67,7 +68,8 @@ plain_flow g n words.Keep args = action SetKept
 plain_flow g n words.Discard args = action SetCancelled
 plain_flow g n words.Stop args = action End
 plain_flow g n words.Return args = leave n
-plain_flow g n words.FileInto args = action (FileInto (copy_number (has_tag (codes "copy") args)) (first_string (string_lists false args)))
+plain_flow g n words.FileInto args = action
+    (FileInto (copy_number (has_tag (codes "copy") args)) (first_string (string_lists false args)))
 plain_flow g n words.Include args = g (include_of args)
 plain_flow g n word args = nothing
 
@@ -96,9 +98,12 @@ rest_flow g n false cs = flow g n (program_of cs)
 
 -- The command was written by its part, where `return` goes to the place back.
 abbrev pub EmitsPart : (Include → Flow) → (back : ℕ) → Part → (end : ℕ) → CommandTree → Output → Output → Type 0
-EmitsPart g back part end c x y = (n : ℕ) (ends : List ℕ) → end_at ends n ≡ back → Emits x y (part_flow g n part c) (part_ends part end ends)
+EmitsPart g back part end c x y = (n : ℕ) (ends : List ℕ) → end_at ends n ≡ back →
+    Emits x y (part_flow g n part c) (part_ends part end ends)
 
 -- The command was written by its part, and the place of its jump to the end of all branches was added to those of the
 -- branches before it. The code is right wherever these jumps go.
-abbrev pub EmitsOpen : (Include → Flow) → (back : ℕ) → Part → CommandTree → Output → (before : List ℕ) → Output → (jumps : List ℕ) → Type 0
-EmitsOpen g back part c x before y jumps = (end : ℕ) → EmitsPart g back part end c (with_jumps end before x) (with_jumps end jumps y)
+abbrev pub EmitsOpen : (Include → Flow) → (back : ℕ) → Part → CommandTree → Output → (before : List ℕ) → Output →
+    (jumps : List ℕ) → Type 0
+EmitsOpen g back part c x before y jumps = (end : ℕ) →
+    EmitsPart g back part end c (with_jumps end before x) (with_jumps end jumps y)

@@ -24,7 +24,8 @@ judged (Some script) passed false once = Enters script
 -- A missing script is fault 2, unless the include is passed over. An active one is passed over under `:once`, since it
 -- was entered, and is fault 3 otherwise. Any other is entered.
 abbrev pub judgement : Library → (main chain : List ScriptName) → Include → Judgement
-judgement lib main chain i = judged (lib.find (script_named i)) (is_passed main i) (is_among chain (script_named i)) i.once
+judgement lib main chain i = judged (lib.find (script_named i)) (is_passed main i)
+    (is_among chain (script_named i)) i.once
 
 -- the code of an include by its judgement, where enter gives the entry of a script
 abbrev pub judged_flow : Judgement → (once : Bool) → (slot : ℕ) → (Commands → Flow) → Flow
@@ -39,9 +40,11 @@ judged_weight (Fails n) enter = 0
 judged_weight (Enters script) enter = enter script
 
 -- the entry of a script, which is already in the chain
-abbrev pub entered_flow : Library → Slots → (main : List ScriptName) → ℕ → (chain : List ScriptName) → (slot : ℕ) → Commands → Flow
+abbrev pub entered_flow : Library → Slots → (main : List ScriptName) → ℕ → (chain : List ScriptName) → (slot : ℕ) →
+    Commands → Flow
 entered_flow lib slots main zero chain slot script = action (Fail 4)
-entered_flow lib slots main (suc left) chain slot script = block (sequence (action (SetMark slot)) (flow (included_flow lib slots main left chain) 0 script))
+entered_flow lib slots main (suc left) chain slot script = block
+    (sequence (action (SetMark slot)) (flow (included_flow lib slots main left chain) 0 script))
 
 abbrev pub entered_weight : Library → ℕ → (chain : List ScriptName) → Commands → ℕ
 entered_weight lib zero chain script = 0

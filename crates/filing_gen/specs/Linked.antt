@@ -34,13 +34,16 @@ is_passed main i = (i.once && is_among main (script_named i)) || i.optional
 abbrev pub including_flow : Library → Slots → (main chain : List ScriptName) → (Commands → Flow) → Include → Flow
 including_flow lib slot main chain enter i =
     found_flow (lib.find (script_named i)) (is_passed main i)
-    (λ script. active_flow (is_among chain (script_named i)) i.once (once_flow i.once (slot (script_named i)) (enter script)))
+    (λ script. active_flow (is_among chain (script_named i)) i.once
+    (once_flow i.once (slot (script_named i)) (enter script)))
 
 -- the code of an include, where this number of further scripts may be active
 abbrev pub included_flow : Library → Slots → (main : List ScriptName) → ℕ → (chain : List ScriptName) → Include → Flow
 included_flow lib slot main zero chain i = including_flow lib slot main chain (λ script. action (Fail 4)) i
 included_flow lib slot main (suc left) chain i =
-    including_flow lib slot main chain (λ script. block (sequence (action (SetMark (slot (script_named i)))) (flow (included_flow lib slot main left (script_named i ∷ chain)) 0 script))) i
+    including_flow lib slot main chain
+    (λ script. block (sequence (action (SetMark (slot (script_named i))))
+    (flow (included_flow lib slot main left (script_named i ∷ chain)) 0 script))) i
 
 -- the includes of a main script, which may have a name; eight scripts may be active, the main one among them
 abbrev pub linked_flow : Library → Slots → (known_as : Option (List ℕ)) → Include → Flow
@@ -54,8 +57,10 @@ pub record HasSlots (lib : Library) (slot : Slots) (count : ℕ) : Type 0 where
 
 -- The marks say which scripts of the library were entered. The main script, which has no mark, and all active ones
 -- were.
-pub record Marked (lib : Library) (slot : Slots) (main chain entered : List ScriptName) (marks : List Bool) : Type 0 where
+pub record Marked (lib : Library) (slot : Slots) (main chain entered : List ScriptName)
+    (marks : List Bool) : Type 0 where
   pub long : length marks ≡ 64
   pub active : (s : ScriptName) → is_among chain s ≡ true → is_among entered s ≡ true
-  pub found : (s : ScriptName) (x : Commands) → lib.find s ≡ Some x → is_among main s ≡ false → slice_index_or marks (slot s) false ≡ is_among entered s
+  pub found : (s : ScriptName) (x : Commands) → lib.find s ≡ Some x → is_among main s ≡ false →
+      slice_index_or marks (slot s) false ≡ is_among entered s
   pub missing : (s : ScriptName) → lib.find s ≡ None → is_among entered s ≡ is_among main s

@@ -43,7 +43,8 @@ names_flow (n ∷ ns) = sequence (action (HasField n)) (sequence (leave_if false
 abbrev pub header_flow : ℕ → List ℕ → List (List ℕ) → List ℕ → List (List ℕ) → Flow
 header_flow a n ns k ks =
     block (sequence
-    (block (sequence (sequence (action (ValuesOf n)) (values_flow ns)) (sequence (keys_flow a (k ∷ ks)) (sequence (action Drop) (sequence (action (Push false)) (leave 1))))))
+    (block (sequence (sequence (action (ValuesOf n)) (values_flow ns))
+    (sequence (keys_flow a (k ∷ ks)) (sequence (action Drop) (sequence (action (Push false)) (leave 1))))))
     (sequence (action Drop) (action (Push true))))
 
 abbrev mutual
@@ -89,11 +90,14 @@ abbrev mutual
   pub branches_flow : (Include → Flow) → ℕ → Branches → Flow
   branches_flow inc n no_branch = nothing
   branches_flow inc n (otherwise xs) = flow inc n xs
-  branches_flow inc n (if_then t xs bs) = sequence (block (sequence (test_flow t) (sequence (leave_if false 0) (sequence (flow inc (suc n) xs) (leave 1))))) (branches_flow inc n bs)
+  branches_flow inc n (if_then t xs bs) = sequence
+      (block (sequence (test_flow t) (sequence (leave_if false 0) (sequence (flow inc (suc n) xs) (leave 1)))))
+      (branches_flow inc n bs)
 
 -- one branch
 abbrev pub branch_flow : (Include → Flow) → ℕ → Test → Commands → Flow
-branch_flow inc n t xs = block (sequence (test_flow t) (sequence (leave_if false 0) (sequence (flow inc (suc n) xs) (leave 1))))
+branch_flow inc n t xs = block
+    (sequence (test_flow t) (sequence (leave_if false 0) (sequence (flow inc (suc n) xs) (leave 1))))
 
 -- the script, whose `return` jumps to the end of the block that it is in
 abbrev pub script_flow : (Include → Flow) → Commands → Flow

@@ -33,7 +33,10 @@ fn copy_code(is_copy: bool) -> u8
 /// Writes `fileinto`: one operation, which names the path.
 fn emit_file(out: &mut Output, arguments: &[Argument]) -> Result<(), AllocError>
     requires { HasRoom out.old 1 }
-    ensures adds { OnOk result ((ends : List ℕ) → Emits out.old out.new (action (FileInto (copy_number (has_tag_of (codes "copy") arguments.now)) (first_string_of (string_lists false arguments.now)))) ends) }
+    ensures adds { OnOk result ((ends : List ℕ) →
+        Emits out.old out.new (action
+        (FileInto (copy_number (has_tag_of (codes "copy") arguments.now))
+        (first_string_of (string_lists false arguments.now)))) ends) }
 {
     let place = text_operand(out, first_string(arguments))?;
     let how = copy_code(has_tag(arguments, b"copy"));
@@ -52,7 +55,8 @@ fn emit_plain<L: Linker>(
     back: u16,
 ) -> Result<(), AllocError>
     requires { HasRoom out.old (plain_long (λ i. size (L.flow_of linker.now i)) word arguments.now) }
-    ensures adds { OnOk result ((n : ℕ) (ends : List ℕ) → end_at ends n ≡ back → Emits out.old out.new (plain_flow (L.flow_of linker.now) n word arguments.now) ends) }
+    ensures adds { OnOk result ((n : ℕ) (ends : List ℕ) → end_at ends n ≡ back →
+        Emits out.old out.new (plain_flow (L.flow_of linker.now) n word arguments.now) ends) }
 {
     match word {
         CommandWord::Keep => put(out, Operation::Keep),
@@ -79,7 +83,8 @@ fn emit_block<L: Linker>(
     back: u16,
 ) -> Result<(), AllocError>
     requires { HasRoom out.old (commands_long (λ i. size (L.flow_of linker.now i)) (block_in (ending_of ending.now))) }
-    ensures adds { OnOk result ((n : ℕ) (ends : List ℕ) → end_at ends n ≡ back → Emits out.old out.new (flow (L.flow_of linker.now) n (block_in (ending_of ending.now))) ends) }
+    ensures adds { OnOk result ((n : ℕ) (ends : List ℕ) → end_at ends n ≡ back →
+        Emits out.old out.new (flow (L.flow_of linker.now) n (block_in (ending_of ending.now))) ends) }
 {
     match ending {
         Ending::Semicolon => Ok(()),
@@ -98,9 +103,12 @@ fn emit_branch<L: Linker>(
     jumps: &mut Vec<usize>,
     back: u16,
 ) -> Result<(), AllocError>
-    requires room { HasRoom out.old (part_long (λ i. size (L.flow_of linker.now i)) parts.Branch (command_of command.now)) }
+    requires room { HasRoom out.old
+        (part_long (λ i. size (L.flow_of linker.now i)) parts.Branch (command_of command.now)) }
     requires places { All (λ p. p < length out.old.code.items) jumps.old.items }
-    ensures adds { OnOk result (EmitsOpen (L.flow_of linker.now) back parts.Branch (command_of command.now) out.old jumps.old.items out.new jumps.new.items) }
+    ensures adds { OnOk result
+        (EmitsOpen (L.flow_of linker.now) back parts.Branch
+        (command_of command.now) out.old jumps.old.items out.new jumps.new.items) }
     ensures places { OnOk result (All (λ p. p < length out.new.code.items) jumps.new.items) }
 {
     emit_only(alloc, out, &command.tests)?;
@@ -126,7 +134,9 @@ fn emit_part<L: Linker>(
 ) -> Result<(), AllocError>
     requires room { HasRoom out.old (part_long (λ i. size (L.flow_of linker.now i)) part (command_of command.now)) }
     requires places { All (λ p. p < length out.old.code.items) jumps.old.items }
-    ensures adds { OnOk result (EmitsOpen (L.flow_of linker.now) back part (command_of command.now) out.old jumps.old.items out.new jumps.new.items) }
+    ensures adds { OnOk result
+        (EmitsOpen (L.flow_of linker.now) back part
+        (command_of command.now) out.old jumps.old.items out.new jumps.new.items) }
     ensures places { OnOk result (All (λ p. p < length out.new.code.items) jumps.new.items) }
 {
     match part {
@@ -143,7 +153,8 @@ fn emit_part<L: Linker>(
 fn end_before(out: &mut Output, jumps: &mut Vec<usize>, word: CommandWord, part: Part)
     requires room { length out.old.code.items < 2 ^ 16 }
     requires places { All (λ p. p < length out.old.code.items) jumps.old.items }
-    ensures out { out.new ≡ (if is_apart word part then with_jumps (length out.old.code.items) jumps.old.items out.old else out.old) }
+    ensures out { out.new ≡ (if is_apart word part then with_jumps (length out.old.code.items) jumps.old.items out.old
+        else out.old) }
     ensures jumps { jumps.new.items ≡ (if is_apart word part then [] else jumps.old.items) }
 {
     match (word, part) {
@@ -162,8 +173,12 @@ pub fn emit_commands<L: Linker>(
     commands: &Vec<Command>,
     back: u16,
 ) -> Result<(), AllocError>
-    requires { HasRoom out.old (commands_long (λ i. size (L.flow_of linker.now i)) (program_of (commands_of (map command_of commands.now.items)))) }
-    ensures adds { OnOk result ((n : ℕ) (ends : List ℕ) → end_at ends n ≡ back → Emits out.old out.new (flow (L.flow_of linker.now) n (program_of (commands_of (map command_of commands.now.items)))) ends) }
+    requires { HasRoom out.old
+        (commands_long (λ i. size (L.flow_of linker.now i))
+        (program_of (commands_of (map command_of commands.now.items)))) }
+    ensures adds { OnOk result ((n : ℕ) (ends : List ℕ) → end_at ends n ≡ back →
+        Emits out.old out.new (flow (L.flow_of linker.now) n
+        (program_of (commands_of (map command_of commands.now.items)))) ends) }
 {
     let mut jumps = Vec::new(alloc);
     let mut is_open = false;

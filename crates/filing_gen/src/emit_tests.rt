@@ -53,7 +53,10 @@ fn put_jump(out: &mut Output, truth: bool) -> Result<(), AllocError>
 fn put_either(out: &mut Output, start: usize, stop: bool) -> Result<(), AllocError>
     requires start { start ≤ length out.old.code.items }
     requires room { HasRoom out.old 3 }
-    ensures { OnOk result ((x : Output) (a : Flow) (ends : List ℕ) → start ≡ length x.code.items → ((around : List Shape) → HasType a ([] ∷ around) [] []) → ((es : List ℕ) → end_at es 0 ≡ no_place → Emits x out.old a es) → Emits x out.new (either (not stop) stop a) ends) }
+    ensures { OnOk result ((x : Output) (a : Flow) (ends : List ℕ) → start ≡ length x.code.items →
+        ((around : List Shape) → HasType a ([] ∷ around) [] []) →
+        ((es : List ℕ) → end_at es 0 ≡ no_place → Emits x out.old a es) →
+        Emits x out.new (either (not stop) stop a) ends) }
 {
     let jumped = (out.code.len() + 2) as u16;
     end_block_at(out, start, jumped);
@@ -65,7 +68,8 @@ fn put_either(out: &mut Output, start: usize, stop: bool) -> Result<(), AllocErr
 /// Writes `Exists name` and `JumpUnless missing`.
 fn emit_name(out: &mut Output, name: &[u8]) -> Result<(), AllocError>
     requires { HasRoom out.old 2 }
-    ensures { OnOk result ((ends : List ℕ) → end_at ends 0 ≡ no_place → Emits out.old out.new (sequence (action (HasField name.now)) (leave_if false 0)) ends) }
+    ensures { OnOk result ((ends : List ℕ) → end_at ends 0 ≡ no_place →
+        Emits out.old out.new (sequence (action (HasField name.now)) (leave_if false 0)) ends) }
 {
     let place = text_operand(out, name)?;
     put(out, Operation::Exists(place))?;
@@ -80,7 +84,8 @@ fn emit_other_names(
     others: &[Text],
 ) -> Result<(), AllocError>
     requires { HasRoom out.old (size (names_flow (others_once first.now others.now))) }
-    ensures { OnOk result ((ends : List ℕ) → end_at ends 0 ≡ no_place → Emits out.old out.new (names_flow (others_once first.now others.now)) ends) }
+    ensures { OnOk result ((ends : List ℕ) → end_at ends 0 ≡ no_place →
+        Emits out.old out.new (names_flow (others_once first.now others.now)) ends) }
 {
     if others.is_empty() {
         return Ok(());
@@ -100,7 +105,8 @@ fn emit_other_names(
 /// Writes `Exists name` and `JumpUnless missing` for each name, once.
 fn emit_names(alloc: Global, out: &mut Output, names: &StringList) -> Result<(), AllocError>
     requires { HasRoom out.old (size (names_flow (each_once (strings_of names.now)))) }
-    ensures { OnOk result ((ends : List ℕ) → end_at ends 0 ≡ no_place → Emits out.old out.new (names_flow (each_once (strings_of names.now))) ends) }
+    ensures { OnOk result ((ends : List ℕ) → end_at ends 0 ≡ no_place →
+        Emits out.old out.new (names_flow (each_once (strings_of names.now))) ends) }
 {
     let first = names.first().as_slice();
     emit_name(out, first)?;
@@ -110,7 +116,8 @@ fn emit_names(alloc: Global, out: &mut Output, names: &StringList) -> Result<(),
 /// Writes `exists` (RFC 5228, section 5.5): whether the header has a field of each name.
 fn emit_exists(alloc: Global, out: &mut Output, arguments: &[Argument]) -> Result<(), AllocError>
     requires { HasRoom out.old (size (test_flow (exists_of (string_lists false arguments.now)))) }
-    ensures adds { OnOk result ((ends : List ℕ) → Emits out.old out.new (test_flow (exists_of (string_lists false arguments.now))) ends) }
+    ensures adds { OnOk result ((ends : List ℕ) →
+        Emits out.old out.new (test_flow (exists_of (string_lists false arguments.now))) ends) }
 {
     let start = out.code.len();
     match next_string_list(arguments) {
@@ -125,7 +132,9 @@ fn emit_exists(alloc: Global, out: &mut Output, arguments: &[Argument]) -> Resul
 /// Writes `Number n`, `Size`, `Less`: whether the message has more octets than the number.
 fn emit_over(out: &mut Output, number: u64) -> Result<(), AllocError>
     requires { HasRoom out.old 3 }
-    ensures { OnOk result ((ends : List ℕ) → Emits out.old out.new (sequence (action (PushNumber number)) (sequence (action PushSize) (action IsLess))) ends) }
+    ensures { OnOk result ((ends : List ℕ) →
+        Emits out.old out.new (sequence (action (PushNumber number))
+        (sequence (action PushSize) (action IsLess))) ends) }
 {
     let place = number_operand(out, number)?;
     put(out, Operation::Number(place))?;
@@ -136,7 +145,9 @@ fn emit_over(out: &mut Output, number: u64) -> Result<(), AllocError>
 /// Writes `Size`, `Number n`, `Less`: whether the message has fewer octets than the number.
 fn emit_under(out: &mut Output, number: u64) -> Result<(), AllocError>
     requires { HasRoom out.old 3 }
-    ensures { OnOk result ((ends : List ℕ) → Emits out.old out.new (sequence (action PushSize) (sequence (action (PushNumber number)) (action IsLess))) ends) }
+    ensures { OnOk result ((ends : List ℕ) →
+        Emits out.old out.new (sequence (action PushSize)
+        (sequence (action (PushNumber number)) (action IsLess))) ends) }
 {
     put(out, Operation::Size)?;
     let place = number_operand(out, number)?;
@@ -147,7 +158,9 @@ fn emit_under(out: &mut Output, number: u64) -> Result<(), AllocError>
 /// Writes `size` (RFC 5228, section 5.9): whether the message has more octets than the number, or fewer.
 fn emit_size(out: &mut Output, arguments: &[Argument]) -> Result<(), AllocError>
     requires { HasRoom out.old 3 }
-    ensures adds { OnOk result ((ends : List ℕ) → Emits out.old out.new (test_flow (size_of (has_tag_of (codes "over") arguments.now) (number_in arguments.now))) ends) }
+    ensures adds { OnOk result ((ends : List ℕ) →
+        Emits out.old out.new (test_flow
+        (size_of (has_tag_of (codes "over") arguments.now) (number_in arguments.now))) ends) }
 {
     let number = number(arguments);
     if has_tag(arguments, b"over") {
@@ -173,7 +186,8 @@ fn emit_other_values(
     others: &[Text],
 ) -> Result<(), AllocError>
     requires { HasRoom out.old (size (values_flow (others_once first.now others.now))) }
-    ensures { OnOk result ((ends : List ℕ) → Emits out.old out.new (values_flow (others_once first.now others.now)) ends) }
+    ensures { OnOk result ((ends : List ℕ) →
+        Emits out.old out.new (values_flow (others_once first.now others.now)) ends) }
 {
     if others.is_empty() {
         return Ok(());
@@ -195,7 +209,9 @@ fn emit_other_values(
 /// and `Join` for each other name, once.
 fn emit_values(alloc: Global, out: &mut Output, names: &StringList) -> Result<(), AllocError>
     requires { HasRoom out.old (size (values_flow (others_once (first_of names.now) (others_of names.now))) + 1) }
-    ensures { OnOk result ((ends : List ℕ) → Emits out.old out.new (sequence (action (ValuesOf (first_of names.now))) (values_flow (others_once (first_of names.now) (others_of names.now)))) ends) }
+    ensures { OnOk result ((ends : List ℕ) →
+        Emits out.old out.new (sequence (action (ValuesOf (first_of names.now)))
+        (values_flow (others_once (first_of names.now) (others_of names.now)))) ends) }
 {
     let first = names.first().as_slice();
     emit_value(out, first)?;
@@ -205,7 +221,8 @@ fn emit_values(alloc: Global, out: &mut Output, names: &StringList) -> Result<()
 /// Writes `Match how key` and `JumpIf found`.
 fn emit_key(out: &mut Output, how: u8, key: &[u8]) -> Result<(), AllocError>
     requires { HasRoom out.old 2 }
-    ensures { OnOk result ((ends : List ℕ) → end_at ends 0 ≡ no_place → Emits out.old out.new (sequence (action (MatchKey how key.now)) (leave_if true 0)) ends) }
+    ensures { OnOk result ((ends : List ℕ) → end_at ends 0 ≡ no_place →
+        Emits out.old out.new (sequence (action (MatchKey how key.now)) (leave_if true 0)) ends) }
 {
     let place = text_operand(out, key)?;
     put(out, Operation::Match(how, place))?;
@@ -215,7 +232,8 @@ fn emit_key(out: &mut Output, how: u8, key: &[u8]) -> Result<(), AllocError>
 /// Writes `Match how key` and `JumpIf found` for each key but the first.
 fn emit_other_keys(out: &mut Output, how: u8, keys: &[Text]) -> Result<(), AllocError>
     requires { HasRoom out.old (size (keys_flow how keys.now)) }
-    ensures { OnOk result ((ends : List ℕ) → end_at ends 0 ≡ no_place → Emits out.old out.new (keys_flow how keys.now) ends) }
+    ensures { OnOk result ((ends : List ℕ) → end_at ends 0 ≡ no_place →
+        Emits out.old out.new (keys_flow how keys.now) ends) }
 {
     for key in keys {
         emit_key(out, how, key.as_slice())?;
@@ -226,7 +244,8 @@ fn emit_other_keys(out: &mut Output, how: u8, keys: &[Text]) -> Result<(), Alloc
 /// Writes `Match how key` and `JumpIf found` for each key.
 fn emit_keys(out: &mut Output, how: u8, keys: &StringList) -> Result<(), AllocError>
     requires { HasRoom out.old (size (keys_flow how (first_of keys.now ∷ others_of keys.now))) }
-    ensures { OnOk result ((ends : List ℕ) → end_at ends 0 ≡ no_place → Emits out.old out.new (keys_flow how (first_of keys.now ∷ others_of keys.now)) ends) }
+    ensures { OnOk result ((ends : List ℕ) → end_at ends 0 ≡ no_place →
+        Emits out.old out.new (keys_flow how (first_of keys.now ∷ others_of keys.now)) ends) }
 {
     emit_key(out, how, keys.first().as_slice())?;
     emit_other_keys(out, how, keys.others())
@@ -234,7 +253,8 @@ fn emit_keys(out: &mut Output, how: u8, keys: &StringList) -> Result<(), AllocEr
 
 /// Writes what follows where no key matched: `Pop`, `PushFalse`, `Jump end`.
 fn put_missed(out: &mut Output, end: u16) -> Result<(), AllocError>
-    ensures { OnOk result ((ends : List ℕ) → end_at ends 1 ≡ end → Emits out.old out.new (sequence (action Drop) (sequence (action (Push false)) (leave 1))) ends) }
+    ensures { OnOk result ((ends : List ℕ) → end_at ends 1 ≡ end →
+        Emits out.old out.new (sequence (action Drop) (sequence (action (Push false)) (leave 1))) ends) }
 {
     put(out, Operation::Pop)?;
     put(out, Operation::PushFalse)?;
@@ -258,8 +278,12 @@ fn emit_some_match(
     names: &StringList,
     keys: &StringList,
 ) -> Result<(), AllocError>
-    requires { HasRoom out.old (size (header_flow how (first_of names.now) (others_once (first_of names.now) (others_of names.now)) (first_of keys.now) (others_of keys.now))) }
-    ensures adds { OnOk result ((ends : List ℕ) → Emits out.old out.new (header_flow how (first_of names.now) (others_once (first_of names.now) (others_of names.now)) (first_of keys.now) (others_of keys.now)) ends) }
+    requires { HasRoom out.old
+        (size (header_flow how (first_of names.now) (others_once (first_of names.now) (others_of names.now))
+        (first_of keys.now) (others_of keys.now))) }
+    ensures adds { OnOk result ((ends : List ℕ) →
+        Emits out.old out.new (header_flow how (first_of names.now)
+        (others_once (first_of names.now) (others_of names.now)) (first_of keys.now) (others_of keys.now)) ends) }
 {
     emit_values(alloc, out, names)?;
     let start = out.code.len();
@@ -273,8 +297,13 @@ fn emit_some_match(
 /// Writes `header` (RFC 5228, section 5.7): whether a field with one of the names has a value that matches one of the
 /// keys.
 fn emit_header(alloc: Global, out: &mut Output, arguments: &[Argument]) -> Result<(), AllocError>
-    requires { HasRoom out.old (size (test_flow (header_of (match_type_of arguments.now) (comparator_from false arguments.now) (string_lists false arguments.now)))) }
-    ensures adds { OnOk result ((ends : List ℕ) → Emits out.old out.new (test_flow (header_of (match_type_of arguments.now) (comparator_from false arguments.now) (string_lists false arguments.now))) ends) }
+    requires { HasRoom out.old
+        (size (test_flow (header_of (match_type_of arguments.now) (comparator_from false arguments.now)
+        (string_lists false arguments.now)))) }
+    ensures adds { OnOk result ((ends : List ℕ) →
+        Emits out.old out.new (test_flow
+        (header_of (match_type_of arguments.now) (comparator_from false arguments.now)
+        (string_lists false arguments.now))) ends) }
 {
     let Some((names, rest)) = next_string_list(arguments) else {
         return put_truth(out, false);
@@ -309,7 +338,8 @@ pub fn emit_test(alloc: Global, out: &mut Output, test: &Test) -> Result<(), All
 #[cycle(emission)]
 fn emit_not(alloc: Global, out: &mut Output, tests: &Tests) -> Result<(), AllocError>
     requires { HasRoom out.old (size (test_flow (only_in (inner_of tests.now))) + 1) }
-    ensures adds { OnOk result ((ends : List ℕ) → Emits out.old out.new (sequence (test_flow (only_in (inner_of tests.now))) (action Negate)) ends) }
+    ensures adds { OnOk result ((ends : List ℕ) →
+        Emits out.old out.new (sequence (test_flow (only_in (inner_of tests.now))) (action Negate)) ends) }
 {
     emit_only(alloc, out, tests)?;
     put(out, Operation::Not)
@@ -319,7 +349,8 @@ fn emit_not(alloc: Global, out: &mut Output, tests: &Tests) -> Result<(), AllocE
 #[cycle(emission)]
 pub fn emit_only(alloc: Global, out: &mut Output, tests: &Tests) -> Result<(), AllocError>
     requires { HasRoom out.old (size (test_flow (only_in (inner_of tests.now)))) }
-    ensures adds { OnOk result ((ends : List ℕ) → Emits out.old out.new (test_flow (only_in (inner_of tests.now))) ends) }
+    ensures adds { OnOk result ((ends : List ℕ) →
+        Emits out.old out.new (test_flow (only_in (inner_of tests.now))) ends) }
 {
     match tests {
         Tests::None => put_truth(out, false),
@@ -334,7 +365,8 @@ pub fn emit_only(alloc: Global, out: &mut Output, tests: &Tests) -> Result<(), A
 #[cycle(emission)]
 fn emit_row(alloc: Global, out: &mut Output, tests: &Tests, stop: bool) -> Result<(), AllocError>
     requires { HasRoom out.old (size (either (not stop) stop (tests_flow stop (tests_in (inner_of tests.now))))) }
-    ensures adds { OnOk result ((ends : List ℕ) → Emits out.old out.new (either (not stop) stop (tests_flow stop (tests_in (inner_of tests.now)))) ends) }
+    ensures adds { OnOk result ((ends : List ℕ) →
+        Emits out.old out.new (either (not stop) stop (tests_flow stop (tests_in (inner_of tests.now)))) ends) }
 {
     let start = out.code.len();
     emit_tests(alloc, out, tests, stop)?;
@@ -345,7 +377,8 @@ fn emit_row(alloc: Global, out: &mut Output, tests: &Tests, stop: bool) -> Resul
 #[cycle(emission)]
 fn emit_tests(alloc: Global, out: &mut Output, tests: &Tests, stop: bool) -> Result<(), AllocError>
     requires { HasRoom out.old (size (tests_flow stop (tests_in (inner_of tests.now)))) }
-    ensures adds { OnOk result ((ends : List ℕ) → end_at ends 0 ≡ no_place → Emits out.old out.new (tests_flow stop (tests_in (inner_of tests.now))) ends) }
+    ensures adds { OnOk result ((ends : List ℕ) → end_at ends 0 ≡ no_place →
+        Emits out.old out.new (tests_flow stop (tests_in (inner_of tests.now))) ends) }
 {
     match tests {
         Tests::None => Ok(()),

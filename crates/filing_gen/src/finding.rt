@@ -52,8 +52,11 @@ fn finding_of<'a>(
     is_active: bool,
     is_once: bool,
 ) -> Finding<'a>
-    ensures told { told result ≡ judged (option_map (λ x. program_of (tree_of x)) (option_map (λ f. f.1.now.script) found.entry)) is_passed is_active is_once }
-    ensures slot { (slot : ℕ) → IfSome found.entry (λ f. f.0 ≡ slot) → IfSome found.entry (λ f. f.0 < 64) → EntersAt result slot }
+    ensures told { told result ≡
+        judged (option_map (λ x. program_of (tree_of x))
+        (option_map (λ f. f.1.now.script) found.entry)) is_passed is_active is_once }
+    ensures slot { (slot : ℕ) → IfSome found.entry (λ f. f.0 ≡ slot) → IfSome found.entry (λ f. f.0 < 64) →
+        EntersAt result slot }
 {
     match found {
         None => {
@@ -77,7 +80,9 @@ fn finding_of<'a>(
 
 /// What an include comes to, where the scripts of this chain are active.
 pub fn find<'a, C: Chain>(scope: &Scope<'a>, chain: &C, include: &Include<'_>) -> Finding<'a>
-    ensures told { told result ≡ judgement (library_of (scripts_of scope.now.shelves)) (names_of scope.now.main) (C.names chain.now) (asked include.now) }
+    ensures told { told result ≡
+        judgement (library_of (scripts_of scope.now.shelves)) (names_of scope.now.main) (C.names chain.now)
+        (asked include.now) }
     ensures slot { EntersAt result (slots_of (scripts_of scope.now.shelves) (script_of include.now.script)) }
 {
     finding_of(

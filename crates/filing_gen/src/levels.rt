@@ -36,7 +36,8 @@ pub trait Level {
 
     /// Subtracts what the script adds to the weight from `left`; none where it is more.
     fn weigh<C: Chain>(scope: &Scope<'_>, chain: &C, script: &Script, left: u32) -> Option<u32>
-        ensures { IsLeft left (entered_weight (library_of (scripts_of scope.now.shelves)) depth (C.names chain.now) (program_of (tree_of script.now))) result };
+        ensures { IsLeft left (entered_weight (library_of (scripts_of scope.now.shelves)) depth (C.names chain.now)
+            (program_of (tree_of script.now))) result };
 
     /// Writes the code that enters the script, whose slot must be below 64. The only error is a refused allocation.
     fn emit<C: Chain>(
@@ -48,8 +49,13 @@ pub trait Level {
         script: &Script,
     ) -> Result<(), AllocError>
         requires slot { slot < 64 }
-        requires room { HasRoom out.old (size (entered_flow (library_of (scripts_of scope.now.shelves)) (slots_of (scripts_of scope.now.shelves)) (names_of scope.now.main) depth (C.names chain.now) slot (program_of (tree_of script.now)))) }
-        ensures adds { OnOk result ((ends : List ℕ) → Emits out.old out.new (entered_flow (library_of (scripts_of scope.now.shelves)) (slots_of (scripts_of scope.now.shelves)) (names_of scope.now.main) depth (C.names chain.now) slot (program_of (tree_of script.now))) ends) };
+        requires room { HasRoom out.old
+            (size (entered_flow (library_of (scripts_of scope.now.shelves)) (slots_of (scripts_of scope.now.shelves))
+            (names_of scope.now.main) depth (C.names chain.now) slot (program_of (tree_of script.now)))) }
+        ensures adds { OnOk result ((ends : List ℕ) →
+            Emits out.old out.new (entered_flow (library_of (scripts_of scope.now.shelves))
+            (slots_of (scripts_of scope.now.shelves)) (names_of scope.now.main) depth (C.names chain.now) slot
+            (program_of (tree_of script.now))) ends) };
 }
 
 /// No further script may be active: the entry is fault 4.

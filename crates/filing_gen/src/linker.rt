@@ -26,5 +26,6 @@ pub trait Linker {
     /// Writes the code of an include. The only error is a refused allocation.
     fn emit(&self, alloc: Global, out: &mut Output, include: &Include<'_>) -> Result<(), AllocError>
         requires { HasRoom out.old (size (flow_of self.now (asked include.now))) }
-        ensures adds { OnOk result ((ends : List ℕ) → Emits out.old out.new (flow_of self.now (asked include.now)) ends) };
+        ensures adds { OnOk result ((ends : List ℕ) →
+            Emits out.old out.new (flow_of self.now (asked include.now)) ends) };
 }

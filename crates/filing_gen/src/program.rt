@@ -45,9 +45,13 @@ fn emit_program<L: Linker>(
     main: &Vec<Command>,
     operations: u32,
 ) -> Result<Output, AllocError>
-    requires room { commands_long (λ i. size (L.flow_of linker.now i)) (program_of (commands_of (map command_of main.now.items))) + 1 < 2 ^ 16 }
-    requires typed { HasType (script_flow (L.flow_of linker.now) (program_of (commands_of (map command_of main.now.items)))) ([] ∷ []) [] [] }
-    ensures { IfOk result (λ o. IsCode o (script_flow (L.flow_of linker.now) (program_of (commands_of (map command_of main.now.items))))) }
+    requires room { commands_long (λ i. size (L.flow_of linker.now i))
+        (program_of (commands_of (map command_of main.now.items))) + 1 < 2 ^ 16 }
+    requires typed { HasType
+        (script_flow (L.flow_of linker.now) (program_of (commands_of (map command_of main.now.items)))) ([] ∷
+        []) [] [] }
+    ensures { IfOk result (λ o. IsCode o
+        (script_flow (L.flow_of linker.now) (program_of (commands_of (map command_of main.now.items))))) }
 {
     let mut out = Output::with_room(alloc, operations)?;
     emit_commands(alloc, linker, &mut out, main, NO_PLACE)?;
@@ -82,9 +86,13 @@ fn build(
     scope: Scope<'_>,
     weight: u32,
 ) -> Result<Verified, GenFault>
-    requires weight { weight ≡ linked_weight (library_of (scripts_of scope.shelves)) (option_map (λ s. s.now) scope.main.known_as) (program_of (tree_of script.now)) }
+    requires weight { weight ≡
+        linked_weight (library_of (scripts_of scope.shelves)) (option_map (λ s. s.now) scope.main.known_as)
+        (program_of (tree_of script.now)) }
     requires small { weight ≤ greatest_weight }
-    ensures compiled { IfOk result (λ v. IsCompiled (library_of (scripts_of scope.entry.shelves)) (option_map (λ s. s.now) scope.entry.main.known_as) (program_of (tree_of script.now)) v) }
+    ensures compiled { IfOk result
+        (λ v. IsCompiled (library_of (scripts_of scope.entry.shelves))
+        (option_map (λ s. s.now) scope.entry.main.known_as) (program_of (tree_of script.now)) v) }
     ensures once { IfOk result (λ v. NamesOnce v) }
     ensures refused { IfErr result (λ f. f ≡ NoMemory) }
 {
@@ -101,7 +109,11 @@ fn build(
 
 /// The weight of a script and all that it includes; none where it is above 60,000.
 fn weigh(script: &Script, scope: Scope<'_>) -> Option<u32>
-    ensures { MatchOption result (greatest_weight < linked_weight (library_of (scripts_of scope.entry.shelves)) (option_map (λ s. s.now) scope.entry.main.known_as) (program_of (tree_of script.now))) (λ w. (w ≡ linked_weight (library_of (scripts_of scope.entry.shelves)) (option_map (λ s. s.now) scope.entry.main.known_as) (program_of (tree_of script.now))) × (w ≤ greatest_weight)) }
+    ensures { MatchOption result
+        (greatest_weight < linked_weight (library_of (scripts_of scope.entry.shelves))
+        (option_map (λ s. s.now) scope.entry.main.known_as) (program_of (tree_of script.now))) (λ w. (w ≡
+        linked_weight (library_of (scripts_of scope.entry.shelves)) (option_map (λ s. s.now) scope.entry.main.known_as)
+        (program_of (tree_of script.now))) × (w ≤ greatest_weight)) }
 {
     let includes: Includes<'_, MainScript<'_>, Levels> = Includes {
         scope,
@@ -126,9 +138,13 @@ pub fn compile(
     known_as: Option<&[u8]>,
     library: &Library,
 ) -> Result<Verified, GenFault>
-    ensures compiled { IfOk result (λ v. IsCompiled (library_of library.now) (option_map (λ s. s.now) known_as.entry) (program_of (tree_of main.now.script)) v) }
+    ensures compiled { IfOk result
+        (λ v. IsCompiled (library_of library.now) (option_map (λ s. s.now) known_as.entry)
+        (program_of (tree_of main.now.script)) v) }
     ensures once { IfOk result (λ v. NamesOnce v) }
-    ensures too_large { result ≡ Err TooLarge ↔ greatest_weight < linked_weight (library_of library.now) (option_map (λ s. s.now) known_as.entry) (program_of (tree_of main.now.script)) }
+    ensures too_large { result ≡ Err TooLarge ↔
+        greatest_weight < linked_weight (library_of library.now) (option_map (λ s. s.now) known_as.entry)
+        (program_of (tree_of main.now.script)) }
 {
     compile_with(alloc, main, known_as, library.shelves())
 }
@@ -141,9 +157,13 @@ pub fn compile_with(
     known_as: Option<&[u8]>,
     shelves: Shelves<'_>,
 ) -> Result<Verified, GenFault>
-    ensures compiled { IfOk result (λ v. IsCompiled (library_of (scripts_of shelves.entry)) (option_map (λ s. s.now) known_as.entry) (program_of (tree_of main.now.script)) v) }
+    ensures compiled { IfOk result
+        (λ v. IsCompiled (library_of (scripts_of shelves.entry)) (option_map (λ s. s.now) known_as.entry)
+        (program_of (tree_of main.now.script)) v) }
     ensures once { IfOk result (λ v. NamesOnce v) }
-    ensures too_large { result ≡ Err TooLarge ↔ greatest_weight < linked_weight (library_of (scripts_of shelves.entry)) (option_map (λ s. s.now) known_as.entry) (program_of (tree_of main.now.script)) }
+    ensures too_large { result ≡ Err TooLarge ↔
+        greatest_weight < linked_weight (library_of (scripts_of shelves.entry))
+        (option_map (λ s. s.now) known_as.entry) (program_of (tree_of main.now.script)) }
 {
     let script = main.script();
     let scope = Scope {

@@ -17,7 +17,8 @@ pub fn find_script<'a>(
     shelves: Shelves<'a>,
     script: &ScriptName<'_>,
 ) -> Option<(usize, &'a Checked)>
-    ensures script { option_map (λ f. f.1.now.script) result ≡ named script.now.name.now (location_of (is_global script.now.location) (scripts_of shelves.entry)) }
+    ensures script { option_map (λ f. f.1.now.script) result ≡
+        named script.now.name.now (location_of (is_global script.now.location) (scripts_of shelves.entry)) }
     ensures slot { IfSome result (λ f. f.0 ≡ slots_of (scripts_of shelves.entry) (script_of script.now)) }
     ensures inside { IfSome result (λ f. f.0 < 64) }
 {
@@ -33,7 +34,8 @@ pub fn find_script<'a>(
 /// The smallest number of slots that is enough for the scripts: 0 where there is no script, and at most 64.
 pub fn slot_count(shelves: Shelves<'_>) -> u16
     ensures enough { HasSlots (library_of (scripts_of shelves.entry)) (slots_of (scripts_of shelves.entry)) result }
-    ensures fewest { (n : ℕ) → HasSlots (library_of (scripts_of shelves.entry)) (slots_of (scripts_of shelves.entry)) n → result ≤ n }
+    ensures fewest { (n : ℕ) →
+        HasSlots (library_of (scripts_of shelves.entry)) (slots_of (scripts_of shelves.entry)) n → result ≤ n }
 {
     let personal = shelves.personal.len();
     let global = shelves.global.len();

@@ -40,7 +40,9 @@ fn weigh_exists(arguments: &[Argument], left: u32) -> Option<u32>
 
 /// Subtracts 4, 2 for each name of a `header`, and 3 for each of its keys.
 fn weigh_header(arguments: &[Argument], left: u32) -> Option<u32>
-    ensures { IsLeft left (test_weight (header_of (match_type_of arguments.now) (comparator_from false arguments.now) (string_lists false arguments.now))) result }
+    ensures { IsLeft left (test_weight
+        (header_of (match_type_of arguments.now) (comparator_from false arguments.now)
+        (string_lists false arguments.now))) result }
 {
     let left = left.checked_sub(4)?;
     let Some((names, rest)) = next_string_list(arguments) else {
@@ -153,7 +155,8 @@ fn weigh_part<L: Linker>(linker: &L, command: &Command, part: Part, left: u32) -
 /// Subtracts the weight of commands; none where it is more than `left`.
 #[cycle(weights)]
 pub fn weigh_commands<L: Linker>(linker: &L, commands: &Vec<Command>, left: u32) -> Option<u32>
-    ensures { IsLeft left (weight (L.weight_of linker.now) (program_of (commands_of (map command_of commands.now.items)))) result }
+    ensures { IsLeft left (weight (L.weight_of linker.now)
+        (program_of (commands_of (map command_of commands.now.items)))) result }
 {
     let mut rest = left;
     let mut is_open = false;
@@ -168,7 +171,8 @@ pub fn weigh_commands<L: Linker>(linker: &L, commands: &Vec<Command>, left: u32)
 /// The weight of a script and all that it includes, and 1; none where that is above `greatest`. Time is linear in the
 /// smaller of the two.
 pub fn script_weight<L: Linker>(linker: &L, script: &Script, greatest: u32) -> Option<u32>
-    ensures { MatchOption result (greatest < weight (L.weight_of linker.now) (program_of (tree_of script.now)) + 1) (λ w. (w ≡ weight (L.weight_of linker.now) (program_of (tree_of script.now)) + 1) × (w ≤ greatest)) }
+    ensures { MatchOption result (greatest < weight (L.weight_of linker.now) (program_of (tree_of script.now)) + 1)
+        (λ w. (w ≡ weight (L.weight_of linker.now) (program_of (tree_of script.now)) + 1) × (w ≤ greatest)) }
 {
     let left = weigh_commands(linker, &script.commands, greatest.checked_sub(1)?)?;
     Some(greatest - left)

@@ -54,9 +54,11 @@ abbrev pub parts : Program → Parts
 parts p = record { budget = p.budget; texts = p.texts; numbers = p.numbers; slots = p.slots; instructions = map instruction_of p.code }
 
 -- the parts of a program from the vectors that hold them
-abbrev pub parts_from : (budget : ℕ) (texts : List (Vec ℕ Global)) (numbers : List ℕ) (slots : ℕ) (instructions : List Instruction) → Parts
+abbrev pub parts_from : (budget : ℕ) (texts : List (Vec ℕ Global)) (numbers : List ℕ) (slots : ℕ)
+    (instructions : List Instruction) → Parts
 parts_from budget texts numbers slots instructions = record { budget = budget; texts = map (λ t. t.items) texts; numbers = numbers; slots = slots; instructions = instructions }
 
 -- a program from the vectors that hold its parts
-abbrev pub program_from : (budget : ℕ) (texts : List (Vec ℕ Global)) (numbers : List ℕ) (slots : ℕ) (code : List Operation) → Program
+abbrev pub program_from : (budget : ℕ) (texts : List (Vec ℕ Global)) (numbers : List ℕ) (slots : ℕ)
+    (code : List Operation) → Program
 program_from budget texts numbers slots code = record { budget = budget; texts = map (λ t. t.items) texts; numbers = numbers; slots = slots; code = code }

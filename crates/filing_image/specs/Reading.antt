@@ -19,7 +19,8 @@ Gives view (Err BadForm) read = read ≡ None
 Gives view (Err NoMemory) read = Unit {0}
 
 abbrev pub number_at : Width → List ℕ → Option (ℕ × List ℕ)
-number_at w octets = if nat_lt (length octets) (byte_len w) then None else Some (from_be_bytes w (take (byte_len w) octets), drop (byte_len w) octets)
+number_at w octets = if nat_lt (length octets) (byte_len w) then None
+    else Some (from_be_bytes w (take (byte_len w) octets), drop (byte_len w) octets)
 
 unfoldable pub text_at : List ℕ → Option (List ℕ × List ℕ)
 text_at octets = do
@@ -43,7 +44,8 @@ many_at read (suc n) octets = do
 
 -- the octets after the mark
 unfoldable pub marked : List ℕ → Option (List ℕ)
-marked (b0 ∷ b1 ∷ b2 ∷ b3 ∷ rest) = if (b0 == 0x53) && ((b1 == 0x46) && ((b2 == 0x49) && (b3 == 0x31))) then Some rest else None
+marked (b0 ∷ b1 ∷ b2 ∷ b3 ∷ rest) = if (b0 == 0x53) && ((b1 == 0x46) && ((b2 == 0x49) && (b3 == 0x31))) then Some rest
+    else None
 marked _ = None
 
 -- the four counts of an image

@@ -25,7 +25,10 @@ impl Model for Image {
 
     ghost view = { λ i. record { budget = i.budget; texts = map (λ t. t.items) i.texts.items; numbers = i.numbers.items; slots = i.slots; code = i.code.items } };
 
-    ghost invariant = { λ i. (length i.texts.items < 2 ^ 16) × (length i.numbers.items < 2 ^ 16) × (length i.code.items < 2 ^ 16) × All (λ t. length t.items < 2 ^ 16) i.texts.items × All (λ n. n < 2 ^ 64) i.numbers.items × All FitsInstruction (map instruction_of i.code.items) × (i.budget < 2 ^ 32) × (i.slots < 2 ^ 16) };
+    ghost invariant = { λ i. (length i.texts.items < 2 ^ 16) × (length i.numbers.items < 2 ^ 16) ×
+        (length i.code.items < 2 ^ 16) × All (λ t. length t.items < 2 ^ 16) i.texts.items ×
+        All (λ n. n < 2 ^ 64) i.numbers.items × All FitsInstruction (map instruction_of i.code.items) ×
+        (i.budget < 2 ^ 32) × (i.slots < 2 ^ 16) };
 }
 
 impl Image {
@@ -42,11 +45,13 @@ impl Image {
         slots: u16,
         instructions: Vec<Instruction>,
     ) -> Result<Image, FormFault>
-        ensures made { IfOk result (λ i. parts i ≡ parts_from budget texts.items numbers.items slots instructions.items) }
+        ensures made { IfOk result (λ i. parts i ≡
+            parts_from budget texts.items numbers.items slots instructions.items) }
         ensures fits { IfOk result (λ i. Fits (parts i)) }
         ensures refused { let given = parts_from budget texts.items numbers.items slots instructions.items in
             result ≡ Err FormFault.BadForm → IsShort given → IsProgram given → ⊥ }
-        ensures short { result ≡ Err FormFault.NoMemory → IsShort (parts_from budget texts.items numbers.items slots instructions.items) }
+        ensures short { result ≡ Err FormFault.NoMemory →
+            IsShort (parts_from budget texts.items numbers.items slots instructions.items) }
     {
         if texts.len() > 65_535 || numbers.len() > 65_535 || instructions.len() > 65_535 {
             return Err(FormFault::BadForm);
@@ -77,7 +82,8 @@ impl Image {
         code: Vec<Operation>,
     ) -> Result<Image, FormFault>
         ensures made { IfOk result (λ i. i ≡ program_from budget texts.items numbers.items slots code.items) }
-        ensures refused { IfErr result (λ f. (f ≡ FormFault.BadForm) × (IsShort (parts (program_from budget texts.items numbers.items slots code.items)) → ⊥)) }
+        ensures refused { IfErr result (λ f. (f ≡ FormFault.BadForm) ×
+            (IsShort (parts (program_from budget texts.items numbers.items slots code.items)) → ⊥)) }
     {
         if texts.len() > 65_535 || numbers.len() > 65_535 || code.len() > 65_535 {
             return Err(FormFault::BadForm);

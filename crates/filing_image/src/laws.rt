@@ -8,5 +8,6 @@ ghost use Rattle.filing_image.specs.Spelling.{spelling, Fits};
 /// octets spell at most one image. Decoding what `encode` gave answers the same image, and encoding what `decode`
 /// answered gives the same octets.
 pub fn one_spelling()
-    ensures { (p q : Program) (x y : List ℕ) → Fits (parts p) → Fits (parts q) → spelling (parts p) ++ x ≡ spelling (parts q) ++ y → (p ≡ q) × (x ≡ y) }
+    ensures { (p q : Program) (x y : List ℕ) → Fits (parts p) → Fits (parts q) →
+        spelling (parts p) ++ x ≡ spelling (parts q) ++ y → (p ≡ q) × (x ≡ y) }
 {}

@@ -23,7 +23,8 @@ pub fn decode(alloc: Global, octets: &[u8]) -> Result<Image, FormFault>
     // They are the spelling of no other program.
     ensures only { IfOk result (λ i. (p : Program) → Fits (parts p) → octets.now ≡ spelling (parts p) → i ≡ p) }
     // No program's spelling is refused for its form.
-    ensures refused { result ≡ Err FormFault.BadForm → (p : Program) → Fits (parts p) → octets.now ≡ spelling (parts p) → ⊥ }
+    ensures refused { result ≡ Err FormFault.BadForm → (p : Program) → Fits (parts p) →
+        octets.now ≡ spelling (parts p) → ⊥ }
 {
     let written = all(alloc, octets)?;
     Image::new(

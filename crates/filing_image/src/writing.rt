@@ -33,7 +33,10 @@ pub fn encode(alloc: Global, image: &Image) -> Result<Vec<u8>, AllocError>
 
 /// Writes the counts of texts, numbers, slots and instructions, in two octets each.
 fn put_counts(out: &mut Vec<u8>, image: &Image) -> Result<(), AllocError>
-    ensures { OnOk result (out.new.items ≡ out.old.items ++ (to_be_bytes w16 (length image.now.texts) ++ (to_be_bytes w16 (length image.now.numbers) ++ (to_be_bytes w16 image.now.slots ++ to_be_bytes w16 (length image.now.code))))) }
+    ensures { OnOk result (out.new.items ≡ out.old.items ++
+        (to_be_bytes w16 (length image.now.texts) ++
+        (to_be_bytes w16 (length image.now.numbers) ++
+        (to_be_bytes w16 image.now.slots ++ to_be_bytes w16 (length image.now.code))))) }
 {
     put_u16(out, image.text_count() as u16)?;
     put_u16(out, image.numbers().len() as u16)?;

@@ -31,7 +31,8 @@ pub fn act<C: Case>(
     requires in_range { InRange image.now operation }
     requires slots { image.now.slots ≤ 64 }
     requires deep { length at.old.stack ≤ 32 }
-    ensures does { IfOk result (λ end. act image.now (C.facts case.now) operation (state (C.facts case.now) at.old) ≡ run_at end (state (C.facts case.now) at.new)) }
+    ensures does { IfOk result (λ end. act image.now (C.facts case.now) operation (state (C.facts case.now) at.old) ≡
+        run_at end (state (C.facts case.now) at.new)) }
     ensures in_case { AllByRecursion (InCase (C.facts case.now)) at.new.stack }
     ensures err { OnErr result (at.new ≡ at.old) }
     ensures modest { IsModest operation → IsOk result }
@@ -151,7 +152,8 @@ fn file<C: Case>(
     at: &mut Standing,
 ) -> Result<Option<End>, AllocError>
     requires { at.old.place < 2 ^ 62 }
-    ensures does { IfOk result (λ end. file (C.facts case.now) (state (C.facts case.now) at.old) how path.now ≡ run_at end (state (C.facts case.now) at.new)) }
+    ensures does { IfOk result (λ end. file (C.facts case.now) (state (C.facts case.now) at.old) how path.now ≡
+        run_at end (state (C.facts case.now) at.new)) }
     ensures stack { at.new.stack ≡ at.old.stack }
     ensures err { OnErr result (at.new ≡ at.old) }
 {
@@ -172,7 +174,9 @@ fn join<C: Case>(case: &C, at: &mut Standing) -> Result<Option<End>, AllocError>
     requires in_case { AllByRecursion (InCase (C.facts case.now)) at.old.stack }
     requires deep { length at.old.stack ≤ 32 }
     ensures to { IfOk result (λ end. end ≡ None) }
-    ensures does { OnOk result (joined (state (C.facts case.now) at.old) (map (entry (C.facts case.now)) at.old.stack) ≡ state (C.facts case.now) at.new) }
+    ensures does { OnOk result
+        (joined (state (C.facts case.now) at.old) (map (entry (C.facts case.now)) at.old.stack) ≡
+        state (C.facts case.now) at.new) }
     ensures in_case { AllByRecursion (InCase (C.facts case.now)) at.new.stack }
     ensures err { OnErr result (at.new ≡ at.old) }
 {

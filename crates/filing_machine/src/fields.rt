@@ -31,7 +31,8 @@ pub fn fields_named<C: Case>(
     case: &C,
     name: &[u8],
 ) -> Result<FieldPlaces, AllocError>
-    ensures values { IfOk result (λ v. map (λ place. (field_at (C.facts case.now) place).value) v ≡ values_of (C.facts case.now) name.now) }
+    ensures values { IfOk result (λ v. map (λ place. (field_at (C.facts case.now) place).value) v ≡
+        values_of (C.facts case.now) name.now) }
     ensures in_case { IfOk result (λ v. All (λ place. place < length (C.facts case.now).fields) v) }
 {
     let mut fields = FieldPlaces::new(alloc);
@@ -48,7 +49,8 @@ pub fn fields_named<C: Case>(
 #[tactic(auto, using(crate::proofs::FindLemmas::is_some_find, crate::proofs::FindLemmas::any_of_map))]
 pub fn any_matches<C: Case>(case: &C, fields: &FieldPlaces, comparison: u8, key: &[u8]) -> bool
     requires { All (λ place. place < length (C.facts case.now).fields) fields.now }
-    ensures { result ≡ list_any (compared comparison key.now) (map (λ place. (field_at (C.facts case.now) place).value) fields.now) }
+    ensures { result ≡ list_any (compared comparison key.now)
+        (map (λ place. (field_at (C.facts case.now) place).value) fields.now) }
 {
     first_match(case, fields, comparison, key).is_some()
 }
@@ -76,7 +78,8 @@ fn first_value_match<C: Case>(
     key: &[u8],
 ) -> Option<usize>
     requires { All (λ place. place < length (C.facts case.now).fields) fields.now }
-    ensures { result ≡ find (λ place. key_matches_by match_type comparator key.now (field_at (C.facts case.now) place).value) fields.now }
+    ensures { result ≡ find (λ place. key_matches_by match_type comparator key.now
+        (field_at (C.facts case.now) place).value) fields.now }
 {
     for index in 0..fields.count() {
         let field = fields.at(index);

@@ -12,5 +12,6 @@ ghost use Rattle.filing_table.specs.Ends.{HasOutcome};
 /// as the program's budget.
 pub fn every_run_ends()
     ensures never_traps { (p : Program) (c : Facts) (n : ℕ) → IsWell p → after_steps p c n ≢ Trap }
-    ensures ends { (p : Program) (c : Facts) → IsWell p → (n : ℕ) × (o : Outcome) × (n ≤ p.budget) × HasOutcome p c n o }
+    ensures ends { (p : Program) (c : Facts) → IsWell p → (n : ℕ) × (o : Outcome) × (n ≤ p.budget) ×
+        HasOutcome p c n o }
 {}

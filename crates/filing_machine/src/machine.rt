@@ -72,7 +72,8 @@ impl Machine {
         requires running { self.old.end ≡ None }
         requires stands { Stands program.now (C.facts case.now) self.old }
         ensures stands { Stands program.now (C.facts case.now) self.new }
-        ensures step { OnOk result (seen (C.facts case.now) self.new ≡ step program.now (C.facts case.now) (seen (C.facts case.now) self.old)) }
+        ensures step { OnOk result (seen (C.facts case.now) self.new ≡
+            step program.now (C.facts case.now) (seen (C.facts case.now) self.old)) }
         ensures count { OnOk result (self.new.steps ≡ self.old.steps + 1) }
         ensures budget { self.new.steps ≤ program.now.budget }
         ensures err { OnErr result (self.new ≡ self.old) }
@@ -138,7 +139,8 @@ impl Machine {
         requires { is_some self.now.end ≡ true }
         ensures leaves { IfOk result (λ o. Leaves self.now (answer o)) }
         ensures steps { IfOk result (λ o. o.steps ≡ self.now.steps) }
-        ensures of_run { IfOk result (λ o. (p : Program) (c : Facts) → Stands p c self.now → HasOutcome p c o.steps (answer o)) }
+        ensures of_run { IfOk result (λ o. (p : Program) (c : Facts) → Stands p c self.now →
+            HasOutcome p c o.steps (answer o)) }
     {
         let Some(fault) = self.end else {
             unreachable!()

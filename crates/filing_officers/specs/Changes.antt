@@ -11,4 +11,5 @@ use Rattle.filing_officers.specs.Current.{AllKeepCurrent}
 -- The officer of that name is now o, and each other officer is the same. No kept image of the officer's is left.
 pub record ChangesOnly (old new : List (Vec ℕ Global × Profile)) (name : List ℕ) (o : Officer) : Type 0 where
   pub officers : (n : List ℕ) → officer_in new n ≡ (if bytes_eq n name then o else officer_in old n)
-  pub images : (edition : ℕ) (globals : List NamedScript) → AllKeepCurrent edition globals old → AllKeepCurrent edition globals new
+  pub images : (edition : ℕ) (globals : List NamedScript) → AllKeepCurrent edition globals old →
+      AllKeepCurrent edition globals new

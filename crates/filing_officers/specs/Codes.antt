@@ -24,7 +24,8 @@ active-cases (script_named name) = refl
 active-cases (image p) = refl
 
 abbrev active_code : Coded Active
-active_code = code_by (Option (List ℕ ⊎ Program)) (coded_option (coded⊎ (coded_list coded_ℕ) verified.the_row.coded)) cases active active-cases
+active_code = code_by (Option (List ℕ ⊎
+    Program)) (coded_option (coded⊎ (coded_list coded_ℕ) verified.the_row.coded)) cases active active-cases
 
 abbrev settings_code : Coded Settings
 settings_code =

@@ -27,4 +27,5 @@ KeepsCurrent edition globals s (Some k) = IsCurrent edition globals s k
 -- The same for each officer.
 abbrev pub AllKeepCurrent : (edition : ℕ) (globals : List NamedScript) → List (Vec ℕ Global × Profile) → Type 0
 AllKeepCurrent edition globals [] = Unit {0}
-AllKeepCurrent edition globals (e ∷ es) = KeepsCurrent edition globals (settings_of e.1) e.1.kept × AllKeepCurrent edition globals es
+AllKeepCurrent edition globals (e ∷ es) = KeepsCurrent edition globals (settings_of e.1) e.1.kept ×
+    AllKeepCurrent edition globals es

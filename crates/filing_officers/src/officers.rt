@@ -70,7 +70,8 @@ impl Officers {
     /// thirty-two global scripts have other names (96) and where there is no memory (99); nothing is changed then.
     /// Images that were kept before are not used again.
     pub fn set_global(&mut self, name: &[u8], script: Checked) -> Result<(), DeskFault>
-        ensures done { OnOk result ((a : Archive) → office_of a self.new ≡ sharing (office_of a self.old) name.now (meaning_of script.script)) }
+        ensures done { OnOk result ((a : Archive) →
+            office_of a self.new ≡ sharing (office_of a self.old) name.now (meaning_of script.script)) }
         ensures full { result ≡ Err LibraryFull → HasNoRoom (meanings_of self.old.globals) name.now }
         ensures has_room { OnOk result (HasNoRoom (meanings_of self.old.globals) name.now → ⊥) }
         ensures fault { IfErr result (λ f. (f ≡ LibraryFull) ⊎ (f ≡ NoMemory)) }
@@ -90,8 +91,10 @@ impl Officers {
         name: &[u8],
         script: Checked,
     ) -> Result<(), DeskFault>
-        ensures done { OnOk result ((a : Archive) → office_of a self.new ≡ keeping (office_of a self.old) officer.now name.now (meaning_of script.script)) }
-        ensures full { result ≡ Err LibraryFull → HasNoRoom (officer_at officer.now self.old.officers).scripts name.now }
+        ensures done { OnOk result ((a : Archive) →
+            office_of a self.new ≡ keeping (office_of a self.old) officer.now name.now (meaning_of script.script)) }
+        ensures full { result ≡ Err LibraryFull →
+            HasNoRoom (officer_at officer.now self.old.officers).scripts name.now }
         ensures has_room { OnOk result (HasNoRoom (officer_at officer.now self.old.officers).scripts name.now → ⊥) }
         ensures fault { IfErr result (λ f. (f ≡ LibraryFull) ⊎ (f ≡ NoMemory)) }
         ensures unchanged { OnErr result (self.new ≡ self.old) }
@@ -104,9 +107,12 @@ impl Officers {
     /// Sets the script of that name as an officer's program: the one that has the name when a capture begins. Refused
     /// where the officer has no script of that name (93) and where there is no memory (99); nothing is changed then.
     pub fn activate(&mut self, officer: &[u8], name: &[u8]) -> Result<(), DeskFault>
-        ensures done { OnOk result ((a : Archive) → office_of a self.new ≡ setting (office_of a self.old) officer.now (script_named name.now)) }
-        ensures no_script { result ≡ Err NoScript ↔ (is_some (script_at name.now (officer_at officer.now self.old.officers).scripts) ≡ false) }
-        ensures there { OnOk result (is_some (script_at name.now (officer_at officer.now self.old.officers).scripts) ≡ true) }
+        ensures done { OnOk result ((a : Archive) →
+            office_of a self.new ≡ setting (office_of a self.old) officer.now (script_named name.now)) }
+        ensures no_script { result ≡ Err NoScript ↔
+            (is_some (script_at name.now (officer_at officer.now self.old.officers).scripts) ≡ false) }
+        ensures there { OnOk result (is_some (script_at name.now (officer_at officer.now self.old.officers).scripts) ≡
+            true) }
         ensures fault { IfErr result (λ f. (f ≡ NoScript) ⊎ (f ≡ NoMemory)) }
         ensures unchanged { OnErr result (self.new ≡ self.old) }
     {
@@ -132,7 +138,8 @@ impl Officers {
 
     /// Sets an image as an officer's program. The only refusal is no memory (99); nothing is changed then.
     pub fn set_image(&mut self, officer: &[u8], program: Verified) -> Result<(), DeskFault>
-        ensures done { OnOk result ((a : Archive) → office_of a self.new ≡ setting (office_of a self.old) officer.now (image program)) }
+        ensures done { OnOk result ((a : Archive) →
+            office_of a self.new ≡ setting (office_of a self.old) officer.now (image program)) }
         ensures fault { IfErr result (λ f. f ≡ NoMemory) }
         ensures unchanged { OnErr result (self.new ≡ self.old) }
     {
@@ -153,7 +160,8 @@ impl Officers {
     /// A script is compiled once, and again only after the officer's program or a script that it can include was set.
     /// The image is shared. What officers have set stays the same.
     pub fn pin(&mut self, officer: &[u8]) -> Result<Rc<Verified>, AllocError>
-        ensures pinned { IfOk result (λ v. PinsFor (officer_at officer.now self.old.officers) (meanings_of self.old.globals) v.value) }
+        ensures pinned { IfOk result
+            (λ v. PinsFor (officer_at officer.now self.old.officers) (meanings_of self.old.globals) v.value) }
         ensures well { IfOk result (λ v. IsWell v.value) }
         ensures unchanged { self.new ≡ self.old }
     {

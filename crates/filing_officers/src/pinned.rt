@@ -40,7 +40,8 @@ fn pin_script(
     script: &Checked,
     shelves: Shelves<'_>,
 ) -> Result<Verified, AllocError>
-    ensures { IfOk result (λ v. PinsChosen (chosen_script name.now (meaning_of script.now.script)) (library_in (scripts_of shelves.entry)) v) }
+    ensures { IfOk result (λ v. PinsChosen (chosen_script name.now (meaning_of script.now.script))
+        (library_in (scripts_of shelves.entry)) v) }
 {
     match compile_with(alloc, script, Some(name), shelves) {
         Ok(program) => Ok(program),

@@ -48,7 +48,8 @@ pub(crate) fn put_on(
     name: &[u8],
     script: Rc<Checked>,
 ) -> Result<(), LibraryFault>
-    ensures ok { OnOk result (meanings_of shelf.new ≡ put_meaning name.now (meaning_of script.value.script) (meanings_of shelf.old)) }
+    ensures ok { OnOk result (meanings_of shelf.new ≡
+        put_meaning name.now (meaning_of script.value.script) (meanings_of shelf.old)) }
     ensures full { result ≡ Err Full ↔ HasNoRoom (meanings_of shelf.old) name.now }
     ensures err { OnErr result (shelf.new ≡ shelf.old) }
 {
@@ -118,7 +119,8 @@ impl Profile {
         edition: u64,
     ) -> Result<Rc<Verified>, AllocError>
         requires { KeepsCurrent edition globals.now (settings_of self.old) self.old.kept }
-        ensures pinned { IfOk result (λ v. PinsFor (officer_of (settings_of self.old)) (meanings_of globals.now) v.value) }
+        ensures pinned { IfOk result
+            (λ v. PinsFor (officer_of (settings_of self.old)) (meanings_of globals.now) v.value) }
         ensures current { KeepsCurrent edition globals.now (settings_of self.new) self.new.kept }
         ensures settings { settings_of self.new ≡ settings_of self.old }
     {

@@ -75,7 +75,8 @@ pub(crate) fn set(
 
 /// Sets no program for an officer. It allocates nothing.
 pub(crate) fn clear(profiles: &mut BTreeMap<Vec<u8>, Profile>, officer: &[u8])
-    ensures { ChangesOnly profiles.old.entries profiles.new.entries officer.now (with_program (officer_in profiles.old.entries officer.now) no_program) }
+    ensures { ChangesOnly profiles.old.entries profiles.new.entries officer.now
+        (with_program (officer_in profiles.old.entries officer.now) no_program) }
 {
     if let Some(profile) = profiles.get_mut(officer) {
         profile.set(Active::NoProgram);
@@ -91,7 +92,8 @@ pub(crate) fn pin(
     edition: u64,
 ) -> Result<Rc<Verified>, AllocError>
     requires { AllKeepCurrent edition globals.now profiles.old.entries }
-    ensures pinned { IfOk result (λ v. PinsFor (officer_in profiles.old.entries officer.now) (meanings_of globals.now) v.value) }
+    ensures pinned { IfOk result
+        (λ v. PinsFor (officer_in profiles.old.entries officer.now) (meanings_of globals.now) v.value) }
     ensures images { AllKeepCurrent edition globals.now profiles.new.entries }
     ensures settings { settings_in profiles.new.entries ≡ settings_in profiles.old.entries }
 {

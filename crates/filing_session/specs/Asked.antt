@@ -60,15 +60,18 @@ plan_of _ = BadWord
 
 abbrev pub script_of : List (List ℕ) → Asked
 script_of (officer ∷ name ∷ text ∷ []) =
-    if is_name officer && is_name name then with_number (SetScript officer name) (number_of greatest_length text) else BadWord
+    if is_name officer && is_name name then with_number (SetScript officer name) (number_of greatest_length text)
+    else BadWord
 script_of _ = BadWord
 
 abbrev pub global_of : List (List ℕ) → Asked
-global_of (name ∷ text ∷ []) = if is_name name then with_number (SetGlobal name) (number_of greatest_length text) else BadWord
+global_of (name ∷ text ∷ []) = if is_name name then with_number (SetGlobal name) (number_of greatest_length text)
+    else BadWord
 global_of _ = BadWord
 
 abbrev pub active_of : List (List ℕ) → Asked
-active_of (officer ∷ name ∷ []) = if is_name officer && is_name name then Alone (plain (activate officer name)) else BadWord
+active_of (officer ∷ name ∷ []) = if is_name officer && is_name name then Alone (plain (activate officer name))
+    else BadWord
 active_of _ = BadWord
 
 abbrev pub inactive_of : List (List ℕ) → Asked
@@ -76,11 +79,13 @@ inactive_of (officer ∷ []) = if is_name officer then Alone (plain (deactivate 
 inactive_of _ = BadWord
 
 abbrev pub image_of : List (List ℕ) → Asked
-image_of (officer ∷ image ∷ []) = if is_name officer then with_number (SetImage officer) (number_of greatest_length image) else BadWord
+image_of (officer ∷ image ∷ []) = if is_name officer
+    then with_number (SetImage officer) (number_of greatest_length image) else BadWord
 image_of _ = BadWord
 
 abbrev pub file_of : List (List ℕ) → Asked
-file_of (script ∷ message ∷ []) = with_numbers File (number_of greatest_length script) (number_of greatest_length message)
+file_of (script ∷ message ∷
+    []) = with_numbers File (number_of greatest_length script) (number_of greatest_length message)
 file_of _ = BadWord
 
 abbrev pub try_of : List (List ℕ) → Asked
@@ -89,11 +94,13 @@ try_of _ = BadWord
 
 abbrev pub begin_of : List (List ℕ) → Asked
 begin_of (officer ∷ moment ∷ message ∷ []) =
-    if is_name officer then with_numbers (Begin officer) (number_of greatest_number moment) (number_of greatest_length message) else BadWord
+    if is_name officer then with_numbers (Begin officer) (number_of greatest_number moment)
+    (number_of greatest_length message) else BadWord
 begin_of _ = BadWord
 
 abbrev pub turn_of : List (List ℕ) → Asked
-turn_of (ticket ∷ count ∷ []) = with_numbers (λ t k. Alone (turn t k)) (number_of greatest_number ticket) (number_of greatest_count count)
+turn_of (ticket ∷ count ∷
+    []) = with_numbers (λ t k. Alone (turn t k)) (number_of greatest_number ticket) (number_of greatest_count count)
 turn_of _ = BadWord
 
 abbrev pub finish_of : List (List ℕ) → Asked
@@ -101,11 +108,13 @@ finish_of (ticket ∷ []) = with_number (λ t. Alone (finish t)) (number_of grea
 finish_of _ = BadWord
 
 abbrev pub hold_of : List (List ℕ) → Asked
-hold_of (name ∷ number ∷ []) = if is_name name then with_number (λ r. Alone (plain (hold name r))) (number_of greatest_number number) else BadWord
+hold_of (name ∷ number ∷ []) = if is_name name
+    then with_number (λ r. Alone (plain (hold name r))) (number_of greatest_number number) else BadWord
 hold_of _ = BadWord
 
 abbrev pub release_of : List (List ℕ) → Asked
-release_of (name ∷ number ∷ []) = if is_name name then with_number (λ r. Alone (plain (release name r))) (number_of greatest_number number) else BadWord
+release_of (name ∷ number ∷ []) = if is_name name
+    then with_number (λ r. Alone (plain (release name r))) (number_of greatest_number number) else BadWord
 release_of _ = BadWord
 
 abbrev pub due_of : List (List ℕ) → Asked
@@ -113,7 +122,8 @@ due_of (date ∷ []) = with_number (λ d. Alone (plain (due d))) (day_of date)
 due_of _ = BadWord
 
 abbrev pub destroy_of : List (List ℕ) → Asked
-destroy_of (number ∷ date ∷ []) = with_numbers (λ r d. Alone (plain (destroy r d))) (number_of greatest_number number) (day_of date)
+destroy_of (number ∷ date ∷
+    []) = with_numbers (λ r d. Alone (plain (destroy r d))) (number_of greatest_number number) (day_of date)
 destroy_of _ = BadWord
 
 abbrev pub quit_of : List (List ℕ) → Asked

@@ -19,7 +19,8 @@ civil_from None month day = None
 -- the year, the month and the day of a word: four, two and two digits
 abbrev pub civil_of : List ℕ → Option Civil
 civil_of word =
-    if has_dashes word then civil_from (number_in 9999 (take 4 word)) (number_in 12 (take 2 (drop 5 word))) (number_in 31 (take 2 (drop 8 word))) else None
+    if has_dashes word then civil_from (number_in 9999 (take 4 word)) (number_in 12 (take 2 (drop 5 word)))
+    (number_in 31 (take 2 (drop 8 word))) else None
 
 -- a date that the calendar has, in the years 1970 to 9999
 abbrev pub is_real : Civil → Bool

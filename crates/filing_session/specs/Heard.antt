@@ -9,7 +9,8 @@ use Rattle.filing_session.specs.declared.stream.ReadFault.{ReadFault}
 use Rattle.filing_session.specs.declared.items.Said.TheVariants as said
 
 -- an item is executed with this answer, and an ending changes nothing; each leaves the rest of the input
-abbrev pub Answers : {D : Type 0} → (D → Command → Answer → D → Type 0) → D → Heard → Said → D → (left : List ℕ) → Type 0
+abbrev pub Answers : {D : Type 0} → (D → Command → Answer → D → Type 0) → D → Heard → Said → D → (left : List ℕ) →
+    Type 0
 Answers Does s h (said.Reply r) new left = (item : Item) × (h ≡ Got item left) × ItemStep Does s item (answer_of r) new
 Answers Does s h (said.End e) new left = (h ≡ Stop e left) × (new ≡ s)
 

@@ -31,12 +31,14 @@ pub record Session : Type 0 where
 
 -- a payload follows the line's LF directly
 abbrev pub with_payload : (size : ℕ) → (List ℕ → Command) → (rest : List ℕ) → Heard
-with_payload size command rest = if nat_le size (length rest) then Got (Call (command (take size rest))) (drop size rest) else Stop ending.CutShort []
+with_payload size command rest = if nat_le size (length rest)
+    then Got (Call (command (take size rest))) (drop size rest) else Stop ending.CutShort []
 
 -- and a second one directly follows the first
 abbrev pub with_payloads : (first second : ℕ) → (List ℕ → List ℕ → Command) → (rest : List ℕ) → Heard
 with_payloads first second command rest =
-    if nat_le (first + second) (length rest) then Got (Call (command (take first rest) (take second (drop first rest)))) (drop (first + second) rest)
+    if nat_le (first + second) (length rest)
+    then Got (Call (command (take first rest) (take second (drop first rest)))) (drop (first + second) rest)
     else Stop ending.CutShort []
 
 abbrev pub heard_line : Asked → (rest : List ℕ) → Heard
@@ -117,12 +119,14 @@ module _ {D : Type 0} (Does : D → Command → Answer → D → Type 0) where
   -- all items were done, and all answers and the ending were written
   abbrev pub IsServed : Session → D → (old written : List ℕ) → D → Type 0
   IsServed session s old written new =
-      (answers : List Answer) × Run s session.items answers new × (written ≡ old ++ answers_octets answers ++ ending_octets session.ending)
+      (answers : List Answer) × Run s session.items answers new ×
+      (written ≡ old ++ answers_octets answers ++ ending_octets session.ending)
 
   -- some first items were done, and all their answers were written
   abbrev pub IsAnswered : Session → D → (old written : List ℕ) → D → Type 0
   IsAnswered session s old written new =
-      (n : ℕ) × (answers : List Answer) × Run s (take n session.items) answers new × (written ≡ old ++ answers_octets answers)
+      (n : ℕ) × (answers : List Answer) × Run s (take n session.items) answers new ×
+      (written ≡ old ++ answers_octets answers)
 
   -- some first items were done, all their answers but the last were written, and of the last a prefix
   abbrev pub IsCutInAnswer : Session → D → (old written : List ℕ) → D → Type 0
@@ -133,7 +137,8 @@ module _ {D : Type 0} (Does : D → Command → Answer → D → Type 0) where
   -- all items were done, all their answers were written, and of the ending a prefix
   abbrev pub IsCutInEnding : Session → D → (old written : List ℕ) → D → Type 0
   IsCutInEnding session s old written new =
-      (answers : List Answer) × Run s session.items answers new × IsAfter (old ++ answers_octets answers) (ending_octets session.ending) written
+      (answers : List Answer) × Run s session.items answers new ×
+      IsAfter (old ++ answers_octets answers) (ending_octets session.ending) written
 
   -- a rest of the output is missing, of the last answer or of the ending
   abbrev pub IsCut : Session → D → (old written : List ℕ) → D → Type 0

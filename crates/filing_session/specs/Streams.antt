@@ -49,7 +49,8 @@ GivesUp failures failures' interruptions' = Rises failures failures' ⊎ (64 ≤
 -- What a result says about the troubles before it, by the counts of failures, of the last interruptions in a row, and
 -- of the most in a row. After a fault some call failed or 64 in a row were interrupted, and never more were. Without a
 -- fault no call failed, and fewer than 64 in a row were interrupted.
-abbrev pub TellsTroubles : {V T F : Type 0} → (failures interruptions most : V → ℕ) → Result T F → (old new : V) → Type 0
+abbrev pub TellsTroubles : {V T F : Type 0} → (failures interruptions most : V → ℕ) → Result T F → (old new : V) →
+    Type 0
 TellsTroubles failures interruptions most result old new = record {
   fault : OnErr result (GivesUp (failures old) (failures new) (interruptions new));
   within : most new ≤ max (most old) (interruptions old + 64);

@@ -14,7 +14,8 @@ are_digits word = nat_lt 0 (length word) && list_all is_ascii_digit word
 
 -- the number that digits spell, with leading zeros or without, where it is not above the greatest
 unfoldable pub number_in : (greatest : ℕ) → List ℕ → Option ℕ
-number_in greatest word = if are_digits word && nat_le (digits_value 10 word) greatest then Some (digits_value 10 word) else None
+number_in greatest word = if are_digits word && nat_le (digits_value 10 word) greatest then Some (digits_value 10 word)
+    else None
 
 -- a zero before another octet
 abbrev pub has_leading_zero : List ℕ → Bool

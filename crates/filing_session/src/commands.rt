@@ -137,7 +137,8 @@ pub fn limits_of_two(command: TwoPayloads) -> (usize, usize)
 
 /// Executes a command with one payload. A message is moved into the call, and not copied.
 pub fn do_one<R: Registry>(registry: &mut R, command: OnePayload<'_>, payload: Payload) -> Reply
-    ensures { CallsWith R.clean R.stands registry.old (one_limit command.entry) payload (one_command command.entry) (answer_of result) registry.new }
+    ensures { CallsWith R.clean R.stands registry.old (one_limit command.entry) payload (one_command command.entry)
+        (answer_of result) registry.new }
 {
     match command {
         OnePayload::SetPlan => settled(registry.set_plan(&payload)),

@@ -38,7 +38,8 @@ impl<R: Read> Input<R> {
     fn read_on(&mut self, room: &mut [u8]) -> io::Result<usize>
         requires { 0 < length room.old }
         ensures within { IfOk result (λ n. n ≤ length room.old) }
-        ensures octets { ReadConsumes (octets_left R.remaining self.old) (octets_left R.remaining self.new) result room.new }
+        ensures octets { ReadConsumes (octets_left R.remaining self.old)
+            (octets_left R.remaining self.new) result room.new }
         ensures tally { self.new.tally ≡ self.old.tally }
         ensures ends { self.new.ends ≡ self.old.ends }
     {

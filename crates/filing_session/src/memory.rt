@@ -164,9 +164,12 @@ impl MemorySink {
     fn meet(&mut self, hitch: Hitch) -> Result<usize, Trouble>
         ensures written { written_of self.new ≡ written_of self.old }
         ensures count { IfOk result (λ n. n ≡ 0) }
-        ensures failures { (size : ℕ) → 0 < size → Counts (fails_to_write size result) self.old.tally.failures self.new.tally.failures }
-        ensures interruptions { CountsInARow (is_interrupted result) self.old.tally.interruptions self.new.tally.interruptions }
-        ensures most { self.new.tally.most_interruptions ≡ max self.old.tally.most_interruptions self.new.tally.interruptions }
+        ensures failures { (size : ℕ) → 0 < size →
+            Counts (fails_to_write size result) self.old.tally.failures self.new.tally.failures }
+        ensures interruptions { CountsInARow
+            (is_interrupted result) self.old.tally.interruptions self.new.tally.interruptions }
+        ensures most { self.new.tally.most_interruptions ≡
+            max self.old.tally.most_interruptions self.new.tally.interruptions }
     {
         match hitch {
             Hitch::Interrupted => Err(self.tally.count(Trouble::Interrupted)),

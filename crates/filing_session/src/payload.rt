@@ -14,7 +14,8 @@ const PIECE: usize = 4096;
 
 /// Reads `size` octets and drops them; false where the input ends before.
 fn skip<S: Source>(source: &mut S, size: usize) -> Result<bool, ReadFault>
-    ensures whole { S.tells → result ≡ Ok true → (size ≤ length (S.left source.old)) × (S.left source.new ≡ drop size (S.left source.old)) }
+    ensures whole { S.tells → result ≡ Ok true → (size ≤ length (S.left source.old)) ×
+        (S.left source.new ≡ drop size (S.left source.old)) }
     ensures cut { S.tells → result ≡ Ok false → (length (S.left source.old) < size) × (S.left source.new ≡ []) }
     ensures ends { TellsEnd (result ≡ Ok false) (S.ends source.old) (S.ends source.new) }
     ensures troubles { TellsTroubles S.failures S.interruptions S.most_interruptions result source.old source.new }
@@ -46,7 +47,8 @@ fn append(octets: &mut Vec<u8>, more: &[u8])
 fn fill<S: Source>(source: &mut S, octets: &mut Vec<u8>, size: usize) -> Result<bool, ReadFault>
     requires empty { vec_len octets.old ≡ 0 }
     requires room { size ≤ vec_capacity octets.old }
-    ensures whole { S.tells → result ≡ Ok true → (S.left source.old ≡ octets.new.items ++ S.left source.new) × (length octets.new.items ≡ size) }
+    ensures whole { S.tells → result ≡ Ok true → (S.left source.old ≡ octets.new.items ++ S.left source.new) ×
+        (length octets.new.items ≡ size) }
     ensures cut { S.tells → result ≡ Ok false → (length (S.left source.old) < size) × (S.left source.new ≡ []) }
     ensures ends { TellsEnd (result ≡ Ok false) (S.ends source.old) (S.ends source.new) }
     ensures troubles { TellsTroubles S.failures S.interruptions S.most_interruptions result source.old source.new }

@@ -75,7 +75,8 @@ fn write_faults<K: Sink>(sink: &mut K, fault: Option<u8>) -> Result<(), WriteFau
 }
 
 fn write_outcome<K: Sink>(sink: &mut K, outcome: &Outcome) -> Result<(), WriteFault>
-    ensures written { K.tells → Writes result (K.written sink.old) (outcome_octets (outcome_view outcome.now)) (K.written sink.new) }
+    ensures written { K.tells →
+        Writes result (K.written sink.old) (outcome_octets (outcome_view outcome.now)) (K.written sink.new) }
     ensures troubles { TellsTroubles K.failures K.interruptions K.most_interruptions result sink.old sink.new }
 {
     write_faults(sink, outcome.fault)?;
@@ -105,7 +106,8 @@ fn write_ticket<K: Sink>(sink: &mut K, ticket: u32, budget: u32) -> Result<(), W
 
 /// Writes the steps of a capture so far, and whether it has come to its end.
 fn write_turn<K: Sink>(sink: &mut K, turn: Turn) -> Result<(), WriteFault>
-    ensures written { K.tells → Writes result (K.written sink.old) (turn_octets turn.ended turn.steps) (K.written sink.new) }
+    ensures written { K.tells →
+        Writes result (K.written sink.old) (turn_octets turn.ended turn.steps) (K.written sink.new) }
     ensures troubles { TellsTroubles K.failures K.interruptions K.most_interruptions result sink.old sink.new }
 {
     let mut steps = Buffer::new();
@@ -145,7 +147,8 @@ fn write_record<K: Sink>(sink: &mut K, line: &Line) -> Result<(), WriteFault>
 }
 
 fn write_list<K: Sink>(sink: &mut K, lines: &[Line]) -> Result<(), WriteFault>
-    ensures written { K.tells → Writes result (K.written sink.old) (flat_map line_octets lines.now) (K.written sink.new) }
+    ensures written { K.tells →
+        Writes result (K.written sink.old) (flat_map line_octets lines.now) (K.written sink.new) }
     ensures troubles { TellsTroubles K.failures K.interruptions K.most_interruptions result sink.old sink.new }
 {
     for line in lines {
@@ -156,7 +159,8 @@ fn write_list<K: Sink>(sink: &mut K, lines: &[Line]) -> Result<(), WriteFault>
 
 /// Writes a line for each record, or `discarded` where there is none.
 fn write_records<K: Sink>(sink: &mut K, lines: &[Line]) -> Result<(), WriteFault>
-    ensures written { K.tells → Writes result (K.written sink.old) (records_octets (map line_view lines.now)) (K.written sink.new) }
+    ensures written { K.tells →
+        Writes result (K.written sink.old) (records_octets (map line_view lines.now)) (K.written sink.new) }
     ensures troubles { TellsTroubles K.failures K.interruptions K.most_interruptions result sink.old sink.new }
 {
     if lines.is_empty() {
@@ -177,7 +181,9 @@ fn write_capture<K: Sink>(sink: &mut K, capture: &Capture) -> Result<(), WriteFa
 
 /// Writes the lines of a due list, and `ok` after them.
 fn write_due_list<K: Sink>(sink: &mut K, lines: &[Line]) -> Result<(), WriteFault>
-    ensures written { K.tells → Writes result (K.written sink.old) (list_octets (map line_view lines.now) ++ codes "ok\n") (K.written sink.new) }
+    ensures written { K.tells →
+        Writes result (K.written sink.old) (list_octets (map line_view lines.now) ++
+        codes "ok\n") (K.written sink.new) }
     ensures troubles { TellsTroubles K.failures K.interruptions K.most_interruptions result sink.old sink.new }
 {
     write_list(sink, lines)?;
@@ -185,7 +191,8 @@ fn write_due_list<K: Sink>(sink: &mut K, lines: &[Line]) -> Result<(), WriteFaul
 }
 
 fn write_refusal<K: Sink>(sink: &mut K, refusal: Refusal) -> Result<(), WriteFault>
-    ensures written { K.tells → Writes result (K.written sink.old) (refused_octets refusal.number refusal.offset) (K.written sink.new) }
+    ensures written { K.tells →
+        Writes result (K.written sink.old) (refused_octets refusal.number refusal.offset) (K.written sink.new) }
     ensures troubles { TellsTroubles K.failures K.interruptions K.most_interruptions result sink.old sink.new }
 {
     let mut number = Buffer::new();
@@ -209,7 +216,8 @@ fn write_refusal<K: Sink>(sink: &mut K, refusal: Refusal) -> Result<(), WriteFau
 
 /// Writes the lines of a reply, each with its LF. After a fault a prefix of their octets is written.
 pub fn write_reply<K: Sink>(sink: &mut K, reply: &Reply) -> Result<(), WriteFault>
-    ensures written { K.tells → Writes result (K.written sink.old) (reply_octets (answer_of reply.now)) (K.written sink.new) }
+    ensures written { K.tells →
+        Writes result (K.written sink.old) (reply_octets (answer_of reply.now)) (K.written sink.new) }
     ensures troubles { TellsTroubles K.failures K.interruptions K.most_interruptions result sink.old sink.new }
 {
     match reply {

@@ -71,15 +71,22 @@ pub fn serve<S: Source, K: Sink, R: Registry>(
 ) -> Result<(), ServeFault>
     ensures ok { S.tells → K.tells → OnOk result (IsServed (Calls R.clean R.stands) (session_in (S.left source.old))
         registry.old (K.written sink.old) (K.written sink.new) registry.new) }
-    ensures unheard { S.tells → K.tells → IsErrOf result ServeFault.Read → IsAnswered (Calls R.clean R.stands) (session_in (S.left source.old))
+    ensures unheard { S.tells → K.tells → IsErrOf result ServeFault.Read →
+        IsAnswered (Calls R.clean R.stands) (session_in (S.left source.old))
         registry.old (K.written sink.old) (K.written sink.new) registry.new }
-    ensures unsaid { S.tells → K.tells → IsErrOf result ServeFault.Write → IsCut (Calls R.clean R.stands) (session_in (S.left source.old))
+    ensures unsaid { S.tells → K.tells → IsErrOf result ServeFault.Write →
+        IsCut (Calls R.clean R.stands) (session_in (S.left source.old))
         registry.old (K.written sink.old) (K.written sink.new) registry.new }
-    ensures read { IsErrOf result ServeFault.Read → GivesUp (S.failures source.old) (S.failures source.new) (S.interruptions source.new) }
-    ensures write { IsErrOf result ServeFault.Write → GivesUp (K.failures sink.old) (K.failures sink.new) (K.interruptions sink.new) }
-    ensures outlasts { OnOk result ((S.failures source.new ≡ S.failures source.old) × (K.failures sink.new ≡ K.failures sink.old)) }
-    ensures reads { TriesOn result (S.interruptions source.old) (S.most_interruptions source.old) (S.most_interruptions source.new) }
-    ensures writes { TriesOn result (K.interruptions sink.old) (K.most_interruptions sink.old) (K.most_interruptions sink.new) }
+    ensures read { IsErrOf result ServeFault.Read →
+        GivesUp (S.failures source.old) (S.failures source.new) (S.interruptions source.new) }
+    ensures write { IsErrOf result ServeFault.Write →
+        GivesUp (K.failures sink.old) (K.failures sink.new) (K.interruptions sink.new) }
+    ensures outlasts { OnOk result ((S.failures source.new ≡ S.failures source.old) ×
+        (K.failures sink.new ≡ K.failures sink.old)) }
+    ensures reads { TriesOn result (S.interruptions source.old) (S.most_interruptions source.old)
+        (S.most_interruptions source.new) }
+    ensures writes { TriesOn result (K.interruptions sink.old) (K.most_interruptions sink.old)
+        (K.most_interruptions sink.new) }
     ensures ending { S.tells → K.tells → result ≡ Ok tt → EndsByInput (session_in (S.left source.old)).ending
         → Rises (S.ends source.old) (S.ends source.new) }
     ensures unread { S.tells → K.tells → result ≡ Ok tt → S.left source.new ≡ left_by 1000000 (S.left source.old) }

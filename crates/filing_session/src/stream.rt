@@ -42,7 +42,8 @@ pub trait Source {
     /// the input, which is no trouble.
     fn read(&mut self, room: &mut [u8]) -> Result<usize, Trouble>
         ensures within { IfOk result (λ n. n ≤ length room.old) }
-        ensures octets { tells → IfOk result (λ n. (n ≤ length (left self.old)) × (take n room.new ≡ take n (left self.old))) }
+        ensures octets { tells →
+            IfOk result (λ n. (n ≤ length (left self.old)) × (take n room.new ≡ take n (left self.old))) }
         ensures left { tells → left self.new ≡ drop (moved result) (left self.old) }
         ensures end { tells → tells_end (length room.old) result ≡ true → left self.old ≡ [] }
         ensures failures { Counts (fails_to_read result) (failures self.old) (failures self.new) }
@@ -157,7 +158,8 @@ pub fn write_all<K: Sink>(sink: &mut K, octets: &[u8]) -> Result<(), WriteFault>
 
 /// Writes pieces, one after the other. After a fault some prefix of them all is written.
 pub fn write_pieces<K: Sink>(sink: &mut K, pieces: &[&[u8]]) -> Result<(), WriteFault>
-    ensures written { K.tells → Writes result (K.written sink.old) (flat_map (λ p. p.now) pieces.now) (K.written sink.new) }
+    ensures written { K.tells →
+        Writes result (K.written sink.old) (flat_map (λ p. p.now) pieces.now) (K.written sink.new) }
     ensures troubles { TellsTroubles K.failures K.interruptions K.most_interruptions result sink.old sink.new }
 {
     for piece in pieces {

@@ -55,7 +55,8 @@ fn write_civil<K: Sink>(sink: &mut K, year: u16, month: u8, day: u8) -> Result<(
 /// Writes a date and the end of its line.
 fn write_date<K: Sink>(sink: &mut K, date: Date) -> Result<(), WriteFault>
     requires { IsBetween (pos 0) (pos 2932896) (epoch_day date) }
-    ensures written { K.tells → Writes result (K.written sink.old) (day_octets (number_of_day date) ++ codes "\n") (K.written sink.new) }
+    ensures written { K.tells →
+        Writes result (K.written sink.old) (day_octets (number_of_day date) ++ codes "\n") (K.written sink.new) }
     ensures troubles { TellsTroubles K.failures K.interruptions K.most_interruptions result sink.old sink.new }
 {
     let year = date.year().unsigned_abs();
@@ -67,7 +68,9 @@ fn write_date<K: Sink>(sink: &mut K, date: Date) -> Result<(), WriteFault>
 /// Writes the due date of a record as `YYYY-MM-DD` and the LF. It is `never` where there is no due date, or one after
 /// 9999-12-31.
 pub fn write_due<K: Sink>(sink: &mut K, due: Option<Date>) -> Result<(), WriteFault>
-    ensures written { K.tells → Writes result (K.written sink.old) (due_octets (option_map number_of_day due) ++ codes "\n") (K.written sink.new) }
+    ensures written { K.tells →
+        Writes result (K.written sink.old) (due_octets (option_map number_of_day due) ++
+        codes "\n") (K.written sink.new) }
     ensures troubles { TellsTroubles K.failures K.interruptions K.most_interruptions result sink.old sink.new }
 {
     let Some(date) = due else {

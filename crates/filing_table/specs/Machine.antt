@@ -85,7 +85,9 @@ on_stack p c Not s _ = Trap
 on_stack p c (Values b) s es = with_named (slice_get p.texts b) (λ name. with_stack s (L (values_of c name) ∷ es))
 on_stack p c Join s (L ys ∷ L xs ∷ es) = with_stack s (L (xs ++ ys) ∷ es)
 on_stack p c Join s _ = Trap
-on_stack p c (Match a b) s (L xs ∷ es) = only_if (nat_le a 5) (with_named (slice_get p.texts b) (λ key. with_stack s (T (list_any (compared a key) xs) ∷ L xs ∷ es)))
+on_stack p c (Match a b) s (L xs ∷
+    es) = only_if (nat_le a 5)
+    (with_named (slice_get p.texts b) (λ key. with_stack s (T (list_any (compared a key) xs) ∷ L xs ∷ es)))
 on_stack p c (Match a b) s _ = Trap
 on_stack p c Pop s (e ∷ es) = with_stack s es
 on_stack p c Pop s _ = Trap
@@ -100,7 +102,8 @@ on_stack p c (JumpIf b) s _ = Trap
 on_stack p c (JumpUnless b) s (T t ∷ es) = jump s es (not t) b
 on_stack p c (JumpUnless b) s _ = Trap
 on_stack p c (Marked b) s es = only_if (nat_lt b p.slots) (with_stack s (T (slice_index_or s.marks b false) ∷ es))
-on_stack p c (Mark b) s es = only_if (nat_lt b p.slots) (At (record s { place = s.place + 1; marks = slice_set s.marks b true }))
+on_stack p c (Mark b) s es = only_if (nat_lt b p.slots)
+    (At (record s { place = s.place + 1; marks = slice_set s.marks b true }))
 on_stack p c (File a b) s es = only_if (nat_le a 1) (with_named (slice_get p.texts b) (file c s a))
 on_stack p c Keep s es = At (record s { place = s.place + 1; kept = true })
 on_stack p c Discard s es = At (record s { place = s.place + 1; cancelled = true })

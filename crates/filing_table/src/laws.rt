@@ -8,6 +8,8 @@ ghost use Rattle.filing_table.specs.Ends.{HasOutcome};
 
 /// A run has one end at most: whenever it ends, it is with the same number of steps and the same outcome.
 pub fn a_run_ends_once()
-    ensures steps { (p : Program) (c : Facts) (m n : ℕ) (a b : Outcome) → HasOutcome p c m a → HasOutcome p c n b → m ≡ n }
-    ensures outcome { (p : Program) (c : Facts) (m n : ℕ) (a b : Outcome) → HasOutcome p c m a → HasOutcome p c n b → a ≡ b }
+    ensures steps { (p : Program) (c : Facts) (m n : ℕ) (a b : Outcome) → HasOutcome p c m a → HasOutcome p c n b →
+        m ≡ n }
+    ensures outcome { (p : Program) (c : Facts) (m n : ℕ) (a b : Outcome) → HasOutcome p c m a → HasOutcome p c n b →
+        a ≡ b }
 {}

@@ -29,7 +29,8 @@ finds p s = of_match p (slice_get p.code s.place) (λ comparison key. any_on_top
 
 -- whether the instruction at a place is a MATCH, and the value of this field of the header matches its key
 abbrev pub is_found_by : Program → Facts → ℕ → ℕ → Bool
-is_found_by p c place field = of_match p (slice_get p.code place) (λ comparison key. value_matches c comparison key field)
+is_found_by p c place field = of_match p (slice_get p.code place)
+    (λ comparison key. value_matches c comparison key field)
 
 -- This is the record of the step that the run makes after k steps.
 pub record IsTold (p : Program) (c : Facts) (k : ℕ) (step : Step) : Type 0 where

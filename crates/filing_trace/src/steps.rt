@@ -70,7 +70,8 @@ fn matched_field<C: Case>(image: &Image, case: &C, machine: &Machine) -> Option<
 pub fn trace_run<C: Case>(alloc: Global, program: &Verified, case: &C) -> Result<Trace, AllocError>
     ensures outcome { IfOk result (λ t. HasOutcome program.now (C.facts case.now) t.outcome.steps (answer t.outcome)) }
     ensures whole { IfOk result (λ t. length t.steps.items ≡ t.outcome.steps) }
-    ensures told { IfOk result (λ t. (k : ℕ) (s : StepOf) → slice_get t.steps.items k ≡ Some s → IsTold program.now (C.facts case.now) k s) }
+    ensures told { IfOk result (λ t. (k : ℕ) (s : StepOf) → slice_get t.steps.items k ≡ Some s →
+        IsTold program.now (C.facts case.now) k s) }
 {
     let mut machine = Machine::start(alloc, program)?;
     let mut steps = Vec::new(alloc);

@@ -11,7 +11,8 @@ IsMarked ms p = slice_get ms p ≡ Some true
 
 -- each place has a mark, which is set exactly where the place is reached
 abbrev pub MarksReached : Program → List Bool → Type 0
-MarksReached program ms = (length ms ≡ length program.code) × ((p : ℕ) → p < length program.code → (IsMarked ms p ↔ Reached program p))
+MarksReached program ms = (length ms ≡ length program.code) ×
+    ((p : ℕ) → p < length program.code → (IsMarked ms p ↔ Reached program p))
 
 -- the marks with that of the place that a jump names set
 abbrev pub with_target : Option ℕ → List Bool → List Bool
@@ -28,7 +29,8 @@ pub record Marks (program : Program) (i : ℕ) (ms : List Bool) : Type 0 where
   pub first : 0 < length program.code → IsMarked ms 0
   pub sound : (p : ℕ) → IsMarked ms p → Reached program p
   pub closed : (p q : ℕ) → p < i → IsMarked ms p → Leads program p q → q < length program.code → IsMarked ms q
-  pub forward : (p q : ℕ) (o : Operation) → p < i → IsMarked ms p → slice_get program.code p ≡ Some o → target o ≡ Some q → p < q
+  pub forward : (p q : ℕ) (o : Operation) → p < i → IsMarked ms p → slice_get program.code p ≡ Some o →
+      target o ≡ Some q → p < q
 
 -- the shape that a table has at a place
 abbrev pub Has : List (Option (List Kind)) → ℕ → List Kind → Type 0
@@ -39,7 +41,8 @@ abbrev pub FollowsBy : Operation → ℕ → ℕ → Type 0
 FollowsBy o p q = ((goes_on o ≡ true) × (q ≡ p + 1)) ⊎ (target o ≡ Some q)
 
 -- The places At that the table has were given this shape, and no other place was changed.
-pub record Takes (old : List (Option (List Kind))) (At : ℕ → Type 0) (r : List Kind) (new : List (Option (List Kind))) : Type 0 where
+pub record Takes (old : List (Option (List Kind))) (At : ℕ → Type 0) (r : List Kind)
+    (new : List (Option (List Kind))) : Type 0 where
   pub long : length new ≡ length old
   pub offered : (q : ℕ) → At q → q < length old → Has new q r
   pub kept : (p : ℕ) (ks : List Kind) → Has old p ks → Has new p ks
@@ -59,8 +62,11 @@ pub record Shaping (program : Program) (i : ℕ) (table : List (Option (List Kin
   pub first : 0 < length program.code → Has table 0 []
   pub reached : (p : ℕ) (ks : List Kind) → Has table p ks → Reached program p
   pub shallow : (p : ℕ) (ks : List Kind) → Has table p ks → length ks ≤ 32
-  pub forced : (p : ℕ) (ks : List Kind) → Has table p ks → (shape : ℕ → List Kind) → IsAssignment program shape → shape p ≡ ks
-  pub passed : (p : ℕ) (ks : List Kind) (o : Operation) → p < i → Has table p ks → slice_get program.code p ≡ Some o → (r : List Kind) × (after o ks ≡ Some r) × (length r ≤ 32) × ((q : ℕ) → Follows program o p q → q < length program.code → Has table q r)
+  pub forced : (p : ℕ) (ks : List Kind) → Has table p ks → (shape : ℕ → List Kind) → IsAssignment program shape →
+      shape p ≡ ks
+  pub passed : (p : ℕ) (ks : List Kind) (o : Operation) → p < i → Has table p ks → slice_get program.code p ≡ Some o →
+      (r : List Kind) × (after o ks ≡ Some r) × (length r ≤ 32) ×
+      ((q : ℕ) → Follows program o p q → q < length program.code → Has table q r)
 
 -- the cost of the place that a jump names, 0 where there is none
 abbrev pub by_target : Option ℕ → List ℕ → ℕ
@@ -80,5 +86,8 @@ pub record Costs (program : Program) (i : ℕ) (costs : List ℕ) : Type 0 where
   pub long : length costs ≡ length program.code
   pub small : (p : ℕ) → p < length program.code → slice_index_or costs p 0 + p ≤ length program.code
   pub some : (p : ℕ) → i ≤ p → p < length program.code → Reached program p → 1 ≤ slice_index_or costs p 0
-  pub upper : (p q : ℕ) → i ≤ p → Reached program p → Leads program p q → q < length program.code → slice_index_or costs q 0 + 1 ≤ slice_index_or costs p 0
-  pub attained : (p : ℕ) → i ≤ p → p < length program.code → Reached program p → (slice_index_or costs p 0 ≡ 1) ⊎ ((q : ℕ) × (q < length program.code) × Leads program p q × (slice_index_or costs q 0 + 1 ≡ slice_index_or costs p 0))
+  pub upper : (p q : ℕ) → i ≤ p → Reached program p → Leads program p q → q < length program.code →
+      slice_index_or costs q 0 + 1 ≤ slice_index_or costs p 0
+  pub attained : (p : ℕ) → i ≤ p → p < length program.code → Reached program p → (slice_index_or costs p 0 ≡ 1) ⊎
+      ((q : ℕ) × (q < length program.code) × Leads program p q ×
+      (slice_index_or costs q 0 + 1 ≡ slice_index_or costs p 0))

@@ -31,7 +31,8 @@ pub record AreInRange (p : Program) : Type 0 where
 
 -- each reached jump goes to a greater place
 abbrev pub GoesForward : Program → Type 0
-GoesForward program = (p q : ℕ) (o : Operation) → Reached program p → slice_get program.code p ≡ Some o → target o ≡ Some q → p < q
+GoesForward program = (p q : ℕ) (o : Operation) → Reached program p → slice_get program.code p ≡ Some o →
+    target o ≡ Some q → p < q
 
 -- there is a place, and no reached place leads to the one past the end
 pub record StaysInside (program : Program) : Type 0 where

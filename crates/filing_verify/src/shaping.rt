@@ -84,7 +84,8 @@ fn offer_next(
     shape: &Shape,
 ) -> bool
     requires { place < length table.old }
-    ensures taken { result ≡ true → Takes table.old (λ q. (goes_on operation ≡ true) × (q ≡ place + 1)) shape.now table.new }
+    ensures taken { result ≡ true →
+        Takes table.old (λ q. (goes_on operation ≡ true) × (q ≡ place + 1)) shape.now table.new }
     ensures refused { result ≡ false → Clashes table.old (λ q. (goes_on operation ≡ true) × (q ≡ place + 1)) shape.now }
 {
     if !goes_on(operation) {

@@ -19,11 +19,13 @@ raw_lines (b ∷ bs) = if b == 10 then (b ∷ []) ∷ raw_lines bs else into_fir
 
 -- the octets without the last one, where that is c
 abbrev pub without_last : ℕ → List ℕ → List ℕ
-without_last c bs = if (nat_lt 0 (length bs) && (slice_index bs (length bs - 1) == c)) then take (length bs - 1) bs else bs
+without_last c bs = if (nat_lt 0 (length bs) && (slice_index bs (length bs - 1) == c)) then take (length bs - 1) bs
+    else bs
 
 -- a line without its end, which is an LF and one CR directly before it; without an LF at its end it keeps its CR
 abbrev pub without_end : List ℕ → List ℕ
-without_end line = if (nat_lt 0 (length line) && (slice_index line (length line - 1) == 10)) then without_last 13 (without_last 10 line) else line
+without_end line = if (nat_lt 0 (length line) && (slice_index line (length line - 1) == 10))
+    then without_last 13 (without_last 10 line) else line
 
 -- the header (RFC 5322, section 2.1): the lines before the first one without octets, or all where there is none
 unfoldable pub header_lines : List (List ℕ) → List (List ℕ)
@@ -41,7 +43,8 @@ begins_blank (b ∷ bs) = is_blank b
 -- the logical lines where one has begun: it takes in the lines after it as long as they begin with a blank
 unfoldable pub logical_from : List ℕ → List (List ℕ) → List (List ℕ)
 logical_from begun [] = begun ∷ []
-logical_from begun (line ∷ lines) = if begins_blank line then logical_from (begun ++ line) lines else begun ∷ logical_from line lines
+logical_from begun (line ∷ lines) = if begins_blank line then logical_from (begun ++ line) lines
+    else begun ∷ logical_from line lines
 
 -- the logical lines (RFC 5322, section 2.2.3): a line joined with all lines directly after it that begin with a blank
 unfoldable pub logical_lines : List (List ℕ) → List (List ℕ)

@@ -6,8 +6,10 @@ use Rattle.mail_head.specs.declared.parts.HeaderPart.TheVariants.{Front, LessCr}
 
 -- the first n octets of the piece belong to the header, or the header loses the CR that it ended with
 abbrev pub IsPart : List ℕ → List ℕ → HeaderPart → Type 0
-IsPart kept piece (Front n) = (n ≤ length piece) × (header_octets kept ≡ kept → header_octets (kept ++ piece) ≡ kept ++ take n piece)
-IsPart kept piece LessCr = (kept ≡ take (length kept - 1) kept ++ 13 ∷ []) × (header_octets kept ≡ kept → header_octets (kept ++ piece) ≡ take (length kept - 1) kept)
+IsPart kept piece (Front n) = (n ≤ length piece) ×
+    (header_octets kept ≡ kept → header_octets (kept ++ piece) ≡ kept ++ take n piece)
+IsPart kept piece LessCr = (kept ≡ take (length kept - 1) kept ++ 13 ∷ []) ×
+    (header_octets kept ≡ kept → header_octets (kept ++ piece) ≡ take (length kept - 1) kept)
 
 -- the header with what a piece adds to it
 abbrev pub with_part : List ℕ → List ℕ → HeaderPart → List ℕ
@@ -27,4 +29,5 @@ IsOfPiece piece LessCr = Unit {0}
 -- what a piece adds to the header that a reader keeps, whatever message the reader was fed
 pub record IsNextPart (reader : Reader) (piece : List ℕ) (part : HeaderPart) : Type 0 where
   pub of_piece : IsOfPiece piece part
-  pub next : (message : List ℕ) → reader ≡ reader_of message → with_part reader.kept piece part ≡ header_octets (message ++ piece)
+  pub next : (message : List ℕ) → reader ≡ reader_of message →
+      with_part reader.kept piece part ≡ header_octets (message ++ piece)

@@ -29,4 +29,5 @@ at_line_start bs = not (nat_lt 0 (length bs)) || (slice_index bs (length bs - 1)
 
 -- a text whose last line is one CR so far
 abbrev pub ends_in_lone_cr : List ℕ → Bool
-ends_in_lone_cr bs = (nat_lt 0 (length bs) && (slice_index bs (length bs - 1) == 13)) && at_line_start (take (length bs - 1) bs)
+ends_in_lone_cr bs = (nat_lt 0 (length bs) && (slice_index bs (length bs - 1) == 13)) &&
+    at_line_start (take (length bs - 1) bs)

@@ -13,7 +13,8 @@ not_lf b = not (b == 10)
 pub data LinesOf : List ℕ → List (List ℕ) → Type 0 where
   no_lines : LinesOf [] []
   last_line : (b : ℕ) (bs : List ℕ) → list_all not_lf (b ∷ bs) ≡ true → LinesOf (b ∷ bs) ((b ∷ bs) ∷ [])
-  whole_line : (octets rest : List ℕ) (lines : List (List ℕ)) → list_all not_lf octets ≡ true → LinesOf rest lines → LinesOf (octets ++ 10 ∷ rest) ((octets ++ 10 ∷ []) ∷ lines)
+  whole_line : (octets rest : List ℕ) (lines : List (List ℕ)) → list_all not_lf octets ≡ true → LinesOf rest lines →
+      LinesOf (octets ++ 10 ∷ rest) ((octets ++ 10 ∷ []) ∷ lines)
 
 -- A line has octets before its end.
 abbrev pub has_octets : List ℕ → Bool
@@ -40,7 +41,8 @@ begins_anew (line ∷ lines) = not (begins_blank line)
 -- blank.
 pub data LogicalOf : List (List ℕ) → List (List ℕ) → Type 0 where
   no_logical : LogicalOf [] []
-  logical : (line : List ℕ) (folded rest more : List (List ℕ)) → list_all begins_blank folded ≡ true → begins_anew rest ≡ true → LogicalOf rest more → LogicalOf (line ∷ (folded ++ rest)) ((line ++ concat folded) ∷ more)
+  logical : (line : List ℕ) (folded rest more : List (List ℕ)) → list_all begins_blank folded ≡ true →
+      begins_anew rest ≡ true → LogicalOf rest more → LogicalOf (line ∷ (folded ++ rest)) ((line ++ concat folded) ∷ more)
 
 -- The last of the octets is c.
 abbrev pub EndsIn : ℕ → List ℕ → Type 0
@@ -64,13 +66,17 @@ pub record IsField (line name body : List ℕ) : Type 0 where
 -- The fields among logical lines; a line that is no field is passed over.
 pub data FieldsAmong : List (List ℕ) → List (List ℕ × List ℕ) → Type 0 where
   no_fields : FieldsAmong [] []
-  field : (line name body : List ℕ) (lines : List (List ℕ)) (fields : List (List ℕ × List ℕ)) → IsField line name body → FieldsAmong lines fields → FieldsAmong (line ∷ lines) ((name, body) ∷ fields)
-  passed : (line : List ℕ) (lines : List (List ℕ)) (fields : List (List ℕ × List ℕ)) → ((name body : List ℕ) → IsField line name body → ⊥) → FieldsAmong lines fields → FieldsAmong (line ∷ lines) fields
+  field : (line name body : List ℕ) (lines : List (List ℕ)) (fields : List (List ℕ × List ℕ)) →
+      IsField line name body → FieldsAmong lines fields → FieldsAmong (line ∷ lines) ((name, body) ∷ fields)
+  passed : (line : List ℕ) (lines : List (List ℕ)) (fields : List (List ℕ × List ℕ)) →
+      ((name body : List ℕ) → IsField line name body → ⊥) → FieldsAmong lines fields → FieldsAmong (line ∷ lines) fields
 
 -- The fields of a message (RFC 5322, section 2.2).
 abbrev pub AreFields : List ℕ → List (List ℕ × List ℕ) → Type 0
-AreFields message fields = (lines : List (List ℕ)) × (header : List (List ℕ)) × (joined : List (List ℕ)) × LinesOf message lines × IsHeader lines header × LogicalOf header joined × FieldsAmong joined fields
+AreFields message fields = (lines : List (List ℕ)) × (header : List (List ℕ)) × (joined : List (List ℕ)) ×
+    LinesOf message lines × IsHeader lines header × LogicalOf header joined × FieldsAmong joined fields
 
 -- A message has exactly one list of fields, and that is the one computed.
 abbrev pub FieldsLaw : Type 0
-FieldsLaw = (message : List ℕ) (fields : List (List ℕ × List ℕ)) → (fields ≡ fields_of message) ↔ AreFields message fields
+FieldsLaw = (message : List ℕ) (fields : List (List ℕ × List ℕ)) → (fields ≡ fields_of message) ↔
+    AreFields message fields

@@ -40,7 +40,8 @@ pub fn first_line_len(text: &[u8]) -> usize
 /// Whether no line of the header is left: the rest is empty, or its first line has no octets before its end.
 pub fn header_ends(rest: &[u8]) -> bool
     ensures over { IsTrue result → header_of rest.now ≡ [] }
-    ensures goes_on { result ≡ false → header_of rest.now ≡ take (line_len rest.now) rest.now ∷ header_of (drop (line_len rest.now) rest.now) }
+    ensures goes_on { result ≡ false →
+        header_of rest.now ≡ take (line_len rest.now) rest.now ∷ header_of (drop (line_len rest.now) rest.now) }
     ensures some { result ≡ false → 0 < length rest.now }
 {
     line_text(&rest[..first_line_len(rest)]).is_empty()
@@ -49,7 +50,8 @@ pub fn header_ends(rest: &[u8]) -> bool
 /// The length of the first logical line in octets, its end included (RFC 5322, section 2.2.3).
 pub fn logical_len(rest: &[u8]) -> usize
     requires { header_of rest.now ≢ [] }
-    ensures value { logical_lines (header_of rest.now) ≡ take result rest.now ∷ logical_lines (header_of (drop result rest.now)) }
+    ensures value { logical_lines (header_of rest.now) ≡ take result rest.now ∷
+        logical_lines (header_of (drop result rest.now)) }
     ensures within { result ≤ length rest.now }
     ensures some { 0 < result }
 {

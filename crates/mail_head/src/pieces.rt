@@ -52,8 +52,10 @@ impl HeadReader {
     /// Takes the next piece, which may be empty. Refuses with `TooLong` (1) where the message would then have more than
     /// 8,388,608 octets, and again in every later call. Refuses with `NoMemory` (99) and leaves the reader unchanged.
     pub fn feed(&mut self, piece: &[u8]) -> Result<(), HeadFault>
-        ensures fed { (message : List ℕ) → self.old ≡ reader_of message → OnOk result (self.new ≡ reader_of (message ++ piece.now)) }
-        ensures too_long { (result ≡ Err TooLong) ↔ (IsTrue self.old.refuses ⊎ (MAX_OCTETS < self.old.size + length piece.now)) }
+        ensures fed { (message : List ℕ) → self.old ≡ reader_of message →
+            OnOk result (self.new ≡ reader_of (message ++ piece.now)) }
+        ensures too_long { (result ≡ Err TooLong) ↔
+            (IsTrue self.old.refuses ⊎ (MAX_OCTETS < self.old.size + length piece.now)) }
         ensures for_good { result ≡ Err TooLong → self.new ≡ record self.old { refuses = true } }
         ensures no_memory { result ≡ Err NoMemory → self.new ≡ self.old }
     {

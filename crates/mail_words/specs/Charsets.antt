@@ -12,14 +12,16 @@ is_named name other = bytes_eq (map to_ascii_lowercase name) other
 
 -- the parts of ISO 8859 of which only the octets below 128 are read, as US-ASCII
 abbrev pub ascii_parts : List (List ℕ)
-ascii_parts = codes "2" ∷ codes "3" ∷ codes "4" ∷ codes "5" ∷ codes "6" ∷ codes "7" ∷ codes "8" ∷ codes "9" ∷ codes "10" ∷ codes "11" ∷ codes "12" ∷ codes "13" ∷ codes "14" ∷ codes "15" ∷ codes "16" ∷ []
+ascii_parts = codes "2" ∷ codes "3" ∷ codes "4" ∷ codes "5" ∷ codes "6" ∷ codes "7" ∷ codes "8" ∷ codes "9" ∷
+    codes "10" ∷ codes "11" ∷ codes "12" ∷ codes "13" ∷ codes "14" ∷ codes "15" ∷ codes "16" ∷ []
 
 -- the charset of a name, if it is one of those that are read
 unfoldable pub charset_named : List ℕ → Option Charset
 charset_named name =
     if is_named name (codes "utf-8") then Some Utf8
     else if is_named name (codes "iso-8859-1") then Some Latin1
-    else if is_named name (codes "us-ascii") || list_any (λ part. is_named name (codes "iso-8859-" ++ part)) ascii_parts then Some Ascii
+    else if is_named name (codes "us-ascii") ||
+    list_any (λ part. is_named name (codes "iso-8859-" ++ part)) ascii_parts then Some Ascii
     else None
 
 -- the text of octets in a charset, in UTF-8, if each octet has a meaning: US-ASCII and UTF-8 stay as they are, and in

@@ -27,9 +27,11 @@ unfoldable pub q_octets : Place → List ℕ → Option (List ℕ)
 q_octets Plain [] = Some []
 q_octets Escape [] = None
 q_octets (Digit high) [] = None
-q_octets Plain (b ∷ bs) = if b == 61 then q_octets Escape bs else option_map (λ more. (if b == 95 then 32 else b) ∷ more) (q_octets Plain bs)
+q_octets Plain (b ∷ bs) = if b == 61 then q_octets Escape bs
+    else option_map (λ more. (if b == 95 then 32 else b) ∷ more) (q_octets Plain bs)
 q_octets Escape (b ∷ bs) = hex_value b >>= λ high. q_octets (Digit high) bs
-q_octets (Digit high) (b ∷ bs) = hex_value b >>= λ low. option_map (λ more. (high * 16 + low) ∷ more) (q_octets Plain bs)
+q_octets (Digit high) (b ∷ bs) = hex_value b >>= λ low. option_map (λ more. (high * 16 + low) ∷
+    more) (q_octets Plain bs)
 
 -- the octets of B text (RFC 2047, section 4.1), which decodes to them
 abbrev pub b_octets : List ℕ → Option (List ℕ)

@@ -15,13 +15,16 @@ IsBText text octets = IsBytes octets × (text ≡ encode_of standard octets)
 -- octet of that number, and each other octet but "=" is itself
 pub data QText : List ℕ → List ℕ → Type 0 where
   q_end : QText [] []
-  q_itself : (b : ℕ) (text octets : List ℕ) → (b ≡ 61 → ⊥) → (b ≡ 95 → ⊥) → QText text octets → QText (b ∷ text) (b ∷ octets)
+  q_itself : (b : ℕ) (text octets : List ℕ) → (b ≡ 61 → ⊥) → (b ≡ 95 → ⊥) → QText text octets →
+      QText (b ∷ text) (b ∷ octets)
   q_space : (text octets : List ℕ) → QText text octets → QText (95 ∷ text) (32 ∷ octets)
-  q_escape : (first second high low : ℕ) (text octets : List ℕ) → hex_value first ≡ Some high → hex_value second ≡ Some low → QText text octets → QText (61 ∷ first ∷ second ∷ text) ((high * 16 + low) ∷ octets)
+  q_escape : (first second high low : ℕ) (text octets : List ℕ) → hex_value first ≡ Some high →
+      hex_value second ≡ Some low → QText text octets → QText (61 ∷ first ∷ second ∷ text) ((high * 16 + low) ∷ octets)
 
 -- the text encodes the octets under the letter B, b, Q or q
 abbrev pub IsEncoding : ℕ → List ℕ → List ℕ → Type 0
-IsEncoding letter text octets = ((is_one_of (66 ∷ 98 ∷ []) letter ≡ true) × IsBText text octets) ⊎ ((is_one_of (81 ∷ 113 ∷ []) letter ≡ true) × QText text octets)
+IsEncoding letter text octets = ((is_one_of (66 ∷ 98 ∷ []) letter ≡ true) × IsBText text octets) ⊎
+    ((is_one_of (81 ∷ 113 ∷ []) letter ≡ true) × QText text octets)
 
 -- a word means a text: its charset is one that is read, it encodes some octets, and these have that text in the charset
 pub record Means (w : Word) (text : List ℕ) : Type 0 where

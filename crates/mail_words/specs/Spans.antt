@@ -29,8 +29,11 @@ written (part ∷ parts) last = part.0 ++ (spelling part.1 ++ written parts last
 -- its words
 pub record IsCutOf (text : List ℕ) (cut : Cut) : Type 0 where
   pub whole : text ≡ written cut.0 cut.1
-  pub words : (front : List (List ℕ × Word)) (part : List ℕ × Word) (back : List (List ℕ × Word)) → cut.0 ≡ front ++ part ∷ back → StandsIn true text (written front part.0) part.1 (written back cut.1)
-  pub all : (before : List ℕ) (w : Word) (after : List ℕ) → StandsIn true text before w after → (front : List (List ℕ × Word)) × (gap : List ℕ) × (back : List (List ℕ × Word)) × (cut.0 ≡ front ++ (gap, w) ∷ back) × (before ≡ written front gap)
+  pub words : (front : List (List ℕ × Word)) (part : List ℕ × Word) (back : List (List ℕ × Word)) →
+      cut.0 ≡ front ++ part ∷ back → StandsIn true text (written front part.0) part.1 (written back cut.1)
+  pub all : (before : List ℕ) (w : Word) (after : List ℕ) → StandsIn true text before w after →
+      (front : List (List ℕ × Word)) × (gap : List ℕ) × (back : List (List ℕ × Word)) ×
+      (cut.0 ≡ front ++ (gap, w) ∷ back) × (before ≡ written front gap)
 
 -- what is shown of a word (RFC 2047, section 6.2): of a good one the text that it means, of another one its spelling
 abbrev pub IsWordShown : Word → List ℕ → Type 0
@@ -47,12 +50,15 @@ IsDropped before gap w = IsAfterGood before × (list_all is_blank gap ≡ true) 
 
 -- what is shown of a gap: nothing where it is dropped, and otherwise all of it
 abbrev pub IsGapShown : Option Word → List ℕ → Word → List ℕ → Type 0
-IsGapShown before gap w octets = (IsDropped before gap w × (octets ≡ [])) ⊎ ((IsDropped before gap w → ⊥) × (octets ≡ gap))
+IsGapShown before gap w octets = (IsDropped before gap w × (octets ≡ [])) ⊎
+    ((IsDropped before gap w → ⊥) × (octets ≡ gap))
 
 -- what is shown of the gaps and words after a word, and of the last text
 abbrev pub IsShownAfter : Option Word → List (List ℕ × Word) → List ℕ → List ℕ → Type 0
 IsShownAfter before [] last value = value ≡ last
-IsShownAfter before (part ∷ parts) last value = (gap : List ℕ) × (word : List ℕ) × (rest : List ℕ) × IsGapShown before part.0 part.1 gap × IsWordShown part.1 word × IsShownAfter (Some part.1) parts last rest × (value ≡ gap ++ (word ++ rest))
+IsShownAfter before (part ∷ parts) last value = (gap : List ℕ) × (word : List ℕ) × (rest : List ℕ) ×
+    IsGapShown before part.0 part.1 gap × IsWordShown part.1 word × IsShownAfter (Some part.1) parts last rest ×
+    (value ≡ gap ++ (word ++ rest))
 
 -- what is shown of a text: its words and gaps, and the text after them
 abbrev pub IsShown : List ℕ → List ℕ → Type 0
@@ -64,4 +70,6 @@ ShownLaw = (text value : List ℕ) → (value ≡ words_shown text) ↔ IsShown 
 
 -- two words that stand in a text never overlap: the second begins at or after the end of the first
 abbrev pub StandApart : List ℕ → Type 0
-StandApart text = (before : List ℕ) (w : Word) (after : List ℕ) (b : ℕ) (more : List ℕ) (u : Word) (rest : List ℕ) → StandsIn true text before w after → StandsIn true text (before ++ b ∷ more) u rest → (gap : List ℕ) × (b ∷ more ≡ spelling w ++ gap)
+StandApart text = (before : List ℕ) (w : Word) (after : List ℕ) (b : ℕ) (more : List ℕ) (u : Word) (rest : List ℕ) →
+    StandsIn true text before w after → StandsIn true text (before ++ b ∷ more) u rest → (gap : List ℕ) ×
+    (b ∷ more ≡ spelling w ++ gap)

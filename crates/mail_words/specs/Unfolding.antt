@@ -33,7 +33,8 @@ unfolded (b ∷ bs) = if (b == 10) || ((b == 13) && begins_with 10 bs) then unfo
 
 -- the first octet that is kept, and the text after it
 abbrev pub IsFirstOctet : List ℕ → ℕ → List ℕ → Type 0
-IsFirstOctet text octet following = (ends : List ℕ) × (text ≡ ends ++ octet ∷ following) × (unfolded text ≡ octet ∷ unfolded following)
+IsFirstOctet text octet following = (ends : List ℕ) × (text ≡ ends ++ octet ∷ following) ×
+    (unfolded text ≡ octet ∷ unfolded following)
 
 abbrev pub without_first_blanks : List ℕ → List ℕ
 without_first_blanks bs = drop (prefix_len is_blank bs) bs

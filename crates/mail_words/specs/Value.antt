@@ -21,17 +21,20 @@ cut_words (suc n) bs = cut_at bs (first_word true bs) (cut_words n)
 -- a word as it is shown, with the gap before it: a good one as its text, and after a good one without a gap of blanks
 -- alone; another one as its spelling
 abbrev pub shown_word : Bool → List ℕ → Word → Option (List ℕ) → (Bool → List ℕ) → List ℕ
-shown_word after_good gap w (Some text) more = (if after_good && list_all is_blank gap then [] else gap) ++ (text ++ more true)
+shown_word after_good gap w (Some text) more = (if after_good && list_all is_blank gap then [] else gap) ++
+    (text ++ more true)
 shown_word after_good gap w None more = gap ++ (spelling w ++ more false)
 
 -- a word, good or not, and the gap before it are appended to the old text as they are shown
 abbrev pub IsPutWord : Bool → Bool → List ℕ → Word → List ℕ → List ℕ → Type 0
-IsPutWord true after_good gap w old new = (text : List ℕ) × (text_of w ≡ Some text) × (new ≡ old ++ ((if after_good && list_all is_blank gap then [] else gap) ++ text))
+IsPutWord true after_good gap w old new = (text : List ℕ) × (text_of w ≡ Some text) ×
+    (new ≡ old ++ ((if after_good && list_all is_blank gap then [] else gap) ++ text))
 IsPutWord false after_good gap w old new = (text_of w ≡ None) × (new ≡ old ++ (gap ++ spelling w))
 
 unfoldable pub shown : Bool → List (List ℕ × Word) → List ℕ → List ℕ
 shown after_good [] last = last
-shown after_good (part ∷ parts) last = shown_word after_good part.0 part.1 (text_of part.1) (λ good. shown good parts last)
+shown after_good (part ∷
+    parts) last = shown_word after_good part.0 part.1 (text_of part.1) (λ good. shown good parts last)
 
 abbrev pub shown_cut : Cut → List ℕ
 shown_cut cut = shown false cut.0 cut.1

@@ -14,7 +14,8 @@ is_one_of octets b = list_any (λ c. c == b) octets
 
 -- an octet of a charset's name, a token of RFC 2047, section 2: visible and none of ( ) < > @ , ; : " / [ ] ? . =
 abbrev pub is_charset_octet : ℕ → Bool
-is_charset_octet b = is_visible b && not (is_one_of (40 ∷ 41 ∷ 60 ∷ 62 ∷ 64 ∷ 44 ∷ 59 ∷ 58 ∷ 34 ∷ 47 ∷ 91 ∷ 93 ∷ 63 ∷ 46 ∷ 61 ∷ []) b)
+is_charset_octet b = is_visible b &&
+    not (is_one_of (40 ∷ 41 ∷ 60 ∷ 62 ∷ 64 ∷ 44 ∷ 59 ∷ 58 ∷ 34 ∷ 47 ∷ 91 ∷ 93 ∷ 63 ∷ 46 ∷ 61 ∷ []) b)
 
 -- an octet of encoded text (RFC 2047, section 2): visible and no "?"
 abbrev pub is_text_octet : ℕ → Bool

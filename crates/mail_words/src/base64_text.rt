@@ -38,7 +38,8 @@ fn read_symbols<'a>(text: &'a [u8], symbols: &mut [u8; SYMBOLS]) -> (usize, &'a 
 /// Decodes symbols. Answers how many octets they encode, or None where they are not a padded encoding.
 fn decode_symbols(symbols: &[u8], octets: &mut [u8; OCTETS]) -> Option<usize>
     requires { length symbols.now ≤ 64 }
-    ensures value { MatchOption result (b_octets symbols.now ≡ None) (λ size. b_octets symbols.now ≡ Some (take size octets.new)) }
+    ensures value { MatchOption result (b_octets symbols.now ≡ None) (λ size. b_octets symbols.now ≡
+        Some (take size octets.new)) }
     ensures within { IfSome result (λ size. size ≤ 48) }
     ensures size { IfSome result (λ size. length (take size octets.new) ≡ size) }
 {

@@ -41,7 +41,8 @@ fn plain_octet(octet: u8) -> u8
 /// Where it is bad, some octets may have been appended.
 #[tactic(auto, unfolding(crate::specs::Decoding::q_octets))]
 pub fn append_q(shown: &mut Vec<u8>, charset: Charset, text: &[u8]) -> Result<bool, AllocError>
-    ensures { IfOk result (λ good. ArePut good charset shown.old.items (q_octets Place.Plain (unfolded text.now)) shown.new.items) }
+    ensures { IfOk result (λ good. ArePut good charset shown.old.items
+        (q_octets Place.Plain (unfolded text.now)) shown.new.items) }
 {
     let mut place = Place::Plain;
     let mut rest = text;

@@ -15,7 +15,8 @@ use std::alloc::{AllocError, Global};
 /// What is shown of the gap before a good word: nothing where it is blanks alone and follows a good word, otherwise
 /// all.
 fn shown_gap(gap: &[u8], after_good: bool) -> &[u8]
-    ensures { unfolded result.now ≡ (if after_good && list_all is_blank (unfolded gap.now) then [] else unfolded gap.now) }
+    ensures { unfolded result.now ≡ (if after_good && list_all is_blank (unfolded gap.now) then []
+        else unfolded gap.now) }
 {
     if after_good && is_all_blank(gap) {
         &[]

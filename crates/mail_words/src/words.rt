@@ -174,7 +174,8 @@ fn is_in_part(part: Part, octet: u8) -> bool
 
 /// The rest after the first octet, if that is one of the part.
 fn after_part_octet(text: &[u8], part: Part) -> Option<&[u8]>
-    ensures { MatchOption result (take_while (is_part_octet part) (unfolded text.now) ≡ []) (λ following. IsPartOctet part text.now following.now) }
+    ensures { MatchOption result (take_while (is_part_octet part) (unfolded text.now) ≡
+        []) (λ following. IsPartOctet part text.now following.now) }
 {
     match first_octet(text) {
         Some((octet, following)) if is_in_part(part, octet) => Some(following),
@@ -185,7 +186,8 @@ fn after_part_octet(text: &[u8], part: Part) -> Option<&[u8]>
 /// The octets at the front of a text that are the part's, and the rest.
 fn split_part(text: &[u8], part: Part) -> (&[u8], &[u8])
     ensures front { unfolded result.0.now ≡ take_while (is_part_octet part) (unfolded text.now) }
-    ensures following { unfolded result.1.now ≡ drop (length (take_while (is_part_octet part) (unfolded text.now))) (unfolded text.now) }
+    ensures following { unfolded result.1.now ≡
+        drop (length (take_while (is_part_octet part) (unfolded text.now))) (unfolded text.now) }
 {
     let mut rest = text;
     while let Some(following) = after_part_octet(rest, part) {
@@ -197,7 +199,8 @@ fn split_part(text: &[u8], part: Part) -> (&[u8], &[u8])
 
 /// The rest after these two octets, if the text begins with them.
 fn after_pair(text: &[u8], first: u8, second: u8) -> Option<&[u8]>
-    ensures { MatchOption result (begins_with_pair first second (unfolded text.now) ≡ false) (λ following. unfolded text.now ≡ first ∷ second ∷ unfolded following.now) }
+    ensures { MatchOption result (begins_with_pair first second (unfolded text.now) ≡
+        false) (λ following. unfolded text.now ≡ first ∷ second ∷ unfolded following.now) }
 {
     let (octet, rest) = first_octet(text)?;
     let (next, following) = first_octet(rest)?;
@@ -210,7 +213,8 @@ fn after_pair(text: &[u8], first: u8, second: u8) -> Option<&[u8]>
 
 /// The letter of an encoding and the rest after it, if the text begins with one between two "?".
 fn after_encoding(text: &[u8]) -> Option<(u8, &[u8])>
-    ensures { MatchOption result (names_encoding (unfolded text.now) ≡ false) (λ e. (unfolded text.now ≡ 63 ∷ e.0 ∷ 63 ∷ unfolded e.1.now) × (is_encoding e.0 ≡ true)) }
+    ensures { MatchOption result (names_encoding (unfolded text.now) ≡
+        false) (λ e. (unfolded text.now ≡ 63 ∷ e.0 ∷ 63 ∷ unfolded e.1.now) × (is_encoding e.0 ≡ true)) }
 {
     let (first, rest) = first_octet(text)?;
     let (letter, rest) = first_octet(rest)?;

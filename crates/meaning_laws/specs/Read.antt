@@ -56,7 +56,8 @@ abbrev pub is_comparator : StringList → Bool
 is_comparator l = bytes_eq (first_of l) (codes "i;octet") || bytes_eq (first_of l) (codes "i;ascii-casemap")
 
 -- the arguments are tags of these names, these lists of strings, these numbers, and comparators
-pub record HasArguments (tags : List (List ℕ)) (lists : List StringList) (numbers : List ℕ) (args : List Argument) : Type 0 where
+pub record HasArguments (tags : List (List ℕ)) (lists : List StringList) (numbers : List ℕ)
+    (args : List Argument) : Type 0 where
   pub tags_are : list_all (is_tag_of tags) args ≡ true
   pub lists_are : string_lists false args ≡ lists
   pub numbers_are : numbers_in args ≡ numbers
@@ -86,8 +87,10 @@ TestReads tests.Not args inner = HasNone args × HasOneTest inner
 TestReads tests.AllOf args inner = HasNone args × HasTestList inner
 TestReads tests.AnyOf args inner = HasNone args × HasTestList inner
 TestReads tests.Exists args inner = ((names : StringList) × HasArguments [] (names ∷ []) [] args) × (inner ≡ no_tests)
-TestReads tests.Size args inner = ((n : ℕ) × HasArguments size_tags [] (n ∷ []) args) × ((has_tag (codes "over") args || has_tag (codes "under") args) ≡ true) × (inner ≡ no_tests)
-TestReads tests.Header args inner = ((names : StringList) × (keys : StringList) × HasArguments header_tags (names ∷ keys ∷ []) [] args) × (inner ≡ no_tests)
+TestReads tests.Size args inner = ((n : ℕ) × HasArguments size_tags [] (n ∷ []) args) ×
+    ((has_tag (codes "over") args || has_tag (codes "under") args) ≡ true) × (inner ≡ no_tests)
+TestReads tests.Header args inner = ((names : StringList) × (keys : StringList) ×
+    HasArguments header_tags (names ∷ keys ∷ []) [] args) × (inner ≡ no_tests)
 TestReads tests.Other args inner = ⊥
 
 abbrev mutual
@@ -106,7 +109,8 @@ abbrev mutual
 -- the arguments, tests and block after the name of a command are those that its meaning reads (RFC 5228, sections 3 and
 -- 4; RFC 3894; RFC 6609, section 3)
 abbrev pub CommandReads : CommandWord → List Argument → InnerTests → EndingTree → Type 0
-CommandReads commands.Require args inner finish = ((names : StringList) × HasArguments [] (names ∷ []) [] args) × (inner ≡ no_tests) × (finish ≡ semicolon)
+CommandReads commands.Require args inner finish = ((names : StringList) × HasArguments [] (names ∷ []) [] args) ×
+    (inner ≡ no_tests) × (finish ≡ semicolon)
 CommandReads commands.If args inner finish = HasNone args × HasOneTest inner × HasBlock finish
 CommandReads commands.ElsIf args inner finish = HasNone args × HasOneTest inner × HasBlock finish
 CommandReads commands.Else args inner finish = HasNone args × (inner ≡ no_tests) × HasBlock finish
@@ -114,8 +118,10 @@ CommandReads commands.Stop args inner finish = HasNone args × (inner ≡ no_tes
 CommandReads commands.Keep args inner finish = HasNone args × (inner ≡ no_tests) × (finish ≡ semicolon)
 CommandReads commands.Discard args inner finish = HasNone args × (inner ≡ no_tests) × (finish ≡ semicolon)
 CommandReads commands.Return args inner finish = HasNone args × (inner ≡ no_tests) × (finish ≡ semicolon)
-CommandReads commands.FileInto args inner finish = HasString fileinto_tags args × (inner ≡ no_tests) × (finish ≡ semicolon)
-CommandReads commands.Include args inner finish = HasString include_tags args × (inner ≡ no_tests) × (finish ≡ semicolon)
+CommandReads commands.FileInto args inner finish = HasString fileinto_tags args × (inner ≡ no_tests) ×
+    (finish ≡ semicolon)
+CommandReads commands.Include args inner finish = HasString include_tags args × (inner ≡ no_tests) ×
+    (finish ≡ semicolon)
 CommandReads commands.Other args inner finish = ⊥
 
 -- whether an `elsif` or `else` may follow (RFC 5228, section 3.1)
@@ -152,7 +158,8 @@ word_of (command name args inner finish) = command_word name
 
 abbrev mutual
   pub CommandIsRead : Bool → CommandTree → Type 0
-  CommandIsRead follows (command name args inner finish) = CommandReads (command_word name) args inner finish × Follows (command_word name) follows × InnerIsRead inner × EndingIsRead finish
+  CommandIsRead follows (command name args inner finish) = CommandReads (command_word name) args inner finish ×
+      Follows (command_word name) follows × InnerIsRead inner × EndingIsRead finish
 
   pub EndingIsRead : EndingTree → Type 0
   EndingIsRead semicolon = Unit {0}

@@ -42,9 +42,11 @@ abbrev pub includes_at : ℕ → Scope → Included
 includes_at left s = included (facts_of s.case.now) (library_of (scripts_of s.shelves)) left (map script_of s.chain.now)
 
 -- a script that an include enters after the active ones; without a further level it is fault 4
-abbrev pub entered : Facts → Library → ℕ → (chain : List ScriptName) → Include → Commands → meaning.Filing → meaning.Ending
+abbrev pub entered : Facts → Library → ℕ → (chain : List ScriptName) → Include → Commands → meaning.Filing →
+    meaning.Ending
 entered facts lib zero chain i script f = meaning.Faults 4 f
-entered facts lib (suc left) chain i script f = ended (run facts (included facts lib left (script_named i ∷ chain)) script (entering (script_named i) f))
+entered facts lib (suc left) chain i script f = ended
+    (run facts (included facts lib left (script_named i ∷ chain)) script (entering (script_named i) f))
 
 -- an include whose script is missing: nothing where it is optional (RFC 6609, section 3.2), otherwise fault 2
 abbrev pub missing : (optional : Bool) → meaning.Filing → meaning.Ending
@@ -68,11 +70,13 @@ IsNoIf word = Unit {0}
 -- a command with this word and these arguments has this ending, whatever test, block, branches and further commands
 -- stand with it; an `elsif` or `else` is passed over
 abbrev pub PlainlyEnds : Facts → Included → CommandWord → List Argument → meaning.Filing → meaning.Ending → Type 0
-PlainlyEnds facts inc word args f e = (t : Test) (inner : Commands) (rest : Branches) (more : Commands) → run facts inc (command_named word args t inner rest more) f ≡ and_then e (run facts inc more)
+PlainlyEnds facts inc word args f e = (t : Test) (inner : Commands) (rest : Branches) (more : Commands) →
+    run facts inc (command_named word args t inner rest more) f ≡ and_then e (run facts inc more)
 
 -- a command before further ones has this ending, and leaves the branches after it open or not
 abbrev pub Leads : Facts → Included → Bool → CommandTree → meaning.Filing → meaning.Ending → Bool → Type 0
-Leads facts inc is_open c f e opens = (more : CommandTrees) → runs_from facts inc is_open (command_then c more) f ≡ and_then e (runs_from facts inc opens more)
+Leads facts inc is_open c f e opens = (more : CommandTrees) →
+    runs_from facts inc is_open (command_then c more) f ≡ and_then e (runs_from facts inc opens more)
 
 abbrev pub commands_in : EndingTree → CommandTrees
 commands_in semicolon = no_commands
@@ -80,4 +84,6 @@ commands_in (block cs) = cs
 
 -- a test, and a block that is run where the test is true, have this ending
 abbrev pub BranchLeads : Facts → Included → CommandTree → meaning.Filing → meaning.Ending → Bool → Type 0
-BranchLeads facts inc (command name args inner finish) f e opens = (more : CommandTrees) → (if truth facts (only_in inner) then and_then (run facts inc (block_in finish) f) (runs_from facts inc false more) else runs_from facts inc true more f) ≡ and_then e (runs_from facts inc opens more)
+BranchLeads facts inc (command name args inner finish) f e opens = (more : CommandTrees) →
+    (if truth facts (only_in inner) then and_then (run facts inc (block_in finish) f) (runs_from facts inc false more)
+    else runs_from facts inc true more f) ≡ and_then e (runs_from facts inc opens more)

@@ -26,7 +26,8 @@ fn file_into(
     arguments: &[Argument],
     filing: &mut Filing<'_>,
 ) -> Result<Ending, AllocError>
-    ensures { IfOk result (λ e. ending_at e filing.new ≡ filing_into (facts_of case.now) arguments.now (filing_of filing.old)) }
+    ensures { IfOk result (λ e. ending_at e filing.new ≡
+        filing_into (facts_of case.now) arguments.now (filing_of filing.old)) }
 {
     let path = first_string(arguments);
     if !case.is_open(path) {
@@ -47,7 +48,9 @@ fn run_plain<'a, L: Level>(
     arguments: &'a [Argument],
     filing: &mut Filing<'a>,
 ) -> Result<Ending, AllocError>
-    ensures { IsNoIf word → IfOk result (λ e. PlainlyEnds (facts_of scope.now.case.now) (includes_at L.depth scope.now) word arguments.now (filing_of filing.old) (ending_at e filing.new)) }
+    ensures { IsNoIf word → IfOk result
+        (λ e. PlainlyEnds (facts_of scope.now.case.now) (includes_at L.depth scope.now) word arguments.now
+        (filing_of filing.old) (ending_at e filing.new)) }
 {
     match word {
         CommandWord::Stop => Ok(Ending::Stops),
@@ -78,7 +81,9 @@ fn run_block<'a, L: Level>(
     ending: &'a CommandEnding,
     filing: &mut Filing<'a>,
 ) -> Result<Ending, AllocError>
-    ensures { IfOk result (λ e. ending_at e filing.new ≡ runs_from (facts_of scope.now.case.now) (includes_at L.depth scope.now) false (commands_in (ending_of ending.now)) (filing_of filing.old)) }
+    ensures { IfOk result (λ e. ending_at e filing.new ≡
+        runs_from (facts_of scope.now.case.now) (includes_at L.depth scope.now) false
+        (commands_in (ending_of ending.now)) (filing_of filing.old)) }
 {
     match ending {
         CommandEnding::Semicolon => Ok(Ending::GoesOn),
@@ -94,7 +99,8 @@ fn run_branch<'a, L: Level>(
     command: &'a Command,
     filing: &mut Filing<'a>,
 ) -> Result<(Ending, bool), AllocError>
-    ensures { IfOk result (λ r. BranchLeads (facts_of scope.now.case.now) (includes_at L.depth scope.now) (command_of command.now) (filing_of filing.old) (ending_at r.0 filing.new) r.1) }
+    ensures { IfOk result (λ r. BranchLeads (facts_of scope.now.case.now) (includes_at L.depth scope.now)
+        (command_of command.now) (filing_of filing.old) (ending_at r.0 filing.new) r.1) }
 {
     if !is_only_true(scope.case, &command.tests) {
         return Ok((Ending::GoesOn, true));
@@ -112,7 +118,8 @@ fn run_command<'a, L: Level>(
     is_open: bool,
     filing: &mut Filing<'a>,
 ) -> Result<(Ending, bool), AllocError>
-    ensures { IfOk result (λ r. Leads (facts_of scope.now.case.now) (includes_at L.depth scope.now) is_open (command_of command.now) (filing_of filing.old) (ending_at r.0 filing.new) r.1) }
+    ensures { IfOk result (λ r. Leads (facts_of scope.now.case.now) (includes_at L.depth scope.now) is_open
+        (command_of command.now) (filing_of filing.old) (ending_at r.0 filing.new) r.1) }
 {
     let word = command_word(command.name.as_slice());
     match part_in(word, is_open) {
@@ -139,7 +146,9 @@ pub fn run<'a, L: Level>(
     commands: &'a Vec<Command>,
     filing: &mut Filing<'a>,
 ) -> Result<Ending, AllocError>
-    ensures { IfOk result (λ e. ending_at e filing.new ≡ runs_from (facts_of scope.now.case.now) (includes_at L.depth scope.now) false (commands_of (map command_of commands.now.items)) (filing_of filing.old)) }
+    ensures { IfOk result (λ e. ending_at e filing.new ≡
+        runs_from (facts_of scope.now.case.now) (includes_at L.depth scope.now) false
+        (commands_of (map command_of commands.now.items)) (filing_of filing.old)) }
 {
     let mut is_open = false;
     for command in commands {

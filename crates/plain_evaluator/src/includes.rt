@@ -46,7 +46,8 @@ pub fn run_include<'a, L: Level>(
     include: &Include<'a>,
     filing: &mut Filing<'a>,
 ) -> Result<Ending, AllocError>
-    ensures { IfOk result (λ e. ending_at e filing.new ≡ includes_at L.depth scope.now (asked include.now) (filing_of filing.old)) }
+    ensures { IfOk result (λ e. ending_at e filing.new ≡
+        includes_at L.depth scope.now (asked include.now) (filing_of filing.old)) }
 {
     if is_passed(include, filing.entered.as_slice()) {
         return Ok(Ending::GoesOn);

@@ -29,5 +29,8 @@ pub trait Level {
         script: &'a Script,
         filing: &mut Filing<'a>,
     ) -> Result<Ending, AllocError>
-        ensures { IfOk result (λ e. ending_at e filing.new ≡ entered (facts_of scope.now.case.now) (library_of (scripts_of scope.now.shelves)) depth (map script_of scope.now.chain.now) (asked include.now) (program_of (tree_of script.now)) (filing_of filing.old)) };
+        ensures { IfOk result (λ e. ending_at e filing.new ≡
+            entered (facts_of scope.now.case.now) (library_of (scripts_of scope.now.shelves)) depth
+            (map script_of scope.now.chain.now) (asked include.now) (program_of (tree_of script.now))
+            (filing_of filing.old)) };
 }

@@ -34,7 +34,8 @@ pub struct Outcome {
 
 /// The outcome of a run, from its end and from what it has done.
 fn captured(alloc: Global, ending: Ending, filing: &Filing<'_>) -> Result<Outcome, AllocError>
-    ensures { IfOk result (λ o. outcome_view o ≡ outcome_at (fault_of ending) filing.now.filed filing.now.kept filing.now.cancelled) }
+    ensures { IfOk result (λ o. outcome_view o ≡
+        outcome_at (fault_of ending) filing.now.filed filing.now.kept filing.now.cancelled) }
 {
     let fault = ending.fault();
     let classes = captured_classes(alloc, fault, &filing.filed, filing.kept, filing.cancelled)?;
@@ -68,7 +69,9 @@ pub fn evaluate<'a>(
     shelves: Shelves<'a>,
     case: &BorrowedCase<'_, Paths>,
 ) -> Result<Outcome, AllocError>
-    ensures { IfOk result (λ o. outcome_view o ≡ outcome_of (meaning (facts_of case.now) (library_of (scripts_of shelves.entry)) (option_map (λ s. s.now) known_as.entry) (program_of (tree_of main.now)))) }
+    ensures { IfOk result (λ o. outcome_view o ≡
+        outcome_of (meaning (facts_of case.now) (library_of (scripts_of shelves.entry))
+        (option_map (λ s. s.now) known_as.entry) (program_of (tree_of main.now)))) }
 {
     let chain = main_names(alloc, known_as)?;
     let scope = Scope {

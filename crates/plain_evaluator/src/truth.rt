@@ -51,7 +51,8 @@ fn has_listed_key(
     how: MatchType,
     comparator: Comparator,
 ) -> bool
-    ensures { result ≡ list_any (λ key. key_matches_by how comparator key (lent field.now).value) (strings_of keys.now) }
+    ensures { result ≡ list_any (λ key. key_matches_by how comparator key (lent field.now).value)
+        (strings_of keys.now) }
 {
     key_matches(
         how,
@@ -69,7 +70,8 @@ fn is_any_field(
     how: MatchType,
     comparator: Comparator,
 ) -> bool
-    ensures { result ≡ list_any (λ f. list_any (λ name. is_named name (lent f)) (strings_of names.now) && list_any (λ key. key_matches_by how comparator key (lent f).value) (strings_of keys.now)) fields.now }
+    ensures { result ≡ list_any (λ f. list_any (λ name. is_named name (lent f)) (strings_of names.now) &&
+        list_any (λ key. key_matches_by how comparator key (lent f).value) (strings_of keys.now)) fields.now }
 {
     fields.iter().any(|field| has_listed_name(field, names)
         && has_listed_key(field, keys, how, comparator))
@@ -77,7 +79,9 @@ fn is_any_field(
 
 /// `header` (RFC 5228, section 5.7): whether some field has one of the names, and a value that matches one of the keys.
 fn is_header_true(case: &BorrowedCase<'_, Paths>, arguments: &[Argument]) -> bool
-    ensures { result ≡ truth (facts_of case.now) (header_of (match_type_of arguments.now) (comparator_from false arguments.now) (string_lists false arguments.now)) }
+    ensures { result ≡ truth (facts_of case.now)
+        (header_of (match_type_of arguments.now) (comparator_from false arguments.now)
+        (string_lists false arguments.now)) }
 {
     let Some((names, rest)) = next_string_list(arguments) else {
         return false;
@@ -126,7 +130,8 @@ fn is_exists_true(case: &BorrowedCase<'_, Paths>, arguments: &[Argument]) -> boo
 
 /// `size` (RFC 5228, section 5.9): whether the message has more octets than the number under `:over`, otherwise fewer.
 fn is_size_true(case: &BorrowedCase<'_, Paths>, arguments: &[Argument]) -> bool
-    ensures { result ≡ truth (facts_of case.now) (size_of (has_tag_of (codes "over") arguments.now) (number_in arguments.now)) }
+    ensures { result ≡ truth (facts_of case.now)
+        (size_of (has_tag_of (codes "over") arguments.now) (number_in arguments.now)) }
 {
     let number = number(arguments);
     if has_tag(arguments, b"over") {

@@ -15,12 +15,14 @@ is_struck_item UnknownCommand a = false
 is_struck_item WrongWord a = false
 
 abbrev pub kept_items : List Item → List Answer → List Item
-kept_items (i ∷ items) (a ∷ answers) = if is_struck_item i a then kept_items items answers else i ∷ kept_items items answers
+kept_items (i ∷ items) (a ∷ answers) = if is_struck_item i a then kept_items items answers
+    else i ∷ kept_items items answers
 kept_items [] answers = []
 kept_items (i ∷ items) [] = []
 
 abbrev pub kept_replies : List Item → List Answer → List Answer
-kept_replies (i ∷ items) (a ∷ answers) = if is_struck_item i a then kept_replies items answers else a ∷ kept_replies items answers
+kept_replies (i ∷ items) (a ∷ answers) = if is_struck_item i a then kept_replies items answers
+    else a ∷ kept_replies items answers
 kept_replies [] answers = []
 kept_replies (i ∷ items) [] = []
 
@@ -48,7 +50,8 @@ pub record LeaveTheSame {D : Type 0} (stands : D → Standing → Type 0) (one o
 
 -- Two sessions have written answers, and how they ended. Where the sessions are equal after striking, what is left of
 -- the answers is alike, and they leave the same.
-pub record AreServedAlike {D : Type 0} (stands : D → Standing → Type 0) (asked other : Session) (before written ahead told : List ℕ)
+pub record AreServedAlike {D : Type 0} (stands : D → Standing → Type 0) (asked other : Session)
+    (before written ahead told : List ℕ)
     (new last : D) : Type 0 where
   pub answers : List Answer
   pub replies : List Answer

@@ -44,7 +44,8 @@ pub record IsMadeWhole (old : Archive) (stood : Stood) (o : Outcome) (lines : Li
   pub holds : new.holds ≡ old.holds
 
 -- what a finish answers and leaves: the records of the outcome of the capture alone, whose fault it answers
-pub record FilesAlone (old : Archive) (stood : Stood) (fault : Option ℕ) (lines : List Line) (new : Archive) : Type 0 where
+pub record FilesAlone (old : Archive) (stood : Stood) (fault : Option ℕ) (lines : List Line)
+    (new : Archive) : Type 0 where
   pub outcome : Outcome
   pub alone : IsAlone stood outcome
   pub fault_alone : IsFaultAlone outcome

@@ -40,7 +40,8 @@ abbrev pub next_ticket : Serial → (officer : List ℕ) → (moment : ℕ) → 
 next_ticket s officer moment message = record { number = s.last + 1; stood = stood_at s.office officer moment message }
 
 -- a capture begins under the next ticket, and what stands is noted
-pub record IsNoted (s : Serial) (officer : List ℕ) (moment : ℕ) (message : List ℕ) (t b : ℕ) (new : Serial) : Type 0 where
+pub record IsNoted (s : Serial) (officer : List ℕ) (moment : ℕ) (message : List ℕ) (t b : ℕ)
+    (new : Serial) : Type 0 where
   pub allowed : begin_refusal (length s.tickets) s.last moment (length message) ≡ None
   pub ticket : t ≡ s.last + 1
   pub budget : b ≡ budget_of (stood_at s.office officer moment message)
@@ -80,18 +81,21 @@ is_struck _ a = is_passing a
 -- commands with their answers, one after the other, none of them struck, and the state that they leave
 abbrev pub SerialRun : Serial → List Command → List Answer → Serial → Type 0
 SerialRun s [] [] new = new ≡ s
-SerialRun s (c ∷ commands) (a ∷ answers) new = (mid : Serial) × (is_struck c a ≡ false) × SerialStep s c a mid × SerialRun mid commands answers new
+SerialRun s (c ∷ commands) (a ∷ answers) new = (mid : Serial) × (is_struck c a ≡ false) × SerialStep s c a mid ×
+    SerialRun mid commands answers new
 SerialRun s [] (a ∷ answers) new = ⊥
 SerialRun s (c ∷ commands) [] new = ⊥
 
 -- the commands that are not struck
 abbrev pub kept_commands : List Command → List Answer → List Command
-kept_commands (c ∷ commands) (a ∷ answers) = if is_struck c a then kept_commands commands answers else c ∷ kept_commands commands answers
+kept_commands (c ∷ commands) (a ∷ answers) = if is_struck c a then kept_commands commands answers
+    else c ∷ kept_commands commands answers
 kept_commands [] answers = []
 kept_commands (c ∷ commands) [] = []
 
 -- their answers
 abbrev pub kept_answers : List Command → List Answer → List Answer
-kept_answers (c ∷ commands) (a ∷ answers) = if is_struck c a then kept_answers commands answers else a ∷ kept_answers commands answers
+kept_answers (c ∷ commands) (a ∷ answers) = if is_struck c a then kept_answers commands answers
+    else a ∷ kept_answers commands answers
 kept_answers [] answers = []
 kept_answers (c ∷ commands) [] = []

@@ -19,7 +19,8 @@ Grants t _ a n = n ≡ 0
 -- the turns that commands granted to a ticket in all, by their answers
 abbrev pub AllGrant : (ticket : ℕ) → List Command → List Answer → (turns : ℕ) → Type 0
 AllGrant t [] [] n = n ≡ 0
-AllGrant t (c ∷ commands) (a ∷ answers) n = (first : ℕ) × (rest : ℕ) × Grants t c a first × AllGrant t commands answers rest × (n ≡ first + rest)
+AllGrant t (c ∷ commands) (a ∷ answers) n = (first : ℕ) × (rest : ℕ) × Grants t c a first ×
+    AllGrant t commands answers rest × (n ≡ first + rest)
 AllGrant t [] (a ∷ answers) n = ⊥
 AllGrant t (c ∷ commands) [] n = ⊥
 

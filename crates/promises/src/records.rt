@@ -17,10 +17,12 @@ ghost use Rattle.promises.specs.Records.{FilesAlone, IsDueLine, IsFaultAlone, En
 /// fault is the default class alone. Neither command changes anything.
 pub fn dry_runs_store_nothing()
     ensures file { (s : Standing) (script message : List ℕ) (o : Outcome) (new : Standing)
-        → Step s (plain (file script message)) (captured o) new → IsFiled s.office script message o × IsFaultAlone o × (new ≡ s) }
+        → Step s (plain (file script message)) (captured o) new → IsFiled s.office script message o × IsFaultAlone o ×
+        (new ≡ s) }
     ensures trial { (s : Standing) (octets message : List ℕ) (o : Outcome) (new : Standing)
         → Step s (plain (try_image octets message)) (captured o) new
-        → ((p : Program) × IsGoodImage octets p × EndsWithinBudget p (case_of message (is_open_in s.office.archive.plan)) o)
+        → ((p : Program) × IsGoodImage octets p ×
+        EndsWithinBudget p (case_of message (is_open_in s.office.archive.plan)) o)
         × IsFaultAlone o × (new ≡ s) }
 {}
 
@@ -37,6 +39,7 @@ pub fn finished_captures_are_whole()
 /// due day is not later. The due day comes the period of the record's class after the day of its capture, in the plan
 /// as it is now.
 pub fn due_lists_are_whole()
-    ensures { (s : Standing) (day : ℕ) (lines : List Line) (new : Standing) → Step s (plain (due day)) (listed lines) new
+    ensures { (s : Standing) (day : ℕ) (lines : List Line) (new : Standing) →
+        Step s (plain (due day)) (listed lines) new
         → (lines ≡ due_list s.office.archive day) × All (IsDueLine s.office.archive day) lines × (new ≡ s) }
 {}

@@ -17,12 +17,15 @@ ghost use Rattle.promises.specs.Turns.{AllGrant, HasEnded, TellsTurns};
 /// - a FINISH of a capture in flight is refused with 92 exactly where its turns do not reach that length;
 /// - a capture that was granted as many turns as its budget has come to its end.
 pub fn turns_add_up()
-    ensures sum { (archive : Archive) (commands : List Command) (answers : List Answer) (s : Standing) (t : ℕ) (f : Flight)
-        → Run (opening archive) commands answers s → flight_of t s.flights ≡ Some f → AllGrant t commands answers f.granted }
+    ensures sum { (archive : Archive) (commands : List Command) (answers : List Answer) (s : Standing) (t : ℕ)
+        (f : Flight)
+        → Run (opening archive) commands answers s → flight_of t s.flights ≡ Some f →
+        AllGrant t commands answers f.granted }
     ensures told { (s : Standing) (t count : ℕ) (a : Answer) (new : Standing) (f : Flight)
         → Step s (turn t count) a new → flight_of t new.flights ≡ Some f → TellsTurns f.granted f.run_length a }
     ensures finish { (s : Standing) (t : ℕ) (a : Answer) (new : Standing) (f : Flight)
-        → Step s (finish t) a new → flight_of t s.flights ≡ Some f → (a ≡ refused 92 None) ↔ (f.granted < f.run_length) }
+        → Step s (finish t) a new → flight_of t s.flights ≡ Some f → (a ≡ refused 92 None) ↔
+        (f.granted < f.run_length) }
     ensures enough { (s : Standing) (t : ℕ) (f : Flight) → IsReached s → flight_of t s.flights ≡ Some f
         → f.pinned.budget ≤ f.granted → HasEnded f }
 {}
@@ -51,5 +54,6 @@ pub fn beginnings_are_refused_exactly()
         → (a ≡ refused 90 None) ↔ ((length s.flights ≡ most_in_flight) × MayBegin moment message) }
     ensures used_up { (s : Standing) (officer : List ℕ) (moment : ℕ) (message : List ℕ) (a : Answer) (new : Standing)
         → IsReached s → Step s (begin officer moment message) a new
-        → (a ≡ refused 97 None) ↔ ((s.last ≡ last_ticket) × (length s.flights < most_in_flight) × MayBegin moment message) }
+        → (a ≡ refused 97 None) ↔
+        ((s.last ≡ last_ticket) × (length s.flights < most_in_flight) × MayBegin moment message) }
 {}

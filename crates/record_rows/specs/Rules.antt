@@ -80,7 +80,8 @@ HasNoPlan rules classes = (p : Listing) → IsPlan p → HasRows p rules classes
 -- ---- comparisons
 
 abbrev pub same_rule : Rule → Rule → Bool
-same_rule a b = bytes_eq a.path b.path && (a.count == b.count) && (a.unit == b.unit) && (a.action == b.action) && (a.year_end == b.year_end)
+same_rule a b = bytes_eq a.path b.path && (a.count == b.count) && (a.unit == b.unit) && (a.action == b.action) &&
+    (a.year_end == b.year_end)
 
 -- the same class, and the second row states no schedule
 abbrev pub same_class : Listed → Listed → Bool

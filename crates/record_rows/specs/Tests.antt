@@ -7,7 +7,8 @@ use Rattle.record_tables.specs.Rows.{Record}
 use Rattle.record_tables.specs.Reads.{Named}
 
 abbrev pub is_sound : Listing → Record → Bool
-is_sound p r = nat_le 1 r.number && nat_le 1 r.message && nat_le r.message r.number && nat_le r.day 84005 && has p.rows r.path
+is_sound p r = nat_le 1 r.number && nat_le 1 r.message && nat_le r.message r.number && nat_le r.day 84005 &&
+    has p.rows r.path
 
 -- each number is at least the given one, and above those before it
 abbrev pub rises_from : ℕ → List ℕ → Bool

@@ -157,7 +157,8 @@ pub fn are_rows_of(
     messages: &[u32],
     holds: &[HoldRow],
 ) -> Result<bool, AllocError>
-    ensures { IfOk result (λ b. Decides b (AreRows plan.now (map record_of records.now) messages.now (map named_of holds.now))) }
+    ensures { IfOk result (λ b. Decides b
+        (AreRows plan.now (map record_of records.now) messages.now (map named_of holds.now))) }
 {
     if !are_sound(plan, records) || !do_records_rise(records) {
         return Ok(false);

@@ -17,7 +17,8 @@ fn rules_after(
     root: Schedule,
     classes: &[ClassRow],
 ) -> Result<Option<Vec<ScheduleRow>>, AllocError>
-    ensures { IfOk result (λ o. option_map (λ v. map rule_of v.items) o ≡ option_map (λ rs. rule_at [] root ∷ rs) (text_rules (map listed_of classes.now))) }
+    ensures { IfOk result (λ o. option_map (λ v. map rule_of v.items) o ≡
+        option_map (λ rs. rule_at [] root ∷ rs) (text_rules (map listed_of classes.now))) }
 {
     let mut rules = Vec::new(alloc);
     rules.push(rule_row(Vec::new(alloc), root))?;
@@ -42,7 +43,8 @@ pub fn rules_of_texts(
     root: &[u8],
     classes: &[ClassRow],
 ) -> Result<Option<Vec<ScheduleRow>>, AllocError>
-    ensures { IfOk result (λ o. option_map (λ v. map rule_of v.items) o ≡ rules_of_texts root.now (map listed_of classes.now)) }
+    ensures { IfOk result (λ o. option_map (λ v. map rule_of v.items) o ≡
+        rules_of_texts root.now (map listed_of classes.now)) }
 {
     match schedule_of_text(root) {
         Some(root) => rules_after(alloc, root, classes),

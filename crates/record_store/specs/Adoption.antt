@@ -182,4 +182,5 @@ pub record Sees {S : Type 0} (g : Ghosts S) (Are : Schema → Type 0) (old new :
 
 -- a crash leaves what it might have left before, or tables that keep each of these archives
 abbrev pub LeavesArchive : {S : Type 0} → Ghosts S → (old new : Held S) → (Archive → Type 0) → Type 0
-LeavesArchive g old new Is = Survives (state g old) (state g new) (λ (trees : Trees). (db : Database) × ((a : Archive) → Is a → StoresArchive db a) × (trees ≡ db.trees))
+LeavesArchive g old new Is = Survives (state g old) (state g new) (λ (trees : Trees). (db : Database) ×
+    ((a : Archive) → Is a → StoresArchive db a) × (trees ≡ db.trees))

@@ -73,7 +73,8 @@ pub record StandsFor {S : Type 0} (g : Ghosts S) (store : Store S) (a : Archive)
   pub held : (n : ℕ) → count_at store.held n ≡ hold_count a n
   pub others : (m : ℕ) → count_at store.others m ≡ live_count a m - 1
   pub archive : IsArchive a
-  pub rows : HasCleanDisk (state g store.conn) → IsTrue (state g store.conn).is_open → StoresArchive (state g store.conn).now a
+  pub rows : HasCleanDisk (state g store.conn) → IsTrue (state g store.conn).is_open →
+      StoresArchive (state g store.conn).now a
 
 -- a refusal that comes from the world and not from the archive: of `sqlite` (89), or for no memory (99)
 abbrev pub is_trouble : StoreFault → Bool
@@ -87,20 +88,28 @@ Becomes g new (Err f) = ⊥
 
 -- A call carries out a command of the archive. Where it succeeds, the store represents the command's archive, and the
 -- answer is right. Where it is refused, nothing has changed, and the refusal is the command's or the world's.
-abbrev pub Obeys : {S X : Type 0} → Ghosts S → (old new : Store S) → Result X StoreFault → (Archive → Result Archive StoreFault) → (Archive → X → Type 0) → Type 0
+abbrev pub Obeys : {S X : Type 0} → Ghosts S → (old new : Store S) → Result X StoreFault →
+    (Archive → Result Archive StoreFault) → (Archive → X → Type 0) → Type 0
 Obeys g old new (Ok x) command Answers = (a : Archive) → StandsFor g old a → Becomes g new (command a) × Answers a x
-Obeys g old new (Err f) command Answers = (a : Archive) → StandsFor g old a → StandsFor g new a × (is_trouble f ≡ false → command a ≡ Err f)
+Obeys g old new (Err f) command Answers = (a : Archive) → StandsFor g old a → StandsFor g new a ×
+    (is_trouble f ≡ false → command a ≡ Err f)
 
 -- The same for a call that reads the tables first. It relies on what the disk returns, so it carries out the
 -- archive's command while the disk is clean.
-abbrev pub ObeysRows : {S X : Type 0} → Ghosts S → (old new : Store S) → Result X StoreFault → (Archive → Result Archive StoreFault) → (Archive → X → Type 0) → Type 0
-ObeysRows g old new (Ok x) command Answers = HasCleanDisk (state g new.conn) → (a : Archive) → StandsFor g old a → Becomes g new (command a) × Answers a x
-ObeysRows g old new (Err f) command Answers = (a : Archive) → StandsFor g old a → StandsFor g new a × (is_trouble f ≡ false → HasCleanDisk (state g new.conn) → command a ≡ Err f)
+abbrev pub ObeysRows : {S X : Type 0} → Ghosts S → (old new : Store S) → Result X StoreFault →
+    (Archive → Result Archive StoreFault) → (Archive → X → Type 0) → Type 0
+ObeysRows g old new (Ok x) command Answers = HasCleanDisk (state g new.conn) → (a : Archive) → StandsFor g old a →
+    Becomes g new (command a) × Answers a x
+ObeysRows g old new (Err f) command Answers = (a : Archive) → StandsFor g old a → StandsFor g new a ×
+    (is_trouble f ≡ false → HasCleanDisk (state g new.conn) → command a ≡ Err f)
 
 -- A call reads: the store represents the same archive, and while the disk is clean the answer is the archive's.
-abbrev pub Tells : {S X : Type 0} → Ghosts S → (old new : Store S) → Result X StoreFault → (Archive → X → Type 0) → (Archive → StoreFault → Type 0) → Type 0
-Tells g old new (Ok x) Answers Refuses = (a : Archive) → StandsFor g old a → StandsFor g new a × (HasCleanDisk (state g new.conn) → Answers a x)
-Tells g old new (Err f) Answers Refuses = (a : Archive) → StandsFor g old a → StandsFor g new a × (is_trouble f ≡ false → HasCleanDisk (state g new.conn) → Refuses a f)
+abbrev pub Tells : {S X : Type 0} → Ghosts S → (old new : Store S) → Result X StoreFault → (Archive → X → Type 0) →
+    (Archive → StoreFault → Type 0) → Type 0
+Tells g old new (Ok x) Answers Refuses = (a : Archive) → StandsFor g old a → StandsFor g new a ×
+    (HasCleanDisk (state g new.conn) → Answers a x)
+Tells g old new (Err f) Answers Refuses = (a : Archive) → StandsFor g old a → StandsFor g new a ×
+    (is_trouble f ≡ false → HasCleanDisk (state g new.conn) → Refuses a f)
 
 abbrev pub Quietly : {X : Type 0} → Archive → X → Type 0
 Quietly a x = Unit {0}
@@ -108,23 +117,31 @@ Quietly a x = Unit {0}
 -- what a crash in a call on an open connection may leave: what a crash might have left before it, or the command's
 -- archive
 abbrev pub Leaves : {S : Type 0} → Ghosts S → (old new : Store S) → (Archive → Result Archive StoreFault) → Type 0
-Leaves g old new command = (a : Archive) → StandsFor g old a → IsTrue (state g old.conn).is_open → Survives (state g old.conn) (state g new.conn)
+Leaves g old new command = (a : Archive) → StandsFor g old a → IsTrue (state g old.conn).is_open →
+    Survives (state g old.conn) (state g new.conn)
     (λ (trees : Trees). (db : Database) × (b : Archive) × (command a ≡ Ok b) × StoresArchive db b × (trees ≡ db.trees))
 
 -- what a crash in a call that reads on an open connection may leave: what a crash might have left before it
 abbrev pub LeavesAll : {S : Type 0} → Ghosts S → (old new : Store S) → Type 0
-LeavesAll g old new = (a : Archive) → StandsFor g old a → Survives (state g old.conn) (state g new.conn) (λ _. IsTrue (state g old.conn).is_open → ⊥)
+LeavesAll g old new = (a : Archive) → StandsFor g old a →
+    Survives (state g old.conn) (state g new.conn) (λ _. IsTrue (state g old.conn).is_open → ⊥)
 
 -- what a crash may leave while a command is carried out on an open connection: what a crash might have left before
 -- it, or the changed archive, where the archive's command makes that change
-abbrev pub LeavesMade : {S : Type 0} → Ghosts S → (old new : Store S) → (Archive → Result Archive StoreFault) → (Archive → Archive) → Type 0
+abbrev pub LeavesMade : {S : Type 0} → Ghosts S → (old new : Store S) → (Archive → Result Archive StoreFault) →
+    (Archive → Archive) → Type 0
 LeavesMade g old new command change = (a : Archive) → StandsFor g old a → Survives (state g old.conn) (state g new.conn)
-    (λ (trees : Trees). (db : Database) × (IsTrue (state g old.conn).is_open → command a ≡ Ok (change a) → StoresArchive db (change a)) × (trees ≡ db.trees))
+    (λ (trees : Trees). (db : Database) ×
+    (IsTrue (state g old.conn).is_open → command a ≡ Ok (change a) → StoresArchive db (change a)) ×
+    (trees ≡ db.trees))
 
 -- the same for a change that is allowed by a condition in place of the command
-abbrev pub LeavesAllowed : {S : Type 0} → Ghosts S → (old new : Store S) → (Archive → Type 0) → (Archive → Archive) → Type 0
-LeavesAllowed g old new Allowed change = (a : Archive) → StandsFor g old a → Survives (state g old.conn) (state g new.conn)
-    (λ (trees : Trees). (db : Database) × (IsTrue (state g old.conn).is_open → Allowed a → StoresArchive db (change a)) × (trees ≡ db.trees))
+abbrev pub LeavesAllowed : {S : Type 0} → Ghosts S → (old new : Store S) → (Archive → Type 0) → (Archive → Archive) →
+    Type 0
+LeavesAllowed g old new Allowed change = (a : Archive) → StandsFor g old a →
+    Survives (state g old.conn) (state g new.conn)
+    (λ (trees : Trees). (db : Database) ×
+    (IsTrue (state g old.conn).is_open → Allowed a → StoresArchive db (change a)) × (trees ≡ db.trees))
 
 -- a disk that is clean after the call was clean before it
 abbrev pub Falls : {S : Type 0} → Ghosts S → (old new : Store S) → Type 0

@@ -33,7 +33,8 @@ pub(crate) fn number_of(day: Date) -> u32
 /// Adds the due day of a line, if it has one.
 fn push_due(dues: &mut Vec<DueRow>, line: &Line) -> Result<(), AllocError>
     requires { HasDueDay line.now }
-    ensures { OnOk result (map due_of dues.new.items ≡ map due_of dues.old.items ++ due_before (line_view line.now).number (line_view line.now).due []) }
+    ensures { OnOk result (map due_of dues.new.items ≡ map due_of dues.old.items ++
+        due_before (line_view line.now).number (line_view line.now).due []) }
 {
     let Some(date) = line.due else {
         return Ok(());
@@ -76,7 +77,8 @@ impl<S: Alter> Store<S> {
     fn new_lines(&self, first: u32, day: Date, paths: &[Vec<u8>]) -> Result<Vec<Line>, AllocError>
         requires room { first + length paths.now ≤ 2 ^ 32 }
         requires day { IsCaptureDay day }
-        ensures lines { IfOk result (λ v. map line_view v.items ≡ lines_of self.now.plan first (number_of_day day) (map (λ p. p.items) paths.now)) }
+        ensures lines { IfOk result (λ v. map line_view v.items ≡
+            lines_of self.now.plan first (number_of_day day) (map (λ p. p.items) paths.now)) }
         ensures days { IfOk result (λ v. All HasDueDay v.items) }
     {
         let mut lines = Vec::new(self.alloc);
@@ -101,12 +103,16 @@ impl<S: Alter> Store<S> {
         requires first { first ≡ self.old.next }
         requires classes { AreClasses self.old.plan (map (λ p. p.items) paths.now) }
         requires day { day ≤ 84005 }
-        requires dues { map due_of dues.now ≡ dues_told (lines_of self.old.plan first day (map (λ p. p.items) paths.now)) }
-        ensures ok { OnOk result ((a : Archive) → StandsFor S.Store self.old a → StandsFor S.Store self.new (archive.captured a body.now day (map (λ p. p.items) paths.now))) }
+        requires dues { map due_of dues.now ≡
+            dues_told (lines_of self.old.plan first day (map (λ p. p.items) paths.now)) }
+        ensures ok { OnOk result ((a : Archive) → StandsFor S.Store self.old a →
+            StandsFor S.Store self.new (archive.captured a body.now day (map (λ p. p.items) paths.now))) }
         ensures err { OnErr result ((a : Archive) → StandsFor S.Store self.old a → StandsFor S.Store self.new a) }
         ensures trouble { IfErr result (λ f. is_trouble f ≡ true) }
         ensures falls { Falls S.Store self.old self.new }
-        ensures crash { LeavesMade S.Store self.old self.new (λ a. Ok (archive.captured a body.now day (map (λ p. p.items) paths.now))) (λ a. archive.captured a body.now day (map (λ p. p.items) paths.now)) }
+        ensures crash { LeavesMade S.Store self.old self.new
+            (λ a. Ok (archive.captured a body.now day (map (λ p. p.items) paths.now)))
+            (λ a. archive.captured a body.now day (map (λ p. p.items) paths.now)) }
     {
         if !self.conn.is_autocommit() {
             return Err(StoreFault::BUSY);
@@ -142,10 +148,12 @@ impl<S: Alter> Store<S> {
     ) -> Result<Vec<Line>, StoreFault>
         requires day { IsCaptureDay day }
         requires paths { AreClasses self.old.plan (map (λ p. p.items) paths.now) }
-        ensures obeys { Obeys S.Store self.old self.new result (λ a. archive.capture a body.now (number_of_day day) (map (λ p. p.items) paths.now))
+        ensures obeys { Obeys S.Store self.old self.new result
+            (λ a. archive.capture a body.now (number_of_day day) (map (λ p. p.items) paths.now))
             (λ a lines. map line_view lines.items ≡ archive.captured_lines a (number_of_day day) (map (λ p. p.items) paths.now)) }
         ensures falls { Falls S.Store self.old self.new }
-        ensures crash { Leaves S.Store self.old self.new (λ a. archive.capture a body.now (number_of_day day) (map (λ p. p.items) paths.now)) }
+        ensures crash { Leaves S.Store self.old self.new
+            (λ a. archive.capture a body.now (number_of_day day) (map (λ p. p.items) paths.now)) }
     {
         if paths.is_empty() {
             return Ok(Vec::new(self.alloc));

@@ -36,7 +36,8 @@ fn put_class<S: Alter>(conn: &mut Connection<S>, path: &[u8]) -> Result<(), Erro
 /// Adds an open class to a plan; refused with 52, 53, 54 or 56.
 fn plan_class(plan: &mut Plan, path: &[u8]) -> Result<(), StoreFault>
     ensures ok { OnOk result (added plan.old path.now ≡ Ok plan.new) }
-    ensures err { IfErr result (λ f. is_trouble f ≡ false → (a : Archive) → archive.plan_answer a (added plan.old path.now) ≡ Err f) }
+    ensures err { IfErr result (λ f. is_trouble f ≡ false → (a : Archive) →
+        archive.plan_answer a (added plan.old path.now) ≡ Err f) }
     ensures unchanged { OnErr result (plan.new ≡ plan.old) }
     ensures plans { IsPlan plan.old × IsPlan plan.new }
 {

@@ -99,7 +99,8 @@ fn is_by(day: u32, due: Option<u32>) -> bool
 /// Whether the plan destroys a record by a day; refused with the first of 83 and 82, in this order.
 fn judge_plan(plan: &Plan, row: &RecordRow, day: u32) -> Result<(), StoreFault>
     ensures ok { OnOk result (against_destruction plan.now day (record_of row.now) ≡ None) }
-    ensures err { IfErr result (λ f. is_trouble f ≡ false → against_destruction plan.now day (record_of row.now) ≡ Some f) }
+    ensures err { IfErr result (λ f. is_trouble f ≡ false →
+        against_destruction plan.now day (record_of row.now) ≡ Some f) }
 {
     let path = row.path.as_slice();
     if row.day > LAST_CAPTURE_DAY {
@@ -121,7 +122,8 @@ impl<S: Alter> Store<S> {
             (λ a r. IsFree a number (record_of r) × (archive.destroy a number day ≡ Ok (archive.without a (record_of r))))
             (λ a f. archive.destroy a number day ≡ Err f) }
         ensures falls { Falls S.Store self.old self.new }
-        ensures open { HasCleanDisk (state S.Store self.new.conn) → OnOk result (IsTrue (state S.Store self.new.conn).is_open) }
+        ensures open { HasCleanDisk (state S.Store self.new.conn) →
+            OnOk result (IsTrue (state S.Store self.new.conn).is_open) }
         ensures crash { LeavesAll S.Store self.old self.new }
     {
         let record = self.record_at(number)?;
@@ -139,7 +141,8 @@ impl<S: Alter> Store<S> {
 
     /// The message, if only one live record has it.
     fn last_body(&self, message: u32) -> Option<u32>
-        ensures { MatchOption result (0 < count_at self.now.others message) (λ m. (m ≡ message) × (count_at self.now.others message ≡ 0)) }
+        ensures { MatchOption result (0 < count_at self.now.others message) (λ m. (m ≡ message) ×
+            (count_at self.now.others message ≡ 0)) }
     {
         if self.others.count(message) == 0 {
             Some(message)
@@ -150,11 +153,13 @@ impl<S: Alter> Store<S> {
 
     /// Destroys a live record that no hold keeps.
     fn remove_record(&mut self, number: u32, row: &RecordRow) -> Result<(), StoreFault>
-        ensures ok { OnOk result ((a : Archive) → StandsFor S.Store self.old a → IsFree a number (record_of row.now) → StandsFor S.Store self.new (archive.without a (record_of row.now))) }
+        ensures ok { OnOk result ((a : Archive) → StandsFor S.Store self.old a → IsFree a number (record_of row.now) →
+            StandsFor S.Store self.new (archive.without a (record_of row.now))) }
         ensures err { OnErr result ((a : Archive) → StandsFor S.Store self.old a → StandsFor S.Store self.new a) }
         ensures trouble { IfErr result (λ f. is_trouble f ≡ true) }
         ensures falls { Falls S.Store self.old self.new }
-        ensures crash { LeavesAllowed S.Store self.old self.new (λ a. IsFree a number (record_of row.now)) (λ a. archive.without a (record_of row.now)) }
+        ensures crash { LeavesAllowed S.Store self.old self.new (λ a. IsFree a number (record_of row.now))
+            (λ a. archive.without a (record_of row.now)) }
     {
         if !self.conn.is_autocommit() {
             return Err(StoreFault::BUSY);
@@ -185,7 +190,8 @@ impl<S: Alter> Store<S> {
     /// The caller gives a day of 1970 to 9999.
     pub fn destroy(&mut self, number: u32, day: Date) -> Result<(), StoreFault>
         requires { IsBetween (pos 0) (pos 2932896) (epoch_day day) }
-        ensures obeys { ObeysRows S.Store self.old self.new result (λ a. archive.destroy a number (number_of_day day)) Quietly }
+        ensures obeys { ObeysRows S.Store self.old self.new result
+            (λ a. archive.destroy a number (number_of_day day)) Quietly }
         ensures falls { Falls S.Store self.old self.new }
         ensures crash { Leaves S.Store self.old self.new (λ a. archive.destroy a number (number_of_day day)) }
     {

@@ -35,7 +35,8 @@ fn line_of(due: DueRecordRow) -> Result<Line, StoreFault>
 impl<S: Alter> Store<S> {
     /// The live records that are due by a day, by their due days and then by number.
     fn due_records(&mut self, day: u32) -> Result<Vec<DueRecordRow>, StoreFault>
-        ensures tells { Tells S.Store self.old self.new result (λ a rows. map due_record_of rows.items ≡ due_records a day) (λ a f. ⊥) }
+        ensures tells { Tells S.Store self.old self.new result (λ a rows. map due_record_of rows.items ≡
+            due_records a day) (λ a f. ⊥) }
         ensures falls { Falls S.Store self.old self.new }
         ensures crash { LeavesAll S.Store self.old self.new }
     {
@@ -49,7 +50,8 @@ impl<S: Alter> Store<S> {
 
     /// The lines of the records that no hold keeps.
     fn unheld_lines(&self, due: Vec<DueRecordRow>) -> Result<Vec<Line>, StoreFault>
-        ensures lines { IfOk result (λ lines. map line_view lines.items ≡ map told (filter (λ d. count_at self.now.held d.number == 0) (map due_record_of due.items))) }
+        ensures lines { IfOk result (λ lines. map line_view lines.items ≡
+            map told (filter (λ d. count_at self.now.held d.number == 0) (map due_record_of due.items))) }
         ensures trouble { IfErr result (λ f. is_trouble f ≡ true) }
     {
         let mut lines = Vec::new(self.alloc);
@@ -68,7 +70,8 @@ impl<S: Alter> Store<S> {
     /// The caller gives a day of 1970 to 9999.
     pub fn due(&mut self, day: Date) -> Result<Vec<Line>, StoreFault>
         requires { IsBetween (pos 0) (pos 2932896) (epoch_day day) }
-        ensures tells { Tells S.Store self.old self.new result (λ a lines. map line_view lines.items ≡ due_list a (number_of_day day)) (λ a f. ⊥) }
+        ensures tells { Tells S.Store self.old self.new result (λ a lines. map line_view lines.items ≡
+            due_list a (number_of_day day)) (λ a f. ⊥) }
         ensures falls { Falls S.Store self.old self.new }
         ensures crash { LeavesAll S.Store self.old self.new }
     {

@@ -15,9 +15,11 @@ use sqlite::Alter;
 impl<S: Alter> Store<S> {
     /// Whether a record may be held by that name; refused with the first of 80, 84 and 86, in this order.
     fn judge_hold(&mut self, name: &[u8], number: u32) -> Result<(), StoreFault>
-        ensures tells { Tells S.Store self.old self.new result (λ a _. archive.hold a name.now number ≡ Ok (archive.with_hold a name.now number)) (λ a f. archive.hold a name.now number ≡ Err f) }
+        ensures tells { Tells S.Store self.old self.new result (λ a _. archive.hold a name.now number ≡
+            Ok (archive.with_hold a name.now number)) (λ a f. archive.hold a name.now number ≡ Err f) }
         ensures falls { Falls S.Store self.old self.new }
-        ensures open { HasCleanDisk (state S.Store self.new.conn) → OnOk result (IsTrue (state S.Store self.new.conn).is_open) }
+        ensures open { HasCleanDisk (state S.Store self.new.conn) →
+            OnOk result (IsTrue (state S.Store self.new.conn).is_open) }
         ensures crash { LeavesAll S.Store self.old self.new }
     {
         let record = self.record_at(number)?;
@@ -31,11 +33,14 @@ impl<S: Alter> Store<S> {
     }
 
     fn place_hold(&mut self, name: &[u8], number: u32) -> Result<(), StoreFault>
-        ensures ok { OnOk result ((a : Archive) → StandsFor S.Store self.old a → archive.hold a name.now number ≡ Ok (archive.with_hold a name.now number) → StandsFor S.Store self.new (archive.with_hold a name.now number)) }
+        ensures ok { OnOk result ((a : Archive) → StandsFor S.Store self.old a →
+            archive.hold a name.now number ≡ Ok (archive.with_hold a name.now number) →
+            StandsFor S.Store self.new (archive.with_hold a name.now number)) }
         ensures err { OnErr result ((a : Archive) → StandsFor S.Store self.old a → StandsFor S.Store self.new a) }
         ensures trouble { IfErr result (λ f. is_trouble f ≡ true) }
         ensures falls { Falls S.Store self.old self.new }
-        ensures crash { LeavesMade S.Store self.old self.new (λ a. archive.hold a name.now number) (λ a. archive.with_hold a name.now number) }
+        ensures crash { LeavesMade S.Store self.old self.new (λ a. archive.hold a name.now number)
+            (λ a. archive.with_hold a name.now number) }
     {
         if !self.conn.is_autocommit() {
             return Err(StoreFault::BUSY);
@@ -68,9 +73,11 @@ impl<S: Alter> Store<S> {
 
     /// Whether a hold of that name may end; refused with the first of 80 and 85, in this order.
     fn judge_release(&mut self, name: &[u8], number: u32) -> Result<(), StoreFault>
-        ensures tells { Tells S.Store self.old self.new result (λ a _. archive.release a name.now number ≡ Ok (archive.without_hold a name.now number)) (λ a f. archive.release a name.now number ≡ Err f) }
+        ensures tells { Tells S.Store self.old self.new result (λ a _. archive.release a name.now number ≡
+            Ok (archive.without_hold a name.now number)) (λ a f. archive.release a name.now number ≡ Err f) }
         ensures falls { Falls S.Store self.old self.new }
-        ensures open { HasCleanDisk (state S.Store self.new.conn) → OnOk result (IsTrue (state S.Store self.new.conn).is_open) }
+        ensures open { HasCleanDisk (state S.Store self.new.conn) →
+            OnOk result (IsTrue (state S.Store self.new.conn).is_open) }
         ensures crash { LeavesAll S.Store self.old self.new }
     {
         let _record = self.record_at(number)?;
@@ -82,11 +89,14 @@ impl<S: Alter> Store<S> {
     }
 
     fn end_hold(&mut self, name: &[u8], number: u32) -> Result<(), StoreFault>
-        ensures ok { OnOk result ((a : Archive) → StandsFor S.Store self.old a → archive.release a name.now number ≡ Ok (archive.without_hold a name.now number) → StandsFor S.Store self.new (archive.without_hold a name.now number)) }
+        ensures ok { OnOk result ((a : Archive) → StandsFor S.Store self.old a →
+            archive.release a name.now number ≡ Ok (archive.without_hold a name.now number) →
+            StandsFor S.Store self.new (archive.without_hold a name.now number)) }
         ensures err { OnErr result ((a : Archive) → StandsFor S.Store self.old a → StandsFor S.Store self.new a) }
         ensures trouble { IfErr result (λ f. is_trouble f ≡ true) }
         ensures falls { Falls S.Store self.old self.new }
-        ensures crash { LeavesMade S.Store self.old self.new (λ a. archive.release a name.now number) (λ a. archive.without_hold a name.now number) }
+        ensures crash { LeavesMade S.Store self.old self.new (λ a. archive.release a name.now number)
+            (λ a. archive.without_hold a name.now number) }
     {
         if !self.conn.is_autocommit() {
             return Err(StoreFault::BUSY);

@@ -14,7 +14,8 @@ use sqlite::Alter;
 
 impl<S: Alter> Store<S> {
     fn body_of(&mut self, message: u32) -> Result<Option<Vec<u8>>, StoreFault>
-        ensures tells { Tells S.Store self.old self.new result (λ a b. option_map (λ v. v.items) b ≡ archive.body_of a.messages message) (λ a f. ⊥) }
+        ensures tells { Tells S.Store self.old self.new result (λ a b. option_map (λ v. v.items) b ≡
+            archive.body_of a.messages message) (λ a f. ⊥) }
         ensures falls { Falls S.Store self.old self.new }
         ensures crash { LeavesAll S.Store self.old self.new }
     {
@@ -28,7 +29,8 @@ impl<S: Alter> Store<S> {
     ///
     /// Refused with 80 where there is no such record, 84 where it is destroyed, 89 (`sqlite`) or 99 (no memory).
     pub fn message(&mut self, number: u32) -> Result<Vec<u8>, StoreFault>
-        ensures tells { Tells S.Store self.old self.new result (λ a body. archive.message a number ≡ Ok (Some body.items)) (λ a f. archive.message a number ≡ Err f) }
+        ensures tells { Tells S.Store self.old self.new result (λ a body. archive.message a number ≡
+            Ok (Some body.items)) (λ a f. archive.message a number ≡ Err f) }
         ensures falls { Falls S.Store self.old self.new }
         ensures crash { LeavesAll S.Store self.old self.new }
     {

@@ -60,7 +60,8 @@ fn push_in_order(dues: &mut Vec<DueRow>, due: DueRow) -> Result<(), Error>
 /// Adds the due day of a record by a plan, if it is live and has one.
 fn push_due_row(dues: &mut Vec<DueRow>, plan: &Plan, row: &RecordRow) -> Result<(), Error>
     requires { AreAscending (map due_of dues.old.items) }
-    ensures rows { OnOk result (map due_of dues.new.items ≡ map due_of dues.old.items ++ dues_in plan.now (record_of row.now ∷ [])) }
+    ensures rows { OnOk result (map due_of dues.new.items ≡ map due_of dues.old.items ++
+        dues_in plan.now (record_of row.now ∷ [])) }
     ensures ascending { OnOk result (AreAscending (map due_of dues.new.items)) }
 {
     if row.destroyed {

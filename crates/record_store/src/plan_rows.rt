@@ -49,9 +49,13 @@ pub(crate) fn plan_rows<S: Alter>(
     alloc: Global,
     conn: &mut Connection<S>,
 ) -> Result<PlanRows, Fault>
-    ensures tells { HasCleanDisk (state S.Store conn.new) → IfOk result (λ r. (a : Archive) → FindsSecond (state S.Store conn.old).now a → IsKeyed a → TellsPlan r a.plan) }
-    ensures sound { HasCleanDisk (state S.Store conn.new) → IfOk result (λ r. (t : Tables) (ps : List Pair) (rs : List Rule) (cs : List Listed) → ReadsSecond (state S.Store conn.old).now t ps rs cs → ShowsPlan r ps rs cs) }
-    ensures none { HasCleanDisk (state S.Store conn.new) → result ≡ Err Fault.NoArchive → (a : Archive) → FindsSecond (state S.Store conn.old).now a → IsKeyed a → ⊥ }
+    ensures tells { HasCleanDisk (state S.Store conn.new) →
+        IfOk result (λ r. (a : Archive) → FindsSecond (state S.Store conn.old).now a → IsKeyed a → TellsPlan r a.plan) }
+    ensures sound { HasCleanDisk (state S.Store conn.new) →
+        IfOk result (λ r. (t : Tables) (ps : List Pair) (rs : List Rule) (cs : List Listed) →
+        ReadsSecond (state S.Store conn.old).now t ps rs cs → ShowsPlan r ps rs cs) }
+    ensures none { HasCleanDisk (state S.Store conn.new) → result ≡ Err Fault.NoArchive → (a : Archive) →
+        FindsSecond (state S.Store conn.old).now a → IsKeyed a → ⊥ }
     ensures same { ReadsAlone S.Store conn.old conn.new result (IsArchiveSchema (state S.Store conn.old).now.schema) }
     ensures sees { Sees S.Store IsArchiveSchema conn.old conn.new }
 {

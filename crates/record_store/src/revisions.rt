@@ -37,7 +37,8 @@ fn read_fault(fault: Fault) -> StoreFault
 impl<S: Alter> Store<S> {
     /// The new plan; refused with 57 where it drops a path of the present one.
     fn judge_revision(&self, plan: Plan) -> Result<Plan, StoreFault>
-        ensures { MatchResult result (λ p. (keeps self.now.plan plan ≡ true) × (p ≡ plan)) (λ f. is_trouble f ≡ false → (keeps self.now.plan plan ≡ false) × (f ≡ StoreFault.Plan PathDropped)) }
+        ensures { MatchResult result (λ p. (keeps self.now.plan plan ≡ true) × (p ≡ plan)) (λ f. is_trouble f ≡ false →
+            (keeps self.now.plan plan ≡ false) × (f ≡ StoreFault.Plan PathDropped)) }
     {
         let mut kept = self.plan.copy()?;
         match kept.revise(plan) {
@@ -48,9 +49,11 @@ impl<S: Alter> Store<S> {
 
     /// The records, in the order of their numbers.
     fn all_records(&mut self) -> Result<Vec<RecordRow>, StoreFault>
-        ensures tells { Tells S.Store self.old self.new result (λ a rows. map record_of rows.items ≡ a.records) (λ a f. ⊥) }
+        ensures tells { Tells S.Store self.old self.new result (λ a rows. map record_of rows.items ≡
+            a.records) (λ a f. ⊥) }
         ensures falls { Falls S.Store self.old self.new }
-        ensures open { (a : Archive) → StandsFor S.Store self.old a → HasCleanDisk (state S.Store self.new.conn) → OnOk result (IsTrue (state S.Store self.new.conn).is_open) }
+        ensures open { (a : Archive) → StandsFor S.Store self.old a → HasCleanDisk (state S.Store self.new.conn) →
+            OnOk result (IsTrue (state S.Store self.new.conn).is_open) }
         ensures crash { LeavesAll S.Store self.old self.new }
     {
         match records(self.alloc, &mut self.conn) {
@@ -74,11 +77,13 @@ impl<S: Alter> Store<S> {
     /// Replaces the plan, and the due days by it.
     fn place_plan(&mut self, plan: Plan, dues: &[DueRow]) -> Result<(), StoreFault>
         requires { AreAscending (map due_of dues.now) }
-        ensures ok { OnOk result ((a : Archive) → StandsFor S.Store self.old a → IsRevision a plan (map due_of dues.now) → StandsFor S.Store self.new (with_plan a plan)) }
+        ensures ok { OnOk result ((a : Archive) → StandsFor S.Store self.old a →
+            IsRevision a plan (map due_of dues.now) → StandsFor S.Store self.new (with_plan a plan)) }
         ensures err { OnErr result ((a : Archive) → StandsFor S.Store self.old a → StandsFor S.Store self.new a) }
         ensures trouble { IfErr result (λ f. is_trouble f ≡ true) }
         ensures falls { Falls S.Store self.old self.new }
-        ensures crash { LeavesAllowed S.Store self.old self.new (λ a. IsRevision a plan (map due_of dues.now)) (λ a. with_plan a plan) }
+        ensures crash { LeavesAllowed S.Store self.old self.new (λ a. IsRevision a plan (map due_of dues.now))
+            (λ a. with_plan a plan) }
     {
         if !self.conn.is_autocommit() {
             return Err(StoreFault::BUSY);

@@ -48,12 +48,15 @@ impl<S: Alter> Store<S> {
         mut conn: Connection<S>,
     ) -> Result<Store<S>, (StoreFault, Connection<S>)>
         requires { conn.in_transaction ≡ false }
-        ensures ok { IfOk result (λ s. HasCleanDisk (state S.Store s.conn) → (state S.Store conn).now.schema ≡ no_schema → StandsFor S.Store s empty_archive) }
+        ensures ok { IfOk result (λ s. HasCleanDisk (state S.Store s.conn) →
+            (state S.Store conn).now.schema ≡ no_schema → StandsFor S.Store s empty_archive) }
         ensures trouble { IfErr result (λ e. is_trouble e.0 ≡ true) }
         ensures unchanged { IfErr result (λ e. HasCleanDisk (state S.Store e.1) → IsTrue (state S.Store e.1).is_open
-            → ((state S.Store e.1).now ≡ (state S.Store conn).now) × ((state S.Store e.1).committed ≡ (state S.Store conn).committed)) }
+            → ((state S.Store e.1).now ≡ (state S.Store conn).now) ×
+            ((state S.Store e.1).committed ≡ (state S.Store conn).committed)) }
         ensures crash { IfOk result (λ s. LeavesArchive S.Store conn s.conn (FindsNothing (state S.Store conn).now)) }
-        ensures crash_refused { IfErr result (λ e. LeavesArchive S.Store conn e.1 (FindsNothing (state S.Store conn).now)) }
+        ensures crash_refused { IfErr result
+            (λ e. LeavesArchive S.Store conn e.1 (FindsNothing (state S.Store conn).now)) }
     {
         let Ok(plan) = Plan::new(alloc) else {
             return Err((StoreFault::NoMemory, conn));
@@ -81,9 +84,11 @@ impl<S: Alter> Store<S> {
 
     /// The record with a number; refused with 80 where there is none.
     pub(crate) fn record_at(&mut self, number: u32) -> Result<RecordRow, StoreFault>
-        ensures tells { Tells S.Store self.old self.new result (λ a r. archive.record_at a number ≡ Some (record_of r)) (λ a f. (f ≡ StoreFault.NoRecord) × (archive.record_at a number ≡ None)) }
+        ensures tells { Tells S.Store self.old self.new result (λ a r. archive.record_at a number ≡
+            Some (record_of r)) (λ a f. (f ≡ StoreFault.NoRecord) × (archive.record_at a number ≡ None)) }
         ensures falls { Falls S.Store self.old self.new }
-        ensures open { HasCleanDisk (state S.Store self.new.conn) → OnOk result (IsTrue (state S.Store self.new.conn).is_open) }
+        ensures open { HasCleanDisk (state S.Store self.new.conn) →
+            OnOk result (IsTrue (state S.Store self.new.conn).is_open) }
         ensures crash { LeavesAll S.Store self.old self.new }
     {
         match record_by_number(&mut self.conn, number) {
@@ -95,9 +100,11 @@ impl<S: Alter> Store<S> {
 
     /// Whether a hold of that name keeps the record.
     pub(crate) fn has_hold(&mut self, name: &[u8], number: u32) -> Result<bool, StoreFault>
-        ensures tells { Tells S.Store self.old self.new result (λ a b. b ≡ archive.is_held_by a name.now number) (λ a f. ⊥) }
+        ensures tells { Tells S.Store self.old self.new result (λ a b. b ≡
+            archive.is_held_by a name.now number) (λ a f. ⊥) }
         ensures falls { Falls S.Store self.old self.new }
-        ensures open { HasCleanDisk (state S.Store self.new.conn) → OnOk result (IsTrue (state S.Store self.new.conn).is_open) }
+        ensures open { HasCleanDisk (state S.Store self.new.conn) →
+            OnOk result (IsTrue (state S.Store self.new.conn).is_open) }
         ensures crash { LeavesAll S.Store self.old self.new }
     {
         match has_hold(&mut self.conn, name, number) {

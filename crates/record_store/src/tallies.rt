@@ -60,7 +60,9 @@ pub(crate) fn other_counts(
     records: &[RecordRow],
     messages: &[u32],
 ) -> Result<Counts, AllocError>
-    ensures { IfOk result (λ c. (m : ℕ) → count_at c m ≡ tally (λ r. not r.destroyed && (r.message == m)) records.now - tally (λ k. k == m) messages.now) }
+    ensures { IfOk result (λ c. (m : ℕ) →
+        count_at c m ≡ tally (λ r. not r.destroyed &&
+        (r.message == m)) records.now - tally (λ k. k == m) messages.now) }
 {
     let mut counts = live_counts(alloc, records)?;
     take_each(&mut counts, messages);

@@ -62,9 +62,13 @@ pub(crate) fn text_rows<S: Alter>(
     alloc: Global,
     conn: &mut Connection<S>,
 ) -> Result<TextRows, Fault>
-    ensures tells { HasCleanDisk (state S.Store conn.new) → IfOk result (λ r. (a : Archive) → FindsFirst (state S.Store conn.old).now a → IsKeyed a → TellsTexts r a.plan) }
-    ensures sound { HasCleanDisk (state S.Store conn.new) → IfOk result (λ r. (t : Tables) (ps : List Pair) (cs : List Listed) → ReadsFirst (state S.Store conn.old).now t ps cs → ShowsTexts r ps cs) }
-    ensures none { HasCleanDisk (state S.Store conn.new) → result ≡ Err Fault.NoArchive → (a : Archive) → FindsFirst (state S.Store conn.old).now a → IsKeyed a → ⊥ }
+    ensures tells { HasCleanDisk (state S.Store conn.new) →
+        IfOk result (λ r. (a : Archive) → FindsFirst (state S.Store conn.old).now a → IsKeyed a → TellsTexts r a.plan) }
+    ensures sound { HasCleanDisk (state S.Store conn.new) →
+        IfOk result (λ r. (t : Tables) (ps : List Pair) (cs : List Listed) →
+        ReadsFirst (state S.Store conn.old).now t ps cs → ShowsTexts r ps cs) }
+    ensures none { HasCleanDisk (state S.Store conn.new) → result ≡ Err Fault.NoArchive → (a : Archive) →
+        FindsFirst (state S.Store conn.old).now a → IsKeyed a → ⊥ }
     ensures same { ReadsAlone S.Store conn.old conn.new result (HasCommonTables (state S.Store conn.old).now.schema) }
     ensures sees { Sees S.Store HasCommonTables conn.old conn.new }
 {

@@ -20,9 +20,13 @@ pub(crate) fn put_hold<S: Alter>(
 ) -> Result<(), Error>
     requires idle { conn.old.in_transaction ≡ false }
     ensures idle { conn.new.in_transaction ≡ false }
-    ensures ok { HasCleanDisk (state S.Store conn.new) → OnOk result (Turns (state S.Store conn.old).now (state S.Store conn.new).now Always (with_hold name.now number)) }
-    ensures err { HasCleanDisk (state S.Store conn.new) → IsTrue (state S.Store conn.new).is_open → OnErr result ((state S.Store conn.new).now ≡ (state S.Store conn.old).now) }
-    ensures was_open { HasCleanDisk (state S.Store conn.new) → IsTrue (state S.Store conn.new).is_open → IsTrue (state S.Store conn.old).is_open }
+    ensures ok { HasCleanDisk (state S.Store conn.new) →
+        OnOk result (Turns (state S.Store conn.old).now (state S.Store conn.new).now Always
+        (with_hold name.now number)) }
+    ensures err { HasCleanDisk (state S.Store conn.new) → IsTrue (state S.Store conn.new).is_open →
+        OnErr result ((state S.Store conn.new).now ≡ (state S.Store conn.old).now) }
+    ensures was_open { HasCleanDisk (state S.Store conn.new) → IsTrue (state S.Store conn.new).is_open →
+        IsTrue (state S.Store conn.old).is_open }
     ensures crash { Survives (state S.Store conn.old) (state S.Store conn.new)
         (λ trees. (db : Database) × Turns (state S.Store conn.old).now db Always (with_hold name.now number) × (trees ≡ db.trees)) }
 {
@@ -40,9 +44,13 @@ pub(crate) fn end_hold<S: Alter>(
 ) -> Result<(), Error>
     requires idle { conn.old.in_transaction ≡ false }
     ensures idle { conn.new.in_transaction ≡ false }
-    ensures ok { HasCleanDisk (state S.Store conn.new) → OnOk result (Turns (state S.Store conn.old).now (state S.Store conn.new).now Always (without_hold name.now number)) }
-    ensures err { HasCleanDisk (state S.Store conn.new) → IsTrue (state S.Store conn.new).is_open → OnErr result ((state S.Store conn.new).now ≡ (state S.Store conn.old).now) }
-    ensures was_open { HasCleanDisk (state S.Store conn.new) → IsTrue (state S.Store conn.new).is_open → IsTrue (state S.Store conn.old).is_open }
+    ensures ok { HasCleanDisk (state S.Store conn.new) →
+        OnOk result (Turns (state S.Store conn.old).now (state S.Store conn.new).now Always
+        (without_hold name.now number)) }
+    ensures err { HasCleanDisk (state S.Store conn.new) → IsTrue (state S.Store conn.new).is_open →
+        OnErr result ((state S.Store conn.new).now ≡ (state S.Store conn.old).now) }
+    ensures was_open { HasCleanDisk (state S.Store conn.new) → IsTrue (state S.Store conn.new).is_open →
+        IsTrue (state S.Store conn.old).is_open }
     ensures crash { Survives (state S.Store conn.old) (state S.Store conn.new)
         (λ trees. (db : Database) × Turns (state S.Store conn.old).now db Always (without_hold name.now number) × (trees ≡ db.trees)) }
 {
@@ -63,7 +71,8 @@ fn insert_records<S: Alter>(
     requires { first + length paths.now ≤ 2 ^ 32 }
     ensures same_reference { tx.new.conn.ghost_name ≡ tx.old.conn.ghost_name }
     ensures ok { HasCleanDisk (state S.Store tx.new.conn.now) → IsTrue (state S.Store tx.old.conn.now).in_transaction
-        → OnOk result (Puts (state S.Store tx.old.conn.now) (state S.Store tx.new.conn.now) (IsPastRecords first) (with_records (records_of first first day (map (λ p. p.items) paths.now)))) }
+        → OnOk result (Puts (state S.Store tx.old.conn.now) (state S.Store tx.new.conn.now) (IsPastRecords first)
+        (with_records (records_of first first day (map (λ p. p.items) paths.now)))) }
     ensures err { HasCleanDisk (state S.Store tx.new.conn.now) → IsTrue (state S.Store tx.old.conn.now).in_transaction
         → OnErr result (KeepsCommit (state S.Store tx.old.conn.now) (state S.Store tx.new.conn.now)) }
     ensures survives { Survives (state S.Store tx.old.conn.now) (state S.Store tx.new.conn.now) (λ _. ⊥) }
@@ -77,7 +86,8 @@ fn insert_records<S: Alter>(
 fn insert_due_days<S: Alter>(tx: &mut Transaction<'_, S>, dues: &[DueRow]) -> Result<(), Error>
     ensures same_reference { tx.new.conn.ghost_name ≡ tx.old.conn.ghost_name }
     ensures ok { HasCleanDisk (state S.Store tx.new.conn.now) → IsTrue (state S.Store tx.old.conn.now).in_transaction
-        → OnOk result (Puts (state S.Store tx.old.conn.now) (state S.Store tx.new.conn.now) (AreAfter (map due_of dues.now)) (with_more_dues (map due_of dues.now))) }
+        → OnOk result (Puts (state S.Store tx.old.conn.now) (state S.Store tx.new.conn.now)
+        (AreAfter (map due_of dues.now)) (with_more_dues (map due_of dues.now))) }
     ensures err { HasCleanDisk (state S.Store tx.new.conn.now) → IsTrue (state S.Store tx.old.conn.now).in_transaction
         → OnErr result (KeepsCommit (state S.Store tx.old.conn.now) (state S.Store tx.new.conn.now)) }
     ensures survives { Survives (state S.Store tx.old.conn.now) (state S.Store tx.new.conn.now) (λ _. ⊥) }
@@ -100,7 +110,8 @@ fn insert_capture<S: Alter>(
     requires { first + length paths.now ≤ 2 ^ 32 }
     ensures same_reference { tx.new.conn.ghost_name ≡ tx.old.conn.ghost_name }
     ensures ok { HasCleanDisk (state S.Store tx.new.conn.now) → IsTrue (state S.Store tx.old.conn.now).in_transaction
-        → OnOk result (Puts (state S.Store tx.old.conn.now) (state S.Store tx.new.conn.now) (ArePast first (map due_of dues.now))
+        → OnOk result (Puts (state S.Store tx.old.conn.now) (state S.Store tx.new.conn.now)
+        (ArePast first (map due_of dues.now))
         (with_captured (record { number = first; body = body.now }) (records_of first first day (map (λ p. p.items) paths.now)) (map due_of dues.now))) }
     ensures kept { HasCleanDisk (state S.Store tx.new.conn.now) → IsTrue (state S.Store tx.old.conn.now).in_transaction
         → KeepsCommit (state S.Store tx.old.conn.now) (state S.Store tx.new.conn.now) }
@@ -124,10 +135,14 @@ pub(crate) fn put_capture<S: Alter>(
     requires idle { conn.old.in_transaction ≡ false }
     requires room { first + length paths.now ≤ 2 ^ 32 }
     ensures idle { conn.new.in_transaction ≡ false }
-    ensures ok { HasCleanDisk (state S.Store conn.new) → OnOk result (Turns (state S.Store conn.old).now (state S.Store conn.new).now (ArePast first (map due_of dues.now))
+    ensures ok { HasCleanDisk (state S.Store conn.new) →
+        OnOk result (Turns (state S.Store conn.old).now (state S.Store conn.new).now
+        (ArePast first (map due_of dues.now))
         (with_captured (record { number = first; body = body.now }) (records_of first first day (map (λ p. p.items) paths.now)) (map due_of dues.now))) }
-    ensures err { HasCleanDisk (state S.Store conn.new) → IsTrue (state S.Store conn.new).is_open → OnErr result ((state S.Store conn.new).now ≡ (state S.Store conn.old).now) }
-    ensures was_open { HasCleanDisk (state S.Store conn.new) → IsTrue (state S.Store conn.new).is_open → IsTrue (state S.Store conn.old).is_open }
+    ensures err { HasCleanDisk (state S.Store conn.new) → IsTrue (state S.Store conn.new).is_open →
+        OnErr result ((state S.Store conn.new).now ≡ (state S.Store conn.old).now) }
+    ensures was_open { HasCleanDisk (state S.Store conn.new) → IsTrue (state S.Store conn.new).is_open →
+        IsTrue (state S.Store conn.old).is_open }
     ensures crash { Survives (state S.Store conn.old) (state S.Store conn.new)
         (λ trees. (db : Database) × Turns (state S.Store conn.old).now db (ArePast first (map due_of dues.now))
         (with_captured (record { number = first; body = body.now }) (records_of first first day (map (λ p. p.items) paths.now)) (map due_of dues.now)) × (trees ≡ db.trees)) }

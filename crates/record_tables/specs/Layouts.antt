@@ -44,10 +44,12 @@ no_rows = record { messages = []; records = []; holds = []; settings = []; class
 -- the same for a call in a transaction
 module _ {S : Type 0} (g : Ghosts S) (old new : Held S) where
   abbrev pub LaysIn : Schema → List Table → Schema → Type 0
-  LaysIn before laid after = HasCleanDisk (state g new) → IsTrue (state g old).in_transaction → Lays (state g old) (state g new) before laid after
+  LaysIn before laid after = HasCleanDisk (state g new) → IsTrue (state g old).in_transaction →
+      Lays (state g old) (state g new) before laid after
 
   abbrev pub GoesOnIn : {T E : Type 0} → Result T E → Type 0
-  GoesOnIn result = HasCleanDisk (state g new) → IsTrue (state g old).in_transaction → OnOk result (GoesOn (state g old) (state g new))
+  GoesOnIn result = HasCleanDisk (state g new) → IsTrue (state g old).in_transaction →
+      OnOk result (GoesOn (state g old) (state g new))
 
 -- the table of due days, which follows these others, is dropped
 pub record Drops (old new : State) (before after : Schema) : Type 0 where
@@ -64,7 +66,8 @@ pub record TellsDues (schema : Schema) (has_dues : Bool) : Type 0 where
 
 -- in version 2 without other tables, all due days are removed, and nothing else
 pub record Empties (old new : State) : Type 0 where
-  pub stored : (t : Tables) → Stores old.now t → AreKeyed t → old.now.schema ≡ archive_schema → StoresKeyed new.now (without_dues t)
+  pub stored : (t : Tables) → Stores old.now t → AreKeyed t → old.now.schema ≡ archive_schema →
+      StoresKeyed new.now (without_dues t)
   pub committed : new.committed ≡ old.committed
   pub mode : new.in_transaction ≡ old.in_transaction
   pub is_open : new.is_open ≡ old.is_open
@@ -83,7 +86,8 @@ pub record IsWidened (old new : Database) : Type 0 where
 
 -- the rows of version 1 are now in version 2, where this plan and these due days replace the plan that was there
 pub record IsMoved (schedules : List Rule) (classes : List Listed) (dues : List Due) (old new : Database) : Type 0 where
-  pub stored : (t : Tables) → StoresFirst old t → AreKeyed t → StoresKeyed new (with_version (with_plan schedules classes dues t))
+  pub stored : (t : Tables) → StoresFirst old t → AreKeyed t →
+      StoresKeyed new (with_version (with_plan schedules classes dues t))
 
 -- the text creates this table
 pub record Defines (schema : Schema) (text : List ℕ) (table : Table) : Type 0 where

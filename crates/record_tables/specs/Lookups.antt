@@ -26,7 +26,8 @@ pub record Looks {S : Type 0} (g : Ghosts S) (old new : Held S) : Type 0 where
   pub idle : old.in_transaction ≡ false → new.in_transaction ≡ false
   pub falls : HasCleanDisk (state g new) → HasCleanDisk (state g old)
   pub still : old.in_transaction ≡ false → (IsTrue (state g old).is_open → IsArchiveSchema (state g old).now.schema)
-      → HasCleanDisk (state g new) → IsTrue (state g new).is_open → IsTrue (state g old).is_open × ((state g new).now ≡ (state g old).now)
+      → HasCleanDisk (state g new) → IsTrue (state g new).is_open → IsTrue (state g old).is_open ×
+      ((state g new).now ≡ (state g old).now)
   pub survives : Survives (state g old) (state g new) (λ _. IsArchiveSchema (state g old).now.schema → ⊥)
 
 -- the columns of the row are read as the record's

@@ -15,7 +15,8 @@ use Rattle.record_tables.specs.Changes.{Listed, Rule}
 -- ---- records
 
 abbrev pub shown_record : Record → Row
-shown_record r = Int (pos r.number) ∷ Int (pos r.message) ∷ Words r.path ∷ Int (pos r.day) ∷ Int (as_flag r.destroyed) ∷ []
+shown_record r = Int (pos r.number) ∷ Int (pos r.message) ∷ Words r.path ∷ Int (pos r.day) ∷
+    Int (as_flag r.destroyed) ∷ []
 
 -- the columns of the row are the record's
 pub record ReadsRecord (row : Row) (r : Record) : Type 0 where

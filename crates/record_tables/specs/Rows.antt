@@ -75,7 +75,8 @@ abbrev pub record_key : Record → ℤ
 record_key r = pos r.number
 
 abbrev pub record_row : Record → Row
-record_row r = Int (pos r.number) ∷ Null ∷ Int (pos r.message) ∷ Words r.path ∷ Int (pos r.day) ∷ Int (as_flag r.destroyed) ∷ []
+record_row r = Int (pos r.number) ∷ Null ∷ Int (pos r.message) ∷ Words r.path ∷ Int (pos r.day) ∷
+    Int (as_flag r.destroyed) ∷ []
 
 abbrev pub hold_key : Hold → ℤ
 hold_key h = h.id
@@ -99,7 +100,8 @@ abbrev pub schedule_key : Schedule → ℤ
 schedule_key s = s.id
 
 abbrev pub schedule_row : Schedule → Row
-schedule_row s = Int s.id ∷ Words s.path ∷ Int (pos s.count) ∷ Int (pos s.unit) ∷ Int (pos s.action) ∷ Int (pos s.year_end) ∷ []
+schedule_row s = Int s.id ∷ Words s.path ∷ Int (pos s.count) ∷ Int (pos s.unit) ∷ Int (pos s.action) ∷
+    Int (pos s.year_end) ∷ []
 
 abbrev pub due_key : Due → ℤ
 due_key d = pos d.number

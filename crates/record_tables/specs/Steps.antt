@@ -20,7 +20,8 @@ module _ {S : Type 0} (g : Ghosts S) (old new : Held S) where
 
   -- where it fails, what was committed stays
   abbrev pub KeepsIn : {T E : Type 0} → Result T E → Type 0
-  KeepsIn result = HasCleanDisk (state g new) → IsTrue (state g old).in_transaction → OnErr result (KeepsCommit (state g old) (state g new))
+  KeepsIn result = HasCleanDisk (state g new) → IsTrue (state g old).in_transaction →
+      OnErr result (KeepsCommit (state g old) (state g new))
 
   -- a crash leaves nothing of it
   abbrev pub CommitsNothing : Type 0
@@ -32,7 +33,8 @@ module _ {S : Type 0} (g : Ghosts S) (old new : Held S) where
 
   -- a crash leaves all of it or nothing
   abbrev pub CommitsWhole : (Database → Database → Type 0) → Type 0
-  CommitsWhole Good = Survives (state g old) (state g new) (λ (trees : Trees). (db : Database) × Good (state g old).now db × (trees ≡ db.trees))
+  CommitsWhole Good = Survives (state g old) (state g new) (λ (trees : Trees). (db : Database) ×
+      Good (state g old).now db × (trees ≡ db.trees))
 
   -- where it succeeds, what is seen is committed
   abbrev pub IsCommitted : {T E : Type 0} → Result T E → Type 0
@@ -57,7 +59,8 @@ module _ {S : Type 0} (g : Ghosts S) (old new : Held S) where
   -- outside a transaction, a read of tables that are there leaves the rows unchanged while the connection is open,
   -- also where the read fails
   abbrev pub IsStill : Type 0 → Type 0
-  IsStill Are = old.in_transaction ≡ false → (IsTrue (state g old).is_open → Are) → HasCleanDisk (state g new) → IsTrue (state g new).is_open
+  IsStill Are = old.in_transaction ≡ false → (IsTrue (state g old).is_open → Are) → HasCleanDisk (state g new) →
+      IsTrue (state g new).is_open
       → IsTrue (state g old).is_open × ((state g new).now ≡ (state g old).now)
 
   abbrev pub Falls : Type 0

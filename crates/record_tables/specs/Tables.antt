@@ -61,24 +61,30 @@ message_table = keyed_table (codes "message") 0 (optional (codes "number") Integ
 
 abbrev pub record_table : Table
 record_table = keyed_table (codes "record") 1
-    (optional (codes "number") Integer ∷ needed (codes "message") Integer ∷ needed (codes "path") Text ∷ needed (codes "day") Integer ∷ needed (codes "destroyed") Integer ∷ [])
+    (optional (codes "number") Integer ∷ needed (codes "message") Integer ∷ needed (codes "path") Text ∷
+    needed (codes "day") Integer ∷ needed (codes "destroyed") Integer ∷ [])
 
 abbrev pub hold_table : Table
-hold_table = uniquely_keyed_table (codes "hold") 2 (1 ∷ 2 ∷ []) (needed (codes "name") Text ∷ needed (codes "record") Integer ∷ [])
+hold_table = uniquely_keyed_table (codes "hold") 2 (1 ∷ 2 ∷ []) (needed (codes "name") Text ∷
+    needed (codes "record") Integer ∷ [])
 
 abbrev pub meta_table : Table
-meta_table = uniquely_keyed_table (codes "meta") 4 (1 ∷ []) (needed (codes "key") Text ∷ needed (codes "value") Text ∷ [])
+meta_table = uniquely_keyed_table (codes "meta") 4 (1 ∷ []) (needed (codes "key") Text ∷ needed (codes "value") Text ∷
+    [])
 
 abbrev pub class_table : Table
-class_table = uniquely_keyed_table (codes "class") 6 (1 ∷ []) (needed (codes "path") Text ∷ needed (codes "is_open") Integer ∷ optional (codes "schedule") Text ∷ [])
+class_table = uniquely_keyed_table (codes "class") 6 (1 ∷ []) (needed (codes "path") Text ∷
+    needed (codes "is_open") Integer ∷ optional (codes "schedule") Text ∷ [])
 
 abbrev pub schedule_table : Table
 schedule_table = uniquely_keyed_table (codes "schedule") 8 (1 ∷ [])
-    (needed (codes "path") Text ∷ needed (codes "count") Integer ∷ needed (codes "unit") Integer ∷ needed (codes "action") Integer ∷ needed (codes "year_end") Integer ∷ [])
+    (needed (codes "path") Text ∷ needed (codes "count") Integer ∷ needed (codes "unit") Integer ∷
+    needed (codes "action") Integer ∷ needed (codes "year_end") Integer ∷ [])
 
 -- its tree is 10 in version 2, and 8 in version 1
 abbrev pub due_table_at : ℕ → Table
-due_table_at tree = keyed_table (codes "due_day") tree (optional (codes "record") Integer ∷ needed (codes "day") Integer ∷ [])
+due_table_at tree = keyed_table (codes "due_day") tree (optional (codes "record") Integer ∷
+    needed (codes "day") Integer ∷ [])
 
 abbrev pub due_table : Table
 due_table = due_table_at 10
@@ -106,7 +112,9 @@ none = record { tables = []; indexes = []; views = [] }
 abbrev pub common_beside : Foreign → Schema
 common_beside f = record {
   tables = message_table ∷ record_table ∷ hold_table ∷ meta_table ∷ class_table ∷ f.tables;
-  indexes = key_index (codes "sqlite_autoindex_hold_1") 3 2 (1 ∷ 2 ∷ []) ∷ key_index (codes "sqlite_autoindex_meta_1") 5 4 (1 ∷ []) ∷ key_index (codes "sqlite_autoindex_class_1") 7 6 (1 ∷ []) ∷ f.indexes;
+  indexes = key_index (codes "sqlite_autoindex_hold_1") 3 2 (1 ∷ 2 ∷ []) ∷
+      key_index (codes "sqlite_autoindex_meta_1") 5 4 (1 ∷ []) ∷
+      key_index (codes "sqlite_autoindex_class_1") 7 6 (1 ∷ []) ∷ f.indexes;
   views = f.views;
 }
 

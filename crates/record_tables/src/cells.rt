@@ -13,7 +13,8 @@ use std::alloc::Global;
 /// The number in a column, exactly where the column holds one from 0 to 2^32 - 1.
 pub(crate) fn number_at(row: &Row, at: usize) -> Result<u32, Fault>
     ensures number { IfOk result (λ n. column row.now at ≡ Int (pos n)) }
-    ensures none { IfErr result (λ f. (f ≡ Fault.NoArchive) × ((n : ℕ) → n < 2 ^ 32 → column row.now at ≡ Int (pos n) → ⊥)) }
+    ensures none { IfErr result (λ f. (f ≡ Fault.NoArchive) ×
+        ((n : ℕ) → n < 2 ^ 32 → column row.now at ≡ Int (pos n) → ⊥)) }
 {
     match row.get_ref(at) {
         Ok(ValueRef::Int(n)) => match u32::try_from(n) {
@@ -39,7 +40,8 @@ pub(crate) fn flag_at(row: &Row, at: usize) -> Result<bool, Fault>
 /// The text in a column, exactly where the column holds one.
 pub(crate) fn text_at(alloc: Global, row: &Row, at: usize) -> Result<Vec<u8>, Fault>
     ensures text { IfOk result (λ t. column row.now at ≡ Words t.items) }
-    ensures none { IfErr result (λ f. f ≢ Fault.NoMemory → (f ≡ Fault.NoArchive) × ((t : List ℕ) → column row.now at ≡ Words t → ⊥)) }
+    ensures none { IfErr result (λ f. f ≢ Fault.NoMemory → (f ≡ Fault.NoArchive) ×
+        ((t : List ℕ) → column row.now at ≡ Words t → ⊥)) }
 {
     match row.get_ref(at) {
         Ok(ValueRef::Text(octets)) => Ok(Vec::from_slice(alloc, octets)?),

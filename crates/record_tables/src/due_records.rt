@@ -41,14 +41,18 @@ pub fn due_records_by<S: Alter>(
     conn: &mut Connection<S>,
     day: u32,
 ) -> Result<Vec<DueRecordRow>, Fault>
-    ensures all { HasCleanDisk (state S.Store conn.new) → IfOk result (λ all. (t : Tables) → Stores (state S.Store conn.old).now t → AreKeyed t → map due_record_of all.items ≡ due_records_by day t) }
-    ensures none { HasCleanDisk (state S.Store conn.new) → result ≡ Err Fault.NoArchive → (t : Tables) → Stores (state S.Store conn.old).now t → AreKeyed t → AllByRecursion FitsDueRecord (due_records_by day t) → ⊥ }
+    ensures all { HasCleanDisk (state S.Store conn.new) →
+        IfOk result (λ all. (t : Tables) → Stores (state S.Store conn.old).now t → AreKeyed t →
+        map due_record_of all.items ≡ due_records_by day t) }
+    ensures none { HasCleanDisk (state S.Store conn.new) → result ≡ Err Fault.NoArchive → (t : Tables) →
+        Stores (state S.Store conn.old).now t → AreKeyed t → AllByRecursion FitsDueRecord (due_records_by day t) → ⊥ }
     ensures same { ReadsAlone S.Store conn.old conn.new result (IsArchiveSchema (state S.Store conn.old).now.schema) }
     ensures still { IsStill S.Store conn.old conn.new (IsArchiveSchema (state S.Store conn.old).now.schema) }
     ensures was_open { HasCleanDisk (state S.Store conn.new) → OnOk result (IsTrue (state S.Store conn.old).is_open) }
     ensures falls { Falls S.Store conn.old conn.new }
     ensures idle { IsIdle S.Store conn.old conn.new }
-    ensures survives { CommitsNothingOf S.Store conn.old conn.new (IsArchiveSchema (state S.Store conn.old).now.schema) }
+    ensures survives { CommitsNothingOf S.Store conn.old conn.new
+        (IsArchiveSchema (state S.Store conn.old).now.schema) }
 {
     let rows = rows_of(
         conn,

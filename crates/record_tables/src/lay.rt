@@ -22,7 +22,8 @@ use sqlite_schema::schema::Index;
 fn define_table<S: Alter>(tx: &mut Transaction<'_, S>, text: &str) -> Result<(), Error>
     ensures same_reference { tx.new.conn.ghost_name ≡ tx.old.conn.ghost_name }
     ensures ok { OnOk result ((schema : Schema) (table : Table) → Defines schema text.now table
-        → LaysIn S.Store tx.old.conn.now tx.new.conn.now schema (record table { tree = next_tree schema } ∷ []) (created schema table)) }
+        → LaysIn S.Store tx.old.conn.now tx.new.conn.now schema (record table { tree = next_tree schema } ∷
+        []) (created schema table)) }
     ensures goes_on { GoesOnIn S.Store tx.old.conn.now tx.new.conn.now result }
     ensures err { KeepsIn S.Store tx.old.conn.now tx.new.conn.now result }
     ensures survives { CommitsNothing S.Store tx.old.conn.now tx.new.conn.now }
@@ -33,7 +34,8 @@ fn define_table<S: Alter>(tx: &mut Transaction<'_, S>, text: &str) -> Result<(),
 
 fn define_index<S: Alter>(tx: &mut Transaction<'_, S>, text: &str) -> Result<(), Error>
     ensures same_reference { tx.new.conn.ghost_name ≡ tx.old.conn.ghost_name }
-    ensures ok { OnOk result ((schema : Schema) (at : ℕ) (table : Table) (index : Index) → DefinesIndex schema text.now at table index
+    ensures ok { OnOk result ((schema : Schema) (at : ℕ) (table : Table) (index : Index) →
+        DefinesIndex schema text.now at table index
         → LaysIn S.Store tx.old.conn.now tx.new.conn.now schema [] (indexed schema table index)) }
     ensures goes_on { GoesOnIn S.Store tx.old.conn.now tx.new.conn.now result }
     ensures err { KeepsIn S.Store tx.old.conn.now tx.new.conn.now result }
@@ -61,7 +63,8 @@ fn lay_dues<S: Alter>(tx: &mut Transaction<'_, S>) -> Result<(), Error>
 /// Creates the tables that version 1 lacks, or has in another place.
 fn lay_later<S: Alter>(tx: &mut Transaction<'_, S>) -> Result<(), Error>
     ensures same_reference { tx.new.conn.ghost_name ≡ tx.old.conn.ghost_name }
-    ensures ok { OnOk result (LaysIn S.Store tx.old.conn.now tx.new.conn.now first_schema (schedule_table ∷ due_table ∷ []) archive_schema) }
+    ensures ok { OnOk result (LaysIn S.Store tx.old.conn.now tx.new.conn.now first_schema (schedule_table ∷ due_table ∷
+        []) archive_schema) }
     ensures err { KeepsIn S.Store tx.old.conn.now tx.new.conn.now result }
     ensures survives { CommitsNothing S.Store tx.old.conn.now tx.new.conn.now }
 {
@@ -113,7 +116,10 @@ fn fill<S: Alter>(
 ) -> Result<(), Error>
     requires { AreAscending (map due_of dues.now) }
     ensures same_reference { tx.new.conn.ghost_name ≡ tx.old.conn.ghost_name }
-    ensures ok { OnOk result (PutsIn S.Store tx.old.conn.now tx.new.conn.now Always (λ t. with_version (with_plan (map rule_of schedules.now) (map listed_of classes.now) (map due_of dues.now) t))) }
+    ensures ok { OnOk result
+        (PutsIn S.Store tx.old.conn.now tx.new.conn.now Always
+        (λ t. with_version (with_plan (map rule_of schedules.now) (map listed_of classes.now)
+        (map due_of dues.now) t))) }
     ensures err { KeepsIn S.Store tx.old.conn.now tx.new.conn.now result }
     ensures survives { CommitsNothing S.Store tx.old.conn.now tx.new.conn.now }
 {
@@ -128,7 +134,10 @@ fn lay_all<S: Alter>(
     classes: &[ClassRow],
 ) -> Result<(), Error>
     ensures same_reference { tx.new.conn.ghost_name ≡ tx.old.conn.ghost_name }
-    ensures ok { OnOk result (Inside S.Store tx.old.conn.now tx.new.conn.now (IsLaid (map rule_of schedules.now) (map listed_of classes.now) (state S.Store tx.old.conn.now).now (state S.Store tx.new.conn.now).now)) }
+    ensures ok { OnOk result
+        (Inside S.Store tx.old.conn.now tx.new.conn.now
+        (IsLaid (map rule_of schedules.now) (map listed_of classes.now) (state S.Store tx.old.conn.now).now
+        (state S.Store tx.new.conn.now).now)) }
     ensures goes_on { GoesOnIn S.Store tx.old.conn.now tx.new.conn.now result }
     ensures err { KeepsIn S.Store tx.old.conn.now tx.new.conn.now result }
     ensures survives { CommitsNothing S.Store tx.old.conn.now tx.new.conn.now }
@@ -148,11 +157,13 @@ pub fn lay<S: Alter>(
 ) -> Result<(), Error>
     requires { conn.old.in_transaction ≡ false }
     ensures idle { conn.new.in_transaction ≡ false }
-    ensures ok { Makes S.Store conn.old conn.new result (IsLaid (map rule_of schedules.now) (map listed_of classes.now)) }
+    ensures ok { Makes S.Store conn.old conn.new result
+        (IsLaid (map rule_of schedules.now) (map listed_of classes.now)) }
     ensures committed { IsCommitted S.Store conn.old conn.new result }
     ensures err { IsUndone S.Store conn.old conn.new result }
     ensures was_open { WasOpen S.Store conn.old conn.new }
-    ensures crash { CommitsWhole S.Store conn.old conn.new (IsLaid (map rule_of schedules.now) (map listed_of classes.now)) }
+    ensures crash { CommitsWhole S.Store conn.old conn.new
+        (IsLaid (map rule_of schedules.now) (map listed_of classes.now)) }
 {
     let _settled = conn.is_autocommit();
     let mut tx = conn.transaction();
@@ -163,8 +174,12 @@ pub fn lay<S: Alter>(
 
 fn drop_dues<S: Alter>(tx: &mut Transaction<'_, S>) -> Result<(), Error>
     ensures same_reference { tx.new.conn.ghost_name ≡ tx.old.conn.ghost_name }
-    ensures first { OnOk result (Inside S.Store tx.old.conn.now tx.new.conn.now (Drops (state S.Store tx.old.conn.now) (state S.Store tx.new.conn.now) dated_schema first_schema)) }
-    ensures second { OnOk result (Inside S.Store tx.old.conn.now tx.new.conn.now (Drops (state S.Store tx.old.conn.now) (state S.Store tx.new.conn.now) archive_schema schema_6)) }
+    ensures first { OnOk result
+        (Inside S.Store tx.old.conn.now tx.new.conn.now
+        (Drops (state S.Store tx.old.conn.now) (state S.Store tx.new.conn.now) dated_schema first_schema)) }
+    ensures second { OnOk result
+        (Inside S.Store tx.old.conn.now tx.new.conn.now
+        (Drops (state S.Store tx.old.conn.now) (state S.Store tx.new.conn.now) archive_schema schema_6)) }
     ensures err { KeepsIn S.Store tx.old.conn.now tx.new.conn.now result }
     ensures survives { CommitsNothing S.Store tx.old.conn.now tx.new.conn.now }
 {
@@ -175,7 +190,9 @@ fn drop_dues<S: Alter>(tx: &mut Transaction<'_, S>) -> Result<(), Error>
 /// Removes all due days of version 2 by creating their table anew, as a deletion would remove them row by row.
 pub(crate) fn empty_dues<S: Alter>(tx: &mut Transaction<'_, S>) -> Result<(), Error>
     ensures same_reference { tx.new.conn.ghost_name ≡ tx.old.conn.ghost_name }
-    ensures ok { OnOk result (Inside S.Store tx.old.conn.now tx.new.conn.now (Empties (state S.Store tx.old.conn.now) (state S.Store tx.new.conn.now))) }
+    ensures ok { OnOk result
+        (Inside S.Store tx.old.conn.now tx.new.conn.now
+        (Empties (state S.Store tx.old.conn.now) (state S.Store tx.new.conn.now))) }
     ensures err { KeepsIn S.Store tx.old.conn.now tx.new.conn.now result }
     ensures survives { CommitsNothing S.Store tx.old.conn.now tx.new.conn.now }
 {
@@ -188,7 +205,9 @@ pub(crate) fn empty_dues<S: Alter>(tx: &mut Transaction<'_, S>) -> Result<(), Er
 fn lay_beside<S: Alter>(tx: &mut Transaction<'_, S>, has_dues: bool) -> Result<(), Error>
     requires { TellsDues (state S.Store tx.old.conn.now).now.schema has_dues }
     ensures same_reference { tx.new.conn.ghost_name ≡ tx.old.conn.ghost_name }
-    ensures ok { OnOk result (Inside S.Store tx.old.conn.now tx.new.conn.now (IsWidened (state S.Store tx.old.conn.now).now (state S.Store tx.new.conn.now).now)) }
+    ensures ok { OnOk result
+        (Inside S.Store tx.old.conn.now tx.new.conn.now
+        (IsWidened (state S.Store tx.old.conn.now).now (state S.Store tx.new.conn.now).now)) }
     ensures goes_on { GoesOnIn S.Store tx.old.conn.now tx.new.conn.now result }
     ensures err { KeepsIn S.Store tx.old.conn.now tx.new.conn.now result }
     ensures survives { CommitsNothing S.Store tx.old.conn.now tx.new.conn.now }
@@ -213,7 +232,10 @@ fn move_all<S: Alter>(
     requires ascending { AreAscending (map due_of dues.now) }
     requires dues { TellsDues (state S.Store tx.old.conn.now).now.schema has_dues }
     ensures same_reference { tx.new.conn.ghost_name ≡ tx.old.conn.ghost_name }
-    ensures ok { OnOk result (Inside S.Store tx.old.conn.now tx.new.conn.now (IsMoved (map rule_of schedules.now) (map listed_of classes.now) (map due_of dues.now) (state S.Store tx.old.conn.now).now (state S.Store tx.new.conn.now).now)) }
+    ensures ok { OnOk result
+        (Inside S.Store tx.old.conn.now tx.new.conn.now
+        (IsMoved (map rule_of schedules.now) (map listed_of classes.now) (map due_of dues.now)
+        (state S.Store tx.old.conn.now).now (state S.Store tx.new.conn.now).now)) }
     ensures goes_on { GoesOnIn S.Store tx.old.conn.now tx.new.conn.now result }
     ensures err { KeepsIn S.Store tx.old.conn.now tx.new.conn.now result }
     ensures survives { CommitsNothing S.Store tx.old.conn.now tx.new.conn.now }
@@ -236,11 +258,13 @@ pub fn move_first<S: Alter>(
     requires idle { conn.old.in_transaction ≡ false }
     requires ascending { AreAscending (map due_of dues.now) }
     ensures idle { conn.new.in_transaction ≡ false }
-    ensures ok { Makes S.Store conn.old conn.new result (IsMoved (map rule_of schedules.now) (map listed_of classes.now) (map due_of dues.now)) }
+    ensures ok { Makes S.Store conn.old conn.new result
+        (IsMoved (map rule_of schedules.now) (map listed_of classes.now) (map due_of dues.now)) }
     ensures committed { IsCommitted S.Store conn.old conn.new result }
     ensures err { IsUndone S.Store conn.old conn.new result }
     ensures was_open { WasOpen S.Store conn.old conn.new }
-    ensures crash { CommitsWhole S.Store conn.old conn.new (IsMoved (map rule_of schedules.now) (map listed_of classes.now) (map due_of dues.now)) }
+    ensures crash { CommitsWhole S.Store conn.old conn.new
+        (IsMoved (map rule_of schedules.now) (map listed_of classes.now) (map due_of dues.now)) }
 {
     let dated = has_dues(conn.schema());
     let _settled = conn.is_autocommit();

@@ -21,8 +21,11 @@ fn look<S: Alter>(
     params: &[ValueRef<'_>],
 ) -> Result<Vec<Row>, Error>
     requires { (f : Foreign) → IsPlain (understood (archive_beside f) sql.now) }
-    ensures shown { HasCleanDisk (state S.Store conn.new) → IfOk result (λ rows. Shown sql.now (bound params.now) (state S.Store conn.old) (state S.Store conn.new) rows.items) }
-    ensures open { HasCleanDisk (state S.Store conn.new) → OnOk result (IsTrue (state S.Store conn.old).is_open × IsTrue (state S.Store conn.new).is_open) }
+    ensures shown { HasCleanDisk (state S.Store conn.new) →
+        IfOk result (λ rows. Shown sql.now (bound params.now) (state S.Store conn.old)
+        (state S.Store conn.new) rows.items) }
+    ensures open { HasCleanDisk (state S.Store conn.new) →
+        OnOk result (IsTrue (state S.Store conn.old).is_open × IsTrue (state S.Store conn.new).is_open) }
     ensures looks { Looks S.Store conn.old conn.new }
 {
     let _settled = conn.is_autocommit();
@@ -53,7 +56,8 @@ pub fn record_by_number<S: Alter>(
     number: u32,
 ) -> Result<Option<RecordRow>, Error>
     ensures record { HasCleanDisk (state S.Store conn.new) → IfOk result (λ r. (t : Tables) → Stores (state S.Store conn.old).now t → AreKeyed t → option_map record_of r ≡ record_with number t) }
-    ensures open { HasCleanDisk (state S.Store conn.new) → OnOk result (IsTrue (state S.Store conn.old).is_open × IsTrue (state S.Store conn.new).is_open) }
+    ensures open { HasCleanDisk (state S.Store conn.new) →
+        OnOk result (IsTrue (state S.Store conn.old).is_open × IsTrue (state S.Store conn.new).is_open) }
     ensures looks { Looks S.Store conn.old conn.new }
 {
     let rows = look(
@@ -72,8 +76,11 @@ pub fn message_body<S: Alter>(
     conn: &mut Connection<S>,
     number: u32,
 ) -> Result<Option<Vec<u8>>, Error>
-    ensures body { HasCleanDisk (state S.Store conn.new) → IfOk result (λ b. (t : Tables) → Stores (state S.Store conn.old).now t → AreKeyed t → option_map (λ v. v.items) b ≡ body_with number t) }
-    ensures open { HasCleanDisk (state S.Store conn.new) → OnOk result (IsTrue (state S.Store conn.old).is_open × IsTrue (state S.Store conn.new).is_open) }
+    ensures body { HasCleanDisk (state S.Store conn.new) →
+        IfOk result (λ b. (t : Tables) → Stores (state S.Store conn.old).now t → AreKeyed t →
+        option_map (λ v. v.items) b ≡ body_with number t) }
+    ensures open { HasCleanDisk (state S.Store conn.new) →
+        OnOk result (IsTrue (state S.Store conn.old).is_open × IsTrue (state S.Store conn.new).is_open) }
     ensures looks { Looks S.Store conn.old conn.new }
 {
     let rows = look(
@@ -89,8 +96,11 @@ pub fn message_body<S: Alter>(
 
 /// Whether there is a hold of that name on the record with a number.
 pub fn has_hold<S: Alter>(conn: &mut Connection<S>, name: &[u8], number: u32) -> Result<bool, Error>
-    ensures there { HasCleanDisk (state S.Store conn.new) → IfOk result (λ b. (t : Tables) → Stores (state S.Store conn.old).now t → AreKeyed t → b ≡ has_hold_of name.now number t) }
-    ensures open { HasCleanDisk (state S.Store conn.new) → OnOk result (IsTrue (state S.Store conn.old).is_open × IsTrue (state S.Store conn.new).is_open) }
+    ensures there { HasCleanDisk (state S.Store conn.new) →
+        IfOk result (λ b. (t : Tables) → Stores (state S.Store conn.old).now t → AreKeyed t →
+        b ≡ has_hold_of name.now number t) }
+    ensures open { HasCleanDisk (state S.Store conn.new) →
+        OnOk result (IsTrue (state S.Store conn.old).is_open × IsTrue (state S.Store conn.new).is_open) }
     ensures looks { Looks S.Store conn.old conn.new }
 {
     let rows = look(

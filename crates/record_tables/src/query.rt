@@ -17,13 +17,18 @@ pub(crate) fn rows_of<S: Alter>(
     text: &str,
     params: &[ValueRef<'_>],
 ) -> Result<Vec<Row>, Error>
-    ensures shown { HasCleanDisk (state S.Store conn.new) → IfOk result (λ rows. Shown text.now (bound params.now) (state S.Store conn.old) (state S.Store conn.new) rows.items) }
-    ensures same { ReadsAlone S.Store conn.old conn.new result (IsPlain (understood (state S.Store conn.old).now.schema text.now)) }
-    ensures still { IsStill S.Store conn.old conn.new (IsPlain (understood (state S.Store conn.old).now.schema text.now)) }
+    ensures shown { HasCleanDisk (state S.Store conn.new) →
+        IfOk result (λ rows. Shown text.now (bound params.now) (state S.Store conn.old)
+        (state S.Store conn.new) rows.items) }
+    ensures same { ReadsAlone S.Store conn.old conn.new result
+        (IsPlain (understood (state S.Store conn.old).now.schema text.now)) }
+    ensures still { IsStill S.Store conn.old conn.new
+        (IsPlain (understood (state S.Store conn.old).now.schema text.now)) }
     ensures was_open { HasCleanDisk (state S.Store conn.new) → OnOk result (IsTrue (state S.Store conn.old).is_open) }
     ensures falls { Falls S.Store conn.old conn.new }
     ensures idle { IsIdle S.Store conn.old conn.new }
-    ensures survives { CommitsNothingOf S.Store conn.old conn.new (IsPlain (understood (state S.Store conn.old).now.schema text.now)) }
+    ensures survives { CommitsNothingOf S.Store conn.old conn.new
+        (IsPlain (understood (state S.Store conn.old).now.schema text.now)) }
 {
     let _settled = conn.is_autocommit();
     let rows = conn.query_all(text, params)?;

@@ -23,14 +23,18 @@ use std::alloc::Global;
 
 /// All records, in the order of their numbers.
 pub fn records<S: Alter>(alloc: Global, conn: &mut Connection<S>) -> Result<Vec<RecordRow>, Fault>
-    ensures all { HasCleanDisk (state S.Store conn.new) → IfOk result (λ all. (t : Tables) → StoresCommon (state S.Store conn.old).now t → AreKeyed t → map record_of all.items ≡ t.records) }
-    ensures none { HasCleanDisk (state S.Store conn.new) → result ≡ Err Fault.NoArchive → (t : Tables) → StoresCommon (state S.Store conn.old).now t → AreKeyed t → AllByRecursion FitsRecord t.records → ⊥ }
+    ensures all { HasCleanDisk (state S.Store conn.new) →
+        IfOk result (λ all. (t : Tables) → StoresCommon (state S.Store conn.old).now t → AreKeyed t →
+        map record_of all.items ≡ t.records) }
+    ensures none { HasCleanDisk (state S.Store conn.new) → result ≡ Err Fault.NoArchive → (t : Tables) →
+        StoresCommon (state S.Store conn.old).now t → AreKeyed t → AllByRecursion FitsRecord t.records → ⊥ }
     ensures same { ReadsAlone S.Store conn.old conn.new result (HasCommonTables (state S.Store conn.old).now.schema) }
     ensures still { IsStill S.Store conn.old conn.new (HasCommonTables (state S.Store conn.old).now.schema) }
     ensures was_open { HasCleanDisk (state S.Store conn.new) → OnOk result (IsTrue (state S.Store conn.old).is_open) }
     ensures falls { Falls S.Store conn.old conn.new }
     ensures idle { IsIdle S.Store conn.old conn.new }
-    ensures survives { CommitsNothingOf S.Store conn.old conn.new (HasCommonTables (state S.Store conn.old).now.schema) }
+    ensures survives { CommitsNothingOf S.Store conn.old conn.new
+        (HasCommonTables (state S.Store conn.old).now.schema) }
 {
     let rows = rows_of(
         conn,
@@ -42,14 +46,18 @@ pub fn records<S: Alter>(alloc: Global, conn: &mut Connection<S>) -> Result<Vec<
 
 /// The numbers of all messages, in order.
 pub fn message_numbers<S: Alter>(alloc: Global, conn: &mut Connection<S>) -> Result<Vec<u32>, Fault>
-    ensures all { HasCleanDisk (state S.Store conn.new) → IfOk result (λ all. (t : Tables) → StoresCommon (state S.Store conn.old).now t → AreKeyed t → all.items ≡ numbers_of t) }
-    ensures none { HasCleanDisk (state S.Store conn.new) → result ≡ Err Fault.NoArchive → (t : Tables) → StoresCommon (state S.Store conn.old).now t → AreKeyed t → AllByRecursion FitsNumber (numbers_of t) → ⊥ }
+    ensures all { HasCleanDisk (state S.Store conn.new) →
+        IfOk result (λ all. (t : Tables) → StoresCommon (state S.Store conn.old).now t → AreKeyed t →
+        all.items ≡ numbers_of t) }
+    ensures none { HasCleanDisk (state S.Store conn.new) → result ≡ Err Fault.NoArchive → (t : Tables) →
+        StoresCommon (state S.Store conn.old).now t → AreKeyed t → AllByRecursion FitsNumber (numbers_of t) → ⊥ }
     ensures same { ReadsAlone S.Store conn.old conn.new result (HasCommonTables (state S.Store conn.old).now.schema) }
     ensures still { IsStill S.Store conn.old conn.new (HasCommonTables (state S.Store conn.old).now.schema) }
     ensures was_open { HasCleanDisk (state S.Store conn.new) → OnOk result (IsTrue (state S.Store conn.old).is_open) }
     ensures falls { Falls S.Store conn.old conn.new }
     ensures idle { IsIdle S.Store conn.old conn.new }
-    ensures survives { CommitsNothingOf S.Store conn.old conn.new (HasCommonTables (state S.Store conn.old).now.schema) }
+    ensures survives { CommitsNothingOf S.Store conn.old conn.new
+        (HasCommonTables (state S.Store conn.old).now.schema) }
 {
     let rows = rows_of(conn, "SELECT number FROM message ORDER BY number", &[])?;
     rows_in(alloc, rows.as_slice())
@@ -57,14 +65,19 @@ pub fn message_numbers<S: Alter>(alloc: Global, conn: &mut Connection<S>) -> Res
 
 /// All holds, by record and then in byte order of their names.
 pub fn holds<S: Alter>(alloc: Global, conn: &mut Connection<S>) -> Result<Vec<HoldRow>, Fault>
-    ensures all { HasCleanDisk (state S.Store conn.new) → IfOk result (λ all. (t : Tables) → (hs : List Named) → AreNamed t hs → StoresCommon (state S.Store conn.old).now t → AreKeyed t → map named_of all.items ≡ hs) }
-    ensures none { HasCleanDisk (state S.Store conn.new) → result ≡ Err Fault.NoArchive → (t : Tables) → (hs : List Named) → AreNamed t hs → StoresCommon (state S.Store conn.old).now t → AreKeyed t → AllByRecursion FitsHold hs → ⊥ }
+    ensures all { HasCleanDisk (state S.Store conn.new) →
+        IfOk result (λ all. (t : Tables) → (hs : List Named) → AreNamed t hs →
+        StoresCommon (state S.Store conn.old).now t → AreKeyed t → map named_of all.items ≡ hs) }
+    ensures none { HasCleanDisk (state S.Store conn.new) → result ≡ Err Fault.NoArchive → (t : Tables) →
+        (hs : List Named) → AreNamed t hs → StoresCommon (state S.Store conn.old).now t → AreKeyed t →
+        AllByRecursion FitsHold hs → ⊥ }
     ensures same { ReadsAlone S.Store conn.old conn.new result (HasCommonTables (state S.Store conn.old).now.schema) }
     ensures still { IsStill S.Store conn.old conn.new (HasCommonTables (state S.Store conn.old).now.schema) }
     ensures was_open { HasCleanDisk (state S.Store conn.new) → OnOk result (IsTrue (state S.Store conn.old).is_open) }
     ensures falls { Falls S.Store conn.old conn.new }
     ensures idle { IsIdle S.Store conn.old conn.new }
-    ensures survives { CommitsNothingOf S.Store conn.old conn.new (HasCommonTables (state S.Store conn.old).now.schema) }
+    ensures survives { CommitsNothingOf S.Store conn.old conn.new
+        (HasCommonTables (state S.Store conn.old).now.schema) }
 {
     let rows = rows_of(
         conn,
@@ -76,14 +89,18 @@ pub fn holds<S: Alter>(alloc: Global, conn: &mut Connection<S>) -> Result<Vec<Ho
 
 /// All settings, in byte order of their keys.
 pub fn settings<S: Alter>(alloc: Global, conn: &mut Connection<S>) -> Result<Vec<SettingRow>, Fault>
-    ensures all { HasCleanDisk (state S.Store conn.new) → IfOk result (λ all. (t : Tables) → (ps : List Pair) → ArePaired t ps → StoresCommon (state S.Store conn.old).now t → AreKeyed t → map pair_of all.items ≡ ps) }
-    ensures none { HasCleanDisk (state S.Store conn.new) → result ≡ Err Fault.NoArchive → (t : Tables) → (ps : List Pair) → ArePaired t ps → StoresCommon (state S.Store conn.old).now t → AreKeyed t → ⊥ }
+    ensures all { HasCleanDisk (state S.Store conn.new) →
+        IfOk result (λ all. (t : Tables) → (ps : List Pair) → ArePaired t ps →
+        StoresCommon (state S.Store conn.old).now t → AreKeyed t → map pair_of all.items ≡ ps) }
+    ensures none { HasCleanDisk (state S.Store conn.new) → result ≡ Err Fault.NoArchive → (t : Tables) →
+        (ps : List Pair) → ArePaired t ps → StoresCommon (state S.Store conn.old).now t → AreKeyed t → ⊥ }
     ensures same { ReadsAlone S.Store conn.old conn.new result (HasCommonTables (state S.Store conn.old).now.schema) }
     ensures still { IsStill S.Store conn.old conn.new (HasCommonTables (state S.Store conn.old).now.schema) }
     ensures was_open { HasCleanDisk (state S.Store conn.new) → OnOk result (IsTrue (state S.Store conn.old).is_open) }
     ensures falls { Falls S.Store conn.old conn.new }
     ensures idle { IsIdle S.Store conn.old conn.new }
-    ensures survives { CommitsNothingOf S.Store conn.old conn.new (HasCommonTables (state S.Store conn.old).now.schema) }
+    ensures survives { CommitsNothingOf S.Store conn.old conn.new
+        (HasCommonTables (state S.Store conn.old).now.schema) }
 {
     let rows = rows_of(conn, "SELECT key, value FROM meta ORDER BY key", &[])?;
     rows_in(alloc, rows.as_slice())
@@ -91,14 +108,18 @@ pub fn settings<S: Alter>(alloc: Global, conn: &mut Connection<S>) -> Result<Vec
 
 /// All classes, in byte order of their paths.
 pub fn classes<S: Alter>(alloc: Global, conn: &mut Connection<S>) -> Result<Vec<ClassRow>, Fault>
-    ensures all { HasCleanDisk (state S.Store conn.new) → IfOk result (λ all. (t : Tables) → (cs : List Listed) → AreListed t cs → StoresCommon (state S.Store conn.old).now t → AreKeyed t → map listed_of all.items ≡ cs) }
-    ensures none { HasCleanDisk (state S.Store conn.new) → result ≡ Err Fault.NoArchive → (t : Tables) → (cs : List Listed) → AreListed t cs → StoresCommon (state S.Store conn.old).now t → AreKeyed t → ⊥ }
+    ensures all { HasCleanDisk (state S.Store conn.new) →
+        IfOk result (λ all. (t : Tables) → (cs : List Listed) → AreListed t cs →
+        StoresCommon (state S.Store conn.old).now t → AreKeyed t → map listed_of all.items ≡ cs) }
+    ensures none { HasCleanDisk (state S.Store conn.new) → result ≡ Err Fault.NoArchive → (t : Tables) →
+        (cs : List Listed) → AreListed t cs → StoresCommon (state S.Store conn.old).now t → AreKeyed t → ⊥ }
     ensures same { ReadsAlone S.Store conn.old conn.new result (HasCommonTables (state S.Store conn.old).now.schema) }
     ensures still { IsStill S.Store conn.old conn.new (HasCommonTables (state S.Store conn.old).now.schema) }
     ensures was_open { HasCleanDisk (state S.Store conn.new) → OnOk result (IsTrue (state S.Store conn.old).is_open) }
     ensures falls { Falls S.Store conn.old conn.new }
     ensures idle { IsIdle S.Store conn.old conn.new }
-    ensures survives { CommitsNothingOf S.Store conn.old conn.new (HasCommonTables (state S.Store conn.old).now.schema) }
+    ensures survives { CommitsNothingOf S.Store conn.old conn.new
+        (HasCommonTables (state S.Store conn.old).now.schema) }
 {
     let rows = rows_of(
         conn,
@@ -113,14 +134,19 @@ pub fn schedules<S: Alter>(
     alloc: Global,
     conn: &mut Connection<S>,
 ) -> Result<Vec<ScheduleRow>, Fault>
-    ensures all { HasCleanDisk (state S.Store conn.new) → IfOk result (λ all. (t : Tables) → (rs : List Rule) → AreRules t rs → Stores (state S.Store conn.old).now t → AreKeyed t → map rule_of all.items ≡ rs) }
-    ensures none { HasCleanDisk (state S.Store conn.new) → result ≡ Err Fault.NoArchive → (t : Tables) → (rs : List Rule) → AreRules t rs → Stores (state S.Store conn.old).now t → AreKeyed t → AllByRecursion FitsRule rs → ⊥ }
+    ensures all { HasCleanDisk (state S.Store conn.new) →
+        IfOk result (λ all. (t : Tables) → (rs : List Rule) → AreRules t rs → Stores (state S.Store conn.old).now t →
+        AreKeyed t → map rule_of all.items ≡ rs) }
+    ensures none { HasCleanDisk (state S.Store conn.new) → result ≡ Err Fault.NoArchive → (t : Tables) →
+        (rs : List Rule) → AreRules t rs → Stores (state S.Store conn.old).now t → AreKeyed t →
+        AllByRecursion FitsRule rs → ⊥ }
     ensures same { ReadsAlone S.Store conn.old conn.new result (IsArchiveSchema (state S.Store conn.old).now.schema) }
     ensures still { IsStill S.Store conn.old conn.new (IsArchiveSchema (state S.Store conn.old).now.schema) }
     ensures was_open { HasCleanDisk (state S.Store conn.new) → OnOk result (IsTrue (state S.Store conn.old).is_open) }
     ensures falls { Falls S.Store conn.old conn.new }
     ensures idle { IsIdle S.Store conn.old conn.new }
-    ensures survives { CommitsNothingOf S.Store conn.old conn.new (IsArchiveSchema (state S.Store conn.old).now.schema) }
+    ensures survives { CommitsNothingOf S.Store conn.old conn.new
+        (IsArchiveSchema (state S.Store conn.old).now.schema) }
 {
     let rows = rows_of(
         conn,

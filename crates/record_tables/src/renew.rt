@@ -18,7 +18,9 @@ use sqlite::{Alter, Connection, Error, Transaction};
 
 fn insert_due_row<S: Alter>(tx: &mut Transaction<'_, S>, due: &DueRow) -> Result<(), Error>
     ensures same_reference { tx.new.conn.ghost_name ≡ tx.old.conn.ghost_name }
-    ensures ok { OnOk result (PutsIn S.Store tx.old.conn.now tx.new.conn.now (IsPastDues (due_of due.now).number) (with_due (due_of due.now))) }
+    ensures ok { OnOk result
+        (PutsIn S.Store tx.old.conn.now tx.new.conn.now (IsPastDues (due_of due.now).number)
+        (with_due (due_of due.now))) }
     ensures err { KeepsIn S.Store tx.old.conn.now tx.new.conn.now result }
     ensures survives { CommitsNothing S.Store tx.old.conn.now tx.new.conn.now }
 {
@@ -30,7 +32,8 @@ fn insert_due_row<S: Alter>(tx: &mut Transaction<'_, S>, due: &DueRow) -> Result
 fn insert_dues<S: Alter>(tx: &mut Transaction<'_, S>, dues: &[DueRow]) -> Result<(), Error>
     requires { AreAscending (map due_of dues.now) }
     ensures same_reference { tx.new.conn.ghost_name ≡ tx.old.conn.ghost_name }
-    ensures ok { OnOk result (PutsIn S.Store tx.old.conn.now tx.new.conn.now HasNoDues (with_dues (map due_of dues.now))) }
+    ensures ok { OnOk result
+        (PutsIn S.Store tx.old.conn.now tx.new.conn.now HasNoDues (with_dues (map due_of dues.now))) }
     ensures err { KeepsIn S.Store tx.old.conn.now tx.new.conn.now result }
     ensures survives { CommitsNothing S.Store tx.old.conn.now tx.new.conn.now }
 {
@@ -55,7 +58,9 @@ fn renew_dues<S: Alter>(tx: &mut Transaction<'_, S>, dues: &[DueRow]) -> Result<
 
 fn insert_class_row<S: Alter>(tx: &mut Transaction<'_, S>, class: &ClassRow) -> Result<(), Error>
     ensures same_reference { tx.new.conn.ghost_name ≡ tx.old.conn.ghost_name }
-    ensures ok { OnOk result (PutsIn S.Store tx.old.conn.now tx.new.conn.now Always (with_class (listed_of class.now).path (listed_of class.now).is_open (listed_of class.now).schedule)) }
+    ensures ok { OnOk result
+        (PutsIn S.Store tx.old.conn.now tx.new.conn.now Always
+        (with_class (listed_of class.now).path (listed_of class.now).is_open (listed_of class.now).schedule)) }
     ensures err { KeepsIn S.Store tx.old.conn.now tx.new.conn.now result }
     ensures survives { CommitsNothing S.Store tx.old.conn.now tx.new.conn.now }
 {
@@ -74,7 +79,8 @@ fn insert_class_row<S: Alter>(tx: &mut Transaction<'_, S>, class: &ClassRow) -> 
 /// Adds the classes to a table that has none.
 fn insert_classes<S: Alter>(tx: &mut Transaction<'_, S>, classes: &[ClassRow]) -> Result<(), Error>
     ensures same_reference { tx.new.conn.ghost_name ≡ tx.old.conn.ghost_name }
-    ensures ok { OnOk result (PutsIn S.Store tx.old.conn.now tx.new.conn.now HasNoClasses (with_classes (map listed_of classes.now))) }
+    ensures ok { OnOk result
+        (PutsIn S.Store tx.old.conn.now tx.new.conn.now HasNoClasses (with_classes (map listed_of classes.now))) }
     ensures err { KeepsIn S.Store tx.old.conn.now tx.new.conn.now result }
     ensures survives { CommitsNothing S.Store tx.old.conn.now tx.new.conn.now }
 {
@@ -86,7 +92,8 @@ fn insert_classes<S: Alter>(tx: &mut Transaction<'_, S>, classes: &[ClassRow]) -
 
 fn renew_classes<S: Alter>(tx: &mut Transaction<'_, S>, classes: &[ClassRow]) -> Result<(), Error>
     ensures same_reference { tx.new.conn.ghost_name ≡ tx.old.conn.ghost_name }
-    ensures ok { OnOk result (PutsIn S.Store tx.old.conn.now tx.new.conn.now Always (with_classes (map listed_of classes.now))) }
+    ensures ok { OnOk result
+        (PutsIn S.Store tx.old.conn.now tx.new.conn.now Always (with_classes (map listed_of classes.now))) }
     ensures err { KeepsIn S.Store tx.old.conn.now tx.new.conn.now result }
     ensures survives { CommitsNothing S.Store tx.old.conn.now tx.new.conn.now }
 {
@@ -101,7 +108,8 @@ fn insert_schedules<S: Alter>(
     schedules: &[ScheduleRow],
 ) -> Result<(), Error>
     ensures same_reference { tx.new.conn.ghost_name ≡ tx.old.conn.ghost_name }
-    ensures ok { OnOk result (PutsIn S.Store tx.old.conn.now tx.new.conn.now HasNoSchedules (with_schedules (map rule_of schedules.now))) }
+    ensures ok { OnOk result
+        (PutsIn S.Store tx.old.conn.now tx.new.conn.now HasNoSchedules (with_schedules (map rule_of schedules.now))) }
     ensures err { KeepsIn S.Store tx.old.conn.now tx.new.conn.now result }
     ensures survives { CommitsNothing S.Store tx.old.conn.now tx.new.conn.now }
 {
@@ -116,7 +124,8 @@ fn renew_schedules<S: Alter>(
     schedules: &[ScheduleRow],
 ) -> Result<(), Error>
     ensures same_reference { tx.new.conn.ghost_name ≡ tx.old.conn.ghost_name }
-    ensures ok { OnOk result (PutsIn S.Store tx.old.conn.now tx.new.conn.now Always (with_schedules (map rule_of schedules.now))) }
+    ensures ok { OnOk result
+        (PutsIn S.Store tx.old.conn.now tx.new.conn.now Always (with_schedules (map rule_of schedules.now))) }
     ensures err { KeepsIn S.Store tx.old.conn.now tx.new.conn.now result }
     ensures survives { CommitsNothing S.Store tx.old.conn.now tx.new.conn.now }
 {
@@ -145,7 +154,9 @@ pub(crate) fn put_plan<S: Alter>(
 ) -> Result<(), Error>
     requires { AreAscending (map due_of dues.now) }
     ensures same_reference { tx.new.conn.ghost_name ≡ tx.old.conn.ghost_name }
-    ensures ok { OnOk result (PutsIn S.Store tx.old.conn.now tx.new.conn.now Always (with_plan (map rule_of schedules.now) (map listed_of classes.now) (map due_of dues.now))) }
+    ensures ok { OnOk result
+        (PutsIn S.Store tx.old.conn.now tx.new.conn.now Always
+        (with_plan (map rule_of schedules.now) (map listed_of classes.now) (map due_of dues.now))) }
     ensures err { KeepsIn S.Store tx.old.conn.now tx.new.conn.now result }
     ensures survives { CommitsNothing S.Store tx.old.conn.now tx.new.conn.now }
 {
@@ -167,7 +178,9 @@ fn renew_plan<S: Alter>(
     requires ascending { AreAscending (map due_of dues.now) }
     requires alone { TellsAlone (state S.Store tx.old.conn.now).now.schema is_alone }
     ensures same_reference { tx.new.conn.ghost_name ≡ tx.old.conn.ghost_name }
-    ensures ok { OnOk result (PutsIn S.Store tx.old.conn.now tx.new.conn.now Always (with_plan (map rule_of schedules.now) (map listed_of classes.now) (map due_of dues.now))) }
+    ensures ok { OnOk result
+        (PutsIn S.Store tx.old.conn.now tx.new.conn.now Always
+        (with_plan (map rule_of schedules.now) (map listed_of classes.now) (map due_of dues.now))) }
     ensures err { KeepsIn S.Store tx.old.conn.now tx.new.conn.now result }
     ensures survives { CommitsNothing S.Store tx.old.conn.now tx.new.conn.now }
 {
@@ -194,11 +207,13 @@ pub fn replace_plan<S: Alter>(
     requires idle { conn.old.in_transaction ≡ false }
     requires ascending { AreAscending (map due_of dues.now) }
     ensures idle { conn.new.in_transaction ≡ false }
-    ensures ok { Makes S.Store conn.old conn.new result (IsRevised (map rule_of schedules.now) (map listed_of classes.now) (map due_of dues.now)) }
+    ensures ok { Makes S.Store conn.old conn.new result
+        (IsRevised (map rule_of schedules.now) (map listed_of classes.now) (map due_of dues.now)) }
     ensures committed { IsCommitted S.Store conn.old conn.new result }
     ensures err { IsUndone S.Store conn.old conn.new result }
     ensures was_open { WasOpen S.Store conn.old conn.new }
-    ensures crash { CommitsWhole S.Store conn.old conn.new (IsRevised (map rule_of schedules.now) (map listed_of classes.now) (map due_of dues.now)) }
+    ensures crash { CommitsWhole S.Store conn.old conn.new
+        (IsRevised (map rule_of schedules.now) (map listed_of classes.now) (map due_of dues.now)) }
 {
     let alone = is_alone(conn.schema());
     let _settled = conn.is_autocommit();

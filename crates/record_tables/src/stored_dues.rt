@@ -52,13 +52,16 @@ fn show_dues(rows: &[Row], dues: &[DueRow]) -> bool
 ///
 /// Refused with the error of `sqlite` alone.
 pub fn are_dues<S: Alter>(conn: &mut Connection<S>, dues: &[DueRow]) -> Result<bool, Error>
-    ensures are { HasCleanDisk (state S.Store conn.new) → IfOk result (λ b. (t : Tables) → Stores (state S.Store conn.old).now t → AreKeyed t → Decides b (t.dues ≡ map due_of dues.now)) }
+    ensures are { HasCleanDisk (state S.Store conn.new) →
+        IfOk result (λ b. (t : Tables) → Stores (state S.Store conn.old).now t → AreKeyed t →
+        Decides b (t.dues ≡ map due_of dues.now)) }
     ensures same { ReadsAlone S.Store conn.old conn.new result (IsArchiveSchema (state S.Store conn.old).now.schema) }
     ensures still { IsStill S.Store conn.old conn.new (IsArchiveSchema (state S.Store conn.old).now.schema) }
     ensures was_open { HasCleanDisk (state S.Store conn.new) → OnOk result (IsTrue (state S.Store conn.old).is_open) }
     ensures falls { Falls S.Store conn.old conn.new }
     ensures idle { IsIdle S.Store conn.old conn.new }
-    ensures survives { CommitsNothingOf S.Store conn.old conn.new (IsArchiveSchema (state S.Store conn.old).now.schema) }
+    ensures survives { CommitsNothingOf S.Store conn.old conn.new
+        (IsArchiveSchema (state S.Store conn.old).now.schema) }
 {
     let rows = rows_of(conn, "SELECT record, day FROM due_day ORDER BY record", &[])?;
     Ok(show_dues(rows.as_slice(), dues))

@@ -127,7 +127,8 @@ impl FromRow for ScheduleRow {
 /// Reads all rows, exactly where each can be read.
 pub(crate) fn rows_in<T: FromRow>(alloc: Global, rows: &[Row]) -> Result<Vec<T>, Fault>
     ensures all { IfOk result (λ all. AllZip T.reads rows.now all.items) }
-    ensures none { IfErr result (λ f. f ≢ Fault.NoMemory → (f ≡ Fault.NoArchive) × (AllByRecursion T.is_readable rows.now → ⊥)) }
+    ensures none { IfErr result (λ f. f ≢ Fault.NoMemory → (f ≡ Fault.NoArchive) ×
+        (AllByRecursion T.is_readable rows.now → ⊥)) }
 {
     let mut all = Vec::new(alloc);
     for row in rows {

@@ -38,7 +38,8 @@ put x (e ∷ es) = if is_named x.name e then x ∷ es else e ∷ put x es
 
 -- the script is found at its name, and at each other name the one that was found before
 abbrev pub IsFoundIn : NamedScript → (old new : List NamedScript) → Type 0
-IsFoundIn x old new = (name : List ℕ) → named name new ≡ (if bytes_eq x.name name then Some x.script else named name old)
+IsFoundIn x old new = (name : List ℕ) →
+    named name new ≡ (if bytes_eq x.name name then Some x.script else named name old)
 
 -- no name occurs twice
 abbrev pub EachOnce : List NamedScript → Type 0

@@ -30,7 +30,8 @@ impl<'a> Shelves<'a> {
 
     /// The script at a name of a location, if there is one.
     pub fn get(self, location: Location, name: &[u8]) -> Option<&'a Checked>
-        ensures { option_map (λ c. c.now.script) result ≡ named name.now (location_of (is_global location) (scripts_of self.entry)) }
+        ensures { option_map (λ c. c.now.script) result ≡
+            named name.now (location_of (is_global location) (scripts_of self.entry)) }
     {
         self.shelf(location).get(name)
     }

@@ -74,7 +74,8 @@ head_of follows (command name args inner finish) = record { word = command_named
 -- the commands in text order: a command comes before those of its block
 abbrev mutual
   pub command_in_order : Bool → CommandTree → List Placed
-  command_in_order follows (command name args inner finish) = head_of follows (command name args inner finish) ∷ ending_in_order finish
+  command_in_order follows (command name args inner finish) = head_of follows (command name args inner finish) ∷
+      ending_in_order finish
 
   pub ending_in_order : EndingTree → List Placed
   ending_in_order semicolon = []
@@ -82,7 +83,8 @@ abbrev mutual
 
   pub in_order : Bool → CommandTrees → List Placed
   in_order follows no_commands = []
-  in_order follows (command_then c cs) = command_in_order follows c ++ in_order (is_branch (role_of (command_named (command_name c)))) cs
+  in_order follows (command_then c cs) = command_in_order follows c ++
+      in_order (is_branch (role_of (command_named (command_name c)))) cs
 
 -- ---- what the commands before a command say
 
@@ -243,7 +245,9 @@ broken (r ∷ rs) = if r.0 then r.1 ∷ broken rs else broken rs
 
 -- the rules on what follows a name of the table, without the tests inside
 abbrev pub form_rules : (Capability → Bool) → WordForm → List PieceWord → InnerTests → List Rule
-form_rules has form ps inner = (lacks_capability has form ps, 34) ∷ (has_wrong_tag ps, 35) ∷ (has_tag_twice form ps, 36) ∷ (has_wrong_arguments form ps, 37) ∷ (list_any is_unknown_comparator ps, 38) ∷ (has_wrong_tests form.tests inner, 41) ∷ []
+form_rules has form ps inner = (lacks_capability has form ps, 34) ∷ (has_wrong_tag ps, 35) ∷
+    (has_tag_twice form ps, 36) ∷ (has_wrong_arguments form ps, 37) ∷ (list_any is_unknown_comparator ps, 38) ∷
+    (has_wrong_tests form.tests inner, 41) ∷ []
 
 abbrev pub broken_in_form : (Capability → Bool) → WordForm → List Argument → InnerTests → List ℕ
 broken_in_form has form args inner = broken (form_rules has form (pieces form.tags args) inner)
@@ -256,7 +260,8 @@ broken_in_test has (Some w) args inner inside = broken_in_form has w.form args i
 -- for a test, with the tests inside it at any depth
 abbrev mutual
   pub broken_by_test : (Capability → Bool) → TestTree → List ℕ
-  broken_by_test has (test name args inner) = broken_in_test has (test_named name) args inner (broken_by_inner has inner)
+  broken_by_test has (test name args inner) = broken_in_test has (test_named name) args inner
+      (broken_by_inner has inner)
 
   pub broken_by_inner : (Capability → Bool) → InnerTests → List ℕ
   broken_by_inner has no_tests = []
@@ -269,13 +274,15 @@ abbrev mutual
 
 -- the rules on the place of a command, on what a `require` names and on how a command ends
 abbrev pub place_rules : Bool → CommandWord → Placed → List Rule
-place_rules begun w p = (is_require w.role && names_unknown p.args, 30) ∷ (is_require w.role && begun, 31) ∷ (lacks_branch w.role p.follows_branch, 39) ∷ (has_wrong_ending w.has_block p.has_block, 40) ∷ []
+place_rules begun w p = (is_require w.role && names_unknown p.args, 30) ∷ (is_require w.role && begun, 31) ∷
+    (lacks_branch w.role p.follows_branch, 39) ∷ (has_wrong_ending w.has_block p.has_block, 40) ∷ []
 
 -- 32: an unknown command (RFC 5228, section 2.10.5). Nothing else of it is judged. `has` tells the capabilities named
 -- before, and `begun` whether a command other than `require` comes before.
 abbrev pub broken_in_place : (Capability → Bool) → Bool → Option CommandWord → Placed → List ℕ
 broken_in_place has begun None p = 32 ∷ []
-broken_in_place has begun (Some w) p = broken (place_rules begun w p) ++ (broken_in_form has w.form p.args p.inner ++ broken_by_inner has p.inner)
+broken_in_place has begun (Some w) p = broken (place_rules begun w p) ++
+    (broken_in_form has w.form p.args p.inner ++ broken_by_inner has p.inner)
 
 -- the numbers of the rules that a command breaks after these commands
 abbrev pub broken_by : List Placed → Placed → List ℕ

@@ -67,7 +67,8 @@ abbrev mutual
   RowShape (next_test t row) = TestShape t × RowShape row
 
 -- the flag says whether the command directly before is an `if` or `elsif`
-pub record HasCommandRow (follows : Bool) (name : List ℕ) (args : List Argument) (inner : InnerTests) (finish : EndingTree) : Type 0 where
+pub record HasCommandRow (follows : Bool) (name : List ℕ) (args : List Argument) (inner : InnerTests)
+    (finish : EndingTree) : Type 0 where
   pub word : CommandWord
   pub named : command_named name ≡ Some word
   pub form : HasForm word.form args inner
@@ -77,7 +78,8 @@ pub record HasCommandRow (follows : Bool) (name : List ℕ) (args : List Argumen
 
 abbrev mutual
   pub CommandShape : Bool → CommandTree → Type 0
-  CommandShape follows (command name args inner finish) = HasCommandRow follows name args inner finish × EndingShape finish
+  CommandShape follows (command name args inner finish) = HasCommandRow follows name args inner finish ×
+      EndingShape finish
 
   pub EndingShape : EndingTree → Type 0
   EndingShape semicolon = Unit {0}
@@ -85,7 +87,8 @@ abbrev mutual
 
   pub CommandsShape : Bool → CommandTrees → Type 0
   CommandsShape follows no_commands = Unit {0}
-  CommandsShape follows (command_then c cs) = CommandShape follows c × CommandsShape (is_branch (role_of (command_named (command_name c)))) cs
+  CommandsShape follows (command_then c cs) = CommandShape follows c ×
+      CommandsShape (is_branch (role_of (command_named (command_name c)))) cs
 
 -- ---- laws
 
@@ -99,16 +102,28 @@ NameLaw = (a b : List ℕ) → same_name a b ≡ true → (command_named a ≡ c
 
 -- an `if` has no argument, one test outside brackets, and a block
 abbrev pub IfLaw : Type 0
-IfLaw = (follows : Bool) (name : List ℕ) (args : List Argument) (inner : InnerTests) (finish : EndingTree) → same_name name (codes "if") ≡ true → HasCommandRow follows name args inner finish → (args ≡ []) × ((t : TestTree) × (inner ≡ one_test t)) × ((cs : CommandTrees) × (finish ≡ block cs))
+IfLaw = (follows : Bool) (name : List ℕ) (args : List Argument) (inner : InnerTests) (finish : EndingTree) →
+    same_name name (codes "if") ≡ true → HasCommandRow follows name args inner finish → (args ≡ []) ×
+    ((t : TestTree) × (inner ≡ one_test t)) × ((cs : CommandTrees) × (finish ≡ block cs))
 
 -- a `fileinto` has one string outside brackets after its tags, no test, and no block
 abbrev pub FileintoLaw : Type 0
-FileintoLaw = (follows : Bool) (name : List ℕ) (args : List Argument) (inner : InnerTests) (finish : EndingTree) → same_name name (codes "fileinto") ≡ true → HasCommandRow follows name args inner finish → ((s : List ℕ) × (positional_arguments (pieces fileinto_form.tags args) ≡ arguments.Strings (string_lists.One s) ∷ [])) × (inner ≡ no_tests) × (finish ≡ semicolon)
+FileintoLaw = (follows : Bool) (name : List ℕ) (args : List Argument) (inner : InnerTests) (finish : EndingTree) →
+    same_name name (codes "fileinto") ≡ true → HasCommandRow follows name args inner finish →
+    ((s : List ℕ) × (positional_arguments (pieces fileinto_form.tags args) ≡ arguments.Strings (string_lists.One s) ∷
+    [])) × (inner ≡ no_tests) × (finish ≡ semicolon)
 
 -- a `header` has two strings or lists of strings after its tags, and no test
 abbrev pub HeaderLaw : Type 0
-HeaderLaw = (name : List ℕ) (args : List Argument) (inner : InnerTests) → same_name name (codes "header") ≡ true → HasTestRow name args inner → ((names : StringList) × (keys : StringList) × (positional_arguments (pieces header_form.tags args) ≡ arguments.Strings names ∷ arguments.Strings keys ∷ [])) × (inner ≡ no_tests)
+HeaderLaw = (name : List ℕ) (args : List Argument) (inner : InnerTests) → same_name name (codes "header") ≡ true →
+    HasTestRow name args inner →
+    ((names : StringList) × (keys : StringList) ×
+    (positional_arguments (pieces header_form.tags args) ≡ arguments.Strings names ∷ arguments.Strings keys ∷ [])) ×
+    (inner ≡ no_tests)
 
 -- a `size` has one number after `:over` or `:under`, and no test
 abbrev pub SizeLaw : Type 0
-SizeLaw = (name : List ℕ) (args : List Argument) (inner : InnerTests) → same_name name (codes "size") ≡ true → HasTestRow name args inner → ((n : ℕ) × (positional_arguments (pieces size_form.tags args) ≡ arguments.Number n ∷ [])) × (list_any (has_kind kinds.SizeLimit) (pieces size_form.tags args) ≡ true) × (inner ≡ no_tests)
+SizeLaw = (name : List ℕ) (args : List Argument) (inner : InnerTests) → same_name name (codes "size") ≡ true →
+    HasTestRow name args inner →
+    ((n : ℕ) × (positional_arguments (pieces size_form.tags args) ≡ arguments.Number n ∷ [])) ×
+    (list_any (has_kind kinds.SizeLimit) (pieces size_form.tags args) ≡ true) × (inner ≡ no_tests)

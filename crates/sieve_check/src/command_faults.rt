@@ -32,7 +32,9 @@ fn lesser(fault: Option<CheckFault>, other: Option<CheckFault>) -> Option<CheckF
 
 /// The first rule that is broken by what follows a name, without the inner tests.
 fn form_fault(named: Named, form: &Form, arguments: &Arguments, tests: &Tests) -> Option<CheckFault>
-    ensures { option_map number_of result ≡ first_broken (form_rules (has_of named) (form_view form.now) (pieces (form_view form.now).tags arguments.now) (inner_of tests.now)) }
+    ensures { option_map number_of result ≡
+        first_broken (form_rules (has_of named) (form_view form.now) (pieces (form_view form.now).tags arguments.now)
+        (inner_of tests.now)) }
 {
     let found = gather(named, form, arguments);
     if found.lacks_capability(named, form) {
@@ -109,7 +111,9 @@ fn place_fault(
     command: &Command,
     follows_branch: bool,
 ) -> Option<CheckFault>
-    ensures { option_map number_of result ≡ first_broken (place_rules context.begun (command_view row.now) (head_of follows_branch (command_of command.now))) }
+    ensures { option_map number_of result ≡
+        first_broken (place_rules context.begun (command_view row.now)
+        (head_of follows_branch (command_of command.now))) }
 {
     if row.role.is_require() && names_unknown(&command.arguments) {
         Some(CheckFault::UnknownCapability)
@@ -131,7 +135,9 @@ pub fn command_fault(
     command: &Command,
     follows_branch: bool,
 ) -> Option<CheckFault>
-    ensures { option_map number_of result ≡ least (broken_in_place (has_of context.named) context.begun (Some (command_view row.now)) (head_of follows_branch (command_of command.now))) }
+    ensures { option_map number_of result ≡
+        least (broken_in_place (has_of context.named) context.begun (Some (command_view row.now))
+        (head_of follows_branch (command_of command.now))) }
 {
     let place = place_fault(context, row, command, follows_branch);
     let form = form_fault(context.named, &row.form, &command.arguments, &command.tests);

@@ -83,11 +83,15 @@ fn go_over(named: Named, form: &Form, arguments: &Arguments) -> Findings
 /// What the pieces of arguments show after a name of this form, given the named capabilities. Fewer than two tags are
 /// never two of one kind.
 pub fn gather(named: Named, form: &Form, arguments: &Arguments) -> Findings
-    ensures capability { result.lacks_capability ≡ list_any (piece_lacks (has_of named)) (pieces (form_view form.now).tags arguments.now) }
-    ensures tag { (result.unknown_tag || result.late_tag) ≡ has_wrong_tag (pieces (form_view form.now).tags arguments.now) }
-    ensures twice { result.two_tags ≡ false → has_tag_twice (form_view form.now) (pieces (form_view form.now).tags arguments.now) ≡ false }
+    ensures capability { result.lacks_capability ≡
+        list_any (piece_lacks (has_of named)) (pieces (form_view form.now).tags arguments.now) }
+    ensures tag { (result.unknown_tag || result.late_tag) ≡
+        has_wrong_tag (pieces (form_view form.now).tags arguments.now) }
+    ensures twice { result.two_tags ≡ false →
+        has_tag_twice (form_view form.now) (pieces (form_view form.now).tags arguments.now) ≡ false }
     ensures string { result.lacks_string ≡ list_any lacks_string (pieces (form_view form.now).tags arguments.now) }
-    ensures comparator { result.unknown_comparator ≡ list_any is_unknown_comparator (pieces (form_view form.now).tags arguments.now) }
+    ensures comparator { result.unknown_comparator ≡
+        list_any is_unknown_comparator (pieces (form_view form.now).tags arguments.now) }
 {
     go_over(named, form, arguments)
 }

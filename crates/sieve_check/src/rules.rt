@@ -190,7 +190,8 @@ impl Findings {
 
     /// 36: whether two tags are of one kind. The tags are compared only where there are two.
     pub fn has_tag_twice(self, form: &Form, arguments: &Arguments) -> bool
-        requires { self.two_tags ≡ false → has_tag_twice (form_view form.now) (pieces (form_view form.now).tags arguments.now) ≡ false }
+        requires { self.two_tags ≡ false →
+            has_tag_twice (form_view form.now) (pieces (form_view form.now).tags arguments.now) ≡ false }
         ensures { result ≡ has_tag_twice (form_view form.now) (pieces (form_view form.now).tags arguments.now) }
     {
         self.two_tags && has_tag_twice(form, arguments)

@@ -36,8 +36,14 @@ comparisons c (Any ∷ is) text = 0
 -- at the front of the value only. What comes after a `*` is tried at one place after another, from where the items
 -- before it ended, up to the first place where it fits. The flag tells that a `*` comes before the items
 pub data Search (c : Comparator) : Bool → List Item → List ℕ → Bool → ℕ → Type 0 where
-  covers_all : (starred : Bool) (items : List Item) (text : List ℕ) → trial c items text ≡ covered → Search c starred items text true (comparisons c items text)
-  at_star : (starred : Bool) (items next : List Item) (text rest : List ℕ) (answer : Bool) (n : ℕ) → trial c items text ≡ to_star next rest → Search c true next rest answer n → Search c starred items text answer (comparisons c items text + n)
-  at_front : (items : List Item) (text : List ℕ) → trial c items text ≡ misfit → Search c false items text false (comparisons c items text)
+  covers_all : (starred : Bool) (items : List Item) (text : List ℕ) → trial c items text ≡ covered →
+      Search c starred items text true (comparisons c items text)
+  at_star : (starred : Bool) (items next : List Item) (text rest : List ℕ) (answer : Bool) (n : ℕ) →
+      trial c items text ≡ to_star next rest → Search c true next rest answer n →
+      Search c starred items text answer (comparisons c items text + n)
+  at_front : (items : List Item) (text : List ℕ) → trial c items text ≡ misfit →
+      Search c false items text false (comparisons c items text)
   at_end : (items : List Item) → trial c items [] ≡ misfit → Search c true items [] false (comparisons c items [])
-  next_place : (items : List Item) (b : ℕ) (text : List ℕ) (answer : Bool) (n : ℕ) → trial c items (b ∷ text) ≡ misfit → Search c true items text answer n → Search c true items (b ∷ text) answer (comparisons c items (b ∷ text) + n)
+  next_place : (items : List Item) (b : ℕ) (text : List ℕ) (answer : Bool) (n : ℕ) →
+      trial c items (b ∷ text) ≡ misfit → Search c true items text answer n →
+      Search c true items (b ∷ text) answer (comparisons c items (b ∷ text) + n)

@@ -41,7 +41,8 @@ and_then (Faults n f) go = Faults n f
 
 -- `fileinto`: only a copy leaves the implicit keep in force (RFC 3894, section 3); a path that is not open is fault 1
 abbrev pub filing : Facts → Bool → List ℕ → Filing → Ending
-filing facts copy path f = if facts.is_open path then GoesOn (record f { filed = insert_path path f.filed; cancelled = f.cancelled || not copy }) else Faults 1 f
+filing facts copy path f = if facts.is_open path
+    then GoesOn (record f { filed = insert_path path f.filed; cancelled = f.cancelled || not copy }) else Faults 1 f
 
 -- what an `include` does
 abbrev pub Included : Type 0
@@ -103,13 +104,18 @@ unless_entered false go f = go f
 -- How an `include` is judged, in this order. Under `:once`, a script that was entered before does nothing. A missing
 -- script does nothing under `:optional`, and is fault 2 otherwise. An active script is fault 3. Any other is entered.
 abbrev pub including : Library → (chain : List ScriptName) → (Commands → Filing → Ending) → Included
-including lib chain enter n f = unless_entered (n.once && is_among f.entered (script_named n)) (unless_missing (lib.find (script_named n)) n.optional (λ script. unless_active (is_among chain (script_named n)) (enter script))) f
+including lib chain enter n f = unless_entered (n.once &&
+    is_among f.entered (script_named n))
+    (unless_missing (lib.find (script_named n)) n.optional
+    (λ script. unless_active (is_among chain (script_named n)) (enter script))) f
 
 -- An `include`, given how many further scripts may be active, and the names of the active ones that have one. If no
 -- further script may be active, entering a script is fault 4.
 abbrev pub included : Facts → Library → ℕ → (chain : List ScriptName) → Included
 included facts lib zero chain n = including lib chain (λ script f. Faults 4 f) n
-included facts lib (suc left) chain n = including lib chain (λ script f. ended (run facts (included facts lib left (script_named n ∷ chain)) script (entering (script_named n) f))) n
+included facts lib (suc left) chain n = including lib chain
+    (λ script f. ended (run facts (included facts lib left (script_named n ∷ chain)) script
+    (entering (script_named n) f))) n
 
 -- the main script's personal name, if it has one
 abbrev pub main_names : Option (List ℕ) → List ScriptName

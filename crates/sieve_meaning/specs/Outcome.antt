@@ -36,4 +36,5 @@ greatest_weight = 60000
 -- a main script above the greatest weight is fault 5
 unfoldable pub outcome : Facts → Library → (known_as : Option (List ℕ)) → Commands → Outcome
 outcome facts lib known_as main =
-    if nat_lt greatest_weight (linked_weight lib known_as main) then outcome_at (Some 5) [] false false else outcome_of (meaning facts lib known_as main)
+    if nat_lt greatest_weight (linked_weight lib known_as main) then outcome_at (Some 5) [] false false
+    else outcome_of (meaning facts lib known_as main)

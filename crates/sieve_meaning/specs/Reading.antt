@@ -52,7 +52,8 @@ comparator_from follows_tag (arguments.Tag t ∷ args) = comparator_from (same_w
 
 -- `:is` where no match type is named (RFC 5228, section 2.7.1)
 abbrev pub match_type : List Argument → MatchType
-match_type args = if has_tag (codes "contains") args then match_types.Contains else if has_tag (codes "matches") args then match_types.Matches else match_types.Is
+match_type args = if has_tag (codes "contains") args then match_types.Contains else if has_tag (codes "matches") args
+    then match_types.Matches else match_types.Is
 
 unfoldable pub number_in : List Argument → ℕ
 number_in [] = 0
@@ -88,7 +89,8 @@ test_named tests.AllOf args only all = all_of all
 test_named tests.AnyOf args only all = any_of all
 test_named tests.Exists args only all = exists_of (string_lists false args)
 test_named tests.Size args only all = size_of (has_tag (codes "over") args) (number_in args)
-test_named tests.Header args only all = header_of (match_type args) (comparator_from false args) (string_lists false args)
+test_named tests.Header args only all = header_of (match_type args) (comparator_from false args)
+    (string_lists false args)
 test_named tests.Other args only all = always false
 
 abbrev mutual
@@ -126,7 +128,8 @@ command_named commands.Stop args t inner rest more = command_then stop more
 command_named commands.Keep args t inner rest more = command_then keep more
 command_named commands.Discard args t inner rest more = command_then discard more
 command_named commands.Return args t inner rest more = command_then return more
-command_named commands.FileInto args t inner rest more = command_then (file_into (has_tag (codes "copy") args) (first_string (string_lists false args))) more
+command_named commands.FileInto args t inner rest more = command_then
+    (file_into (has_tag (codes "copy") args) (first_string (string_lists false args))) more
 command_named commands.Include args t inner rest more = command_then (include (include_of args)) more
 command_named commands.Other args t inner rest more = more
 
@@ -148,12 +151,14 @@ abbrev mutual
   -- the program of commands
   pub program_of : CommandTrees → Commands
   program_of no_commands = no_command
-  program_of (tree_then (command name args inner finish) more) = command_named (command_word name) args (only_in inner) (block_in finish) (branches_of more) (program_of more)
+  program_of (tree_then (command name args inner finish) more) = command_named (command_word name) args (only_in inner)
+      (block_in finish) (branches_of more) (program_of more)
 
   -- the branches after an `if` or `elsif`
   pub branches_of : CommandTrees → Branches
   branches_of no_commands = no_branch
-  branches_of (tree_then (command name args inner finish) more) = branch_named (command_word name) (only_in inner) (block_in finish) (branches_of more)
+  branches_of (tree_then (command name args inner finish) more) = branch_named (command_word name) (only_in inner)
+      (block_in finish) (branches_of more)
 
   pub block_in : EndingTree → Commands
   block_in semicolon = no_command

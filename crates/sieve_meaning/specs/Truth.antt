@@ -13,7 +13,8 @@ has_field facts name = list_any (is_named name) facts.fields
 
 -- `header`: some field has one of the names, and its value matches some key (RFC 5228, section 5.7)
 abbrev pub header_truth : Facts → MatchType → Comparator → (names keys : List (List ℕ)) → Bool
-header_truth facts m c names keys = list_any (λ f. list_any (λ name. is_named name f) names && list_any (λ key. key_matches m c key f.value) keys) facts.fields
+header_truth facts m c names keys = list_any (λ f. list_any (λ name. is_named name f) names &&
+    list_any (λ key. key_matches m c key f.value) keys) facts.fields
 
 abbrev mutual
   pub truth : Facts → Test → Bool

@@ -52,7 +52,9 @@ unless_active false n = n
 -- or active. The number is how many further scripts may be active; if none may, it adds nothing either.
 abbrev pub included_weight : Library → ℕ → (chain : List ScriptName) → Include → ℕ
 included_weight lib zero chain n = 0
-included_weight lib (suc left) chain n = unless_missing (lib.find (script_named n)) (λ script. unless_active (is_among chain (script_named n)) (weight (included_weight lib left (script_named n ∷ chain)) script))
+included_weight lib (suc left) chain n = unless_missing (lib.find (script_named n))
+    (λ script. unless_active (is_among chain (script_named n))
+    (weight (included_weight lib left (script_named n ∷ chain)) script))
 
 -- the weight of a main script and all that it includes
 abbrev pub linked_weight : Library → (known_as : Option (List ℕ)) → Commands → ℕ

@@ -18,7 +18,8 @@ pub fn contains_is_decided()
 
 /// What is computed for `:matches` agrees with the relation.
 pub fn pattern_is_decided()
-    ensures { (c : Comparator) (items : List Item) (value : List ℕ) → IsTrue (covers c items value) ↔ Matches c items value }
+    ensures { (c : Comparator) (items : List Item) (value : List ℕ) → IsTrue (covers c items value) ↔
+        Matches c items value }
 {}
 
 /// The part that `branches::part_in` gives a command is its role in the program. The command begins branches, continues

@@ -29,7 +29,8 @@ impl Model for Paths {
 fn missing_place(items: &[Text], path: &[u8]) -> Option<usize>
     requires { IsIncreasing items.now }
     ensures there { IfNone result (insert_path path.now items.now ≡ items.now) }
-    ensures missing { IfSome result (λ at. (at ≤ length items.now) × (insert_path path.now items.now ≡ insert items.now at path.now)) }
+    ensures missing { IfSome result (λ at. (at ≤ length items.now) ×
+        (insert_path path.now items.now ≡ insert items.now at path.now)) }
 {
     match items.binary_search_by(|item| item.as_slice().cmp(path)) {
         Ok(_) => None,

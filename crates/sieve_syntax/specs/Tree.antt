@@ -74,7 +74,8 @@ abbrev mutual
 
 abbrev mutual
   pub command_tokens : CommandTree → List TokenKind
-  command_tokens (command name args inner finish) = tokens.Identifier name ∷ (arguments_tokens args ++ (inner_tokens inner ++ ending_tokens finish))
+  command_tokens (command name args inner finish) = tokens.Identifier name ∷
+      (arguments_tokens args ++ (inner_tokens inner ++ ending_tokens finish))
 
   -- block = "{" commands "}"
   pub ending_tokens : EndingTree → List TokenKind

@@ -32,15 +32,19 @@ pub record IsNoOpening (bs : List ℕ) : Type 0 where
 pub data NoTokenAt : ℕ → List ℕ → Type 0 where
   no_beginning : (b : ℕ) (following : List ℕ) → IsNoBeginning b following → NoTokenAt 0 (b ∷ following)
   no_tag : (following : List ℕ) → begins is_start following ≡ false → NoTokenAt 0 (58 ∷ following)
-  no_opening : (word blanks following : List ℕ) → IsTextColon word → list_all is_blank blanks ≡ true → IsNoOpening following → NoTokenAt (length word + length blanks) (word ++ (blanks ++ following))
+  no_opening : (word blanks following : List ℕ) → IsTextColon word → list_all is_blank blanks ≡ true →
+      IsNoOpening following → NoTokenAt (length word + length blanks) (word ++ (blanks ++ following))
 
 -- 12: a string that is open at the script's end: a quoted one, whose last octet may be a backslash; one that ends on
 -- the line of "text:"; or one after lines of which none is a single dot
 pub data OpenString : List ℕ → Type 0 where
   open_quoted : (body text : List ℕ) → QuotedText body text → OpenString (34 ∷ body)
   open_escape : (body text : List ℕ) → QuotedText body text → OpenString (34 ∷ (body ++ 92 ∷ []))
-  open_opening : (word blanks comment : List ℕ) → IsTextColon word → list_all is_blank blanks ≡ true → IsHashComment comment → OpenString (word ++ (blanks ++ comment))
-  open_lines : (word blanks comment end body text last : List ℕ) → IsTextColon word → list_all is_blank blanks ≡ true → IsHashComment comment → IsLineEnd end → Lines body text → list_all not_lf last ≡ true → (last ≡ 46 ∷ [] → ⊥) → OpenString (word ++ (blanks ++ (comment ++ (end ++ (body ++ last)))))
+  open_opening : (word blanks comment : List ℕ) → IsTextColon word → list_all is_blank blanks ≡ true →
+      IsHashComment comment → OpenString (word ++ (blanks ++ comment))
+  open_lines : (word blanks comment end body text last : List ℕ) → IsTextColon word → list_all is_blank blanks ≡ true →
+      IsHashComment comment → IsLineEnd end → Lines body text → list_all not_lf last ≡ true → (last ≡ 46 ∷ [] → ⊥) →
+      OpenString (word ++ (blanks ++ (comment ++ (end ++ (body ++ last)))))
 
 -- 14: the longest number that fits is above 2^63 - 1
 pub record IsLargeNumber (bs : List ℕ) : Type 0 where
@@ -66,7 +70,8 @@ abbrev pub IsFaultHere : ScanRefusal → ℕ → List ℕ → Type 0
 IsFaultHere NotUtf8 before bs = ⊥
 IsFaultHere NoToken before bs = NoTokenAt before bs
 IsFaultHere StringNotClosed before bs = (before ≡ 0) × OpenString bs
-IsFaultHere CommentNotClosed before bs = (before ≡ 0) × ((body : List ℕ) × (bs ≡ 47 ∷ 42 ∷ body) × (closes body ≡ false))
+IsFaultHere CommentNotClosed before bs = (before ≡ 0) ×
+    ((body : List ℕ) × (bs ≡ 47 ∷ 42 ∷ body) × (closes body ≡ false))
 IsFaultHere NumberTooLarge before bs = (before ≡ 0) × IsLargeNumber bs
 IsFaultHere ScriptTooLong before bs = ⊥
 IsFaultHere StringTooLong before bs = (before ≡ 0) × IsLongString bs
@@ -92,7 +97,8 @@ IsStray b following = (b ≡ 0) ⊎ ((b ≡ 13) × (begins_with 10 following ≡
 -- octets before others, none of them stray
 pub data IsClean : List ℕ → List ℕ → Type 0 where
   clean_end : (following : List ℕ) → IsClean [] following
-  clean_octet : (b : ℕ) (bs following : List ℕ) → (IsStray b (bs ++ following) → ⊥) → IsClean bs following → IsClean (b ∷ bs) following
+  clean_octet : (b : ℕ) (bs following : List ℕ) → (IsStray b (bs ++ following) → ⊥) → IsClean bs following →
+      IsClean (b ∷ bs) following
 
 -- the first stray octet of a script
 pub record IsStrayAt (script : List ℕ) (place : ℕ) : Type 0 where
@@ -112,7 +118,8 @@ IsText script = (length script ≤ 262144) × IsUtf8 script × IsClean script []
 abbrev pub IsRefusedAt : List ℕ → ScanRefusal → ℕ → Type 0
 IsRefusedAt script ScriptTooLong place = (262144 < length script) × (place ≡ 0)
 IsRefusedAt script NotUtf8 place = (length script ≤ 262144) × ¬ (IsUtf8 script) × (place ≡ 0)
-IsRefusedAt script NoToken place = ((length script ≤ 262144) × IsUtf8 script × IsStrayAt script place) ⊎ (IsText script × IsFaultAt script NoToken place)
+IsRefusedAt script NoToken place = ((length script ≤ 262144) × IsUtf8 script × IsStrayAt script place) ⊎
+    (IsText script × IsFaultAt script NoToken place)
 IsRefusedAt script StringNotClosed place = IsText script × IsFaultAt script StringNotClosed place
 IsRefusedAt script CommentNotClosed place = IsText script × IsFaultAt script CommentNotClosed place
 IsRefusedAt script NumberTooLarge place = IsText script × IsFaultAt script NumberTooLarge place

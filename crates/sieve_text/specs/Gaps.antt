@@ -20,11 +20,13 @@ closed_len body = if nat_lt (bracketed_len false body) (length body) then bracke
 -- the length in octets of the comment that begins here; 0 where none begins, or where it is not closed. A hash comment
 -- ends before its line's LF, or with the text
 unfoldable pub comment_len : List ℕ → ℕ
-comment_len bs = if begins_with 35 bs then prefix_len not_lf bs else if opens_bracketed bs then closed_len (drop 2 bs) else 0
+comment_len bs = if begins_with 35 bs then prefix_len not_lf bs else if opens_bracketed bs then closed_len (drop 2 bs)
+    else 0
 
 -- the length in octets of white space and closed comments; the number is how many of the first octets are inside a
 -- comment
 unfoldable pub gap_len : ℕ → List ℕ → ℕ
 gap_len inside [] = 0
 gap_len (suc n) (b ∷ bs) = suc (gap_len n bs)
-gap_len zero (b ∷ bs) = if is_white b then suc (gap_len 0 bs) else if nat_lt 0 (comment_len (b ∷ bs)) then suc (gap_len (comment_len (b ∷ bs) - 1) bs) else 0
+gap_len zero (b ∷ bs) = if is_white b then suc (gap_len 0 bs) else if nat_lt 0 (comment_len (b ∷ bs))
+    then suc (gap_len (comment_len (b ∷ bs) - 1) bs) else 0

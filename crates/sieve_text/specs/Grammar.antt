@@ -63,5 +63,7 @@ AnswersRefusal r (Err (Refused refusal at)) = refusal ≡ r
 abbrev pub Explains : List ℕ → TextFault → Type 0
 Explains script NoMemory = Unit {0}
 Explains script (Refused (Scan r) at) = IsFaulty script r
-Explains script (Refused Syntax at) = ((ts : List Token) × IsScan script ts) × ((t : CommandTrees) → ¬ (Spells script t))
-Explains script (Refused Nesting at) = ((ts : List Token) × IsScan script ts) × ((t : CommandTrees) → ¬ (IsScript script t))
+Explains script (Refused Syntax at) = ((ts : List Token) × IsScan script ts) ×
+    ((t : CommandTrees) → ¬ (Spells script t))
+Explains script (Refused Nesting at) = ((ts : List Token) × IsScan script ts) ×
+    ((t : CommandTrees) → ¬ (IsScript script t))

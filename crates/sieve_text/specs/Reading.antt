@@ -43,7 +43,8 @@ Reads A = List TokenKind → Result (A × List TokenKind) Misfit
 abbrev pub Tries : Type 0 → Type 0
 Tries A = List TokenKind → Result (Option (A × List TokenKind)) Misfit
 
-abbrev pub many_with : {A : Type 0} → Reads (List A) → List TokenKind → Option (A × List TokenKind) → Result (List A × List TokenKind) Misfit
+abbrev pub many_with : {A : Type 0} → Reads (List A) → List TokenKind → Option (A × List TokenKind) → Result
+    (List A × List TokenKind) Misfit
 many_with more ts None = Ok ([], ts)
 many_with more ts (Some a) = more a.1 >>= λ x. Ok (a.0 ∷ x.0, x.1)
 
@@ -53,7 +54,8 @@ many_at read zero ts = Ok ([], ts)
 many_at read (suc n) ts = read ts >>= many_with (many_at read n) ts
 
 -- what was read before, and then what is read now
-abbrev pub following : {A : Type 0} → List A → Result (List A × List TokenKind) Misfit → Result (List A × List TokenKind) Misfit
+abbrev pub following : {A : Type 0} → List A → Result (List A × List TokenKind) Misfit → Result
+    (List A × List TokenKind) Misfit
 following before r = r >>= λ x. Ok (before ++ x.0, x.1)
 
 -- a thing after a comma

@@ -9,7 +9,8 @@ use Rattle.sieve_text.specs.declared.fault.ScanRefusal.TheVariants.{NoToken, Str
 -- a bare LF is read as CR LF
 unfoldable pub with_crlf : Bool → List ℕ → List ℕ
 with_crlf after_cr [] = []
-with_crlf after_cr (b ∷ bs) = if (b == 10) && not after_cr then 13 ∷ 10 ∷ with_crlf false bs else b ∷ with_crlf (b == 13) bs
+with_crlf after_cr (b ∷ bs) = if (b == 10) && not after_cr then 13 ∷ 10 ∷ with_crlf false bs
+    else b ∷ with_crlf (b == 13) bs
 
 -- after a quotation mark: how many octets come before the first quotation mark that no backslash escapes, or all there
 -- are
@@ -41,7 +42,8 @@ begins_text bs = begins_as (codes "text:") bs
 abbrev pub opening_end_at : List ℕ → Result ℕ ScanRefusal
 opening_end_at bs =
     if length bs == 0 then Err StringNotClosed
-    else if begins_with 35 bs then (if nat_lt (prefix_len not_lf bs) (length bs) then Ok (suc (prefix_len not_lf bs)) else Err StringNotClosed)
+    else if begins_with 35 bs
+    then (if nat_lt (prefix_len not_lf bs) (length bs) then Ok (suc (prefix_len not_lf bs)) else Err StringNotClosed)
     else if nat_lt 0 (line_end_len bs) then Ok (line_end_len bs) else Err NoToken
 
 -- at a line's start: a dot and then a line end or the text's end
@@ -57,7 +59,8 @@ lines_len at_start (b ∷ bs) = if at_start && is_last_line (b ∷ bs) then 0 el
 -- a line's leading dot is dropped where another dot follows it
 unfoldable pub unstuffed : Bool → List ℕ → List ℕ
 unstuffed at_start [] = []
-unstuffed at_start (b ∷ bs) = if (at_start && (b == 46)) && begins_with 46 bs then unstuffed false bs else b ∷ unstuffed (b == 10) bs
+unstuffed at_start (b ∷ bs) = if (at_start && (b == 46)) && begins_with 46 bs then unstuffed false bs
+    else b ∷ unstuffed (b == 10) bs
 
 -- the value of the lines of a multi-line string
 abbrev pub lines_value : List ℕ → List ℕ

@@ -37,7 +37,8 @@ pub record IsNumber (value : ℕ) (octets : List ℕ) : Type 0 where
 -- the text between quotation marks, and its content: a quotation mark or backslash comes only after a backslash
 pub data QuotedText : List ℕ → List ℕ → Type 0 where
   quoted_end : QuotedText [] []
-  quoted_plain : (b : ℕ) (bs says : List ℕ) → (b ≡ 34 → ⊥) → (b ≡ 92 → ⊥) → QuotedText bs says → QuotedText (b ∷ bs) (b ∷ says)
+  quoted_plain : (b : ℕ) (bs says : List ℕ) → (b ≡ 34 → ⊥) → (b ≡ 92 → ⊥) → QuotedText bs says →
+      QuotedText (b ∷ bs) (b ∷ says)
   quoted_pair : (b : ℕ) (bs says : List ℕ) → QuotedText bs says → QuotedText (92 ∷ b ∷ bs) (b ∷ says)
 
 -- DQUOTE quoted-text DQUOTE
@@ -67,7 +68,8 @@ without_dot (b ∷ bs) = if (b == 46) && begins_with 46 bs then bs else b ∷ bs
 -- lines, of which none is a single dot, and their content
 pub data Lines : List ℕ → List ℕ → Type 0 where
   no_lines : Lines [] []
-  line : (content bs says : List ℕ) → list_all not_lf content ≡ true → is_dot content ≡ false → Lines bs says → Lines (content ++ 10 ∷ bs) (without_dot content ++ 10 ∷ says)
+  line : (content bs says : List ℕ) → list_all not_lf content ≡ true → is_dot content ≡ false → Lines bs says →
+      Lines (content ++ 10 ∷ bs) (without_dot content ++ 10 ∷ says)
 
 -- "text:", in letters of either case
 abbrev pub IsTextColon : List ℕ → Type 0
@@ -123,7 +125,8 @@ IsWithinLimits (kinds.Mark mark) = Unit {0}
 
 -- "text:" begins a multi-line string: the name "text", in letters of either case, is no identifier before ":"
 abbrev pub IsApart : TokenKind → List ℕ → Type 0
-IsApart (kinds.Identifier name) following = map to_ascii_lowercase name ≡ codes "text" → begins_with 58 following ≡ false
+IsApart (kinds.Identifier name) following = map to_ascii_lowercase name ≡ codes "text" →
+    begins_with 58 following ≡ false
 IsApart (kinds.Tag name) following = Unit {0}
 IsApart (kinds.Number n) following = Unit {0}
 IsApart (kinds.StringValue value) following = Unit {0}
@@ -132,7 +135,8 @@ IsApart (kinds.Mark mark) following = Unit {0}
 -- a token with these octets, before others: the longest that fits
 pub record IsToken (kind : TokenKind) (octets following : List ℕ) : Type 0 where
   pub spelled : Lexeme kind octets following
-  pub longest : (other : TokenKind) (more rest : List ℕ) → octets ++ following ≡ more ++ rest → Lexeme other more rest → length more ≤ length octets
+  pub longest : (other : TokenKind) (more rest : List ℕ) → octets ++ following ≡ more ++ rest →
+      Lexeme other more rest → length more ≤ length octets
   pub apart : IsApart kind following
   pub limited : IsWithinLimits kind
 
@@ -146,8 +150,10 @@ closes (b ∷ bs) = ((b == 42) && begins_with 47 bs) || closes bs
 pub data Gap : List ℕ → List ℕ → Type 0 where
   gap_end : (following : List ℕ) → Gap [] following
   gap_white : (b : ℕ) (bs following : List ℕ) → is_white b ≡ true → Gap bs following → Gap (b ∷ bs) following
-  gap_hash : (text bs following : List ℕ) → list_all not_lf text ≡ true → begins not_lf (bs ++ following) ≡ false → Gap bs following → Gap (35 ∷ (text ++ bs)) following
-  gap_bracketed : (text bs following : List ℕ) → closes (text ++ 42 ∷ []) ≡ false → Gap bs following → Gap (47 ∷ 42 ∷ (text ++ 42 ∷ 47 ∷ bs)) following
+  gap_hash : (text bs following : List ℕ) → list_all not_lf text ≡ true → begins not_lf (bs ++ following) ≡ false →
+      Gap bs following → Gap (35 ∷ (text ++ bs)) following
+  gap_bracketed : (text bs following : List ℕ) → closes (text ++ 42 ∷ []) ≡ false → Gap bs following →
+      Gap (47 ∷ 42 ∷ (text ++ 42 ∷ 47 ∷ bs)) following
 
 -- a token comes first, after a gap, from an offset on
 pub record IsFirst (at : ℕ) (bs : List ℕ) (t : Token) (following : List ℕ) : Type 0 where

@@ -31,7 +31,8 @@ scan_number StringTooLong = 16
 abbrev pub mark_of : ℕ → Option Mark
 mark_of b = if b == 59 then Some Semicolon else if b == 123 then Some OpenBrace else if b == 125 then Some CloseBrace
     else if b == 40 then Some OpenParen else if b == 41 then Some CloseParen
-    else if b == 91 then Some OpenBracket else if b == 93 then Some CloseBracket else if b == 44 then Some Comma else None
+    else if b == 91 then Some OpenBracket else if b == 93 then Some CloseBracket else if b == 44 then Some Comma
+    else None
 
 infixl 10 ◌>>=◌
 abbrev pub ◌>>=◌ : {A B : Type 0} → Result A ScanRefusal → (A → Result B ScanRefusal) → Result B ScanRefusal
@@ -57,7 +58,8 @@ quoted_at bs =
 unfoldable pub lines_at : ℕ → List ℕ → Result (TokenKind × ℕ) ScanRefusal
 lines_at before bs =
     let n = lines_len true bs in
-    if nat_lt n (length bs) then string_kind (lines_value (take n bs)) (before + (n + (1 + line_end_len (drop (n + 1) bs)))) else Err StringNotClosed
+    if nat_lt n (length bs) then string_kind (lines_value (take n bs))
+    (before + (n + (1 + line_end_len (drop (n + 1) bs)))) else Err StringNotClosed
 
 -- a multi-line string after its "text:": blanks, perhaps a hash comment, a line end and the lines
 unfoldable pub multi_line_at : List ℕ → Result (TokenKind × ℕ) ScanRefusal
@@ -67,7 +69,8 @@ multi_line_at bs =
 
 -- a tag after its colon
 unfoldable pub tag_at : List ℕ → Result (TokenKind × ℕ) ScanRefusal
-tag_at bs = if begins is_start bs then Ok (kinds.Tag (take (prefix_len is_word bs) bs), suc (prefix_len is_word bs)) else Err NoToken
+tag_at bs = if begins is_start bs then Ok (kinds.Tag (take (prefix_len is_word bs) bs), suc (prefix_len is_word bs))
+    else Err NoToken
 
 -- the quantifiers K, M and G in either case: 2^10, 2^20 and 2^30, each on one octet; 1 on none where none comes first
 abbrev pub factor_at : List ℕ → ℕ × ℕ
@@ -131,7 +134,8 @@ IsScan script ts = IsSound script × ((end : ℕ) × Reads script 0 ts end × (t
 
 -- the first faulty place, after some tokens
 abbrev pub IsFirstFault : List ℕ → ScanRefusal → Type 0
-IsFirstFault script refusal = (ts : List Token) × (end : ℕ) × Reads script 0 ts end × (token_at script end ≡ Err refusal)
+IsFirstFault script refusal = (ts : List Token) × (end : ℕ) × Reads script 0 ts end ×
+    (token_at script end ≡ Err refusal)
 
 -- why a script has no tokens: it is unsound, or else its first faulty place
 abbrev pub IsFaulty : List ℕ → ScanRefusal → Type 0
@@ -164,7 +168,8 @@ text_len bs = if begins_text bs then 5 + prefix_len is_blank (drop 5 bs) else 0
 -- the place of the refusal of what begins after the gap from an offset on: its first octet, or for `NoToken` the octet
 -- that cannot be there, which may come after "text:" and blanks
 abbrev pub fault_place : List ℕ → ℕ → ScanRefusal → ℕ
-fault_place script at = let start = at + gap_len 0 (drop at script) in either_place start (start + text_len (drop start script))
+fault_place script at = let start = at + gap_len 0 (drop at script) in either_place start
+    (start + text_len (drop start script))
 
 -- the refusal is at this place
 abbrev pub StandsAt : (ScanRefusal → ℕ) → FaultyPlace → Type 0
@@ -175,4 +180,5 @@ abbrev pub StandsIn : List ℕ → ScanFault → Type 0
 StandsIn script NoMemory = Unit {0}
 StandsIn script (Refused refusal at) =
     (IsUnsound script refusal × (at ≡ either_place 0 (stray_len script) refusal))
-    ⊎ (IsSound script × ((ts : List Token) × (end : ℕ) × Reads script 0 ts end × (token_at script end ≡ Err refusal) × (at ≡ fault_place script end refusal)))
+    ⊎ (IsSound script × ((ts : List Token) × (end : ℕ) × Reads script 0 ts end × (token_at script end ≡ Err refusal) ×
+    (at ≡ fault_place script end refusal)))

@@ -15,13 +15,15 @@ pub fn one_scan()
 
 /// A script with tokens has no refusal, and none has two refusals.
 pub fn one_verdict()
-    ensures tokens { (script : List ℕ) (ts : List Token) (refusal : ScanRefusal) → IsScan script ts → IsFaulty script refusal → ⊥ }
+    ensures tokens { (script : List ℕ) (ts : List Token) (refusal : ScanRefusal) → IsScan script ts →
+        IsFaulty script refusal → ⊥ }
     ensures refusal { (script : List ℕ) (a b : ScanRefusal) → IsFaulty script a → IsFaulty script b → a ≡ b }
 {}
 
 /// Every script has tokens or a refusal.
 pub fn some_verdict()
-    ensures { (script : List ℕ) → ((ts : List Token) × IsScan script ts) ⊎ ((refusal : ScanRefusal) × IsFaulty script refusal) }
+    ensures { (script : List ℕ) → ((ts : List Token) × IsScan script ts) ⊎
+        ((refusal : ScanRefusal) × IsFaulty script refusal) }
 {}
 
 /// The tokens of a script are exactly those into which it can be cut, if it is a text. Gaps and tokens alternate, and
@@ -34,6 +36,8 @@ pub fn cut()
 /// a stray octet (11). Or, after the first tokens and a gap, the rest begins with no token, for the reason that the
 /// refusal gives.
 pub fn refused_place()
-    ensures at { (script : List ℕ) (refusal : ScanRefusal) (place : ℕ) → StandsIn script (Refused refusal place) ↔ IsRefusedAt script refusal place }
-    ensures some { (script : List ℕ) (refusal : ScanRefusal) → IsFaulty script refusal ↔ ((place : ℕ) × IsRefusedAt script refusal place) }
+    ensures at { (script : List ℕ) (refusal : ScanRefusal) (place : ℕ) → StandsIn script (Refused refusal place) ↔
+        IsRefusedAt script refusal place }
+    ensures some { (script : List ℕ) (refusal : ScanRefusal) → IsFaulty script refusal ↔
+        ((place : ℕ) × IsRefusedAt script refusal place) }
 {}

@@ -63,7 +63,8 @@ fn judge_tokens(script: &[u8], read: &Result<(Vec<Command>, usize), Stop>) -> Re
 
 /// The tree that was read, or the refusal, in a text of `end` octets.
 fn answer(read: Result<(Vec<Command>, usize), Stop>, end: usize) -> Result<Script, TextFault>
-    ensures { (want : Result CommandTrees Misfit) → Gives (λ x. commands_of (map command_of x.0.items)) read want → GivesScript result want }
+    ensures { (want : Result CommandTrees Misfit) → Gives (λ x. commands_of (map command_of x.0.items)) read want →
+        GivesScript result want }
 {
     let (refusal, left) = match read {
         Ok((commands, _)) => return Ok(Script { commands }),

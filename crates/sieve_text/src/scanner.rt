@@ -176,7 +176,8 @@ pub fn first_mark(text: &[u8]) -> Option<Mark>
 /// Whether an identifier is at the front of a text, with no gap before it.
 #[inline(always)]
 pub fn begins_with_name(text: &[u8]) -> bool
-    ensures { result ≡ true → (name : List ℕ) × (rest : List TokenKind) × (kinds_in text.now ≡ kinds.Identifier name ∷ rest) }
+    ensures { result ≡ true → (name : List ℕ) × (rest : List TokenKind) ×
+        (kinds_in text.now ≡ kinds.Identifier name ∷ rest) }
 {
     match text {
         [first, ..] => octets::starts_word(*first) && !multi_line::begins(text),
@@ -186,9 +187,11 @@ pub fn begins_with_name(text: &[u8]) -> bool
 
 /// What `split_lexeme` gives, without looking for a mark first.
 fn split_other(text: &[u8]) -> Option<(Lexeme<'_>, &[u8])>
-    ensures cases { MatchOption result (kinds_in text.now ≡ []) (λ x. kinds_in text.now ≡ kind_of x.0 ∷ kinds_in x.1.now) }
+    ensures cases { MatchOption result (kinds_in text.now ≡ []) (λ x. kinds_in text.now ≡ kind_of x.0 ∷
+        kinds_in x.1.now) }
     ensures fewer { IfSome result (λ x. length (kinds_in x.1.now) < length (kinds_in text.now)) }
-    ensures left { MatchOption result (left_in text.now ≡ drop (gap_len 0 text.now) text.now) (λ x. left_in x.1.now ≡ left_in text.now) }
+    ensures left { MatchOption result (left_in text.now ≡ drop (gap_len 0 text.now) text.now) (λ x. left_in x.1.now ≡
+        left_in text.now) }
 {
     let rest = gap::after_gap(text);
     let Ok((lexeme, length)) = lexeme(rest, 0) else {
@@ -203,9 +206,11 @@ fn split_other(text: &[u8]) -> Option<(Lexeme<'_>, &[u8])>
 /// comments.
 #[inline(always)]
 pub fn split_lexeme(text: &[u8]) -> Option<(Lexeme<'_>, &[u8])>
-    ensures cases { MatchOption result (kinds_in text.now ≡ []) (λ x. kinds_in text.now ≡ kind_of x.0 ∷ kinds_in x.1.now) }
+    ensures cases { MatchOption result (kinds_in text.now ≡ []) (λ x. kinds_in text.now ≡ kind_of x.0 ∷
+        kinds_in x.1.now) }
     ensures fewer { IfSome result (λ x. length (kinds_in x.1.now) < length (kinds_in text.now)) }
-    ensures left { MatchOption result (left_in text.now ≡ drop (gap_len 0 text.now) text.now) (λ x. left_in x.1.now ≡ left_in text.now) }
+    ensures left { MatchOption result (left_in text.now ≡ drop (gap_len 0 text.now) text.now) (λ x. left_in x.1.now ≡
+        left_in text.now) }
 {
     if let Some((mark, following)) = split_mark(text) {
         return Some((Lexeme::Mark(mark), gap::after_gap(following)));

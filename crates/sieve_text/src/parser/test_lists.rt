@@ -68,7 +68,8 @@ fn read_test(alloc: Global, depth: u8, text: &[u8]) -> Result<(Test, &[u8]), Sto
 /// gap before it.
 #[inline(always)]
 pub fn has_no_test(text: &[u8]) -> bool
-    ensures { result ≡ true → (read : Reads TestTree) → inner_with read (kinds_in text.now) ≡ Ok (no_tests, kinds_in text.now) }
+    ensures { result ≡ true → (read : Reads TestTree) →
+        inner_with read (kinds_in text.now) ≡ Ok (no_tests, kinds_in text.now) }
 {
     match first_mark(text) {
         Some(Mark::OpenParen) | None => false,
@@ -79,7 +80,8 @@ pub fn has_no_test(text: &[u8]) -> bool
 /// The tests of a command or of a test, at most `depth` of them nested.
 #[cycle(test_reader)]
 pub fn inner_tests(alloc: Global, depth: u8, text: &[u8]) -> Result<(Tests, &[u8]), Stop>
-    ensures value { Gives (λ x. (inner_of x.0, kinds_in x.1.now)) result (inner_with (test_at depth) (kinds_in text.now)) }
+    ensures value { Gives (λ x. (inner_of x.0, kinds_in x.1.now)) result
+        (inner_with (test_at depth) (kinds_in text.now)) }
     ensures fewer { IfOk result (λ x. length (kinds_in x.1.now) ≤ length (kinds_in text.now)) }
     ensures left { IfOk result (λ x. left_in x.1.now ≡ left_in text.now) }
 {
@@ -99,7 +101,8 @@ pub fn inner_tests(alloc: Global, depth: u8, text: &[u8]) -> Result<(Tests, &[u8
 /// A list of tests, after its opening bracket.
 #[cycle(test_reader)]
 fn test_list(alloc: Global, depth: u8, text: &[u8]) -> Result<(Tests, &[u8]), Stop>
-    ensures value { Gives (λ x. (inner_of x.0, kinds_in x.1.now)) result (test_list_with (test_at depth) (kinds_in text.now)) }
+    ensures value { Gives (λ x. (inner_of x.0, kinds_in x.1.now)) result
+        (test_list_with (test_at depth) (kinds_in text.now)) }
     ensures fewer { IfOk result (λ x. length (kinds_in x.1.now) < length (kinds_in text.now)) }
     ensures left { IfOk result (λ x. left_in x.1.now ≡ left_in text.now) }
 {
@@ -113,7 +116,8 @@ fn test_list(alloc: Global, depth: u8, text: &[u8]) -> Result<(Tests, &[u8]), St
 /// The tests of a list after its first one.
 #[cycle(test_reader)]
 fn other_tests(alloc: Global, depth: u8, text: &[u8]) -> Result<(Vec<Test>, &[u8]), Stop>
-    ensures value { Gives (λ x. (map test_of x.0.items, kinds_in x.1.now)) result (many_at (next_with (test_at depth)) (length (kinds_in text.now)) (kinds_in text.now)) }
+    ensures value { Gives (λ x. (map test_of x.0.items, kinds_in x.1.now)) result
+        (many_at (next_with (test_at depth)) (length (kinds_in text.now)) (kinds_in text.now)) }
     ensures fewer { IfOk result (λ x. length (kinds_in x.1.now) ≤ length (kinds_in text.now)) }
     ensures left { IfOk result (λ x. left_in x.1.now ≡ left_in text.now) }
 {
@@ -130,7 +134,8 @@ fn other_tests(alloc: Global, depth: u8, text: &[u8]) -> Result<(Vec<Test>, &[u8
 /// The next test of a list, where a comma follows.
 #[cycle(test_reader)]
 fn next_test(alloc: Global, depth: u8, text: &[u8]) -> Result<Option<(Test, &[u8])>, Stop>
-    ensures value { Gives (option_map (λ x. (test_of x.0, kinds_in x.1.now))) result (next_with (test_at depth) (kinds_in text.now)) }
+    ensures value { Gives (option_map (λ x. (test_of x.0, kinds_in x.1.now))) result
+        (next_with (test_at depth) (kinds_in text.now)) }
     ensures fewer { IfOk result (λ o. IfSome o (λ x. length (kinds_in x.1.now) < length (kinds_in text.now))) }
     ensures left { IfOk result (λ o. IfSome o (λ x. left_in x.1.now ≡ left_in text.now)) }
 {
