@@ -53,7 +53,8 @@ fn outcome_of<C: Case>(
     script: &Checked,
     shelves: Shelves<'_>,
 ) -> Result<Outcome, DeskFault>
-    ensures outcome { IfOk result (λ o. outcome_view o ≡ outcome (C.facts case.now) (library_of (scripts_of shelves.entry)) None
+    ensures outcome { IfOk result (λ o. outcome_view o ≡
+        outcome (C.facts case.now) (library_of (scripts_of shelves.entry)) None
         (program_of (tree_of script.now.script))) }
     ensures refused { IfErr result (λ f. f ≡ NoMemory) }
 {

@@ -83,8 +83,10 @@ impl HeaderBuffer {
     /// Takes the next piece, which may be empty. Refuses with `TooLong` (1) where the message would then have more than
     /// 8,388,608 octets, and again in every later call. Refuses with `NoMemory` (99) and leaves the buffer unchanged.
     pub fn feed(&mut self, piece: &[u8]) -> Result<(), HeadFault>
-        ensures fed { (message : List ℕ) → self.old ≡ reader_of message → OnOk result (self.new ≡ reader_of (message ++ piece.now)) }
-        ensures too_long { (result ≡ Err HeadFault.TooLong) ↔ (IsTrue self.old.refuses ⊎ (MAX_OCTETS < self.old.size + length piece.now)) }
+        ensures fed { (message : List ℕ) → self.old ≡ reader_of message →
+            OnOk result (self.new ≡ reader_of (message ++ piece.now)) }
+        ensures too_long { (result ≡ Err HeadFault.TooLong) ↔
+            (IsTrue self.old.refuses ⊎ (MAX_OCTETS < self.old.size + length piece.now)) }
         ensures for_good { result ≡ Err HeadFault.TooLong → self.new ≡ record self.old { refuses = true } }
         ensures no_memory { result ≡ Err HeadFault.NoMemory → self.new ≡ self.old }
     {
@@ -99,7 +101,8 @@ impl HeaderBuffer {
         ensures room { OnOk result (self.old.size + length piece.now ≤ MAX_OCTETS) }
         ensures ok { OnOk result (self.new ≡ self.old) }
         ensures only { OnErr result (result ≡ Err HeadFault.TooLong) }
-        ensures too_long { (result ≡ Err HeadFault.TooLong) ↔ (IsTrue self.old.refuses ⊎ (MAX_OCTETS < self.old.size + length piece.now)) }
+        ensures too_long { (result ≡ Err HeadFault.TooLong) ↔
+            (IsTrue self.old.refuses ⊎ (MAX_OCTETS < self.old.size + length piece.now)) }
         ensures for_good { OnErr result (self.new ≡ record self.old { refuses = true }) }
     {
         if self.refuses || piece.len() as u64 > MAX_OCTETS - self.size {

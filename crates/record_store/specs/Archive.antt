@@ -147,10 +147,12 @@ destroyed r = record r { destroyed = true }
 
 -- another live record has the message
 abbrev pub is_shared : Archive → Record → Bool
-is_shared a r = list_any (λ (x : Record). is_live x && ((x.message == r.message) && not (x.number == r.number))) a.records
+is_shared a r = list_any (λ (x : Record). is_live x &&
+    ((x.message == r.message) && not (x.number == r.number))) a.records
 
 abbrev pub messages_without : Archive → Record → List Message
-messages_without a r = if is_shared a r then a.messages else delete_where (λ (m : Message). m.number == r.message) a.messages
+messages_without a r = if is_shared a r then a.messages
+    else delete_where (λ (m : Message). m.number == r.message) a.messages
 
 -- the record's number, path and day stay, and the message is removed with its last live record
 abbrev pub without : Archive → Record → Archive
