@@ -19,7 +19,7 @@ pub enum CheckFault {
     #[error("unknown command")]
     UnknownCommand,
     /// 33: the test is unknown (RFC 5228, section 2.10.5).
-    #[error("unknown test")]
+    #[error("not among the known tests")]
     UnknownTest,
     /// 34: no `require` before names a capability that the command or its tag needs (RFC 5228, section 2.10.5).
     #[error("a capability is needed and not required")]
