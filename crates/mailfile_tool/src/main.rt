@@ -1,5 +1,5 @@
 //! Tools beside the session. They read commands with the paths of files in place of lengths, add texts to numbers,
-//! first_finding scripts, show images as text, and say why a message is filed where it is.
+//! check scripts, show images as text, and say why a message is filed where it is.
 #![tactic(auto)]
 
 mod check;
