@@ -1,4 +1,4 @@
--- Finding the row of a name. Names of commands, tests and tags ignore ASCII case (RFC 5228, sections 2.1 and 2.6.2);
+-- Finding the row of a name. Names of commands, tests and tags ignore ASCII case (RFC 5228, section 2.1);
 -- capabilities are exact octets (RFC 5228, section 3.2).
 use Rattle.std.specs.Prelude.{ℕ, Bool, false, ◌==◌, List, [], ◌∷◌, Option, Some, None, if◌then◌else◌}
 use Rattle.std.specs.Str.{bytes_eq, str_eq_ignore_ascii_case}
