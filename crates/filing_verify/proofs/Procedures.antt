@@ -58,7 +58,7 @@ none_begun p x (y ∷ ys) asc lt =
     let rest : begun p (y ∷ ys) ≡ 0 = none_begun p y ys (tail_ascends x (y ∷ ys) asc) (omega arith) in
     passed p x (begun p (y ∷ ys)) lt ∙ rest
 
-pub counts_it : (p : ℕ) (fs : List ℕ) (b : ℕ) → Ascends fs → b < length fs → get_or fs b 0 ≤ p → b < begun p fs
+counts_it : (p : ℕ) (fs : List ℕ) (b : ℕ) → Ascends fs → b < length fs → get_or fs b 0 ≤ p → b < begun p fs
 unfolding begun
 counts_it p [] b asc lt le = absurd (omega arith)
 counts_it p (x ∷ xs) zero asc lt le = let e : begun p (x ∷ xs) ≡ 1 + begun p xs = counted p x (begun p xs) le in omega arith
@@ -72,7 +72,7 @@ counts_it p (x ∷ xs) (suc b) asc lt le =
       | inr more ↦ let e : begun p (x ∷ xs) ≡ 1 + begun p xs = counted p x (begun p xs) more in omega arith
     ]
 
-pub counts_before : (p : ℕ) (fs : List ℕ) (b : ℕ) → Ascends fs → b < length fs → p < get_or fs b 0 → begun p fs ≤ b
+counts_before : (p : ℕ) (fs : List ℕ) (b : ℕ) → Ascends fs → b < length fs → p < get_or fs b 0 → begun p fs ≤ b
 unfolding begun
 counts_before p [] b asc lt less = absurd (omega arith)
 counts_before p (x ∷ xs) zero asc lt less = let e : begun p (x ∷ xs) ≡ 0 = none_begun p x xs asc less in omega arith

@@ -1,7 +1,8 @@
 -- A small program with procedures, of which all is known: each line computes.
 use Rattle.std.proofs.Common.{◌≡◌, ℕ, List, [], ◌∷◌, Some, None, refl}
 use Rattle.filing_image.specs.declared.instruction.Operation.TheVariants.{Discard, Stop, Call, Return}
-use Rattle.filing_image.specs.Program.{Program}
+use Rattle.filing_image.specs.Program.{Program, parts}
+use Rattle.filing_image.specs.Spelling.{spelling}
 use Rattle.filing_verify.specs.Flow.{target, procedure_of}
 use Rattle.filing_verify.specs.Shapes.{after}
 use Rattle.filing_verify.specs.declared.kind.Kind.TheVariants.{Truth}
@@ -11,6 +12,11 @@ use Rattle.filing_verify.specs.Passes.{listed}
 -- procedure 0 calls procedure 1, which begins at place 2, and stops
 worked : Program
 worked = record { budget = 4; texts = []; numbers = []; slots = 0; procedures = Some (0 ∷ 2 ∷ []); code = Call 1 ∷ Stop ∷ Discard ∷ Return ∷ [] }
+
+-- its octets: the mark, the budget, five counts, two first places, four instructions
+octets : spelling (parts worked) ≡ 0x53 ∷ 0x46 ∷ 0x49 ∷ 0x32 ∷ 0 ∷ 0 ∷ 0 ∷ 4 ∷ 0 ∷ 0 ∷ 0 ∷ 0 ∷ 0 ∷ 0 ∷ 0 ∷ 2 ∷ 0 ∷ 4 ∷ 0 ∷ 0 ∷ 0 ∷ 2 ∷ 0x16 ∷ 0 ∷ 0 ∷ 1 ∷ 0x14 ∷ 0 ∷ 0 ∷ 0 ∷ 0x13 ∷ 0 ∷ 0 ∷ 0 ∷ 0x17 ∷ 0 ∷ 0 ∷ 0 ∷ []
+unfolding worked spelling
+octets = refl
 
 last_of_the_first : procedure_of worked 1 ≡ 0
 unfolding worked

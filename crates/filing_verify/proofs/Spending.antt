@@ -2,7 +2,7 @@
 use Rattle.std.proofs.Common.{◌≡◌, ℕ, suc, ◌+◌, ◌<◌, ◌≤◌, Bool, true, false, cond, eqb, List, length, Option, Some, None, refl, sym, ap, ◌∙◌, subst, arith, inl, inr, ◌⊎◌, set, eq-eqb}
 use Rattle.std.specs.Prelude.{slice_get, min}
 use Rattle.std.proofs.Math.ListN.{length-set}
-use Rattle.std.proofs.lemmas.List.{get_or-set_same, get_or-set_other}
+use Rattle.std.proofs.lemmas.List.{get_or-set_same, get_or-set_other, get_or_past}
 use Rattle.std.proofs.lemmas.Option.{slice_get_within}
 use Rattle.std.proofs.lemmas.Bool.{cases_lt, eqb-true}
 use Rattle.filing_image.specs.Program.{Program}
@@ -49,10 +49,14 @@ capped_cost program o p t c d h =
 
 -- ---- one place after another
 
-pub begins : (program : Program) (costs : List ℕ) → length costs ≡ length program.code → ((p : ℕ) → listed costs p ≡ 0) → Costing program (length program.code) costs
-begins program costs long none = record {
+-- before the first place is looked at, and nothing is known
+pub begins : (program : Program) (costs : List ℕ) (n : ℕ) → n ≡ length program.code → length costs ≡ length program.code → ((k : ℕ) → k < length program.code → listed costs k ≡ 0) → Costing program n costs
+begins program costs n many long zero = record {
   long = long;
-  small = λ p. omega (arith, none p);
+  small = λ k. elim (cases_lt k (length program.code)) [
+    | inl lt ↦ let e = zero k lt in omega arith
+    | inr past ↦ let e : listed costs k ≡ 0 = get_or_past costs k 0 (omega arith) in omega arith
+  ];
   there = (λ _. 0, λ p o le r at. absurd (omega (arith, slice_get_within program.code p o at)));
   are = λ cost from p le lt r. absurd (omega arith);
 }
@@ -99,6 +103,10 @@ module _ (program : Program) (i : ℕ) (costs : List ℕ) (onward : GoesOnward p
     new_follows : (p : ℕ) (x : Operation) → i ≤ p → Reached program p → slice_get program.code p ≡ Some x → cost_by program old p x ≡ cost_by program new p x
     new_follows p x le r at = same_cost program x p old new (λ q f. sym (new_other q (later p q x le r at f)))
 
+    was : AreCostsFrom program (i + 1) old
+    unfolding old
+    was = so_far.there.1
+
     new_costs : AreCostsFrom program i new
     new_costs p x le r at = elim (onto p le) [
       | inl a ↦ new_other p (omega arith) ∙ was p x a r at ∙ new_follows p x le r at
@@ -106,10 +114,6 @@ module _ (program : Program) (i : ℕ) (costs : List ℕ) (onward : GoesOnward p
           let same : x ≡ o = cc (at, here, ap (slice_get program.code) e) in
           ap new e ∙ new_here ∙ ap (λ (k : ℕ). cost_by program old k o) (sym e) ∙ ap (λ (y : Operation). cost_by program old p y) (sym same) ∙ new_follows p x le r at
     ]
-      where
-        was : AreCostsFrom program (i + 1) old
-        unfolding old
-        was = so_far.there.1
 
     v : ℕ
     v = min (cost_by program (listed costs) i o) too_much

@@ -1,7 +1,7 @@
 //! The verifier: the five rules, one after the other.
 
-ghost use Rattle.std.specs.Prelude.{◌≡◌, ◌≤◌, ◌<◌, ◌↔◌, true, false, IsTrue, IfOk, IfErr, length};
-ghost use Rattle.filing_image.specs.Program.{Program};
+ghost use Rattle.std.specs.Prelude.{◌≡◌, ◌≤◌, ◌↔◌, true, false, IsTrue, IfOk, IfErr};
+ghost use Rattle.filing_image.specs.Program.{Program, version_of};
 ghost use Rattle.filing_verify.specs.Passes.{GoesOnward, MarksReached};
 ghost use Rattle.filing_verify.specs.Well.{IsWell, IsWithin, Fails, AreInRange, StaysInside};
 
@@ -104,15 +104,36 @@ fn is_within(alloc: Global, image: &Image, marks: &[bool]) -> Result<bool, Alloc
     ensures no { IfOk result (λ yes. yes ≡ false → IsWithin image.now → ⊥) }
 {
     match image.version() {
-        Version::One => {
-            let places = longest(alloc, image, marks)?;
-            Ok(is_between(places, image.budget(), 65_535))
-        }
-        Version::Two => {
-            let steps = cost_of_start(alloc, image, marks)?;
-            Ok(is_between(steps as usize, image.budget(), 1_000_000))
-        }
+        Version::One => is_within_paths(alloc, image, marks),
+        Version::Two => is_within_costs(alloc, image, marks),
     }
+}
+
+/// In version 1: whether the budget is 1 to 65,535, and has a step for each place of the longest path.
+fn is_within_paths(alloc: Global, image: &Image, marks: &[bool]) -> Result<bool, AllocError>
+    requires version { Version.One ≡ version_of image.now.procedures }
+    requires forward { GoesOnward image.now }
+    requires inside { StaysInside image.now }
+    requires marks { MarksReached image.now marks.now }
+    ensures yes { IfOk result (λ yes. yes ≡ true → IsWithin image.now) }
+    ensures no { IfOk result (λ yes. yes ≡ false → IsWithin image.now → ⊥) }
+{
+    let places = longest(alloc, image, marks)?;
+    Ok(is_between(places, image.budget(), 65_535))
+}
+
+/// In version 2: whether the budget is 1 to 1,000,000, and place 0 costs no more.
+fn is_within_costs(alloc: Global, image: &Image, marks: &[bool]) -> Result<bool, AllocError>
+    requires version { Version.Two ≡ version_of image.now.procedures }
+    requires in_range { AreInRange image.now }
+    requires forward { GoesOnward image.now }
+    requires inside { StaysInside image.now }
+    requires marks { MarksReached image.now marks.now }
+    ensures yes { IfOk result (λ yes. yes ≡ true → IsWithin image.now) }
+    ensures no { IfOk result (λ yes. yes ≡ false → IsWithin image.now → ⊥) }
+{
+    let steps = cost_of_start(alloc, image, marks)?;
+    Ok(is_between(steps as usize, image.budget(), 1_000_000))
 }
 
 /// Whether a budget is 1 or more, at least what is needed, and at most the greatest one.

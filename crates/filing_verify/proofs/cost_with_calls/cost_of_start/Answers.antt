@@ -1,8 +1,17 @@
-use Rattle.std.proofs.Common.{◌≡◌, arith, sym, ◌∙◌, get_or}
-use Rattle.std.proofs.lemmas.Grind.{get_or_default_zero}
+use Rattle.std.proofs.Common.{◌≡◌, ℕ, ◌<◌, length, true, arith, sym, ◌∙◌, get_or, rules}
+use Rattle.std.proofs.lemmas.Grind.{common_steps, get_or_default_zero}
 use Rattle.filing_verify.specs.Passes.{Costing}
-use Rattle.filing_verify.proofs.Spending.{there, is}
+use Rattle.filing_verify.proofs.Spending.{begins, there, is}
 use Rattle.filing_verify.proofs.cost_with_calls.cost_of_start.Goals as goal
+
+pub loop-place-init : goal.loop-place-init
+loop-place-init c =
+    let p = c.args.image.now in
+    let costs = c.resize.new.self.items in
+    let many : c.place_count-place.result ≡ length p.code = c.place_count-place.ensures.value in
+    let long : length costs ≡ length p.code = first_of (omega (arith, c.in_ok-resize.ensures.len, c.resize.new.self.ok, c.place_count.ensures.value), grind (arith, common_steps)) in
+    let zero : (k : ℕ) → k < length p.code → get_or costs k 0 ≡ 0 = λ k lt. c.in_ok-resize.ensures.by_index.1 k 0 (search rules) (omega (arith, c.new-costs.ensures.len)) (omega (arith, c.place_count.ensures.value)) in
+    begins p costs c.place_count-place.result many long zero
 
 pub returns-clause-there : goal.returns-clause-there
 returns-clause-there c =
