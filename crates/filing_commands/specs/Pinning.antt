@@ -73,10 +73,10 @@ IsAlone s o = GivesOutcome s.program s.library (case_in s) o
 
 -- a program of one instruction
 abbrev pub one_stop : Program
-one_stop = record { budget = 1; texts = []; numbers = []; slots = 0; code = Stop ∷ [] }
+one_stop = record { budget = 1; texts = []; numbers = []; slots = 0; procedures = None; code = Stop ∷ [] }
 
 abbrev pub one_fault : Program
-one_fault = record { budget = 1; texts = []; numbers = []; slots = 0; code = Fault 5 ∷ [] }
+one_fault = record { budget = 1; texts = []; numbers = []; slots = 0; procedures = None; code = Fault 5 ∷ [] }
 
 abbrev pub is_too_heavy : Library → (name : List ℕ) → Commands → Bool
 is_too_heavy lib name s = nat_lt meaning.greatest_weight (linked_weight lib (Some name) s)
