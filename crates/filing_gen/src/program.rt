@@ -3,9 +3,9 @@
 ghost use Rattle.std.specs.Prelude.{◌≡◌, ◌↔◌, ◌+◌, ◌<◌, ◌≤◌, ◌^◌, [], ◌∷◌, map, Err, IfOk, IfErr, MatchOption};
 ghost use Rattle.std.specs.Option.{option_map};
 ghost use Rattle.sieve_syntax.specs.View.{command_of, commands_of, tree_of};
-ghost use Rattle.sieve_meaning.specs.Outcome.{greatest_weight};
 ghost use Rattle.sieve_meaning.specs.Reading.{program_of};
-ghost use Rattle.sieve_meaning.specs.Weight.{linked_weight};
+ghost use Rattle.sieve_meaning.specs.TooHeavy.{IsTooHeavy};
+ghost use Rattle.sieve_meaning.specs.Weight.{greatest_weight, linked_weight};
 ghost use Rattle.script_library.specs.Lent.{scripts_of};
 ghost use Rattle.script_library.specs.Libraries.{library_of};
 ghost use Rattle.filing_flow.specs.Structure.{size};
@@ -127,7 +127,7 @@ pub fn compile(
 ) -> Result<Verified, GenFault>
     ensures compiled { IfOk result (λ v. IsCompiled (library_of library.now) (option_map (λ s. s.now) known_as.entry) (program_of (tree_of main.now.script)) v) }
     ensures once { IfOk result (λ v. NamesOnce v) }
-    ensures too_large { result ≡ Err TooLarge ↔ greatest_weight < linked_weight (library_of library.now) (option_map (λ s. s.now) known_as.entry) (program_of (tree_of main.now.script)) }
+    ensures too_large { result ≡ Err TooLarge ↔ IsTooHeavy (library_of library.now) (option_map (λ s. s.now) known_as.entry) (program_of (tree_of main.now.script)) }
 {
     compile_with(alloc, main, known_as, library.shelves())
 }
@@ -142,7 +142,7 @@ pub fn compile_with(
 ) -> Result<Verified, GenFault>
     ensures compiled { IfOk result (λ v. IsCompiled (library_of (scripts_of shelves.entry)) (option_map (λ s. s.now) known_as.entry) (program_of (tree_of main.now.script)) v) }
     ensures once { IfOk result (λ v. NamesOnce v) }
-    ensures too_large { result ≡ Err TooLarge ↔ greatest_weight < linked_weight (library_of (scripts_of shelves.entry)) (option_map (λ s. s.now) known_as.entry) (program_of (tree_of main.now.script)) }
+    ensures too_large { result ≡ Err TooLarge ↔ IsTooHeavy (library_of (scripts_of shelves.entry)) (option_map (λ s. s.now) known_as.entry) (program_of (tree_of main.now.script)) }
 {
     let script = main.script();
     let scope = Scope {

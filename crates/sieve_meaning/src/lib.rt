@@ -11,7 +11,9 @@
 //! - `Branching`, `Parts`: what a command of the tree is to the branches before it, and how the program has it;
 //! - `Truth`, `Meaning`, `Outcome`: tests, runs, and the classes that a run captures;
 //! - `Scripts`: what the code's names of scripts and includes stand for;
-//! - `Weight`: how large the code of a script may be.
+//! - `Weight`: how large the code of a script may be;
+//! - `Procedures`: how included scripts can share their code, and what that weighs;
+//! - `TooHeavy`: which scripts are too heavy to be run, and the budgets of all others.
 //!
 //! `laws` has what is proved of these definitions.
 #![tactic(auto)]
