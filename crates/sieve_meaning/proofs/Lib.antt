@@ -3,4 +3,5 @@ pub mod OutcomeLaws
 pub mod PartLaws
 mod PathLemmas
 mod ProcedureRows
+pub mod SharingLemmas
 mod Rows

@@ -5,7 +5,7 @@ use Rattle.std.specs.Str.{bytes_eq}
 use Rattle.sieve_meaning.specs.Program.{Include, Command, Commands, no_command, command_then, require, discard, include}
 use Rattle.sieve_meaning.specs.Meaning.{Library, ScriptName}
 use Rattle.sieve_meaning.specs.Weight.{linked_weight}
-use Rattle.sieve_meaning.specs.Procedures.{Procedure, procedures, shared_weight, path_weight}
+use Rattle.sieve_meaning.specs.Procedures.{Procedure, reaches, procedures, shared_weight, path_weight}
 
 abbrev script_like : List ℕ → Include
 script_like name = record { global = false; once = false; optional = false; name = name }
@@ -35,11 +35,11 @@ abbrev tens : Library
 tens = library ((codes "a", includes 10 (codes "b")) ∷ (codes "b", includes 10 (codes "c")) ∷ (codes "c", includes 10 (codes "d")) ∷ (codes "d", includes 10 (codes "e")) ∷ (codes "e", no_command) ∷ [])
 
 tens_procedures : map shown (procedures tens None (includes 10 (codes "a"))) ≡ (7, []) ∷ (6, codes "a" ∷ []) ∷ (5, codes "b" ∷ codes "a" ∷ []) ∷ (4, codes "c" ∷ codes "b" ∷ codes "a" ∷ []) ∷ (3, codes "d" ∷ codes "c" ∷ codes "b" ∷ codes "a" ∷ []) ∷ (2, codes "e" ∷ codes "d" ∷ codes "c" ∷ codes "b" ∷ codes "a" ∷ []) ∷ []
-unfolding procedures
+unfolding procedures reaches
 tens_procedures = refl
 
 tens_shared : shared_weight (procedures tens None (includes 10 (codes "a"))) ≡ 226
-unfolding procedures
+unfolding procedures reaches
 tens_shared = refl
 
 -- over c alone: c, ten times d and a hundred times e
@@ -58,7 +58,7 @@ abbrev both : Commands
 both = command_then (include (script_like (codes "a"))) (command_then (include (script_like (codes "b"))) no_command)
 
 shared_once : map shown (procedures shared None both) ≡ (7, []) ∷ (6, codes "a" ∷ []) ∷ (6, codes "b" ∷ []) ∷ (5, codes "x" ∷ codes "a" ∷ []) ∷ []
-unfolding procedures
+unfolding procedures reaches
 shared_once = refl
 
 -- where x includes a, they do not: behind a it finds a active, and behind b it does not
@@ -66,5 +66,5 @@ abbrev apart : Library
 apart = library ((codes "a", includes 1 (codes "x")) ∷ (codes "b", includes 1 (codes "x")) ∷ (codes "x", includes 1 (codes "a")) ∷ [])
 
 not_shared : map shown (procedures apart None both) ≡ (7, []) ∷ (6, codes "a" ∷ []) ∷ (6, codes "b" ∷ []) ∷ (5, codes "x" ∷ codes "a" ∷ []) ∷ (5, codes "x" ∷ codes "b" ∷ []) ∷ (4, codes "a" ∷ codes "x" ∷ codes "b" ∷ []) ∷ []
-unfolding procedures
+unfolding procedures reaches
 not_shared = refl

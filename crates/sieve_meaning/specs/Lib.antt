@@ -13,3 +13,4 @@ pub mod Outcome
 pub mod Parts
 pub mod Weight
 pub mod Procedures
+pub mod Sharing

@@ -1,6 +1,6 @@
 -- How the scripts that a main script includes can share their code: a procedure is a script as some of its includes run it,
 -- and its code stands once for all of them.
-use Rattle.std.specs.Prelude.{ℕ, zero, suc, ◌+◌, List, [], ◌∷◌, ◌++◌, length, map, sum_by, filter, Bool, true, false, not, ◌&&◌, ◌||◌, Option, Some, None, nat_eq, nat_lt}
+use Rattle.std.specs.Prelude.{ℕ, zero, suc, ◌+◌, List, [], ◌∷◌, ◌++◌, length, map, filter, Bool, true, false, not, ◌&&◌, ◌||◌, Option, Some, None, nat_eq, nat_lt}
 use Rattle.std.specs.List.{list_any, list_all, flat_map, filter_map}
 use Rattle.sieve_meaning.specs.Program.{Include, Command, require, keep, discard, stop, return, file_into, branch, include, Commands, no_command, command_then, Branches, no_branch, otherwise, if_then}
 use Rattle.sieve_meaning.specs.Meaning.{Library, ScriptName, script_named, same_script, is_among, main_names}
@@ -49,7 +49,7 @@ reaches_within lib zero script s = false
 reaches_within lib (suc n) script s = list_any (λ t. holds_if_there (lib.find t) (λ x. same_script t s || reaches_within lib n x s)) (included_names script)
 
 -- Whether a script reaches another. There are sixty-four scripts at most, so that more includes lead no further.
-abbrev pub reaches : Library → Commands → ScriptName → Bool
+unfoldable pub reaches : Library → Commands → ScriptName → Bool
 reaches lib script s = reaches_within lib 64 script s
 
 -- PROCEDURES
@@ -112,7 +112,8 @@ own_weight script = weight (λ i. 0) script + 1
 
 -- of the code of all procedures, each of which stands once
 abbrev pub shared_weight : List Procedure → ℕ
-shared_weight ps = sum_by (λ p. own_weight p.script) ps
+shared_weight [] = 0
+shared_weight (p ∷ ps) = own_weight p.script + shared_weight ps
 
 -- What an include adds to a path: the weight of its script, taken with that script active, and 1 for its end, where it is there,
 -- is not active and so many further scripts may be active.

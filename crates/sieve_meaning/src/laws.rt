@@ -3,6 +3,7 @@
 ghost use Rattle.std.specs.Prelude.{ℕ, List, IsTrue, ◌↔◌};
 ghost use Rattle.sieve_meaning.specs.Matching.{equals, IsEqualUnder, contains, Contains, covers, Matches};
 ghost use Rattle.sieve_meaning.specs.Parts.{PartLaw};
+ghost use Rattle.sieve_meaning.specs.Sharing.{SharingLaw};
 ghost use Rattle.sieve_meaning.specs.declared.matching.Comparator.{Comparator};
 ghost use Rattle.sieve_meaning.specs.declared.matching.Item.{Item};
 
@@ -24,4 +25,9 @@ pub fn pattern_is_decided()
 /// What `branches::part_in` says of a command is how the program has it: begun, gone on with, ended or passed over.
 pub fn parts_are_read()
     ensures { PartLaw }
+{}
+
+/// Scripts that includes share run alike in every case, and weigh the same on every path.
+pub fn shared_scripts_are_alike()
+    ensures { SharingLaw }
 {}

@@ -13,6 +13,7 @@
 //! - `Scripts`: what the code's names of scripts and includes stand for;
 //! - `Weight`: how large the code of a script may be;
 //! - `Procedures`: how included scripts can share their code, and what that weighs;
+//! - `Sharing`: what it is for;
 //! - `TooHeavy`: which scripts are too heavy to be run, and the budgets of all others.
 //!
 //! `laws` has what is proved of these definitions.
@@ -27,7 +28,10 @@ pub mod reading;
 mod scripts;
 mod words;
 
-pub use laws::{contains_is_decided, equality_is_decided, parts_are_read, pattern_is_decided};
+pub use laws::{
+    contains_is_decided, equality_is_decided, parts_are_read, pattern_is_decided,
+    shared_scripts_are_alike,
+};
 pub use matching::{Comparator, Item, MatchType};
 pub use outcome::{captured_classes, default_class_alone};
 pub use paths::Paths;
