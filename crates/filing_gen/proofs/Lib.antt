@@ -12,6 +12,8 @@ mod Turns
 mod Chains
 mod WeightLemmas
 mod Includes
+pub mod CallLemmas
+pub mod ProcedureSizes
 mod IncludesTypes
 mod SlotLemmas
 mod Rows

@@ -4,4 +4,5 @@ pub mod PartLaws
 mod PathLemmas
 mod ProcedureRows
 pub mod SharingLemmas
+pub mod ProcedureLemmas
 mod Rows

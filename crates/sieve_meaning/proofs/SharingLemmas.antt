@@ -44,12 +44,12 @@ abbrev pub IsIn : Include → List Include → Type 0
 IsIn i [] = ⊥
 IsIn i (j ∷ js) = (i ≡ j) ⊎ IsIn i js
 
-in_front : (i : Include) (is js : List Include) → IsIn i is → IsIn i (is ++ js)
+pub in_front : (i : Include) (is js : List Include) → IsIn i is → IsIn i (is ++ js)
 in_front i [] js h = absurd h
 in_front i (j ∷ is) js (inl e) = inl e
 in_front i (j ∷ is) js (inr h) = inr (in_front i is js h)
 
-in_rest : (i : Include) (is js : List Include) → IsIn i js → IsIn i (is ++ js)
+pub in_rest : (i : Include) (is js : List Include) → IsIn i js → IsIn i (is ++ js)
 in_rest i [] js h = h
 in_rest i (j ∷ is) js h = inr (in_rest i is js h)
 
@@ -133,11 +133,11 @@ or_rest : (a b : Bool) → a ≡ false → (a || b) ≡ true → b ≡ true
 or_rest true b n e = absurd (cc n)
 or_rest false b n e = e
 
-or_else : (a b d : Bool) → (a || b) ≡ true → (a ≡ false → b ≡ true → d ≡ true) → (a || d) ≡ true
+pub or_else : (a b d : Bool) → (a || b) ≡ true → (a ≡ false → b ≡ true → d ≡ true) → (a || d) ≡ true
 or_else true b d e h = refl
 or_else false b d e h = h refl e
 
-not_false : (b : Bool) → not b ≡ false → b ≡ true
+pub not_false : (b : Bool) → not b ≡ false → b ≡ true
 not_false true e = refl
 not_false false e = absurd (cc e)
 
@@ -148,7 +148,7 @@ same_tests false false h k = refl
 
 -- REACHING
 
-kept_step : {A : Type 0} (p : A → Bool) (x : A) (xs ys : List A) (b : Bool) → (b ≡ false → p x ≡ false) → (list_any p xs ≡ true → list_any p ys ≡ true) → (p x || list_any p xs) ≡ true → list_any p (cond b (x ∷ ys) ys) ≡ true
+pub kept_step : {A : Type 0} (p : A → Bool) (x : A) (xs ys : List A) (b : Bool) → (b ≡ false → p x ≡ false) → (list_any p xs ≡ true → list_any p ys ≡ true) → (p x || list_any p xs) ≡ true → list_any p (cond b (x ∷ ys) ys) ≡ true
 kept_step p x xs ys true h rest e = or_else (p x) (list_any p xs) (list_any p ys) e (λ n some. rest some)
 kept_step p x xs ys false h rest e = rest (or_rest (p x) (list_any p xs) (h refl) e)
 
@@ -173,23 +173,43 @@ any_name p i (j ∷ is) (inr there) h = or_right (p (script_named j)) (list_any 
 abbrev pub SameFor : Library → ℕ → Commands → (a b : List ScriptName) → Type 0
 SameFor lib n script a b = (s : ScriptName) → reaches_within lib n script s ≡ true → is_among a s ≡ is_among b s
 
+any_more : {A : Type 0} (p q : A → Bool) (xs : List A) → ((x : A) → p x ≡ true → q x ≡ true) → list_any p xs ≡ true → list_any q xs ≡ true
+any_more p q [] h e = e
+any_more p q (x ∷ xs) h e = elim (or_cases (p x) (list_any p xs) e) [
+  | inl here ↦ or_left (q x) (list_any q xs) (h x here)
+  | inr later ↦ or_right (q x) (list_any q xs) (any_more p q xs h later)
+]
+
+there_more : (o : Option Commands) (p q : Commands → Bool) → ((x : Commands) → p x ≡ true → q x ≡ true) → holds_if_there o p ≡ true → holds_if_there o q ≡ true
+there_more None p q h e = e
+there_more (Some x) p q h e = h x e
+
 module _ (lib : Library) where
+  -- what is reached is reached over more includes too
+  pub reaches_more : (n m : ℕ) → n ≤ m → (x : Commands) (s : ScriptName) → reaches_within lib n x s ≡ true → reaches_within lib m x s ≡ true
+  reaches_more zero m le x s e = absurd (cc e)
+  reaches_more (suc n) zero le x s e = absurd (omega (arith, le))
+  reaches_more (suc n) (suc m) le x s e =
+      any_more (λ t. holds_if_there (lib.find t) (λ y. same_script t s || reaches_within lib n y s)) (λ t. holds_if_there (lib.find t) (λ y. same_script t s || reaches_within lib m y s)) (included_names x)
+      (λ t h. there_more (lib.find t) (λ y. same_script t s || reaches_within lib n y s) (λ y. same_script t s || reaches_within lib m y s)
+      (λ y k. or_else (same_script t s) (reaches_within lib n y s) (reaches_within lib m y s) k (λ other r. reaches_more n m (omega (arith, le)) y s r)) h) e
+
   reaches_named : (m : ℕ) (x y : Commands) (i : Include) → IsIn i (includes_of x) → lib.find (script_named i) ≡ Some y → (t : ScriptName) → (same_script (script_named i) t || reaches_within lib m y t) ≡ true → reaches_within lib (suc m) x t ≡ true
   reaches_named m x y i is there t h =
       let test : ScriptName → Bool = λ u. holds_if_there (lib.find u) (λ z. same_script u t || reaches_within lib m z t) in
       once_any same_script test (map script_named (includes_of x)) (λ u v e n. subst (λ (w : ScriptName). test w ≡ false) (same_is u v e) n)
       (any_name test i (includes_of x) is (ap (λ (o : Option Commands). holds_if_there o (λ z. same_script (script_named i) t || reaches_within lib m z t)) there ∙ h))
 
-  at_include : (m : ℕ) (x y : Commands) (i : Include) (a b : List ScriptName) → IsIn i (includes_of x) → lib.find (script_named i) ≡ Some y → SameFor lib (suc m) x a b → is_among a (script_named i) ≡ is_among b (script_named i)
+  pub at_include : (m : ℕ) (x y : Commands) (i : Include) (a b : List ScriptName) → IsIn i (includes_of x) → lib.find (script_named i) ≡ Some y → SameFor lib (suc m) x a b → is_among a (script_named i) ≡ is_among b (script_named i)
   at_include m x y i a b is there same =
       same (script_named i) (reaches_named m x y i is there (script_named i) (or_left (same_script (script_named i) (script_named i)) (reaches_within lib m y (script_named i)) (same_self (script_named i))))
 
-  behind_include : (m : ℕ) (x y : Commands) (i : Include) (a b : List ScriptName) → IsIn i (includes_of x) → lib.find (script_named i) ≡ Some y → SameFor lib (suc m) x a b → SameFor lib m y (script_named i ∷ a) (script_named i ∷ b)
+  pub behind_include : (m : ℕ) (x y : Commands) (i : Include) (a b : List ScriptName) → IsIn i (includes_of x) → lib.find (script_named i) ≡ Some y → SameFor lib (suc m) x a b → SameFor lib m y (script_named i ∷ a) (script_named i ∷ b)
   behind_include m x y i a b is there same t reached =
       ap (λ (t' : Bool). same_script t (script_named i) || t') (same t (reaches_named m x y i is there t (or_right (same_script (script_named i) t) (reaches_within lib m y t) reached)))
 
   -- what of these chains the script reaches is the same
-  among_those : (x : Commands) (these others : List ScriptName) (s : ScriptName) → are_among lib x these others ≡ true → reaches lib x s ≡ true → is_among these s ≡ true → is_among others s ≡ true
+  pub among_those : (x : Commands) (these others : List ScriptName) (s : ScriptName) → are_among lib x these others ≡ true → reaches lib x s ≡ true → is_among these s ≡ true → is_among others s ≡ true
   among_those x [] others s h r e = absurd (cc e)
   among_those x (u ∷ us) others s h r e =
       let parts = and_parts (not (reaches lib x u) || is_among others u) (are_among lib x us others) h in
@@ -254,13 +274,17 @@ module _ (lib : Library) where
 
 -- PROCEDURES
 
+-- what the test says
+pub shared_tests : (lib : Library) (p q : Procedure) → is_shared lib p q ≡ true → (same_first p.chain q.chain ≡ true) × (nat_eq p.left q.left ≡ true) × (are_among lib p.script p.chain q.chain ≡ true) × (are_among lib p.script q.chain p.chain ≡ true)
+shared_tests lib p q shared =
+    let last = and_parts (same_first p.chain q.chain && nat_eq p.left q.left && are_among lib p.script p.chain q.chain) (are_among lib p.script q.chain p.chain) shared in
+    let third = and_parts (same_first p.chain q.chain && nat_eq p.left q.left) (are_among lib p.script p.chain q.chain) last.0 in
+    let first = and_parts (same_first p.chain q.chain) (nat_eq p.left q.left) third.0 in
+    (first.0, first.1, third.1, last.1)
+
 module _ (lib : Library) (p q : Procedure) (same : p.script ≡ q.script) (few : p.left ≤ 7) (shared : is_shared lib p q ≡ true) where
   tests : (same_first p.chain q.chain ≡ true) × (nat_eq p.left q.left ≡ true) × (are_among lib p.script p.chain q.chain ≡ true) × (are_among lib p.script q.chain p.chain ≡ true)
-  tests =
-      let last = and_parts (same_first p.chain q.chain && nat_eq p.left q.left && are_among lib p.script p.chain q.chain) (are_among lib p.script q.chain p.chain) shared in
-      let third = and_parts (same_first p.chain q.chain && nat_eq p.left q.left) (are_among lib p.script p.chain q.chain) last.0 in
-      let first = and_parts (same_first p.chain q.chain) (nat_eq p.left q.left) third.0 in
-      (first.0, first.1, third.1, last.1)
+  tests = shared_tests lib p q shared
 
   as_many : p.left ≡ q.left
   as_many = eqb-true p.left q.left tests.1
