@@ -52,7 +52,7 @@ chain_alike : (lib : Library) (slot : Slots) (main a b : List ScriptName) (enter
     → including_flow lib slot main a enter i ≡ including_flow lib slot main b enter i
 chain_alike lib slot main a b enter i h = found_alike (lib.find (script_named i)) (is_passed main i) (is_among a (script_named i)) (is_among b (script_named i)) (λ active script. active_flow active i.once (once_flow i.once (slot (script_named i)) (enter script))) h
 
-entered_there : (lib : Library) (left : ℕ) (chain : List ScriptName) (s : ScriptName) (x : Commands) → lib.find s ≡ Some x → is_among chain s ≡ false → entered lib left chain s ≡ Some (record { script = x; left = left; chain = s ∷ chain })
+pub entered_there : (lib : Library) (left : ℕ) (chain : List ScriptName) (s : ScriptName) (x : Commands) → lib.find s ≡ Some x → is_among chain s ≡ false → entered lib left chain s ≡ Some (record { script = x; left = left; chain = s ∷ chain })
 entered_there lib left chain s x at out = ap (λ (o : Option Commands). entered_if o (is_among chain s) left (s ∷ chain)) at ∙ ap (λ (b : Bool). entered_if (Some x) b left (s ∷ chain)) out
 
 module _ (c : Facts) (lib : Library) (slot : Slots) (count : ℕ) (has : HasSlots lib slot count) (main : List ScriptName) where

@@ -13,7 +13,9 @@ mod Chains
 mod WeightLemmas
 mod Includes
 pub mod CallLemmas
+pub mod PathLemmas
 pub mod ProcedureSizes
+mod ProcedureRows
 mod IncludesTypes
 mod SlotLemmas
 mod Rows

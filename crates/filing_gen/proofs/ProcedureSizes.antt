@@ -37,7 +37,7 @@ module _ (lib : Library) (slot : Slots) (main : List ScriptName) (call : Calls) 
 -- how many operations the code of all procedures takes, with the end of each
 abbrev pub whole_size : List Flow → ℕ
 whole_size [] = 0
-whole_size (a ∷ as) = size a + 1 + whole_size as
+whole_size (a ∷ rest) = size a + 1 + whole_size rest
 
 module _ (lib : Library) (slot : Slots) (main : List ScriptName) (call : Calls) (single : AreSingle call) where
   pub procedures_small : (ps : List Procedure) → whole_size (procedure_flows lib slot main call ps) ≤ shared_weight ps

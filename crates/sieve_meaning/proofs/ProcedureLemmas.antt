@@ -1,5 +1,5 @@
 -- Each include of a procedure that enters a script has its procedure among those behind.
-use Rattle.std.proofs.Common.{◌≡◌, ◌⊎◌, ℕ, zero, suc, List, [], ◌∷◌, ◌++◌, map, filter, flat_map, filter_map, Bool, true, false, not, ◌&&◌, ◌||◌, cond, Option, Some, None, inl, inr, refl, sym, ap, ◌∙◌, subst, arith}
+use Rattle.std.proofs.Common.{◌≡◌, ◌≤◌, ◌⊎◌, ℕ, zero, suc, List, [], ◌∷◌, ◌++◌, map, filter, flat_map, filter_map, Bool, true, false, not, ◌&&◌, ◌||◌, cond, Option, Some, None, inl, inr, refl, sym, ap, ◌∙◌, subst, arith}
 use Rattle.std.specs.Prelude.{nat_eq}
 use Rattle.std.specs.List.{list_any, cons_option}
 use Rattle.std.proofs.lemmas.Bool.{and_from, or_right, or_left, eq-eqb, eqb-true, false_from_ne_true}
@@ -18,7 +18,7 @@ abbrev pub AllOf : {A : Type 0} → (A → Type 0) → List A → Type 0
 AllOf P [] = Unit {0}
 AllOf P (x ∷ xs) = P x × AllOf P xs
 
-all_element : {A : Type 0} (P : A → Type 0) (x : A) (xs : List A) → AllOf P xs → IsElement x xs → P x
+pub all_element : {A : Type 0} (P : A → Type 0) (x : A) (xs : List A) → AllOf P xs → IsElement x xs → P x
 all_element P x [] h there = absurd there
 all_element P x (y ∷ ys) h (inl e) = subst P (sym e) h.0
 all_element P x (y ∷ ys) h (inr there) = all_element P x ys h.1 there
@@ -143,7 +143,7 @@ pub record IsEntered (lib : Library) (left : ℕ) (p : Procedure) : Type 0 where
   pub there : lib.find name ≡ Some p.script
   pub left_is : p.left ≡ left
 
-some_is : {A : Type 0} (x y : A) → Some x ≡ Some y → x ≡ y
+pub some_is : {A : Type 0} (x y : A) → Some x ≡ Some y → x ≡ y
 some_is x y e = cc e
 
 suc_is : (m n : ℕ) → suc m ≡ suc n → m ≡ n
@@ -269,6 +269,30 @@ module _ (lib : Library) where
   led_finds (suc left) ps h =
       level_finds ps (led_to lib left (called_by lib left ps)) (each_finds left ps ps (λ p there. there) h) (led_finds left (called_by lib left ps) (called_left left ps))
 
+  -- an include entered it
+  abbrev pub IsSomeEntered : Procedure → Type 0
+  IsSomeEntered q = (left : ℕ) × (left ≤ 7) × IsEntered lib left q
+
+  pub led_entered : (left : ℕ) (ps : List Procedure) → left ≤ 7 → AllOf (IsEntered lib left) ps → AllOf IsSomeEntered (led_to lib left ps)
+  led_entered zero ps few h = all_mapped (IsEntered lib zero) IsSomeEntered ps (λ q k. (zero, few, k)) h
+  led_entered (suc left) ps few h =
+      all_append IsSomeEntered ps (led_to lib left (called_by lib left ps)) (all_mapped (IsEntered lib (suc left)) IsSomeEntered ps (λ q k. (suc left, few, k)) h)
+      (led_entered left (called_by lib left ps) (omega (arith, few)) (all_once (is_shared lib) (IsEntered lib left) (all_entered left ps) (are_entered left ps)))
+
   pub all_find : (known_as : Option (List ℕ)) (main : Commands) → AllFind (procedures lib known_as main)
   unfolding procedures
   all_find known_as main = led_finds 7 (main_procedure known_as main ∷ []) (refl, tt)
+
+  -- those behind the main script
+  pub behind_main : (known_as : Option (List ℕ)) (main : Commands) → List Procedure
+  behind_main known_as main = led_to lib 6 (called_by lib 6 (main_procedure known_as main ∷ []))
+
+  pub procedures_are : (known_as : Option (List ℕ)) (main : Commands) → procedures lib known_as main ≡ main_procedure known_as main ∷ behind_main known_as main
+  unfolding procedures behind_main
+  procedures_are known_as main = refl
+
+  pub behind_entered : (known_as : Option (List ℕ)) (main : Commands) → AllOf IsSomeEntered (behind_main known_as main)
+  unfolding behind_main
+  behind_entered known_as main =
+      let first = main_procedure known_as main ∷ [] in
+      led_entered 6 (called_by lib 6 first) (omega arith) (all_once (is_shared lib) (IsEntered lib 6) (all_entered 6 first) (are_entered 6 first))
