@@ -52,7 +52,7 @@ shaped_back σ pc (k ∷ a) b h = let e : pc + 1 + length a ≡ pc + length (k �
 
 module _ (p : Program) (σ : ℕ → Shape) where
   -- an operation that goes on only
-  steady : (pc : ℕ) (o : Operation) (k r : Shape) → σ pc ≡ k → σ (pc + 1) ≡ r → target o ≡ None → shapes.after o k ≡ Some r → length k ≤ 32 → length r ≤ 32 → FineAt p σ pc o
+  steady : (pc : ℕ) (o : Operation) (k r : Shape) → σ pc ≡ k → σ (pc + 1) ≡ r → target p o ≡ None → shapes.after o k ≡ Some r → length k ≤ 32 → length r ≤ 32 → FineAt p σ pc o
   steady pc o k r here next none e dk dr = record {
     result = r;
     finds = ap (shapes.after o) here ∙ e;

@@ -91,6 +91,7 @@ module _ (lib : Library) (slot : Slots) (count : ℕ) (has : HasSlots lib slot c
   code_of o p a b is made =
       let named : Named (operands_of o) (places_in p.texts p.numbers) = record { text = made.text; number = made.number } in
       record {
+        one_piece = made.one_piece;
         stands = stands_there (operands_of o) (places_in p.texts p.numbers) named o.code.items p.code 0 (λ i x low at. subst (λ (l : List Operation). slice_get l i ≡ Some x) (sym made.code) at) (whole a) [] 0 (omega arith) is.stands;
         long = ap length made.code ∙ is.long;
       }

@@ -65,7 +65,7 @@ fn image_of(budget: u32, slots: u16, mut out: Output) -> Result<Image, GenFault>
     let texts = out.texts.into_texts()?;
     let numbers = out.numbers.into_numbers()?;
     out.code.shrink_to_fit();
-    match Image::from_code(budget, texts, numbers, slots, out.code) {
+    match Image::from_code(budget, texts, numbers, slots, None, out.code) {
         Ok(image) => Ok(image),
         Err(_) => Err(GenFault::NoMemory),
     }

@@ -4,7 +4,7 @@ ghost use Rattle.std.specs.Prelude.{◌≡◌, ◌≢◌, IfSome, IfNone};
 ghost use Rattle.filing_image.specs.Program.{instruction_of};
 ghost use Rattle.filing_image.specs.Spelling.{FitsInstruction};
 
-/// An instruction as it is written in four octets: the operation's number, 1 to 21, and two operands, each 0 where the
+/// An instruction as it is written in four octets: the operation's number, 1 to 23, and two operands, each 0 where the
 /// operation has none.
 #[derive(Clone, Copy, Debug, PartialEq, Eq)]
 pub struct Instruction {
@@ -61,10 +61,15 @@ pub enum Operation {
     Stop,
     /// 21: ends the run with a fault, 2 to 5.
     Fault(u8),
+    /// 22, in version 2 alone: enters a procedure, on an empty stack.
+    Call(u16),
+    /// 23, in version 2 alone: goes on after the last call that was not returned from yet, on an empty stack, and ends
+    /// the run where there is none.
+    Return,
 }
 
 impl Operation {
-    /// The operation that an instruction writes, or none where its number is none of 1 to 21, or an operand that the
+    /// The operation that an instruction writes, or none where its number is none of 1 to 23, or an operand that the
     /// operation does not have is not 0.
     pub fn of(instruction: Instruction) -> Option<Operation>
         ensures found { IfSome result (λ o. instruction_of o ≡ instruction) }
@@ -94,6 +99,8 @@ impl Operation {
             (19, 0, 0) => Operation::Discard,
             (20, 0, 0) => Operation::Stop,
             (21, a, 0) => Operation::Fault(a),
+            (22, 0, b) => Operation::Call(b),
+            (23, 0, 0) => Operation::Return,
             _ => return None,
         };
         Some(found)
@@ -125,6 +132,8 @@ impl Operation {
             Operation::Discard => (19, 0, 0),
             Operation::Stop => (20, 0, 0),
             Operation::Fault(a) => (21, a, 0),
+            Operation::Call(b) => (22, 0, b),
+            Operation::Return => (23, 0, 0),
         };
         Instruction { op, a, b }
     }

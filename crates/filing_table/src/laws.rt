@@ -1,13 +1,21 @@
 //! Laws of the definitions, each on a function with nothing to do.
 
-ghost use Rattle.std.specs.Prelude.{ℕ, ◌≡◌};
-ghost use Rattle.filing_image.specs.Program.{Program};
+ghost use Rattle.std.specs.Prelude.{ℕ, ◌≡◌, ◌↔◌, None};
+ghost use Rattle.filing_image.specs.Program.{Program, parts};
+ghost use Rattle.filing_image.specs.Spelling.{IsOfVersion};
 ghost use Rattle.sieve_meaning.specs.Case.{Facts};
 ghost use Rattle.sieve_meaning.specs.Outcome.{Outcome};
 ghost use Rattle.filing_table.specs.Ends.{HasOutcome};
+ghost use Rattle.filing_table.specs.VersionOne as one;
 
 /// A run that ends, ends with one step and with one outcome.
 pub fn a_run_ends_once()
     ensures steps { (p : Program) (c : Facts) (m n : ℕ) (a b : Outcome) → HasOutcome p c m a → HasOutcome p c n b → m ≡ n }
     ensures outcome { (p : Program) (c : Facts) (m n : ℕ) (a b : Outcome) → HasOutcome p c m a → HasOutcome p c n b → a ≡ b }
+{}
+
+/// The run of a program of version 1 ends exactly as it did before there were procedures: with the same outcome and after
+/// the same number of steps, in each case.
+pub fn version_one_runs_as_before()
+    ensures { (p : Program) (c : Facts) (n : ℕ) (o : Outcome) → p.procedures ≡ None → IsOfVersion (parts p) → (HasOutcome p c n o ↔ one.HasOutcome p c n o) }
 {}

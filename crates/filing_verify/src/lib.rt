@@ -7,12 +7,15 @@
 #![tactic(auto)]
 
 mod cost;
+mod cost_with_calls;
 mod effect;
 mod fault;
 mod flow;
 mod inside;
 mod judge;
 mod kind;
+mod laws;
+mod range;
 mod reach;
 mod shape;
 mod shaping;
@@ -20,3 +23,4 @@ mod shaping;
 pub use fault::VerifyFault;
 pub use judge::{Verified, verify};
 pub use kind::Kind;
+pub use laws::version_one_is_kept;
