@@ -65,3 +65,7 @@ path_weights lib (p ∷ behind) = (weight (called_path lib behind (path_weights 
 abbrev pub first_places : (place : ℕ) → List Flow → List ℕ
 first_places place [] = []
 first_places place (a ∷ rest) = place ∷ first_places (place + size a + 1) rest
+
+-- an include that weighs nothing
+abbrev pub no_weight : Include → ℕ
+no_weight i = 0

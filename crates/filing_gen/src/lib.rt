@@ -13,6 +13,7 @@
 //! none. `program` makes the image and has it verified.
 #![tactic(auto)]
 
+mod calls;
 mod chain;
 mod emit_commands;
 mod emit_tests;
@@ -20,11 +21,16 @@ mod ends;
 mod fault;
 mod field_names;
 mod finding;
+mod included;
 mod levels;
 mod linker;
 mod number_pool;
 mod output;
+mod procedures;
 mod program;
+mod reach;
+mod shared;
+mod slot_set;
 mod slots;
 mod text_pool;
 mod weight;

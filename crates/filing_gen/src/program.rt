@@ -24,6 +24,7 @@ use crate::finding::Scope;
 use crate::levels::{Above, Deepest, Includes};
 use crate::linker::Linker;
 use crate::output::{Output, put};
+use crate::shared::build_shared;
 use crate::slots::slot_count;
 use crate::weight::script_weight;
 use filing_image::{Image, Operation};
@@ -35,7 +36,7 @@ use std::alloc::{AllocError, Global};
 use std::marker::PhantomData;
 
 /// The greatest weight of a script that is run.
-const GREATEST_WEIGHT: u32 = 60_000;
+pub const GREATEST_WEIGHT: u32 = 60_000;
 
 /// A script, and the end of the run behind it, to which a `return` of the script goes. Room is taken at once for so many
 /// operations.
@@ -57,7 +58,12 @@ fn emit_program<L: Linker>(
 }
 
 /// The image of what was written, with so many slots. It has a form unless a string is too long for it.
-fn image_of(budget: u32, slots: u16, mut out: Output) -> Result<Image, GenFault>
+pub fn image_of(
+    budget: u32,
+    slots: u16,
+    mut out: Output,
+    first_places: Option<Vec<u16>>,
+) -> Result<Image, GenFault>
     ensures made { IfOk result (λ i. IsImageOf budget slots out i) }
     ensures once { IfOk result (λ i. NamesOnce i) }
     ensures refused { IfErr result (λ f. f ≡ NoMemory) }
@@ -65,7 +71,7 @@ fn image_of(budget: u32, slots: u16, mut out: Output) -> Result<Image, GenFault>
     let texts = out.texts.into_texts()?;
     let numbers = out.numbers.into_numbers()?;
     out.code.shrink_to_fit();
-    match Image::from_code(budget, texts, numbers, slots, None, out.code) {
+    match Image::from_code(budget, texts, numbers, slots, first_places, out.code) {
         Ok(image) => Ok(image),
         Err(_) => Err(GenFault::NoMemory),
     }
@@ -94,7 +100,7 @@ fn build(
     };
     let slots = slot_count(scope.shelves);
     let out = emit_program(alloc, &includes, &script.commands, weight)?;
-    let image = image_of(weight, slots, out)?;
+    let image = image_of(weight, slots, out, None)?;
     Ok(Verified::known(image))
 }
 
@@ -150,7 +156,7 @@ pub fn compile_with(
         main: MainScript { known_as },
     };
     match weigh(script, scope) {
-        None => Err(GenFault::TooLarge),
+        None => build_shared(alloc, script, scope),
         Some(weight) => build(alloc, script, scope, weight),
     }
 }
