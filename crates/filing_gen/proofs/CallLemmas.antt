@@ -83,9 +83,9 @@ module _ (c : Facts) (lib : Library) (slot : Slots) (count : ℕ) (has : HasSlot
         let inner : SameFor lib (suc left) x (s ∷ p.chain) (s ∷ chain) = behind_include lib (suc left) p.script x i p.chain chain there at own in
         let shares : SameFor lib 64 q.script q.chain (s ∷ p.chain) = same_reached lib q.script q.chain (s ∷ p.chain) t.2 t.3 in
         let both : SameFor lib (suc left) x q.chain (s ∷ chain) =
-            λ u reached. shares u (subst (λ (y : Commands). reaches_within lib 64 y u ≡ true) (sym script) (reaches_more lib (suc left) 64 (omega (arith, few, is)) x u reached)) ∙ inner u reached in
+        λ u reached. shares u (subst (λ (y : Commands). reaches_within lib 64 y u ≡ true) (sym script) (reaches_more lib (suc left) 64 (omega (arith, few, is)) x u reached)) ∙ inner u reached in
         let agree : SameFor lib (suc q.left) q.script q.chain (s ∷ chain) =
-            subst (λ (m : ℕ). SameFor lib (suc m) q.script q.chain (s ∷ chain)) (sym lefts) (subst (λ (y : Commands). SameFor lib (suc left) y q.chain (s ∷ chain)) (sym script) both) in
+        subst (λ (m : ℕ). SameFor lib (suc m) q.script q.chain (s ∷ chain)) (sym lefts) (subst (λ (y : Commands). SameFor lib (suc left) y q.chain (s ∷ chain)) (sym script) both) in
         let here = known.0 (s ∷ chain) agree (λ u h. or_right (same_script u s) (is_among chain u) (within u h)) n f g r in
         let Does : ℕ → Commands → Option ℕ → Type 0 = λ m y o. Alike (Marked lib slot main (s ∷ chain)) n (ended (run c (included c lib m (s ∷ chain)) y f)) (effect c (call_flow call o) g []) in
         subst (λ (o : Option ℕ). Does left x o) (sym found.number_is) (subst (λ (y : Commands). Does left y (Some found.number)) script (subst (λ (m : ℕ). Does m q.script (Some found.number)) lefts here))
