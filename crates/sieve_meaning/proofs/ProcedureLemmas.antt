@@ -257,12 +257,13 @@ module _ (lib : Library) where
 
   each_finds : (left : ℕ) (all ps : List Procedure) → ((p : Procedure) → IsElement p ps → IsElement p all) → AllOf (λ p. p.left ≡ suc left) ps → AllOf (λ p. FindsCalls p (led_to lib left (called_by lib left all))) ps
   each_finds left all [] inside h = tt
-  each_finds left all (p ∷ ps) inside h =
-      (λ n is s e named at.
-      let same : n ≡ left = suc_is n left (sym is ∙ h.0) in
-      let here : entered lib left p.chain s ≡ Some e = subst (λ (k : ℕ). entered lib k p.chain s ≡ Some e) same at in
-      led_any (λ q. is_shared lib q e) left (called_by lib left all) (called_found left all p (inside p (inl refl)) s e named here),
-      each_finds left all ps (λ q there. inside q (inr there)) h.1)
+  each_finds left all (p ∷ ps) inside h = (
+    λ n is s e named at.
+        let same : n ≡ left = suc_is n left (sym is ∙ h.0) in
+        let here : entered lib left p.chain s ≡ Some e = subst (λ (k : ℕ). entered lib k p.chain s ≡ Some e) same at in
+        led_any (λ q. is_shared lib q e) left (called_by lib left all) (called_found left all p (inside p (inl refl)) s e named here),
+    each_finds left all ps (λ q there. inside q (inr there)) h.1,
+  )
 
   pub led_finds : (left : ℕ) (ps : List Procedure) → AllOf (λ p. p.left ≡ left) ps → AllFind (led_to lib left ps)
   led_finds zero ps h = none_find ps h
