@@ -1,6 +1,6 @@
 -- Reaching over sixty-four includes is reaching, where at most sixty-four scripts are there: a walk that comes to a script twice has
 -- a loop that can be left out.
-use Rattle.std.proofs.Common.{◌≡◌, ◌⊎◌, ◌↔◌, ◌≤◌, ℕ, zero, suc, List, [], ◌∷◌, length, map, filter, Bool, true, false, not, ◌||◌, cond, Option, Some, None, inl, inr, refl, sym, ap, ◌∙◌, subst, arith}
+use Rattle.std.proofs.Common.{◌≡◌, ◌≤◌, ℕ, zero, suc, List, [], ◌∷◌, length, map, filter, Bool, true, false, not, ◌||◌, cond, Option, Some, None, inl, inr, refl, sym, ap, ◌∙◌, subst, arith}
 use Rattle.std.specs.List.{list_any}
 use Rattle.std.proofs.lemmas.Bool.{or_right, or_left, or_cases, false_from_ne_true}
 use Rattle.sieve_meaning.specs.Program.{Include, Commands}

@@ -1,16 +1,16 @@
 -- Includes that share a procedure run alike, and weigh the same on every path.
 use Rattle.std.proofs.Common.{◌≡◌, ◌⊎◌, ℕ, zero, suc, ◌+◌, ◌≤◌, List, [], ◌∷◌, ◌++◌, map, filter, Bool, true, false, not, ◌&&◌, ◌||◌, cond, Option, Some, None, inl, inr, refl, sym, ap, ◌∙◌, subst, arith}
 use Rattle.std.specs.Str.{bytes_eq}
-use Rattle.std.specs.List.{list_any, list_all}
+use Rattle.std.specs.List.{list_any}
 use Rattle.std.proofs.lemmas.Slice.Eq.{bytes_eq-Decides}
 use Rattle.std.specs.Prelude.{nat_eq}
 use Rattle.std.proofs.lemmas.Bool.{and_parts, and_from, or_right, or_left, or_cases, eqb-true}
 use Rattle.sieve_meaning.specs.Case.{Facts}
 use Rattle.sieve_meaning.specs.Truth.{truth}
-use Rattle.sieve_meaning.specs.Program.{Test, Include, Command, require, keep, discard, stop, return, file_into, branch, include, Commands, no_command, command_then, Branches, no_branch, otherwise, if_then}
+use Rattle.sieve_meaning.specs.Program.{Include, Command, require, keep, discard, stop, return, file_into, branch, include, Commands, no_command, command_then, Branches, no_branch, otherwise, if_then}
 use Rattle.sieve_meaning.specs.Meaning.{ScriptName, script_named, same_bool, same_script, is_among, Library, Filing, Ending, GoesOn, Returns, Stops, Faults, Included, and_then, run, run_one, run_branches, included, including, ended, entering, unless_entered, unless_missing, unless_active}
 use Rattle.sieve_meaning.specs.Weight as weights
-use Rattle.sieve_meaning.specs.Weight.{test_weight, weight, weight_one, branches_weight}
+use Rattle.sieve_meaning.specs.Weight.{weight, weight_one, branches_weight}
 use Rattle.sieve_meaning.specs.Procedures.{includes_of, includes_in, branch_includes, once, included_names, holds_if_there, reaches_within, reaches, Procedure, same_first, are_among, is_shared, included_path}
 use Rattle.sieve_meaning.specs.Sharing.{SharingLaw}
 
