@@ -1,20 +1,20 @@
 -- The code of a procedure does what its script means, behind any active scripts that agree with the procedure's own on what the
 -- script reaches.
-use Rattle.std.proofs.Common.{◌≡◌, ◌≤◌, ℕ, zero, suc, List, [], ◌∷◌, Bool, true, false, ◌||◌, cond, Option, Some, None, refl, sym, ap, ◌∙◌, subst, arith}
-use Rattle.std.specs.Prelude.{option_map, slice_get}
+use Rattle.std.proofs.Common.{◌≡◌, ◌≤◌, ℕ, zero, suc, List, [], ◌∷◌, Bool, true, false, ◌||◌, Option, Some, None, refl, sym, ap, ◌∙◌, subst, arith}
+use Rattle.std.specs.Prelude.{slice_get}
 use Rattle.std.specs.List.{list_any}
 use Rattle.std.proofs.lemmas.Bool.{or_right, eqb-true}
 use Rattle.sieve_meaning.specs.Case.{Facts}
 use Rattle.sieve_meaning.specs.Program.{Include, Commands}
-use Rattle.sieve_meaning.specs.Meaning.{ScriptName, script_named, same_script, is_among, Library, Filing, Ending, Faults, run, included, including, ended, entering}
+use Rattle.sieve_meaning.specs.Meaning.{ScriptName, script_named, same_script, is_among, Library, Filing, Faults, run, included, ended, entering}
 use Rattle.sieve_meaning.specs.Procedures.{includes_of, reaches_within, Procedure, is_shared, entered_if, entered}
 use Rattle.sieve_meaning.proofs.SharingLemmas.{IsIn, SameFor, at_include, behind_include, reaches_more, same_reached, shared_tests}
 use Rattle.sieve_meaning.proofs.ProcedureLemmas.{IsEntered, FindsCalls, named_once, shared_script}
-use Rattle.filing_flow.specs.Structure.{SetMark, Fail, Flow, action, sequence}
-use Rattle.filing_flow.specs.Effect.{Exit, effect}
+use Rattle.filing_flow.specs.Structure.{Fail, Flow, action}
+use Rattle.filing_flow.specs.Effect.{effect}
 use Rattle.filing_flow.specs.Effect as code
 use Rattle.std.specs.Prelude.{slice_set}
-use Rattle.filing_gen.specs.Structured.{flow, script_flow}
+use Rattle.filing_gen.specs.Structured.{script_flow}
 use Rattle.filing_gen.specs.Alike.{Related, filing_at, Alike}
 use Rattle.filing_gen.specs.Linked.{Slots, once_flow, active_flow, found_flow, including_flow, HasSlots, Marked, is_passed}
 use Rattle.filing_gen.specs.Procedures.{Calls, call_flow, number_of, call_entry, calling_flow}

@@ -15,6 +15,7 @@ mod Includes
 pub mod CallLemmas
 pub mod PathLemmas
 pub mod ProcedureSizes
+pub mod ProcedureTypes
 mod ProcedureRows
 mod IncludesTypes
 mod SlotLemmas

@@ -1,13 +1,12 @@
 -- Path weights, from the last procedure on, are those of the paths through the scripts.
 use Rattle.std.proofs.Common.{◌≡◌, ◌≤◌, ◌+◌, ℕ, zero, suc, List, [], ◌∷◌, Bool, true, false, Option, Some, None, inl, inr, refl, sym, ap, ◌∙◌, subst, arith}
 use Rattle.std.specs.Prelude.{slice_get, slice_index}
-use Rattle.std.proofs.lemmas.Bool.{eqb-true}
 use Rattle.sieve_meaning.specs.Program.{Include, Commands}
-use Rattle.sieve_meaning.specs.Meaning.{ScriptName, script_named, is_among, Library, main_names}
+use Rattle.sieve_meaning.specs.Meaning.{script_named, is_among, Library}
 use Rattle.sieve_meaning.specs.Weight.{weight, unless_missing, unless_active}
-use Rattle.sieve_meaning.specs.Procedures.{includes_of, Procedure, is_shared, main_procedure, procedures, included_path, path_weight}
-use Rattle.sieve_meaning.proofs.SharingLemmas.{IsIn, SameAt, weight_alike, shared_path, shared_tests}
-use Rattle.sieve_meaning.proofs.ProcedureLemmas.{IsEntered, some_is, IsSomeEntered, FindsCalls, AllFind, AllOf, all_element, IsElement, named_once, shared_script, all_find, behind_main, procedures_are, behind_entered}
+use Rattle.sieve_meaning.specs.Procedures.{includes_of, Procedure, main_procedure, procedures, included_path, path_weight}
+use Rattle.sieve_meaning.proofs.SharingLemmas.{IsIn, SameAt, weight_alike, shared_path}
+use Rattle.sieve_meaning.proofs.ProcedureLemmas.{some_is, IsSomeEntered, FindsCalls, AllFind, AllOf, all_element, IsElement, named_once, shared_script, all_find, behind_main, procedures_are, behind_entered}
 use Rattle.filing_gen.specs.Procedures.{number_of, path_at, called_path, path_weights}
 use Rattle.filing_gen.proofs.CallLemmas.{numbered, entered_there}
 

@@ -2,10 +2,10 @@
 use Rattle.std.proofs.Common.{◌≡◌, ℕ, zero, suc, List, [], ◌∷◌, false, Option, Some, None, codes, refl}
 use Rattle.std.specs.Prelude.{if◌then◌else◌}
 use Rattle.std.specs.Str.{bytes_eq}
-use Rattle.sieve_meaning.specs.Program.{Include, Command, Commands, no_command, command_then, require, discard, include}
-use Rattle.sieve_meaning.specs.Meaning.{Library, ScriptName}
+use Rattle.sieve_meaning.specs.Program.{Command, Commands, no_command, command_then, require, discard, include}
+use Rattle.sieve_meaning.specs.Meaning.{Library}
 use Rattle.sieve_meaning.specs.Procedures.{reaches, procedures}
-use Rattle.filing_flow.specs.Structure.{SetMark, SetCancelled, Fail, Flow, nothing, action, sequence}
+use Rattle.filing_flow.specs.Structure.{SetMark, SetCancelled, Fail, nothing, action, sequence}
 use Rattle.filing_gen.specs.Linked.{Slots}
 use Rattle.filing_gen.specs.Procedures.{Calls, shared_flows, first_places}
 use Rattle.filing_gen.proofs.ProcedureSizes.{whole_size}

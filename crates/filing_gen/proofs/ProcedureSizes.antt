@@ -1,13 +1,12 @@
 -- The code of a procedure takes at most as many operations as the procedure weighs by itself, and all code the shared weight.
-use Rattle.std.proofs.Common.{◌≡◌, ℕ, zero, suc, ◌+◌, ◌≤◌, List, [], ◌∷◌, Bool, true, false, Option, Some, None, refl, sym, arith, subst}
-use Rattle.sieve_meaning.specs.Program.{Include, Commands}
+use Rattle.std.proofs.Common.{◌≡◌, ℕ, zero, suc, ◌+◌, ◌≤◌, List, [], ◌∷◌, Option, Some, None, refl, arith}
+use Rattle.sieve_meaning.specs.Program.{Commands}
 use Rattle.sieve_meaning.specs.Meaning.{ScriptName, script_named, is_among, Library}
-use Rattle.sieve_meaning.specs.Weight.{weight, unless_missing, unless_active}
 use Rattle.sieve_meaning.specs.Procedures.{Procedure, own_weight, shared_weight}
-use Rattle.filing_flow.specs.Structure.{Flow, action, size}
+use Rattle.filing_flow.specs.Structure.{Flow, size}
 use Rattle.filing_gen.specs.Structured.{script_flow}
 use Rattle.filing_gen.specs.Linked.{Slots}
-use Rattle.filing_gen.specs.Procedures.{Calls, call_flow, number_of, call_entry, calling_flow, procedure_flows, first_places}
+use Rattle.filing_gen.specs.Procedures.{Calls, call_flow, number_of, call_entry, calling_flow, procedure_flows}
 use Rattle.filing_gen.proofs.IncludesTypes.{including_small, nothing_there}
 use Rattle.filing_gen.proofs.Types.{flow_small, IncludesSmall}
 

@@ -5,4 +5,5 @@ mod PathLemmas
 mod ProcedureRows
 pub mod SharingLemmas
 pub mod ProcedureLemmas
+pub mod ReachLemmas
 mod Rows

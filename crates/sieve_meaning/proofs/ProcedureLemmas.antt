@@ -2,7 +2,7 @@
 use Rattle.std.proofs.Common.{◌≡◌, ◌≤◌, ◌⊎◌, ℕ, zero, suc, List, [], ◌∷◌, ◌++◌, map, filter, flat_map, filter_map, Bool, true, false, not, ◌&&◌, ◌||◌, cond, Option, Some, None, inl, inr, refl, sym, ap, ◌∙◌, subst, arith}
 use Rattle.std.specs.Prelude.{nat_eq}
 use Rattle.std.specs.List.{list_any, cons_option}
-use Rattle.std.proofs.lemmas.Bool.{and_from, or_right, or_left, eq-eqb, eqb-true, false_from_ne_true}
+use Rattle.std.proofs.lemmas.Bool.{and_from, or_right, or_left, eq-eqb, false_from_ne_true}
 use Rattle.sieve_meaning.specs.Program.{Include, Commands}
 use Rattle.sieve_meaning.specs.Meaning.{ScriptName, script_named, same_script, is_among, Library}
 use Rattle.sieve_meaning.specs.Procedures.{includes_of, once, included_names, reaches, Procedure, same_first, are_among, is_shared, entered_if, entered, called_by, led_to, main_procedure, procedures}
@@ -257,12 +257,13 @@ module _ (lib : Library) where
 
   each_finds : (left : ℕ) (all ps : List Procedure) → ((p : Procedure) → IsElement p ps → IsElement p all) → AllOf (λ p. p.left ≡ suc left) ps → AllOf (λ p. FindsCalls p (led_to lib left (called_by lib left all))) ps
   each_finds left all [] inside h = tt
-  each_finds left all (p ∷ ps) inside h =
-      (λ n is s e named at.
-      let same : n ≡ left = suc_is n left (sym is ∙ h.0) in
-      let here : entered lib left p.chain s ≡ Some e = subst (λ (k : ℕ). entered lib k p.chain s ≡ Some e) same at in
-      led_any (λ q. is_shared lib q e) left (called_by lib left all) (called_found left all p (inside p (inl refl)) s e named here),
-      each_finds left all ps (λ q there. inside q (inr there)) h.1)
+  each_finds left all (p ∷ ps) inside h = (
+    λ n is s e named at.
+        let same : n ≡ left = suc_is n left (sym is ∙ h.0) in
+        let here : entered lib left p.chain s ≡ Some e = subst (λ (k : ℕ). entered lib k p.chain s ≡ Some e) same at in
+        led_any (λ q. is_shared lib q e) left (called_by lib left all) (called_found left all p (inside p (inl refl)) s e named here),
+    each_finds left all ps (λ q there. inside q (inr there)) h.1,
+  )
 
   pub led_finds : (left : ℕ) (ps : List Procedure) → AllOf (λ p. p.left ≡ left) ps → AllFind (led_to lib left ps)
   led_finds zero ps h = none_find ps h

@@ -1,9 +1,9 @@
 -- Procedures of small libraries, whose numbers and weights are known: each line computes.
-use Rattle.std.proofs.Common.{◌≡◌, ℕ, zero, suc, List, [], ◌∷◌, length, map, Bool, true, false, Option, Some, None, codes, refl}
+use Rattle.std.proofs.Common.{◌≡◌, ℕ, zero, suc, List, [], ◌∷◌, map, false, Option, Some, None, codes, refl}
 use Rattle.std.specs.Prelude.{if◌then◌else◌}
 use Rattle.std.specs.Str.{bytes_eq}
-use Rattle.sieve_meaning.specs.Program.{Include, Command, Commands, no_command, command_then, require, discard, include}
-use Rattle.sieve_meaning.specs.Meaning.{Library, ScriptName}
+use Rattle.sieve_meaning.specs.Program.{Include, Command, Commands, no_command, command_then, require, include}
+use Rattle.sieve_meaning.specs.Meaning.{Library}
 use Rattle.sieve_meaning.specs.Weight.{linked_weight}
 use Rattle.sieve_meaning.specs.Procedures.{Procedure, reaches, procedures, shared_weight, path_weight}
 

@@ -1,16 +1,16 @@
 -- Includes that share a procedure run alike, and weigh the same on every path.
 use Rattle.std.proofs.Common.{◌≡◌, ◌⊎◌, ℕ, zero, suc, ◌+◌, ◌≤◌, List, [], ◌∷◌, ◌++◌, map, filter, Bool, true, false, not, ◌&&◌, ◌||◌, cond, Option, Some, None, inl, inr, refl, sym, ap, ◌∙◌, subst, arith}
 use Rattle.std.specs.Str.{bytes_eq}
-use Rattle.std.specs.List.{list_any, list_all}
+use Rattle.std.specs.List.{list_any}
 use Rattle.std.proofs.lemmas.Slice.Eq.{bytes_eq-Decides}
 use Rattle.std.specs.Prelude.{nat_eq}
 use Rattle.std.proofs.lemmas.Bool.{and_parts, and_from, or_right, or_left, or_cases, eqb-true}
 use Rattle.sieve_meaning.specs.Case.{Facts}
 use Rattle.sieve_meaning.specs.Truth.{truth}
-use Rattle.sieve_meaning.specs.Program.{Test, Include, Command, require, keep, discard, stop, return, file_into, branch, include, Commands, no_command, command_then, Branches, no_branch, otherwise, if_then}
+use Rattle.sieve_meaning.specs.Program.{Include, Command, require, keep, discard, stop, return, file_into, branch, include, Commands, no_command, command_then, Branches, no_branch, otherwise, if_then}
 use Rattle.sieve_meaning.specs.Meaning.{ScriptName, script_named, same_bool, same_script, is_among, Library, Filing, Ending, GoesOn, Returns, Stops, Faults, Included, and_then, run, run_one, run_branches, included, including, ended, entering, unless_entered, unless_missing, unless_active}
 use Rattle.sieve_meaning.specs.Weight as weights
-use Rattle.sieve_meaning.specs.Weight.{test_weight, weight, weight_one, branches_weight}
+use Rattle.sieve_meaning.specs.Weight.{weight, weight_one, branches_weight}
 use Rattle.sieve_meaning.specs.Procedures.{includes_of, includes_in, branch_includes, once, included_names, holds_if_there, reaches_within, reaches, Procedure, same_first, are_among, is_shared, included_path}
 use Rattle.sieve_meaning.specs.Sharing.{SharingLaw}
 
@@ -153,7 +153,7 @@ kept_step p x xs ys true h rest e = or_else (p x) (list_any p xs) (list_any p ys
 kept_step p x xs ys false h rest e = rest (or_rest (p x) (list_any p xs) (h refl) e)
 
 -- a test that fails at all that a filter drops holds of one that is kept
-kept_any : {A : Type 0} (p q : A → Bool) (xs : List A) → ((x : A) → q x ≡ false → p x ≡ false) → list_any p xs ≡ true → list_any p (filter q xs) ≡ true
+pub kept_any : {A : Type 0} (p q : A → Bool) (xs : List A) → ((x : A) → q x ≡ false → p x ≡ false) → list_any p xs ≡ true → list_any p (filter q xs) ≡ true
 kept_any p q [] h e = e
 kept_any p q (x ∷ xs) h e = kept_step p x xs (filter q xs) (q x) (h x) (kept_any p q xs h) e
 
@@ -194,7 +194,7 @@ module _ (lib : Library) where
       (λ t h. there_more (lib.find t) (λ y. same_script t s || reaches_within lib n y s) (λ y. same_script t s || reaches_within lib m y s)
       (λ y k. or_else (same_script t s) (reaches_within lib n y s) (reaches_within lib m y s) k (λ other r. reaches_more n m (omega (arith, le)) y s r)) h) e
 
-  reaches_named : (m : ℕ) (x y : Commands) (i : Include) → IsIn i (includes_of x) → lib.find (script_named i) ≡ Some y → (t : ScriptName) → (same_script (script_named i) t || reaches_within lib m y t) ≡ true → reaches_within lib (suc m) x t ≡ true
+  pub reaches_named : (m : ℕ) (x y : Commands) (i : Include) → IsIn i (includes_of x) → lib.find (script_named i) ≡ Some y → (t : ScriptName) → (same_script (script_named i) t || reaches_within lib m y t) ≡ true → reaches_within lib (suc m) x t ≡ true
   reaches_named m x y i is there t h =
       let test : ScriptName → Bool = λ u. holds_if_there (lib.find u) (λ z. same_script u t || reaches_within lib m z t) in
       once_any same_script test (map script_named (includes_of x)) (λ u v e n. subst (λ (w : ScriptName). test w ≡ false) (same_is u v e) n)
@@ -258,8 +258,10 @@ module _ (c : Facts) (lib : Library) where
   included_alike (suc left) (suc m) le x a b same i is f =
       let s = script_named i in
       including_case lib a b (λ script g. ended (run c (included c lib left (s ∷ a)) script (entering s g))) (λ script g. ended (run c (included c lib left (s ∷ b)) script (entering s g))) i f
-      (λ y there. (at_include lib (suc m) x y i a b is there same,
-      λ g. ap ended (run_alike c (included c lib left (s ∷ a)) (included c lib left (s ∷ b)) y (included_alike left m (omega (arith, le)) y (s ∷ a) (s ∷ b) (behind_include lib (suc m) x y i a b is there same)) (entering s g))))
+      (λ y there. (
+        at_include lib (suc m) x y i a b is there same,
+        λ g. ap ended (run_alike c (included c lib left (s ∷ a)) (included c lib left (s ∷ b)) y (included_alike left m (omega (arith, le)) y (s ∷ a) (s ∷ b) (behind_include lib (suc m) x y i a b is there same)) (entering s g)),
+      ))
 
 module _ (lib : Library) where
   -- and they add the same to a path
@@ -269,8 +271,10 @@ module _ (lib : Library) where
   paths_alike (suc left) (suc m) le x a b same i is =
       let s = script_named i in
       path_case (lib.find s) (is_among a s) (is_among b s) (λ script. weight (included_path lib left (s ∷ a)) script + 1) (λ script. weight (included_path lib left (s ∷ b)) script + 1)
-      (λ y there. (at_include lib (suc m) x y i a b is there same,
-      ap (λ (n : ℕ). n + 1) (weight_alike (included_path lib left (s ∷ a)) (included_path lib left (s ∷ b)) y (paths_alike left m (omega (arith, le)) y (s ∷ a) (s ∷ b) (behind_include lib (suc m) x y i a b is there same)))))
+      (λ y there. (
+        at_include lib (suc m) x y i a b is there same,
+        ap (λ (n : ℕ). n + 1) (weight_alike (included_path lib left (s ∷ a)) (included_path lib left (s ∷ b)) y (paths_alike left m (omega (arith, le)) y (s ∷ a) (s ∷ b) (behind_include lib (suc m) x y i a b is there same))),
+      ))
 
 -- PROCEDURES
 

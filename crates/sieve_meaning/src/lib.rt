@@ -30,7 +30,7 @@ mod words;
 
 pub use laws::{
     contains_is_decided, equality_is_decided, parts_are_read, pattern_is_decided,
-    shared_scripts_are_alike,
+    reaching_is_decided, shared_scripts_are_alike,
 };
 pub use matching::{Comparator, Item, MatchType};
 pub use outcome::{captured_classes, default_class_alone};
