@@ -334,11 +334,11 @@ readonly REFUSED=20000
 readonly SWEEPS='1 memory 1 1500
 2 memory 1300 1700
 3 memory 1300 1850
-4 memory 1300 2950
+4 memory 1300 4150
 1 files 1 3950
 2 files 3800 4150
 3 files 3800 4250
-4 files 3800 5300'
+4 files 3800 6950'
 
 # One in this many allocations is refused over memory. Over files, where a run takes longer, it is one in ten times this many.
 step=7
