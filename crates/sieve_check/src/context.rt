@@ -4,11 +4,11 @@ ghost use Rattle.std.specs.Prelude.{◌≡◌};
 ghost use Rattle.std.specs.List.{list_any};
 ghost use Rattle.std.specs.Option.{is_none};
 ghost use Rattle.sieve_check.specs.Lookup.{capability_named};
-ghost use Rattle.sieve_check.specs.Rules.{argument_strings, names_unknown, is_require, is_branch, goes_on};
+ghost use Rattle.sieve_check.specs.Rules.{argument_strings, names_unknown};
+ghost use Rattle.sieve_check.specs.Walk.{after_command, start};
 
 use crate::lookup::find_capability;
 use crate::named::Named;
-use crate::table::Role;
 use sieve_syntax::{Argument, Arguments, Text};
 
 /// What is known from the commands before a command.
@@ -20,26 +20,32 @@ pub struct Context {
     pub begun: bool,
 }
 
-impl Role {
-    /// Whether the command is a `require`.
-    pub fn is_require(self) -> bool
-        ensures { result ≡ is_require self }
+impl Context {
+    /// At the start of a script.
+    pub fn start() -> Context
+        ensures { result ≡ start }
     {
-        matches!(self, Role::Require)
+        Context {
+            named: Named::nothing(),
+            begun: false,
+        }
     }
 
-    /// Whether another branch may follow the command.
-    pub fn is_branch(self) -> bool
-        ensures { result ≡ is_branch self }
+    /// After a command with these arguments.
+    pub fn after(self, is_require: bool, arguments: &Arguments) -> Context
+        ensures { result ≡ after_command is_require self arguments.now }
     {
-        matches!(self, Role::If | Role::Elsif)
-    }
-
-    /// Whether the command continues a chain of branches.
-    pub fn goes_on(self) -> bool
-        ensures { result ≡ goes_on self }
-    {
-        matches!(self, Role::Elsif | Role::Else)
+        if is_require {
+            Context {
+                named: self.named.after(arguments),
+                begun: self.begun,
+            }
+        } else {
+            Context {
+                named: self.named,
+                begun: true,
+            }
+        }
     }
 }
 

@@ -6,7 +6,7 @@ ghost use Rattle.sieve_check.specs.Context.{has_of};
 ghost use Rattle.sieve_check.specs.Views.{form_view};
 ghost use Rattle.sieve_check.specs.PieceViews.{piece_view};
 ghost use Rattle.sieve_check.specs.Pieces.{pieces, is_tagged};
-ghost use Rattle.sieve_check.specs.Rules.{lacks, piece_lacks, is_unknown_tag, same_kind, has_kind, stands_twice, has_tag_twice, takes, fits, lacks_string, lacks_tag, has_wrong_arguments, is_unknown_comparator, tests_there, same_tests, has_wrong_tests};
+ghost use Rattle.sieve_check.specs.Rules.{lacks, piece_lacks, is_unknown_tag, has_kind, stands_twice, has_tag_twice, fits, lacks_string, lacks_tag, has_wrong_arguments, is_unknown_comparator, tests_there, has_wrong_tests};
 ghost use Rattle.sieve_check.specs.Lookup.{same_text};
 ghost use Rattle.sieve_check.specs.Tables.{comparator_table};
 ghost use Rattle.sieve_syntax.specs.View.{inner_of};
@@ -15,30 +15,8 @@ use crate::findings::Findings;
 use crate::lookup::is_same_text;
 use crate::named::Named;
 use crate::pieces::{Piece, Pieces};
-use crate::table::{Capability, Form, Positional, TagKind, TestsForm, comparators};
-use sieve_syntax::{Argument, Arguments, StringList, Tests};
-
-impl TagKind {
-    fn is_same(self, other: TagKind) -> bool
-        ensures { result ≡ same_kind self other }
-    {
-        self == other
-    }
-}
-
-impl Positional {
-    /// Whether an argument is of the kind that belongs here.
-    fn takes(self, argument: &Argument) -> bool
-        ensures { result ≡ takes self argument.now }
-    {
-        match (self, argument) {
-            (Positional::OneString, Argument::Strings(StringList::One(_))) => true,
-            (Positional::StringList, Argument::Strings(_)) => true,
-            (Positional::OneNumber, Argument::Number(_)) => true,
-            _ => false,
-        }
-    }
-}
+use crate::table::{Capability, Form, TagKind, TestsForm, comparators};
+use sieve_syntax::{Arguments, Tests};
 
 /// Whether a capability is needed that is not named.
 fn lacks(named: Named, needs: Option<Capability>) -> bool
@@ -214,14 +192,6 @@ fn tests_there(tests: &Tests) -> TestsForm
         Tests::None => TestsForm::NoTest,
         Tests::One(_) => TestsForm::OneTest,
         Tests::Listed(_) => TestsForm::TestList,
-    }
-}
-
-impl TestsForm {
-    fn is_same(self, other: TestsForm) -> bool
-        ensures { result ≡ same_tests self other }
-    {
-        self == other
     }
 }
 

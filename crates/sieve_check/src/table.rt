@@ -4,8 +4,11 @@
 //! say that both agree.
 
 ghost use Rattle.std.specs.Prelude.{◌≡◌, map};
+ghost use Rattle.sieve_check.specs.Rules.{goes_on, is_branch, is_require, same_kind, same_tests, takes};
 ghost use Rattle.sieve_check.specs.Tables.{capability_table, comparator_table, command_table, test_table};
 ghost use Rattle.sieve_check.specs.Views.{capability_view, command_view, test_view};
+
+use sieve_syntax::{Argument, StringList};
 
 /// What a script may name in a `require` (RFC 5228, section 3.2).
 #[derive(Clone, Copy, PartialEq, Eq)]
@@ -36,6 +39,15 @@ pub enum TagKind {
     Optional,
 }
 
+impl TagKind {
+    /// Whether both are one kind.
+    pub fn is_same(self, other: TagKind) -> bool
+        ensures { result ≡ same_kind self other }
+    {
+        self == other
+    }
+}
+
 /// A tag that may follow a name.
 #[derive(Clone, Copy)]
 pub struct TagRow {
@@ -57,6 +69,20 @@ pub enum Positional {
     OneNumber,
 }
 
+impl Positional {
+    /// Whether an argument is of the kind that belongs here.
+    pub fn takes(self, argument: &Argument) -> bool
+        ensures { result ≡ takes self argument.now }
+    {
+        match (self, argument) {
+            (Positional::OneString, Argument::Strings(StringList::One(_))) => true,
+            (Positional::StringList, Argument::Strings(_)) => true,
+            (Positional::OneNumber, Argument::Number(_)) => true,
+            _ => false,
+        }
+    }
+}
+
 /// Which tests follow the arguments.
 #[derive(Clone, Copy, PartialEq, Eq)]
 pub enum TestsForm {
@@ -65,6 +91,15 @@ pub enum TestsForm {
     OneTest,
     /// Tests in brackets.
     TestList,
+}
+
+impl TestsForm {
+    /// Whether both are one form.
+    pub fn is_same(self, other: TestsForm) -> bool
+        ensures { result ≡ same_tests self other }
+    {
+        self == other
+    }
 }
 
 /// What follows the name of a command or of a test.
@@ -91,6 +126,29 @@ pub enum Role {
     Else,
     /// May come anywhere.
     Other,
+}
+
+impl Role {
+    /// Whether the command is a `require`.
+    pub fn is_require(self) -> bool
+        ensures { result ≡ is_require self }
+    {
+        matches!(self, Role::Require)
+    }
+
+    /// Whether another branch may follow the command.
+    pub fn is_branch(self) -> bool
+        ensures { result ≡ is_branch self }
+    {
+        matches!(self, Role::If | Role::Elsif)
+    }
+
+    /// Whether the command continues a chain of branches.
+    pub fn goes_on(self) -> bool
+        ensures { result ≡ goes_on self }
+    {
+        matches!(self, Role::Elsif | Role::Else)
+    }
 }
 
 /// A command.

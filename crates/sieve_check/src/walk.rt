@@ -4,43 +4,13 @@ ghost use Rattle.std.specs.Prelude.{◌≡◌, IfOk};
 ghost use Rattle.sieve_syntax.specs.View.{command_of, ending_of, tree_of};
 ghost use Rattle.sieve_check.specs.Rules.{command_in_order, ending_in_order, role_of, is_branch, command_name, refusal_of};
 ghost use Rattle.sieve_check.specs.Lookup.{command_named};
-ghost use Rattle.sieve_check.specs.Walk.{start, after_command, walk, context_view, passed_view, refusal_view};
+ghost use Rattle.sieve_check.specs.Walk.{walk, context_view, passed_view, refusal_view};
 
 use crate::command_faults::command_fault;
 use crate::context::Context;
 use crate::fault::CheckFault;
 use crate::lookup::find_command;
-use crate::named::Named;
-use sieve_syntax::{Arguments, Command, Ending, Script};
-
-impl Context {
-    /// At the start of a script.
-    fn start() -> Context
-        ensures { result ≡ start }
-    {
-        Context {
-            named: Named::nothing(),
-            begun: false,
-        }
-    }
-
-    /// After a command with these arguments.
-    fn after(self, is_require: bool, arguments: &Arguments) -> Context
-        ensures { result ≡ after_command is_require self arguments.now }
-    {
-        if is_require {
-            Context {
-                named: self.named.after(arguments),
-                begun: self.begun,
-            }
-        } else {
-            Context {
-                named: self.named,
-                begun: true,
-            }
-        }
-    }
-}
+use sieve_syntax::{Command, Ending, Script};
 
 /// What is known after a command and its block, and whether another branch may follow.
 #[cycle(walking)]
