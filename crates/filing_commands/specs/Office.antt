@@ -179,22 +179,23 @@ LacksMemory limit payload number = (number ≡ 99) × (length payload ≤ limit)
 abbrev pub IsTrouble : (number : ℕ) → Type 0
 IsTrouble number = (number ≡ 99) ⊎ (number ≡ 89)
 
--- A command is refused with this number for reasons other than the rules of filing.
-abbrev pub GivesUp : PlainCommand → (number : ℕ) → Type 0
-GivesUp (add_class path) n = IsTrouble n
-GivesUp (set_plan text) n = IsTrouble n × (length text ≤ greatest_plan)
-GivesUp (set_script officer name text) n = LacksMemory greatest_script text n
-GivesUp (set_global name text) n = LacksMemory greatest_script text n
-GivesUp (activate officer name) n = n ≡ 99
-GivesUp (deactivate officer) n = ⊥
-GivesUp (set_image officer octets) n = LacksMemory greatest_image octets n
-GivesUp (file script message) n = LacksMemory greatest_script script n
-GivesUp (try_image octets message) n = LacksMemory greatest_image octets n
-GivesUp (hold name r) n = IsTrouble n
-GivesUp (release name r) n = IsTrouble n
-GivesUp (due day) n = IsTrouble n
-GivesUp (destroy r day) n = IsTrouble n
+-- A command is refused with this number for reasons other than the rules of filing. To choose a script takes memory, so
+-- the officer has the script then.
+abbrev pub GivesUp : Office → PlainCommand → (number : ℕ) → Type 0
+GivesUp s (add_class path) n = IsTrouble n
+GivesUp s (set_plan text) n = IsTrouble n × (length text ≤ greatest_plan)
+GivesUp s (set_script officer name text) n = LacksMemory greatest_script text n
+GivesUp s (set_global name text) n = LacksMemory greatest_script text n
+GivesUp s (activate officer name) n = (n ≡ 99) × (is_some (script_at name (s.officers officer).scripts) ≡ true)
+GivesUp s (deactivate officer) n = ⊥
+GivesUp s (set_image officer octets) n = LacksMemory greatest_image octets n
+GivesUp s (file script message) n = LacksMemory greatest_script script n
+GivesUp s (try_image octets message) n = LacksMemory greatest_image octets n
+GivesUp s (hold name r) n = IsTrouble n
+GivesUp s (release name r) n = IsTrouble n
+GivesUp s (due day) n = IsTrouble n
+GivesUp s (destroy r day) n = IsTrouble n
 
 -- The answers that a command may have, and what it changes.
 abbrev pub OfficeStep : Office → PlainCommand → Answer → Office → Type 0
-OfficeStep s c a new = OfficeRule s c a new ⊎ ((n : ℕ) × GivesUp c n × (a ≡ refused n None) × (new ≡ s))
+OfficeStep s c a new = OfficeRule s c a new ⊎ ((n : ℕ) × GivesUp s c n × (a ≡ refused n None) × (new ≡ s))

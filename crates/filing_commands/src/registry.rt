@@ -1,4 +1,4 @@
-//! The interface that a session talks to.
+//! The interface that a session talks to. Its one implementation is in `registry` of `filing_desk`.
 
 ghost use Rattle.std.specs.Prelude.{Ok};
 ghost use Rattle.filing_commands.specs.Calls.{Calls, CallsOn, CallsWith, CallsWithTwo};

@@ -42,13 +42,13 @@ lines_fault (Err f) fault is same = ap refused_by same
 lines_fault (Ok o) fault is same = absurd (false≢true is)
 
 -- a fault of a part, as that of a command
-pub fault_step : (s : Office) (c : PlainCommand) (Rule : ℕ → Type 0) (limit : ℕ) (payload : List ℕ) (f : DeskFault) → ((n : ℕ) → Rule n → Refuses s c n) → ((n : ℕ) → LacksMemory limit payload n → GivesUp c n) → IsFaultOf Rule limit payload f → OfficeStep s c (refused_by f) s
+pub fault_step : (s : Office) (c : PlainCommand) (Rule : ℕ → Type 0) (limit : ℕ) (payload : List ℕ) (f : DeskFault) → ((n : ℕ) → Rule n → Refuses s c n) → ((n : ℕ) → LacksMemory limit payload n → GivesUp s c n) → IsFaultOf Rule limit payload f → OfficeStep s c (refused_by f) s
 fault_step s c Rule limit payload f refuses lacks (inl h) = inl (refl, h.0, refuses _ h.1)
 fault_step s c Rule limit payload f refuses lacks (inr h) =
     let P : DeskFault → Type 0 = λ x. OfficeStep s c (refused_by x) s in
     subst P (sym h.0) (inr (99, lacks 99 (refl, h.1), refl, refl))
 
-pub lacking : (s : Office) (c : PlainCommand) (limit : ℕ) (payload : List ℕ) (f : DeskFault) (a : Answer) → a ≡ refused_by f → f ≡ NoMemory → length payload ≤ limit → ((n : ℕ) → LacksMemory limit payload n → GivesUp c n) → OfficeStep s c a s
+pub lacking : (s : Office) (c : PlainCommand) (limit : ℕ) (payload : List ℕ) (f : DeskFault) (a : Answer) → a ≡ refused_by f → f ≡ NoMemory → length payload ≤ limit → ((n : ℕ) → LacksMemory limit payload n → GivesUp s c n) → OfficeStep s c a s
 lacking s c limit payload f a told is short lacks =
     let P : Answer → Type 0 = λ x. OfficeStep s c x s in
     subst P (sym told) (fault_step s c (λ n. ⊥) limit payload f (λ n r. absurd r) lacks (inr (is, short)))
@@ -100,11 +100,11 @@ module _ {S : Type 0} (g : Ghosts S) where
       let P : Answer → Type 0 = λ x. OfficeStep s.office (try_image image message) x s.office in
       subst P (sym told) (fault_step s.office (try_image image message) (IsTooLong message) greatest_message message f (λ n long. inr (record { program = program; good = good; long = long.0; is_number = long.1 })) (λ n l. (l.0, short)) h))
 
-  pub refused_part : (desk : Desk S) (c : PlainCommand) (Rule : ℕ → Type 0) (limit : ℕ) (payload : List ℕ) (f : DeskFault) (a : Answer) → ((s : Office) (n : ℕ) → Rule n → Refuses s c n) → ((n : ℕ) → LacksMemory limit payload n → GivesUp c n) → a ≡ refused_by f → IsFaultOf Rule limit payload f → Calls (IsClean g) (StandsFor g) desk (plain c) a desk
+  pub refused_part : (desk : Desk S) (c : PlainCommand) (Rule : ℕ → Type 0) (limit : ℕ) (payload : List ℕ) (f : DeskFault) (a : Answer) → ((s : Office) (n : ℕ) → Rule n → Refuses s c n) → ((s : Office) (n : ℕ) → LacksMemory limit payload n → GivesUp s c n) → a ≡ refused_by f → IsFaultOf Rule limit payload f → Calls (IsClean g) (StandsFor g) desk (plain c) a desk
   refused_part desk c Rule limit payload f a refuses lacks told h = unchanged desk c a (λ s stands.
       let P : Answer → Type 0 = λ x. OfficeStep s.office c x s.office in
-      subst P (sym told) (fault_step s.office c Rule limit payload f (refuses s.office) lacks h))
+      subst P (sym told) (fault_step s.office c Rule limit payload f (refuses s.office) (lacks s.office) h))
 
   -- no memory in a run
-  pub gave_up : (desk : Desk S) (c : PlainCommand) (limit : ℕ) (payload : List ℕ) (f : DeskFault) (a : Answer) → a ≡ refused_by f → f ≡ NoMemory → length payload ≤ limit → ((n : ℕ) → LacksMemory limit payload n → GivesUp c n) → Calls (IsClean g) (StandsFor g) desk (plain c) a desk
-  gave_up desk c limit payload f a told is short lacks = unchanged desk c a (λ s stands. lacking s.office c limit payload f a told is short lacks)
+  pub gave_up : (desk : Desk S) (c : PlainCommand) (limit : ℕ) (payload : List ℕ) (f : DeskFault) (a : Answer) → a ≡ refused_by f → f ≡ NoMemory → length payload ≤ limit → ((s : Office) (n : ℕ) → LacksMemory limit payload n → GivesUp s c n) → Calls (IsClean g) (StandsFor g) desk (plain c) a desk
+  gave_up desk c limit payload f a told is short lacks = unchanged desk c a (λ s stands. lacking s.office c limit payload f a told is short (lacks s.office))

@@ -1,6 +1,7 @@
 -- What officers set, and the scripts that are kept.
-use Rattle.std.proofs.Common.{◌≡◌, ℕ, ◌≤◌, ◌⊎◌, List, length, false, Option, is_some, inl, inr, refl, ap, sym, ◌∙◌, subst}
+use Rattle.std.proofs.Common.{◌≡◌, ℕ, ◌≤◌, ◌⊎◌, List, length, Bool, true, false, Option, is_some, Result, Err, inl, inr, refl, ap, sym, ◌∙◌, subst}
 use Rattle.std.specs.List.{AllByRecursion}
+use Rattle.std.proofs.lemmas.Bool.{false≢true}
 use Rattle.sqlite.specs.Store.{Ghosts}
 use Rattle.sqlite.specs.State.{HasCleanDisk}
 use Rattle.sqlite.specs.Held.{state}
@@ -37,7 +38,7 @@ kept location was name text tree same good room =
     record { tree = tree; good = good; has_room = λ full. room (subst P (sym same) full); put = refl }
 
 -- there is no room, or no memory
-pub keep_refused : (s : Office) (c : PlainCommand) (location was : List (List ℕ × Commands)) (name text : List ℕ) (tree : CommandTrees) (f : DeskFault) → ((n : ℕ) → RefusesToKeep location name text n → Refuses s c n) → ((n : ℕ) → LacksMemory greatest_script text n → GivesUp c n) → was ≡ location → IsGood text tree → length text ≤ greatest_script → (f ≡ LibraryFull) ⊎ (f ≡ NoMemory) → (f ≡ LibraryFull → HasNoRoom was name) → OfficeStep s c (refused_by f) s
+pub keep_refused : (s : Office) (c : PlainCommand) (location was : List (List ℕ × Commands)) (name text : List ℕ) (tree : CommandTrees) (f : DeskFault) → ((n : ℕ) → RefusesToKeep location name text n → Refuses s c n) → ((n : ℕ) → LacksMemory greatest_script text n → GivesUp s c n) → was ≡ location → IsGood text tree → length text ≤ greatest_script → (f ≡ LibraryFull) ⊎ (f ≡ NoMemory) → (f ≡ LibraryFull → HasNoRoom was name) → OfficeStep s c (refused_by f) s
 keep_refused s c location was name text tree f refuses lacks same good short (inl full) room =
     let P : List (List ℕ × Commands) → Type 0 = λ x. HasNoRoom x name in
     let Q : DeskFault → Type 0 = λ x. OfficeStep s c (refused_by x) s in
@@ -46,15 +47,29 @@ keep_refused s c location was name text tree f refuses lacks same good short (in
     let Q : DeskFault → Type 0 = λ x. OfficeStep s c (refused_by x) s in
     subst Q (sym none) (inr (99, lacks 99 (refl, short), refl, refl))
 
+abbrev tells_no_script : Result (Unit {0}) DeskFault → Bool
+tells_no_script (Err NoScript) = true
+tells_no_script _ = false
+
+abbrev failed : DeskFault → Result (Unit {0}) DeskFault
+failed f = Err f
+
+-- where memory is short, the officer has the script, since a script that is not there is told first
+has_script : (b : Bool) (f : DeskFault) → f ≡ NoMemory → (b ≡ false → failed f ≡ failed NoScript) → b ≡ true
+has_script true f poor missing = refl
+has_script false f poor missing = absurd (false≢true (ap tells_no_script (ap failed (sym poor) ∙ missing refl)))
+
 -- the officer has no such script, or there is no memory
-pub activate_refused : (s : Office) (officer name : List ℕ) (o : Officer) (f : DeskFault) → o ≡ s.officers officer → (f ≡ NoScript) ⊎ (f ≡ NoMemory) → (f ≡ NoScript → is_some (script_at name o.scripts) ≡ false) → OfficeStep s (activate officer name) (refused_by f) s
-activate_refused s officer name o f same (inl missing) none =
+pub activate_refused : (s : Office) (officer name : List ℕ) (o : Officer) (f : DeskFault) → o ≡ s.officers officer → (f ≡ NoScript) ⊎ (f ≡ NoMemory) → (f ≡ NoScript → is_some (script_at name o.scripts) ≡ false) → (is_some (script_at name o.scripts) ≡ false → failed f ≡ failed NoScript) → OfficeStep s (activate officer name) (refused_by f) s
+activate_refused s officer name o f same (inl missing) none exact =
     let Q : DeskFault → Type 0 = λ x. OfficeStep s (activate officer name) (refused_by x) s in
     let P : Officer → Type 0 = λ x. is_some (script_at name x.scripts) ≡ false in
     subst Q (sym missing) (inl (refl, refl, (subst P same (none missing), refl)))
-activate_refused s officer name o f same (inr poor) none =
+activate_refused s officer name o f same (inr poor) none exact =
     let Q : DeskFault → Type 0 = λ x. OfficeStep s (activate officer name) (refused_by x) s in
-    subst Q (sym poor) (inr (99, refl, refl, refl))
+    let P : Officer → Type 0 = λ x. is_some (script_at name x.scripts) ≡ true in
+    let there : is_some (script_at name o.scripts) ≡ true = has_script (is_some (script_at name o.scripts)) f poor exact in
+    subst Q (sym poor) (inr (99, (refl, subst P same there), refl, refl))
 
 module _ {S : Type 0} (g : Ghosts S) where
   -- the desk is as it was, except for its officers

@@ -35,7 +35,7 @@ pub plan_command : (t : List ℕ) (p : Listing) → IsPlanOf t p → IsCommand (
 plan_command t p is = record {
   settles = λ s new made. (p, is, made);
   refuses = λ s n h. let d = dropped s.archive p n h in inr (inr (record { plan = p; is_plan = is; drops = d.0; is_number = d.1 }));
-  gives_up = λ n trouble. (trouble, is.short);
+  gives_up = λ s n trouble. (trouble, is.short);
   keeps = λ a b made q there. revised_keeps a b p q made there;
 }
 

@@ -29,7 +29,7 @@ use Rattle.filing_desk.proofs.StoreLemmas.{told, no_place, trouble_number}
 pub record IsCommand (c : PlainCommand) (command : Archive → Result Archive StoreFault) : Type 0 where
   pub settles : (s new : Office) → IsMade s (command s.archive) new → Settles s c new
   pub refuses : (s : Office) (n : ℕ) → IsRefused (command s.archive) n → Refuses s c n
-  pub gives_up : (n : ℕ) → IsTrouble n → GivesUp c n
+  pub gives_up : (s : Office) (n : ℕ) → IsTrouble n → GivesUp s c n
   -- no class is dropped
   pub keeps : (a b : Archive) → command a ≡ Ok b → (q : List ℕ) → has a.plan.rows q ≡ true → has b.plan.rows q ≡ true
 
@@ -51,7 +51,7 @@ refused_step s c command f is refuses =
     subst P (sym (told f)) (by (stores.is_trouble f) refl)
   where
     by : (b : Bool) → stores.is_trouble f ≡ b → OfficeStep s c (refused (store_number f) None) s
-    by true e = inr (store_number f, is.gives_up (store_number f) (trouble_number f e), refl, refl)
+    by true e = inr (store_number f, is.gives_up s (store_number f) (trouble_number f e), refl, refl)
     by false e = inl (refl, sym (no_place f), is.refuses s (store_number f) (refusal f (command s.archive) (refuses e)))
 
 -- a plan that drops no class has the classes of flights

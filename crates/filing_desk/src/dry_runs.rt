@@ -1,4 +1,5 @@
-//! Dry runs: the outcome of a script or an image for a message, with nothing stored.
+//! Dry runs: the outcome of a script or an image for a message, with nothing stored. A script is compiled in `program`
+//! of `filing_gen`, and an image is run in `machine` of `filing_machine`.
 
 ghost use Rattle.std.specs.Prelude.{◌≡◌, ℕ, [], false, Some, None, IfOk, IfErr};
 ghost use Rattle.sieve_syntax.specs.View.{tree_of};

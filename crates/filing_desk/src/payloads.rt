@@ -1,4 +1,6 @@
-//! Payloads as scripts, images and cases of messages.
+//! Payloads as scripts, images and cases of messages. A script goes to `parser` of `sieve_text` and `checked` of
+//! `sieve_check`, an image to `reading` of `filing_image` and `verifier` of `filing_verify`. The case of a message is
+//! made in `whole` of `filing_case`.
 
 ghost use Rattle.std.specs.Prelude.{◌≡◌, ℕ, List, ◌≤◌, length, IfOk, IfErr, OnOk};
 ghost use Rattle.class_plan.specs.Plans.{is_open_in};

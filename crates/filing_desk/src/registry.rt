@@ -1,4 +1,6 @@
-//! The desk as the `Registry` that a session talks to.
+//! The desk as the `Registry` that a session talks to. Each call goes on in the method of `Desk` with the same name.
+//! These methods are in `archive` (plan and records), `officers` (scripts and programs), `captures` (`begin`, `turn`,
+//! `finish`) and `dry_runs` (`file`, `try_image`).
 
 use crate::desk::Desk;
 use class_plan::Date;

@@ -1,4 +1,5 @@
-//! What each command does, once its payloads are read.
+//! What each command does, once its payloads are read. The program's registry is the desk: its calls are in `registry`
+//! of `filing_desk`.
 
 ghost use Rattle.std.specs.Prelude.{◌≡◌, None};
 ghost use Rattle.filing_commands.specs.Answers.{refused as refused_answer};

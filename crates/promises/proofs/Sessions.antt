@@ -64,20 +64,20 @@ passing_trouble : (n : ℕ) (at : Option ℕ) → IsTrouble n → is_passing (re
 passing_trouble n at (inl e) = rw e refl
 passing_trouble n at (inr e) = rw e refl
 
-gives_up : (c : PlainCommand) (n : ℕ) → GivesUp c n → is_passing (refused n None) ≡ true
-gives_up (add_class path) n h = passing_trouble n None h
-gives_up (set_plan text) n h = passing_trouble n None h.0
-gives_up (set_script officer name text) n h = passing_99 n None h.0
-gives_up (set_global name text) n h = passing_99 n None h.0
-gives_up (activate officer name) n h = passing_99 n None h
-gives_up (deactivate officer) n h = absurd h
-gives_up (set_image officer octets) n h = passing_99 n None h.0
-gives_up (file text message) n h = passing_99 n None h.0
-gives_up (try_image octets message) n h = passing_99 n None h.0
-gives_up (hold name r) n h = passing_trouble n None h
-gives_up (release name r) n h = passing_trouble n None h
-gives_up (due day) n h = passing_trouble n None h
-gives_up (destroy r day) n h = passing_trouble n None h
+gives_up : (s : Office) (c : PlainCommand) (n : ℕ) → GivesUp s c n → is_passing (refused n None) ≡ true
+gives_up s (add_class path) n h = passing_trouble n None h
+gives_up s (set_plan text) n h = passing_trouble n None h.0
+gives_up s (set_script officer name text) n h = passing_99 n None h.0
+gives_up s (set_global name text) n h = passing_99 n None h.0
+gives_up s (activate officer name) n h = passing_99 n None h.0
+gives_up s (deactivate officer) n h = absurd h
+gives_up s (set_image officer octets) n h = passing_99 n None h.0
+gives_up s (file text message) n h = passing_99 n None h.0
+gives_up s (try_image octets message) n h = passing_99 n None h.0
+gives_up s (hold name r) n h = passing_trouble n None h
+gives_up s (release name r) n h = passing_trouble n None h
+gives_up s (due day) n h = passing_trouble n None h
+gives_up s (destroy r day) n h = passing_trouble n None h
 
 rule_follows : (s : Standing) (c : PlainCommand) (a : Answer) (b : Office) (new : Standing) → OfficeRule s.office c a b → new ≡ record s { office = b } → Follows (is_struck (plain c) a) (forget s) (plain c) a (forget new)
 rule_follows s c done b new h e = (b, h, ap forget e)
@@ -95,7 +95,7 @@ plain_follows : (s : Standing) (c : PlainCommand) (a : Answer) (b : Office) (new
 plain_follows s c a b new (inl h) e = rule_follows s c a b new h e
 plain_follows s c a b new (inr h) e =
     let same : new ≡ s = e ∙ ap (λ o. record s { office = o }) h.3 in
-    struck _ (forget s) (plain c) a (forget new) (ap (is_struck (plain c)) h.2 ∙ gives_up c h.0 h.1) (ap forget same)
+    struck _ (forget s) (plain c) a (forget new) (ap (is_struck (plain c)) h.2 ∙ gives_up s.office c h.0 h.1) (ap forget same)
 
 counted : (s : Standing) → length (forget s).tickets ≡ length s.flights
 counted s = length-map s.flights ticket_of

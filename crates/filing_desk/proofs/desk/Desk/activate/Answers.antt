@@ -15,7 +15,7 @@ returns-in_err-activate g c =
     let refused = c.in_err-activate.ensures in
     not_set g.S.Store c.args.self.now _ (activate c.args.officer.now c.args.name.now) _ (record { store = refl; flights = refl; last = refl; open_paths = refl }) refused.unchanged (λ x stands.
     let Q : Answer → Type 0 = λ a. OfficeStep x.office (activate c.args.officer.now c.args.name.now) a x.office in
-    subst Q (sym (done_fault _ _ result.0 result.1)) (activate_refused x.office c.args.officer.now c.args.name.now (officer_at c.args.officer.now c.args.self.now.officers.officers) c.in_err-activate.field-0.0 (officer_is g.S.Store c.args.self.now x c.args.officer.now stands) refused.fault (λ none. refused.no_script.0 (ap (λ f. Err f) none))))
+    subst Q (sym (done_fault _ _ result.0 result.1)) (activate_refused x.office c.args.officer.now c.args.name.now (officer_at c.args.officer.now c.args.self.now.officers.officers) c.in_err-activate.field-0.0 (officer_is g.S.Store c.args.self.now x c.args.officer.now stands) refused.fault (λ none. refused.no_script.0 (ap (λ f. Err f) none)) refused.no_script.1))
 
 pub returns : goal.returns
 returns g c =

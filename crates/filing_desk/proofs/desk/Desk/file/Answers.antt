@@ -18,7 +18,7 @@ returns-in_err-case g c = λ s m s_is m_is.
 pub returns-in_err-outcome : goal.returns-in_err-outcome
 returns-in_err-outcome g c = λ s m s_is m_is.
     let result = c.from_residual-in_err-outcome.ensures in
-    gave_up g.S.Store c.args.self.now (file s m) greatest_script s c.in_err-outcome.field-0.0 _ (outcome_fault _ _ result.0 result.1) c.in_err-outcome.ensures.refused (c.in_ok-checked.ensures.short s s_is) (λ n l. l)
+    gave_up g.S.Store c.args.self.now (file s m) greatest_script s c.in_err-outcome.field-0.0 _ (outcome_fault _ _ result.0 result.1) c.in_err-outcome.ensures.refused (c.in_ok-checked.ensures.short s s_is) (λ x n l. l)
 
 pub returns : goal.returns
 returns g c = λ s m s_is m_is.

@@ -11,7 +11,7 @@ use Rattle.filing_desk.proofs.desk.Desk.set_image.Goals as goal
 pub returns-in_err-program : goal.returns-in_err-program
 returns-in_err-program g c = λ i is.
     let result = c.from_residual.ensures in
-    refused_part g.S.Store c.args.self.now (set_image c.args.officer.now i) (RefusesImage i) greatest_image i c.in_err-program.field-0.0 _ (λ x n r. r) (λ n l. l) (done_fault _ _ result.0 result.1) (c.in_err-program.ensures.refused i is)
+    refused_part g.S.Store c.args.self.now (set_image c.args.officer.now i) (RefusesImage i) greatest_image i c.in_err-program.field-0.0 _ (λ x n r. r) (λ x n l. l) (done_fault _ _ result.0 result.1) (c.in_err-program.ensures.refused i is)
 
 pub returns-in_err-set_image : goal.returns-in_err-set_image
 returns-in_err-set_image g c = λ i is.

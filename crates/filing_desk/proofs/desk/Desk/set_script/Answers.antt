@@ -16,7 +16,7 @@ use Rattle.filing_desk.proofs.desk.Desk.set_script.Goals as goal
 pub returns-in_err-script : goal.returns-in_err-script
 returns-in_err-script g c = λ t is.
     let result = c.from_residual.ensures in
-    refused_part g.S.Store c.args.self.now (set_script c.args.officer.now c.args.name.now t) (RefusesScript t) greatest_script t c.in_err-script.field-0.0 _ (λ x n r. inl r) (λ n l. l) (done_fault _ _ result.0 result.1) (c.in_err-script.ensures.refused t is)
+    refused_part g.S.Store c.args.self.now (set_script c.args.officer.now c.args.name.now t) (RefusesScript t) greatest_script t c.in_err-script.field-0.0 _ (λ x n r. inl r) (λ x n l. l) (done_fault _ _ result.0 result.1) (c.in_err-script.ensures.refused t is)
 
 pub returns-in_err-set_script : goal.returns-in_err-set_script
 returns-in_err-set_script g c = λ t is.

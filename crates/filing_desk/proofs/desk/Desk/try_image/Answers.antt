@@ -17,7 +17,7 @@ returns-in_err-case g c = λ i m i_is m_is.
 pub returns-in_err-outcome : goal.returns-in_err-outcome
 returns-in_err-outcome g c = λ i m i_is m_is.
     let result = c.from_residual-in_err-outcome.ensures in
-    gave_up g.S.Store c.args.self.now (try_image i m) greatest_image i _ _ (outcome_fault _ _ result.0 result.1) refl (c.in_ok-program.ensures.short i i_is) (λ n l. l)
+    gave_up g.S.Store c.args.self.now (try_image i m) greatest_image i _ _ (outcome_fault _ _ result.0 result.1) refl (c.in_ok-program.ensures.short i i_is) (λ x n l. l)
 
 pub returns : goal.returns
 returns g c = λ i m i_is m_is.
