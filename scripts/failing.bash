@@ -18,8 +18,8 @@ clear_up() {
 # Runs what the program of tests plays, with a line for each session and each trial.
 streams() {
     local said=$work/said
-    ensure_program rows
-    count "reads, writes and files that fail" "$(program_of rows)" failing < crates/rows/stdin > "$said"
+    ensure_program test_calls
+    count "reads, writes and files that fail" "$(program_of test_calls)" failing < crates/test_calls/stdin > "$said"
     cat -- "$said"
     count "something was tried" test -s "$said"
     group streams
@@ -350,7 +350,7 @@ session_lines() {
         inside && /^case / { is_cut = 0 }
         inside && /^cut$/ { is_cut = 1; number++ }
         is_cut && number == wanted && /^(send|want) /
-    ' crates/rows/stdin
+    ' crates/test_calls/stdin
 }
 
 # Writes a case for each allocation of a sweep.

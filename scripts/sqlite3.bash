@@ -1,13 +1,13 @@
 # shellcheck shell=bash
-# Runs the statements of the store's calls in the system's sqlite3, on a database that `rows store` has left. A script that sources
-# this file sets `folder`, in which files are made.
+# Runs the statements of the store's calls in the system's sqlite3, on a database that `measures store` has left. A script that
+# sources this file sets `folder`, in which files are made.
 
 : "${folder:?}"
 
 # The number of runs of a call.
 readonly SQLITE3_RUNS=10
 
-# The number of calls in a run, the same as in `rows store`.
+# The number of calls in a run, the same as in `measures store`.
 calls_of() {
     case $1 in
         due | revise | adopt) echo 1 ;;
@@ -84,7 +84,7 @@ first_of() {
     esac
 }
 
-# Adds a row for sqlite3 to each row that `rows store` has printed for a database: the call, and a capture's share of its rate.
+# Adds a row for sqlite3 to each row that `measures store` has printed for a database: the call, and a capture's share of its rate.
 sqlite3_rows() {
     local database=$1 over=$2 next title word number size spent rest call plain asked
     if command -v sqlite3 > /dev/null; then

@@ -9,10 +9,10 @@
 make_stage() {
     stage=$work/stage
     path=$stage/kit/bin:/usr/bin:/bin
-    mkdir -p -- "$stage"/kit/bin "$stage"/tree/{.git,docs,scripts} "$stage"/tree/crates/{low,beside,middle,mailfile,rows}/src
+    mkdir -p -- "$stage"/kit/bin "$stage"/tree/{.git,docs,scripts} "$stage"/tree/crates/{low,beside,middle,mailfile,measures}/src
     cp -- mailfile bench hostile failing "$stage/tree/"
     cp -- scripts/build.bash "$stage/tree/scripts/"
-    printf '%s\n' '# crates' low: 'beside:' 'middle: low thiserror' 'mailfile: beside middle clap' 'rows: low' > "$stage/tree/crates.txt"
+    printf '%s\n' '# crates' low: 'beside:' 'middle: low thiserror' 'mailfile: beside middle clap' 'measures: low' > "$stage/tree/crates.txt"
     echo low > "$stage/tree/crates/low/src/lib.rt"
     echo 'Command::new("mailfile").version("1.2.3").about(' > "$stage/tree/crates/mailfile/src/command_line.rt"
     echo 'kit 1' > "$stage/kit/KIT-ID"

@@ -1,4 +1,5 @@
-//! What a run can learn about a message, and about the plan by which it is filed.
+//! What a run can learn about a message, and about the plan by which it is filed. In the program each run asks a
+//! `WholeCase` (`whole`).
 
 ghost use Rattle.std.specs.Prelude.{◌≡◌, ◌<◌, length};
 ghost use Rattle.sieve_meaning.specs.Case.{Facts, is_named};

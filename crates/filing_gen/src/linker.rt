@@ -1,4 +1,4 @@
-//! The code and the weight of includes.
+//! The code and the weight of includes. The linker of the compiler is `Includes`, in `levels`.
 
 ghost use Rattle.std.specs.Prelude.{ℕ, List, OnOk};
 ghost use Rattle.filing_flow.specs.Structure.{Flow, size};

@@ -1,4 +1,4 @@
-//! One instruction of a run.
+//! One instruction of a run. What it asks of its case is answered in `whole` of `filing_case`.
 
 ghost use Rattle.std.specs.Prelude.{◌≡◌, ◌≢◌, ◌<◌, ◌≤◌, ◌+◌, ◌^◌, ◌∷◌, length, map, if◌then◌else◌, slice_set, true, IfOk, IsOk, OnErr, OnOk, Ok, None};
 ghost use Rattle.std.specs.List.{AllByRecursion};

@@ -29,7 +29,7 @@ fn desk_over<S: Alter + Drop>(alloc: Global, conn: Connection<S>) -> Option<Desk
     Desk::new(alloc, store).ok()
 }
 
-/// Serves a session at a desk, from standard input to standard output.
+/// Serves a session at a desk, from standard input to standard output. `serve` is in `session` of `filing_session`.
 fn serve_at<S: Alter + Drop>(rt: &HostRuntime, desk: &mut Desk<S>) -> ExitCode {
     let mut input = Input::new(rt.stdin());
     let mut output = Output::new(rt.stdout());
