@@ -20,13 +20,13 @@ unfolding steps
 after_is p c zero = refl
 after_is p c (suc n) = ap (step p c) (after_is p c n) ∙ sym (steps_last p c n (At start))
 
-outcome_at_end : (p : Program) (c : Facts) (fault : Option ℕ) (f : Filing) → OverAt p c (At (on nothing_done 0 [])) fault f → (n : ℕ) × HasOutcome p c n (outcome_from fault f)
+outcome_at_end : (p : Program) (c : Facts) (fault : Option ℕ) (f : Filing) → OverAt p c [] (At (on [] nothing_done 0 [])) fault f → (n : ℕ) × HasOutcome p c n (outcome_from fault f)
 outcome_at_end p c fault f over =
-    let s : State = on f over.pc over.stack in
+    let s : State = on [] f over.pc over.stack in
     let (n, ends) = first_end p c over.comes.count fault s (after_is p c over.comes.count ∙ over.comes.leads) in
     (n, (fault, s, ends, refl))
 
 pub program_ends : RunsAsItsCode
 program_ends p c a fault f is ok means =
-    let runs : Arrives p c (effect c (whole a) nothing_done []) (0 + size (whole a)) [] (At (on nothing_done 0 [])) = flow_runs p c (whole a) [] 0 nothing_done [] (ok, tt) is.stands in
-    outcome_at_end p c fault f (subst (λ (x : Exit). Arrives p c x (0 + size (whole a)) [] (At (on nothing_done 0 []))) means runs)
+    let runs : Arrives p c [] (effect c (whole a) nothing_done []) (0 + size (whole a)) [] (At (on [] nothing_done 0 [])) = flow_runs p c [] (whole a) [] 0 nothing_done [] (ok, tt) is.stands in
+    outcome_at_end p c fault f (subst (λ (x : Exit). Arrives p c [] x (0 + size (whole a)) [] (At (on [] nothing_done 0 []))) means runs)

@@ -18,10 +18,11 @@ unfoldable pub steps : Program → Facts → ℕ → Run → Run
 steps p c zero x = x
 steps p c (suc n) x = steps p c n (step p c x)
 
-abbrev pub on : Filing → ℕ → List Entry → State
-on f pc es = record { place = pc; stack = es; filed = f.filed; kept = f.kept; cancelled = f.cancelled; marks = f.marks }
+-- at a place, with these places to return to
+abbrev pub on : List ℕ → Filing → ℕ → List Entry → State
+on calls f pc es = record { place = pc; stack = es; filed = f.filed; kept = f.kept; cancelled = f.cancelled; marks = f.marks; calls = calls }
 
-module _ (p : Program) (c : Facts) where
+module _ (p : Program) (c : Facts) (calls : List ℕ) where
   pub record Comes (x y : Run) : Type 0 where
     pub count : ℕ
     pub leads : steps p c count x ≡ y
@@ -45,12 +46,12 @@ module _ (p : Program) (c : Facts) where
   pub record OverAt (x : Run) (e : Option ℕ) (f : Filing) : Type 0 where
     pub pc : ℕ
     pub stack : List Entry
-    pub comes : Comes x (Over e (on f pc stack))
+    pub comes : Comes x (Over e (on calls f pc stack))
 
   -- from x the run comes to where the exit says
   abbrev pub Arrives : Exit → ℕ → List ℕ → Run → Type 0
-  Arrives (FallsThrough f es) end ends x = Comes x (At (on f end es))
-  Arrives (Leaves n f es) end ends x = Comes x (At (on f (end_at ends n) es))
+  Arrives (FallsThrough f es) end ends x = Comes x (At (on calls f end es))
+  Arrives (Leaves n f es) end ends x = Comes x (At (on calls f (end_at ends n) es))
   Arrives (EndsRun e f) end ends x = OverAt x e f
   Arrives Stuck end ends x = Unit {0}
 
@@ -61,8 +62,8 @@ module _ (p : Program) (c : Facts) where
   arrives_later Stuck end ends x y a b = tt
 
   arrives_both : (o : Exit) (go : Filing → List Entry → Exit) (mid end : ℕ) (ends : List ℕ) (x : Run)
-      → Arrives o mid ends x → ((f : Filing) (es : List Entry) → Arrives (go f es) end ends (At (on f mid es))) → Arrives (and_then o go) end ends x
-  arrives_both (FallsThrough f es) go mid end ends x a b = arrives_later (go f es) end ends x (At (on f mid es)) a (b f es)
+      → Arrives o mid ends x → ((f : Filing) (es : List Entry) → Arrives (go f es) end ends (At (on calls f mid es))) → Arrives (and_then o go) end ends x
+  arrives_both (FallsThrough f es) go mid end ends x a b = arrives_later (go f es) end ends x (At (on calls f mid es)) a (b f es)
   arrives_both (Leaves n f es) go mid end ends x a b = a
   arrives_both (EndsRun e f) go mid end ends x a b = a
   arrives_both Stuck go mid end ends x a b = tt
@@ -74,14 +75,14 @@ module _ (p : Program) (c : Facts) where
   arrives_caught (EndsRun e f) end ends x a = a
   arrives_caught Stuck end ends x a = tt
 
-  stepped : (f : Filing) (pc : ℕ) (es : List Entry) (o : Operation) → slice_get p.code pc ≡ Some o → step p c (At (on f pc es)) ≡ on_stack p c o (on f pc es) es
-  stepped f pc es o h = ap (λ (x : Option Operation). at_place p c x (on f pc es)) h
+  stepped : (f : Filing) (pc : ℕ) (es : List Entry) (o : Operation) → slice_get p.code pc ≡ Some o → step p c (At (on calls f pc es)) ≡ on_stack p c o (on calls f pc es) es
+  stepped f pc es o h = ap (λ (x : Option Operation). at_place p c x (on calls f pc es)) h
 
   -- what the machine does is what the operation does
   abbrev Gives : Exit → ℕ → Run → Type 0
-  Gives (FallsThrough f es) next x = x ≡ At (on f next es)
+  Gives (FallsThrough f es) next x = x ≡ At (on calls f next es)
   Gives (Leaves n f es) next x = ⊥
-  Gives (EndsRun e f) next x = (pc : ℕ) × (es : List Entry) × (x ≡ Over e (on f pc es))
+  Gives (EndsRun e f) next x = (pc : ℕ) × (es : List Entry) × (x ≡ Over e (on calls f pc es))
   Gives Stuck next x = Unit {0}
 
   arrives_one : (o : Exit) (next : ℕ) (ends : List ℕ) (x y : Run) → step p c x ≡ y → Gives o next y → Arrives o next ends x
@@ -90,8 +91,8 @@ module _ (p : Program) (c : Facts) where
   arrives_one (EndsRun k f) next ends x y e g = record { pc = g.0; stack = g.1; comes = by_one (e ∙ g.2) }
   arrives_one Stuck next ends x y e g = tt
 
-  stacked : (f : Filing) (pc : ℕ) (es fs : List Entry) → Gives (with_stack f fs) (pc + 1) (table.with_stack (on f pc es) fs)
-  stacked f pc es fs = elim (nat_lt 32 (length fs)) as (λ t. Gives (cond t Stuck (FallsThrough f fs)) (pc + 1) (cond t Trap (At (on f (pc + 1) fs)))) [ true ↦ tt | false ↦ refl ]
+  stacked : (f : Filing) (pc : ℕ) (es fs : List Entry) → Gives (with_stack f fs) (pc + 1) (table.with_stack (on calls f pc es) fs)
+  stacked f pc es fs = elim (nat_lt 32 (length fs)) as (λ t. Gives (cond t Stuck (FallsThrough f fs)) (pc + 1) (cond t Trap (At (on calls f (pc + 1) fs)))) [ true ↦ tt | false ↦ refl ]
 
   le_is : (a b : ℕ) → a ≤ b → nat_le a b ≡ true
   le_is a b l = grind (arith)
@@ -99,8 +100,8 @@ module _ (p : Program) (c : Facts) where
   lt_is : (a b : ℕ) → a < b → nat_lt a b ≡ true
   lt_is a b l = grind (arith)
 
-  filed : (f : Filing) (pc : ℕ) (es : List Entry) (a : ℕ) (path : List ℕ) → Gives (filing c f es a path) (pc + 1) (table.file c (on f pc es) a path)
-  filed f pc es a path = elim (c.is_open path) as (λ t. Gives (cond t (FallsThrough (record f { filed = insert_path path f.filed; cancelled = f.cancelled || nat_eq a 0 }) es) (EndsRun (Some 1) f)) (pc + 1) (cond t (At (record (on f pc es) { place = pc + 1; filed = insert_path path f.filed; cancelled = f.cancelled || nat_eq a 0 })) (Over (Some 1) (on f pc es)))) [ true ↦ refl | false ↦ (pc, es, refl) ]
+  filed : (f : Filing) (pc : ℕ) (es : List Entry) (a : ℕ) (path : List ℕ) → Gives (filing c f es a path) (pc + 1) (table.file c (on calls f pc es) a path)
+  filed f pc es a path = elim (c.is_open path) as (λ t. Gives (cond t (FallsThrough (record f { filed = insert_path path f.filed; cancelled = f.cancelled || nat_eq a 0 }) es) (EndsRun (Some 1) f)) (pc + 1) (cond t (At (record (on calls f pc es) { place = pc + 1; filed = insert_path path f.filed; cancelled = f.cancelled || nat_eq a 0 })) (Over (Some 1) (on calls f pc es)))) [ true ↦ refl | false ↦ (pc, es, refl) ]
 
   stuck : (f : Filing) (pc : ℕ) (x : Run) → Gives Stuck pc x
   stuck f pc x = tt
@@ -108,7 +109,7 @@ module _ (p : Program) (c : Facts) where
   named : {A : Type 0} (o : Exit) (next : ℕ) (x : Option A) (y : A) (go : A → Run) → x ≡ Some y → Gives o next (go y) → Gives o next (with_named x go)
   named {A} o next x y go e g = subst (λ (z : Option A). Gives o next (with_named z go)) (sym e) g
 
-  action_gives : (x : Action) (f : Filing) (pc : ℕ) (es : List Entry) (o : Operation) → IsSoundAction p.slots x → IsWritten (places_in p.texts p.numbers) x o → Gives (action_effect c x f es) (pc + 1) (on_stack p c o (on f pc es) es)
+  action_gives : (x : Action) (f : Filing) (pc : ℕ) (es : List Entry) (o : Operation) → IsSoundAction p.slots x → IsWritten (places_in p.texts p.numbers) x o → Gives (action_effect c x f es) (pc + 1) (on_stack p c o (on calls f pc es) es)
   action_gives (Push true) f pc es o ok w = rw w (stacked f pc es (T true ∷ es))
   action_gives (Push false) f pc es o ok w = rw w (stacked f pc es (T false ∷ es))
   action_gives Negate f pc [] o ok w = tt
@@ -135,7 +136,7 @@ module _ (p : Program) (c : Facts) where
   action_gives End f pc es o ok w = (pc, es, rw w refl)
   action_gives (Fail n) f pc es o ok w = (pc, es, rw w (rw (le_is 2 n ok.0, le_is n 5 ok.1) refl))
 
-  leaves_if : (t : Bool) (n : ℕ) (ends : List ℕ) (pc : ℕ) (f : Filing) (es : List Entry) → slice_get p.code pc ≡ Some (jump_when t (end_at ends n)) → Arrives (leaving t n f es) (pc + 1) ends (At (on f pc es))
+  leaves_if : (t : Bool) (n : ℕ) (ends : List ℕ) (pc : ℕ) (f : Filing) (es : List Entry) → slice_get p.code pc ≡ Some (jump_when t (end_at ends n)) → Arrives (leaving t n f es) (pc + 1) ends (At (on calls f pc es))
   leaves_if true n ends pc f (T true ∷ es) h = by_one (stepped f pc (T true ∷ es) (JumpIf (end_at ends n)) h)
   leaves_if true n ends pc f (T false ∷ es) h = by_one (stepped f pc (T false ∷ es) (JumpIf (end_at ends n)) h)
   leaves_if true n ends pc f _ h = tt
@@ -144,13 +145,13 @@ module _ (p : Program) (c : Facts) where
   leaves_if false n ends pc f _ h = tt
 
   -- From its first place the run comes to where the code's effect says.
-  pub flow_runs : (a : Flow) (ends : List ℕ) (pc : ℕ) (f : Filing) (es : List Entry) → IsSound p.slots a → Stands (places_in p.texts p.numbers) p.code a ends pc → Arrives (effect c a f es) (pc + size a) ends (At (on f pc es))
-  flow_runs nothing ends pc f es ok h = let e : pc ≡ pc + 0 = omega arith in subst (λ (n : ℕ). Comes (At (on f pc es)) (At (on f n es))) e (stays (At (on f pc es)))
-  flow_runs (action x) ends pc f es ok (o, at, w) = arrives_one (action_effect c x f es) (pc + 1) ends (At (on f pc es)) _ (stepped f pc es o at) (action_gives x f pc es o ok w)
+  pub flow_runs : (a : Flow) (ends : List ℕ) (pc : ℕ) (f : Filing) (es : List Entry) → IsSound p.slots a → Stands (places_in p.texts p.numbers) p.code a ends pc → Arrives (effect c a f es) (pc + size a) ends (At (on calls f pc es))
+  flow_runs nothing ends pc f es ok h = let e : pc ≡ pc + 0 = omega arith in subst (λ (n : ℕ). Comes (At (on calls f pc es)) (At (on calls f n es))) e (stays (At (on calls f pc es)))
+  flow_runs (action x) ends pc f es ok (o, at, w) = arrives_one (action_effect c x f es) (pc + 1) ends (At (on calls f pc es)) _ (stepped f pc es o at) (action_gives x f pc es o ok w)
   flow_runs (sequence a b) ends pc f es ok h =
       let end : pc + size a + size b ≡ pc + (size a + size b) = omega arith in
-      arrives_both (effect c a f es) (effect c b) (pc + size a) (pc + (size a + size b)) ends (At (on f pc es)) (flow_runs a ends pc f es ok.0 h.0)
-      (λ g fs. subst (λ (n : ℕ). Arrives (effect c b g fs) n ends (At (on g (pc + size a) fs))) end (flow_runs b ends (pc + size a) g fs ok.1 h.1))
-  flow_runs (block a) ends pc f es ok h = arrives_caught (effect c a f es) (pc + size a) ends (At (on f pc es)) (flow_runs a ((pc + size a) ∷ ends) pc f es ok h)
+      arrives_both (effect c a f es) (effect c b) (pc + size a) (pc + (size a + size b)) ends (At (on calls f pc es)) (flow_runs a ends pc f es ok.0 h.0)
+      (λ g fs. subst (λ (n : ℕ). Arrives (effect c b g fs) n ends (At (on calls g (pc + size a) fs))) end (flow_runs b ends (pc + size a) g fs ok.1 h.1))
+  flow_runs (block a) ends pc f es ok h = arrives_caught (effect c a f es) (pc + size a) ends (At (on calls f pc es)) (flow_runs a ((pc + size a) ∷ ends) pc f es ok h)
   flow_runs (leave n) ends pc f es ok h = by_one (stepped f pc es (Jump (end_at ends n)) h)
   flow_runs (leave_if t n) ends pc f es ok h = leaves_if t n ends pc f es h

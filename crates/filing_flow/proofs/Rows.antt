@@ -130,7 +130,7 @@ abbrev filed_if_both : Flow
 filed_if_both = block (sequence both_there (sequence (leave_if false 0) (action (FileInto 0 (codes "a")))))
 
 abbrev program : Program
-program = record { budget = 100; texts = codes "to" ∷ codes "cc" ∷ codes "a" ∷ []; numbers = []; slots = 0; code = Exists 0 ∷ JumpUnless 6 ∷ Exists 1 ∷ JumpUnless 6 ∷ PushTrue ∷ Jump 7 ∷ PushFalse ∷ JumpUnless 9 ∷ File 0 2 ∷ Stop ∷ [] }
+program = record { budget = 100; texts = codes "to" ∷ codes "cc" ∷ codes "a" ∷ []; numbers = []; slots = 0; procedures = None; code = Exists 0 ∷ JumpUnless 6 ∷ Exists 1 ∷ JumpUnless 6 ∷ PushTrue ∷ Jump 7 ∷ PushFalse ∷ JumpUnless 9 ∷ File 0 2 ∷ Stop ∷ [] }
 
 program_stands : Stands (places_in program.texts program.numbers) program.code (whole filed_if_both) [] 0
 program_stands = (

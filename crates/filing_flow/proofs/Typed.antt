@@ -51,8 +51,13 @@ shaped_back σ pc [] b h = let e : pc ≡ pc + 0 = omega arith in subst (λ n. S
 shaped_back σ pc (k ∷ a) b h = let e : pc + 1 + length a ≡ pc + length (k ∷ a) = omega arith in subst (λ n. ShapedAt σ n b) e (shaped_back σ (pc + 1) a b h.1)
 
 module _ (p : Program) (σ : ℕ → Shape) where
+<<<<<<< HEAD
+  -- an operation that goes on only
+  steady : (pc : ℕ) (o : Operation) (k r : Shape) → σ pc ≡ k → σ (pc + 1) ≡ r → target p o ≡ None → shapes.after o k ≡ Some r → length k ≤ 32 → length r ≤ 32 → FineAt p σ pc o
+=======
   -- an operation that only goes on
   steady : (pc : ℕ) (o : Operation) (k r : Shape) → σ pc ≡ k → σ (pc + 1) ≡ r → target o ≡ None → shapes.after o k ≡ Some r → length k ≤ 32 → length r ≤ 32 → FineAt p σ pc o
+>>>>>>> main
   steady pc o k r here next none e dk dr = record {
     result = r;
     finds = ap (shapes.after o) here ∙ e;

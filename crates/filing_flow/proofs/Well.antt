@@ -1,5 +1,5 @@
 -- A program of structured code is well formed.
-use Rattle.std.proofs.Common.{◌≡◌, ℕ, zero, suc, ◌+◌, ◌<◌, ◌≤◌, ◌^◌, List, [], ◌∷◌, ◌++◌, length, Bool, true, false, Some, refl, sym, ap, ◌∙◌, subst, arith, inl, inr, length-append, append_assoc, replicate, get_or}
+use Rattle.std.proofs.Common.{◌≡◌, ℕ, zero, suc, ◌+◌, ◌<◌, ◌≤◌, ◌^◌, List, [], ◌∷◌, ◌++◌, length, Bool, true, false, Option, Some, None, refl, sym, ap, ◌∙◌, subst, arith, inl, inr, length-append, append_assoc, replicate, get_or}
 use Rattle.std.specs.Prelude.{slice_get, slice_index_or, All}
 use Rattle.std.proofs.lemmas.Bool.{cases_lt}
 use Rattle.std.proofs.lemmas.List.Elements.{All-from_get_or}
@@ -7,12 +7,14 @@ use Rattle.std.proofs.lemmas.Option.{slice_get_within, get_or_from_slice_get, sl
 use Rattle.std.proofs.lemmas.List.{get_or_past}
 use Rattle.std.proofs.Math.Seq.{get_or-append_seam}
 use Rattle.filing_image.specs.declared.instruction.Operation.{Operation}
-use Rattle.filing_image.specs.declared.instruction.Operation.TheVariants.{Stop}
-use Rattle.filing_image.specs.Program.{Program}
+use Rattle.filing_image.specs.declared.instruction.Operation.TheVariants.{Stop, Call}
+use Rattle.filing_image.specs.Program.{Program, first_places, firsts_of}
 use Rattle.filing_verify.specs.declared.kind.Kind.TheVariants.{Truth}
-use Rattle.filing_verify.specs.Flow.{Path}
+use Rattle.filing_verify.specs.Flow.{target, Path, Reached, procedure_of}
 use Rattle.filing_verify.specs.Shapes as shapes
-use Rattle.filing_verify.specs.Well.{InRange, IsWell}
+use Rattle.filing_verify.specs.Well.{InRange, HasProcedures, AreInRange, greatest_budget, Suffices, IsWell}
+use Rattle.filing_verify.specs.Passes.{RunsOn}
+use Rattle.filing_verify.proofs.Procedures.{one_piece, jump_is, stays}
 use Rattle.filing_flow.specs.Structure.{Action, Push, Negate, ValuesOf, JoinTwo, MatchKey, Drop, HasField, PushSize, PushNumber, IsLess, IsMarked, SetMark, FileInto, SetKept, SetCancelled, End, Fail, Flow, nothing, action, sequence, block, leave, leave_if, size, IsSoundAction, IsSound}
 use Rattle.filing_flow.specs.Code.{places_in, IsWritten, Stands, end_at, jump_when}
 use Rattle.filing_flow.specs.Types.{Shape, shape_at, HasType}
@@ -157,10 +159,37 @@ module _ (p : Program) (a : Flow) (is : IsCodeOf p a) (d : HasType (block a) [] 
   in_range : All (InRange p) p.code
   in_range = All-from_get_or (InRange p) p.code Stop (λ q lt. each_in_range q (get_or p.code q Stop) (slice_get-get_or p.code q Stop lt))
 
+  ranges : AreInRange p
+  ranges = record {
+    slots = slots;
+    each = in_range;
+    procedures = subst (HasProcedures p) (sym is.one_piece) tt;
+    jumps = λ i q o at to. one_piece p is.one_piece q ∙ sym (one_piece p is.one_piece i);
+  }
+
+  no_first : length (first_places p) ≡ 0
+  no_first = ap (λ (x : Option (List ℕ)). length (firsts_of x)) is.one_piece
+
+  greatest : greatest_budget p.procedures ≡ 65535
+  greatest = ap greatest_budget is.one_piece
+
+  never_on : (q : ℕ) → q < length p.code → Reached p q → RunsOn p q → ⊥
+  never_on q within reached on = elim (cases_lt (q + 1) (length p.code)) [
+    | inl lt ↦ on.out (lt, one_piece p is.one_piece (q + 1) ∙ sym (one_piece p is.one_piece q))
+    | inr end ↦
+        let f = fine q on.operation on.here in
+        let last : length p.code ≡ q + 1 = omega arith in
+        let same : f.result ≡ deep = sym (f.goes (length p.code) (inl (on.goes, last))).1 ∙ past in
+        omega (arith, f.shallow_after, ap length same, deep_long)
+  ]
+
   pub is_well : IsWell p
   is_well = record {
-    in_range = record { slots = slots; each = in_range };
-    forward = λ q r o reached at to. ((fine q o at).goes r (inr to)).0;
+    in_range = ranges;
+    forward = record {
+      jumps = λ q r o reached at to. ((fine q o at).goes r (inr (jump_is p o r to))).0;
+      calls = λ q b reached at. let lt : b < length (first_places p) = each_in_range q (Call b) at in absurd (omega (arith, lt, no_first));
+    };
     shaped = (
       σ,
       record {
@@ -170,12 +199,13 @@ module _ (p : Program) (a : Flow) (is : IsCodeOf p a) (d : HasType (block a) [] 
     );
     inside = record {
       some = omega (arith, code_long);
-      inside = λ q reached leads.
-          let f = fine q leads.0 leads.1 in
-          let same : f.result ≡ deep = sym (f.goes (length p.code) leads.2).1 ∙ past in
-          omega (arith, f.shallow_after, ap length same, deep_long);
+      inside = stays p ranges never_on;
     };
-    within = record { least = omega arith; most = small; paths = λ n q path lt. omega (arith, path_later n q path, code_long) };
+    within = record {
+      least = omega arith;
+      most = rw greatest (omega arith);
+      enough = subst (Suffices p) (sym is.one_piece) (λ n q path lt. omega (arith, path_later n q path, code_long));
+    };
   }
 
 pub typed_is_well : TypedIsWell

@@ -1,5 +1,5 @@
 -- Programs of code in blocks: the code, and the end of the run.
-use Rattle.std.specs.Prelude.{◌≡◌, ℕ, ◌+◌, ◌<◌, ◌≤◌, ◌^◌, [], Option, replicate, false, length}
+use Rattle.std.specs.Prelude.{◌≡◌, ℕ, ◌+◌, ◌<◌, ◌≤◌, ◌^◌, [], Option, None, replicate, false, length}
 use Rattle.filing_image.specs.Program.{Program}
 use Rattle.filing_verify.specs.Well.{IsWell}
 use Rattle.sieve_meaning.specs.Case.{Facts}
@@ -14,8 +14,13 @@ use Rattle.filing_flow.specs.Types.{HasType}
 abbrev pub whole : Flow → Flow
 whole a = sequence (block a) (action End)
 
+<<<<<<< HEAD
+-- The program is this code and the end, in one piece.
+=======
 -- The code of the program is this code and the end of the run.
+>>>>>>> main
 pub record IsCodeOf (p : Program) (a : Flow) : Type 0 where
+  pub one_piece : p.procedures ≡ None
   pub stands : Stands (places_in p.texts p.numbers) p.code (whole a) [] 0
   pub long : length p.code ≡ size (whole a)
 

@@ -14,6 +14,7 @@ use Rattle.sieve_meaning.specs.Case.{Facts}
 use Rattle.sieve_meaning.specs.Program.{Commands}
 use Rattle.sieve_meaning.specs.Meaning.{Ending, GoesOn, Returns, Stops, Faults, included, meaning, opening, main_names, Library}
 use Rattle.sieve_meaning.specs.Outcome.{Outcome, outcome_at, outcome_of}
+use Rattle.sieve_meaning.specs.TooHeavy.{script_budget}
 use Rattle.sieve_meaning.specs.Weight.{linked_weight, included_weight}
 use Rattle.filing_gen.specs.Structured.{script_flow}
 use Rattle.filing_gen.specs.Linked.{Slots, linked_flow, HasSlots, Marked}
@@ -90,6 +91,7 @@ module _ (lib : Library) (slot : Slots) (count : ℕ) (has : HasSlots lib slot c
   code_of o p a b is made =
       let named : Named (operands_of o) (places_in p.texts p.numbers) = record { text = made.text; number = made.number } in
       record {
+        one_piece = made.one_piece;
         stands = stands_there (operands_of o) (places_in p.texts p.numbers) named o.code.items p.code 0 (λ i x low at. subst (λ (l : List Operation). slice_get l i ≡ Some x) (sym made.code) at) (whole a) [] 0 (omega arith) is.stands;
         long = ap length made.code ∙ is.long;
       }
@@ -99,6 +101,7 @@ module _ (lib : Library) (slot : Slots) (count : ℕ) (has : HasSlots lib slot c
       well p (code_of o p (main_flow lib slot known_as main) b is made) made.slots (made.budget_is ∙ weight) (omega (arith, weight, small))
 
   pub built : (o : Output) (p : Program) (b : ℕ) → IsCode o (main_flow lib slot known_as main) → IsImageOf b count o p → IsWell p → b ≡ linked_weight lib known_as main → IsCompiled lib known_as main p
+  unfolding script_budget
   built o p b is made good weight = record { budget = made.budget_is ∙ weight; well = good; outcomes = has_outcome p (code_of o p (main_flow lib slot known_as main) b is made) made.slots }
 
   pub room : linked_weight lib known_as main ≤ 60000 → commands_long (λ i. size (linked_flow lib slot known_as i)) main + 1 < 2 ^ 16

@@ -50,14 +50,14 @@ caught_any marking n (Stops f) x a b = record { filing = a.filing; related = a.r
 caught_any marking n (Faults i f) x a b = record { filing = a.filing; related = a.related; exit = ap caught a.exit }
 
 -- the end of an included script
-ended_alike : (marking : Marking) (n : ℕ) (e : Ending) (x : Exit) → Alike marking 0 e x → Alike marking n (ended e) (caught x)
+pub ended_alike : (marking : Marking) (n : ℕ) (e : Ending) (x : Exit) → Alike marking 0 e x → Alike marking n (ended e) (caught x)
 ended_alike marking n (GoesOn f) x h = record { filing = h.filing; related = h.related; exit = ap caught h.exit }
 ended_alike marking n (Returns f) x h = record { filing = h.filing; related = h.related; exit = ap caught h.exit }
 ended_alike marking n (Stops f) x h = record { filing = h.filing; related = h.related; exit = ap caught h.exit }
 ended_alike marking n (Faults i f) x h = record { filing = h.filing; related = h.related; exit = ap caught h.exit }
 
 module _ (c : Facts) (lib : Library) (slot : Slots) (count : ℕ) (has : HasSlots lib slot count) (main : List ScriptName) where
-  shrunk : (chain : List ScriptName) (s : ScriptName) (f : Filing) (g : code.Filing) → Related (Marked lib slot main (s ∷ chain)) f g → Related (Marked lib slot main chain) f g
+  pub shrunk : (chain : List ScriptName) (s : ScriptName) (f : Filing) (g : code.Filing) → Related (Marked lib slot main (s ∷ chain)) f g → Related (Marked lib slot main chain) f g
   shrunk chain s f g r = record { filed = r.filed; kept = r.kept; cancelled = r.cancelled; marks = record { long = r.marks.long; active = λ t h. r.marks.active t (or_right (same_script t s) (is_among chain t) h); found = r.marks.found; missing = r.marks.missing } }
 
   found_after : (s : ScriptName) (x : Commands) → lib.find s ≡ Some x → (chain entered : List ScriptName) (marks : List Bool) → Marked lib slot main chain entered marks
@@ -73,7 +73,7 @@ module _ (c : Facts) (lib : Library) (slot : Slots) (count : ℕ) (has : HasSlot
   missing_after s x at chain entered marks m t none true e = let same = ap lib.find (same_is t s e) in absurd (cc (sym none ∙ same ∙ at))
   missing_after s x at chain entered marks m t none false e = m.missing t none
 
-  entered_related : (chain : List ScriptName) (s : ScriptName) (x : Commands) → lib.find s ≡ Some x → (f : Filing) (g : code.Filing) → Related (Marked lib slot main chain) f g
+  pub entered_related : (chain : List ScriptName) (s : ScriptName) (x : Commands) → lib.find s ≡ Some x → (f : Filing) (g : code.Filing) → Related (Marked lib slot main chain) f g
       → Related (Marked lib slot main (s ∷ chain)) (entering s f) (record g { marks = slice_set g.marks (slot s) true })
   entered_related chain s x at f g r = record {
     filed = r.filed;
@@ -88,8 +88,8 @@ module _ (c : Facts) (lib : Library) (slot : Slots) (count : ℕ) (has : HasSlot
   }
 
   -- what entering a script does, and its code
-  abbrev Enters : List ScriptName → ScriptName → (Commands → Filing → Ending) → (Commands → Flow) → Type 0
-  Enters chain s enter a = (x : Commands) → lib.find s ≡ Some x → (n : ℕ) (f : Filing) (g : code.Filing) → Related (Marked lib slot main chain) f g → Alike (Marked lib slot main chain) n (enter x f) (effect c (a x) g [])
+  abbrev pub Enters : List ScriptName → ScriptName → (Commands → Filing → Ending) → (Commands → Flow) → Type 0
+  Enters chain s enter a = (x : Commands) → lib.find s ≡ Some x → is_among chain s ≡ false → (n : ℕ) (f : Filing) (g : code.Filing) → Related (Marked lib slot main chain) f g → Alike (Marked lib slot main chain) n (enter x f) (effect c (a x) g [])
 
   once_alike : (chain : List ScriptName) (s : ScriptName) (x : Commands) (once : Bool) (a : Flow) (go : Filing → Ending) (n : ℕ) (f : Filing) (g : code.Filing) → Related (Marked lib slot main chain) f g → lib.find s ≡ Some x → is_among main s ≡ false
       → ((n : ℕ) → Alike (Marked lib slot main chain) n (go f) (effect c a g [])) → Alike (Marked lib slot main chain) n (unless_entered (once && is_among f.entered s) go f) (effect c (once_flow once (slot s) a) g [])
@@ -123,20 +123,20 @@ module _ (c : Facts) (lib : Library) (slot : Slots) (count : ℕ) (has : HasSlot
         (sym (r.marks.active (script_named i) e)) (active_judged n x i.once f g r)
     judged (Some x) at false e n f g r =
         let out = false_from_ne_true (is_among main (script_named i)) (λ h. absurd (cc (within (script_named i) h, e))) in
-        once_alike chain (script_named i) x i.once (a x) (unless_missing (Some x) i.optional (λ script. unless_active false (enter script))) n f g r at out (λ m. k x at m f g r)
+        once_alike chain (script_named i) x i.once (a x) (unless_missing (Some x) i.optional (λ script. unless_active false (enter script))) n f g r at out (λ m. k x at e m f g r)
 
-    including_alike : (n : ℕ) (f : Filing) (g : code.Filing) → Related (Marked lib slot main chain) f g → Alike (Marked lib slot main chain) n (including lib chain enter i f) (effect c (including_flow lib slot main chain a i) g [])
+    pub including_alike : (n : ℕ) (f : Filing) (g : code.Filing) → Related (Marked lib slot main chain) f g → Alike (Marked lib slot main chain) n (including lib chain enter i f) (effect c (including_flow lib slot main chain a i) g [])
     including_alike n f g r = judged (lib.find (script_named i)) refl (is_among chain (script_named i)) refl n f g r
 
   pub included_agrees : (left : ℕ) (chain : List ScriptName) → ((s : ScriptName) → is_among main s ≡ true → is_among chain s ≡ true) → Agrees c (Marked lib slot main chain) (included_flow lib slot main left chain) (included c lib left chain)
   included_agrees zero chain within i n f g r =
-      including_alike chain within (λ script f. Faults 4 f) (λ script. action (Fail 4)) i (λ x at n f g r. record { filing = g; related = r; exit = refl }) n f g r
+      including_alike chain within (λ script f. Faults 4 f) (λ script. action (Fail 4)) i (λ x at out n f g r. record { filing = g; related = r; exit = refl }) n f g r
   included_agrees (suc left) chain within i n f g r =
       let s = script_named i in
       let inner = included_agrees left (s ∷ chain) (λ t h. or_right (same_script t s) (is_among chain t) (within t h)) in
       including_alike chain within (λ script f. ended (run c (included c lib left (script_named i ∷ chain)) script (entering (script_named i) f)))
       (λ script. block (sequence (action (SetMark (slot (script_named i)))) (flow (included_flow lib slot main left (script_named i ∷ chain)) 0 script))) i
-      (λ x at n f g r.
+      (λ x at out n f g r.
       let now : code.Filing = record g { marks = slice_set g.marks (slot (script_named i)) true } in
       let h = flow_means c (Marked lib slot main (script_named i ∷ chain)) (included_flow lib slot main left (script_named i ∷ chain)) (included c lib left (script_named i ∷ chain)) inner 0 x (entering (script_named i) f) now (entered_related chain (script_named i) x at f g r) in
       let e = run c (included c lib left (script_named i ∷ chain)) x (entering (script_named i) f) in

@@ -27,7 +27,7 @@ found_typed None true go es h = refl
 found_typed None false go es h = (refl, omega arith, omega arith)
 found_typed (Some x) passed go es h = h x
 
-including_typed : (lib : Library) (slot : Slots) (main chain : List ScriptName) (a : Commands → Flow) (i : Include) → ((x : Commands) (es : List Shape) → HasType (a x) es [] []) → (es : List Shape) → HasType (including_flow lib slot main chain a i) es [] []
+pub including_typed : (lib : Library) (slot : Slots) (main chain : List ScriptName) (a : Commands → Flow) (i : Include) → ((x : Commands) (es : List Shape) → HasType (a x) es [] []) → (es : List Shape) → HasType (including_flow lib slot main chain a i) es [] []
 including_typed lib slot main chain a i h es =
     found_typed (lib.find (script_named i)) (is_passed main i) _ es
     (λ x. active_typed (is_among chain (script_named i)) i.once _ es (once_typed i.once (slot (script_named i)) (a x) es (h x)))
@@ -59,14 +59,14 @@ found_small None false go w h = omega arith
 found_small (Some x) passed go w h = h x
 
 -- where an entry takes at most two operations and what it adds to the weight
-including_small : (lib : Library) (slot : Slots) (main chain : List ScriptName) (a : Commands → Flow) (w : Commands → ℕ) (i : Include) → ((x : Commands) → size (a x) ≤ 2 + w x)
+pub including_small : (lib : Library) (slot : Slots) (main chain : List ScriptName) (a : Commands → Flow) (w : Commands → ℕ) (i : Include) → ((x : Commands) → size (a x) ≤ 2 + w x)
     → size (including_flow lib slot main chain a i) ≤ 4 + unless_missing (lib.find (script_named i)) (λ script. unless_active (is_among chain (script_named i)) (w script))
 including_small lib slot main chain a w i h =
     found_small (lib.find (script_named i)) (is_passed main i) (λ script. active_flow (is_among chain (script_named i)) i.once (once_flow i.once (slot (script_named i)) (a script)))
     (λ script. unless_active (is_among chain (script_named i)) (w script))
     (λ x. active_small (is_among chain (script_named i)) i.once (once_flow i.once (slot (script_named i)) (a x)) (w x) (omega (arith, once_small i.once (slot (script_named i)) (2 + w x) (a x) (h x))))
 
-nothing_there : (o : Option Commands) (b : Bool) → unless_missing o (λ script. unless_active b 0) ≡ 0
+pub nothing_there : (o : Option Commands) (b : Bool) → unless_missing o (λ script. unless_active b 0) ≡ 0
 nothing_there None b = refl
 nothing_there (Some x) true = refl
 nothing_there (Some x) false = refl
@@ -94,7 +94,7 @@ found_sound count lib s None at true go h = tt
 found_sound count lib s None at false go h = (omega arith, omega arith)
 found_sound count lib s (Some x) at passed go h = h x at
 
-including_sound : (count : ℕ) (lib : Library) (slot : Slots) → HasSlots lib slot count → (main chain : List ScriptName) (a : Commands → Flow) (i : Include) → ((x : Commands) → slot (script_named i) < count → IsSound count (a x)) → IsSound count (including_flow lib slot main chain a i)
+pub including_sound : (count : ℕ) (lib : Library) (slot : Slots) → HasSlots lib slot count → (main chain : List ScriptName) (a : Commands → Flow) (i : Include) → ((x : Commands) → slot (script_named i) < count → IsSound count (a x)) → IsSound count (including_flow lib slot main chain a i)
 including_sound count lib slot has main chain a i h =
     found_sound count lib (script_named i) (lib.find (script_named i)) refl (is_passed main i) (λ script. active_flow (is_among chain (script_named i)) i.once (once_flow i.once (slot (script_named i)) (a script)))
     (λ x at. active_sound count (is_among chain (script_named i)) i.once (once_flow i.once (slot (script_named i)) (a x)) (once_sound count i.once (slot (script_named i)) (a x) (has.inside (script_named i) x at) (h x (has.inside (script_named i) x at))))

@@ -12,6 +12,11 @@ mod Turns
 mod Chains
 mod WeightLemmas
 mod Includes
+pub mod CallLemmas
+pub mod PathLemmas
+pub mod ProcedureSizes
+pub mod ProcedureTypes
+mod ProcedureRows
 mod IncludesTypes
 mod SlotLemmas
 mod Rows

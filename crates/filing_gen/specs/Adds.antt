@@ -1,5 +1,10 @@
+<<<<<<< HEAD
+-- What is written so far, and what a piece of code adds to it.
+use Rattle.std.specs.Prelude.{◌≡◌, ℕ, ◌+◌, ◌<◌, ◌≤◌, ◌^◌, List, [], ◌∷◌, ◌++◌, length, Some, None, slice_get}
+=======
 -- The output so far, and what a piece of code adds to it.
 use Rattle.std.specs.Prelude.{◌≡◌, ℕ, ◌+◌, ◌<◌, ◌≤◌, ◌^◌, List, [], ◌∷◌, ◌++◌, length, Some, slice_get}
+>>>>>>> main
 use Rattle.filing_image.specs.declared.instruction.Operation.{Operation}
 use Rattle.filing_flow.specs.Structure.{Flow, size}
 use Rattle.filing_flow.specs.Code.{Operands, Stands}
@@ -51,6 +56,7 @@ pub record IsCode (o : Output) (a : Flow) : Type 0 where
 pub record IsImageOf (budget count : ℕ) (o : Output) (p : Program) : Type 0 where
   pub budget_is : p.budget ≡ budget
   pub slots : p.slots ≡ count
+  pub one_piece : p.procedures ≡ None
   pub text : (b : ℕ) (t : List ℕ) → IsAmong (t, b) o.texts → slice_get p.texts b ≡ Some t
   pub number : (b k : ℕ) → IsAmong (k, b) o.numbers → slice_get p.numbers b ≡ Some k
   pub code : p.code ≡ o.code.items

@@ -7,6 +7,7 @@ pub mod Emission
 pub mod Correct
 pub mod Weights
 pub mod Linked
+pub mod Procedures
 pub mod Slots
 pub mod Levels
 pub mod Scopes

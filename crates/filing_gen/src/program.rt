@@ -3,9 +3,9 @@
 ghost use Rattle.std.specs.Prelude.{◌≡◌, ◌↔◌, ◌+◌, ◌<◌, ◌≤◌, ◌^◌, [], ◌∷◌, map, Err, IfOk, IfErr, MatchOption};
 ghost use Rattle.std.specs.Option.{option_map};
 ghost use Rattle.sieve_syntax.specs.View.{command_of, commands_of, tree_of};
-ghost use Rattle.sieve_meaning.specs.Outcome.{greatest_weight};
 ghost use Rattle.sieve_meaning.specs.Reading.{program_of};
-ghost use Rattle.sieve_meaning.specs.Weight.{linked_weight};
+ghost use Rattle.sieve_meaning.specs.TooHeavy.{IsTooHeavy};
+ghost use Rattle.sieve_meaning.specs.Weight.{greatest_weight, linked_weight};
 ghost use Rattle.script_library.specs.Lent.{scripts_of};
 ghost use Rattle.script_library.specs.Libraries.{library_of};
 ghost use Rattle.filing_flow.specs.Structure.{size};
@@ -24,6 +24,7 @@ use crate::finding::Scope;
 use crate::levels::{Above, Deepest, Includes};
 use crate::linker::Linker;
 use crate::output::{Output, put};
+use crate::shared::build_shared;
 use crate::slots::slot_count;
 use crate::weight::script_weight;
 use filing_image::{Image, Operation};
@@ -35,7 +36,11 @@ use std::alloc::{AllocError, Global};
 use std::marker::PhantomData;
 
 /// The greatest weight of a script that is run.
+<<<<<<< HEAD
+pub const GREATEST_WEIGHT: u32 = 60_000;
+=======
 const MAX_WEIGHT: u32 = 60_000;
+>>>>>>> main
 
 /// Writes a script, and after it the end of the run, to which a `return` of the script jumps. Room for `operations`
 /// operations is taken at once.
@@ -60,9 +65,19 @@ fn emit_program<L: Linker>(
     Ok(out)
 }
 
+<<<<<<< HEAD
+/// The image of what was written, with so many slots. It has a form unless a string is too long for it.
+pub fn image_of(
+    budget: u32,
+    slots: u16,
+    mut out: Output,
+    first_places: Option<Vec<u16>>,
+) -> Result<Image, GenFault>
+=======
 /// The image of what was written, with this budget and number of slots. `NoMemory` also where a string has more than
 /// 65,535 octets.
 fn image_of(budget: u32, slots: u16, mut out: Output) -> Result<Image, GenFault>
+>>>>>>> main
     ensures made { IfOk result (λ i. IsImageOf budget slots out i) }
     ensures once { IfOk result (λ i. NamesOnce i) }
     ensures refused { IfErr result (λ f. f ≡ NoMemory) }
@@ -70,7 +85,7 @@ fn image_of(budget: u32, slots: u16, mut out: Output) -> Result<Image, GenFault>
     let texts = out.texts.into_texts()?;
     let numbers = out.numbers.into_numbers()?;
     out.code.shrink_to_fit();
-    match Image::from_code(budget, texts, numbers, slots, out.code) {
+    match Image::from_code(budget, texts, numbers, slots, first_places, out.code) {
         Ok(image) => Ok(image),
         Err(_) => Err(GenFault::NoMemory),
     }
@@ -103,7 +118,7 @@ fn build(
     };
     let slots = slot_count(scope.shelves);
     let out = emit_program(alloc, &includes, &script.commands, weight)?;
-    let image = image_of(weight, slots, out)?;
+    let image = image_of(weight, slots, out, None)?;
     Ok(Verified::known(image))
 }
 
@@ -142,9 +157,13 @@ pub fn compile(
         (λ v. IsCompiled (library_of library.now) (option_map (λ s. s.now) known_as.entry)
         (program_of (tree_of main.now.script)) v) }
     ensures once { IfOk result (λ v. NamesOnce v) }
+<<<<<<< HEAD
+    ensures too_large { result ≡ Err TooLarge ↔ IsTooHeavy (library_of library.now) (option_map (λ s. s.now) known_as.entry) (program_of (tree_of main.now.script)) }
+=======
     ensures too_large { result ≡ Err TooLarge ↔
         greatest_weight < linked_weight (library_of library.now) (option_map (λ s. s.now) known_as.entry)
         (program_of (tree_of main.now.script)) }
+>>>>>>> main
 {
     compile_with(alloc, main, known_as, library.shelves())
 }
@@ -161,9 +180,13 @@ pub fn compile_with(
         (λ v. IsCompiled (library_of (scripts_of shelves.entry)) (option_map (λ s. s.now) known_as.entry)
         (program_of (tree_of main.now.script)) v) }
     ensures once { IfOk result (λ v. NamesOnce v) }
+<<<<<<< HEAD
+    ensures too_large { result ≡ Err TooLarge ↔ IsTooHeavy (library_of (scripts_of shelves.entry)) (option_map (λ s. s.now) known_as.entry) (program_of (tree_of main.now.script)) }
+=======
     ensures too_large { result ≡ Err TooLarge ↔
         greatest_weight < linked_weight (library_of (scripts_of shelves.entry))
         (option_map (λ s. s.now) known_as.entry) (program_of (tree_of main.now.script)) }
+>>>>>>> main
 {
     let script = main.script();
     let scope = Scope {
@@ -171,7 +194,7 @@ pub fn compile_with(
         main: MainScript { known_as },
     };
     match weigh(script, scope) {
-        None => Err(GenFault::TooLarge),
+        None => build_shared(alloc, script, scope),
         Some(weight) => build(alloc, script, scope, weight),
     }
 }

@@ -8,7 +8,7 @@ ghost use Rattle.sieve_meaning.specs.Reading.{test_in, only_in, tests_in, string
 ghost use Rattle.sieve_meaning.specs.Weight.{test_weight, tests_weight, weight};
 ghost use Rattle.filing_gen.specs.Weights.{IsLeft, plain_weight, part_weight};
 
-use crate::linker::Linker;
+use crate::linker::Weights;
 use sieve_meaning::branches::{Part, is_branch, part_in};
 use sieve_meaning::reading::{include, next_string_list};
 use sieve_meaning::{CommandWord, TestWord, command_word, test_word};
@@ -100,8 +100,13 @@ fn weigh_tests(tests: &Tests, left: u32) -> Option<u32>
     }
 }
 
+<<<<<<< HEAD
+/// Takes the weight of a command that has no block: 4, and of an `include` also what it includes.
+fn weigh_plain<L: Weights>(
+=======
 /// Subtracts the weight of a command that has no block: 4, and for an `include` also what it includes.
 fn weigh_plain<L: Linker>(
+>>>>>>> main
     linker: &L,
     word: CommandWord,
     arguments: &[Argument],
@@ -123,7 +128,7 @@ fn weigh_plain<L: Linker>(
 
 /// Subtracts the weight of a block.
 #[cycle(weights)]
-fn weigh_block<L: Linker>(linker: &L, ending: &Ending, left: u32) -> Option<u32>
+fn weigh_block<L: Weights>(linker: &L, ending: &Ending, left: u32) -> Option<u32>
     ensures { IsLeft left (weight (L.weight_of linker.now) (block_in (ending_of ending.now))) result }
 {
     match ending {
@@ -134,7 +139,7 @@ fn weigh_block<L: Linker>(linker: &L, ending: &Ending, left: u32) -> Option<u32>
 
 /// Subtracts the weight of a command by its part: 4, and for a branch also its test and its block.
 #[cycle(weights)]
-fn weigh_part<L: Linker>(linker: &L, command: &Command, part: Part, left: u32) -> Option<u32>
+fn weigh_part<L: Weights>(linker: &L, command: &Command, part: Part, left: u32) -> Option<u32>
     ensures { IsLeft left (part_weight (L.weight_of linker.now) part (command_of command.now)) result }
 {
     match part {
@@ -154,9 +159,14 @@ fn weigh_part<L: Linker>(linker: &L, command: &Command, part: Part, left: u32) -
 
 /// Subtracts the weight of commands; none where it is more than `left`.
 #[cycle(weights)]
+<<<<<<< HEAD
+pub fn weigh_commands<L: Weights>(linker: &L, commands: &Vec<Command>, left: u32) -> Option<u32>
+    ensures { IsLeft left (weight (L.weight_of linker.now) (program_of (commands_of (map command_of commands.now.items)))) result }
+=======
 pub fn weigh_commands<L: Linker>(linker: &L, commands: &Vec<Command>, left: u32) -> Option<u32>
     ensures { IsLeft left (weight (L.weight_of linker.now)
         (program_of (commands_of (map command_of commands.now.items)))) result }
+>>>>>>> main
 {
     let mut rest = left;
     let mut is_open = false;
@@ -168,11 +178,18 @@ pub fn weigh_commands<L: Linker>(linker: &L, commands: &Vec<Command>, left: u32)
     Some(rest)
 }
 
+<<<<<<< HEAD
+/// The weight of a script and all that it includes, and 1; none where it is above the greatest. It takes time linear in
+/// the smaller of both.
+pub fn script_weight<L: Weights>(linker: &L, script: &Script, greatest: u32) -> Option<u32>
+    ensures { MatchOption result (greatest < weight (L.weight_of linker.now) (program_of (tree_of script.now)) + 1) (λ w. (w ≡ weight (L.weight_of linker.now) (program_of (tree_of script.now)) + 1) × (w ≤ greatest)) }
+=======
 /// The weight of a script and all that it includes, and 1; none where that is above `greatest`. Time is linear in the
 /// smaller of the two.
 pub fn script_weight<L: Linker>(linker: &L, script: &Script, greatest: u32) -> Option<u32>
     ensures { MatchOption result (greatest < weight (L.weight_of linker.now) (program_of (tree_of script.now)) + 1)
         (λ w. (w ≡ weight (L.weight_of linker.now) (program_of (tree_of script.now)) + 1) × (w ≤ greatest)) }
+>>>>>>> main
 {
     let left = weigh_commands(linker, &script.commands, greatest.checked_sub(1)?)?;
     Some(greatest - left)

@@ -4,8 +4,13 @@ ghost use Rattle.std.specs.Prelude.{◌≡◌, ◌≢◌, IfSome, IfNone};
 ghost use Rattle.filing_image.specs.Program.{instruction_of};
 ghost use Rattle.filing_image.specs.Spelling.{FitsInstruction};
 
+<<<<<<< HEAD
+/// An instruction as it is written in four octets: the operation's number, 1 to 23, and two operands, each 0 where the
+/// operation has none.
+=======
 /// An instruction, which takes four octets: the operation's number `op`, 1 to 21, in one octet, the operand `a` in one,
 /// and the operand `b` in two. An operand that the operation does not have is 0.
+>>>>>>> main
 #[derive(Clone, Copy, Debug, PartialEq, Eq)]
 pub struct Instruction {
     pub op: u8,
@@ -62,10 +67,19 @@ pub enum Operation {
     Stop,
     /// 21: ends the run with a fault, 2 to 5.
     Fault(u8),
+    /// 22, in version 2 alone: enters a procedure, on an empty stack.
+    Call(u16),
+    /// 23, in version 2 alone: goes on after the last call that was not returned from yet, on an empty stack, and ends
+    /// the run where there is none.
+    Return,
 }
 
 impl Operation {
+<<<<<<< HEAD
+    /// The operation that an instruction writes, or none where its number is none of 1 to 23, or an operand that the
+=======
     /// The operation that an instruction encodes; none where its number is not 1 to 21, or an operand that the
+>>>>>>> main
     /// operation does not have is not 0.
     pub fn of(instruction: Instruction) -> Option<Operation>
         ensures found { IfSome result (λ o. instruction_of o ≡ instruction) }
@@ -95,6 +109,8 @@ impl Operation {
             (19, 0, 0) => Operation::Discard,
             (20, 0, 0) => Operation::Stop,
             (21, a, 0) => Operation::Fault(a),
+            (22, 0, b) => Operation::Call(b),
+            (23, 0, 0) => Operation::Return,
             _ => return None,
         };
         Some(found)
@@ -126,6 +142,8 @@ impl Operation {
             Operation::Discard => (19, 0, 0),
             Operation::Stop => (20, 0, 0),
             Operation::Fault(a) => (21, a, 0),
+            Operation::Call(b) => (22, 0, b),
+            Operation::Return => (23, 0, 0),
         };
         Instruction { op, a, b }
     }

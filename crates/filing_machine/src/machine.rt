@@ -11,6 +11,7 @@ ghost use Rattle.filing_machine.specs.Seen.{state, InCase};
 ghost use Rattle.filing_machine.specs.Tops.{top_of_stack, any_on_top, value_matches};
 
 use crate::act::act;
+use crate::calls::Calls;
 use crate::fields::first_match;
 use crate::outcome::Outcome;
 use crate::stack::Stack;
@@ -40,8 +41,13 @@ impl Model for Machine {
 }
 
 impl Machine {
+<<<<<<< HEAD
+    /// A machine before the first instruction of a program, with nothing done. It reserves the whole stack, and room for
+    /// 256 places to return to; the only error is want of memory.
+=======
     /// A machine before the first instruction of a program, with nothing done. It reserves the whole stack. The only
     /// error is a refused allocation.
+>>>>>>> main
     pub fn start(alloc: Global, _program: &Verified) -> Result<Machine, AllocError>
         ensures start { IfOk result (λ m. (c : Facts) → seen c m ≡ At start) }
         ensures fresh { IfOk result (λ m. m.steps ≡ 0) }
@@ -56,6 +62,7 @@ impl Machine {
             kept: false,
             cancelled: false,
             marks: [false; 64],
+            calls: Calls::new(),
         };
         Ok(Machine {
             alloc,

@@ -6,7 +6,7 @@ use crate::failure::Failure;
 use crate::files::{read_file, write, write_line};
 use crate::halving::Search;
 use clap::ArgMatches;
-use filing_image::{Image, Operation, decode};
+use filing_image::{Image, Operation, Version, decode};
 use filing_verify::{VerifyFault, verify};
 use std::alloc::{AllocError, Global};
 use tool_texts::Payload;
@@ -41,10 +41,14 @@ fn show(rt: &HostRuntime, image: &Image) -> Result<(), Failure> {
     let (budget, slots) = (image.budget(), image.slots());
     let (texts, numbers) = (image.text_count(), image.numbers().len());
     let code = image.code().len();
+    let version = match image.version() {
+        Version::One => 1,
+        Version::Two => 2,
+    };
     write_line(
         rt,
         format!(in alloc;
-            "version 1\nbudget {budget}\nslots {slots}\ntexts {texts}\nnumbers {numbers}\ninstructions {code}"
+            "version {version}\nbudget {budget}\nslots {slots}\ntexts {texts}\nnumbers {numbers}\ninstructions {code}"
         )?,
     )?;
     show_texts(rt, image)?;
@@ -61,8 +65,20 @@ fn texts_of(alloc: Global, image: &Image) -> Result<Vec<Vec<u8>>, AllocError> {
     Ok(texts)
 }
 
+<<<<<<< HEAD
+/// The first places of the procedures of an image; none in version 1, which has no procedures.
+fn first_places_of(alloc: Global, image: &Image) -> Result<Option<Vec<u16>>, AllocError> {
+    match image.version() {
+        Version::One => Ok(None),
+        Version::Two => Ok(Some(Vec::from_slice(alloc, image.first_places())?)),
+    }
+}
+
+/// The image with so many of its first instructions, and STOP in place of each other one; none where that has no form.
+=======
 /// The image with its first `count` instructions, and STOP in place of each other one; none where the format has no
 /// such image.
+>>>>>>> main
 fn cut(alloc: Global, image: &Image, count: usize) -> Result<Option<Image>, AllocError> {
     let mut code = Vec::new(alloc);
     for (place, operation) in image.code().iter().enumerate() {
@@ -74,7 +90,9 @@ fn cut(alloc: Global, image: &Image, count: usize) -> Result<Option<Image>, Allo
     }
     let texts = texts_of(alloc, image)?;
     let numbers = Vec::from_slice(alloc, image.numbers())?;
-    Ok(Image::from_code(image.budget(), texts, numbers, image.slots(), code).ok())
+    let first_places = first_places_of(alloc, image)?;
+    let (budget, slots) = (image.budget(), image.slots());
+    Ok(Image::from_code(budget, texts, numbers, slots, first_places, code).ok())
 }
 
 /// Whether the image that is cut after `count` instructions is refused by the same number.

@@ -8,7 +8,7 @@ use Rattle.filing_gen.specs.Slots.{slots_of}
 use Rattle.filing_gen.specs.Scopes.{names_of}
 use Rattle.filing_gen.specs.Weights.{IsLeft}
 use Rattle.filing_gen.proofs.LevelLemmas.{nothing_weighed, entry_weight}
-use Rattle.filing_gen.proofs.levels.IncludesLinker.weigh.Goals as goal
+use Rattle.filing_gen.proofs.levels.IncludesWeights.weigh.Goals as goal
 
 pub returns-in-Pass : goal.returns-in-Pass
 returns-in-Pass g c =
