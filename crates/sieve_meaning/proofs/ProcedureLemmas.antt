@@ -1,4 +1,4 @@
--- Each include of a procedure that enters a script has its procedure among those behind.
+-- Each include of a procedure that enters a script has its procedure among those after the include's own.
 use Rattle.std.proofs.Common.{◌≡◌, ◌≤◌, ◌⊎◌, ℕ, zero, suc, List, [], ◌∷◌, ◌++◌, map, filter, flat_map, filter_map, Bool, true, false, not, ◌&&◌, ◌||◌, cond, Option, Some, None, inl, inr, refl, sym, ap, ◌∙◌, subst, arith}
 use Rattle.std.specs.Prelude.{nat_eq}
 use Rattle.std.specs.List.{list_any, cons_option}
@@ -236,12 +236,12 @@ module _ (lib : Library) where
 
   -- what an include of the procedure enters is among these
   abbrev pub FindsCalls : Procedure → List Procedure → Type 0
-  FindsCalls p behind = (left : ℕ) → p.left ≡ suc left → (s : ScriptName) (e : Procedure) → IsElement s (included_names p.script) → entered lib left p.chain s ≡ Some e → list_any (λ q. is_shared lib q e) behind ≡ true
+  FindsCalls p later = (left : ℕ) → p.left ≡ suc left → (s : ScriptName) (e : Procedure) → IsElement s (included_names p.script) → entered lib left p.chain s ≡ Some e → list_any (λ q. is_shared lib q e) later ≡ true
 
-  -- what includes enter is behind them
+  -- what includes enter comes after them
   abbrev pub AllFind : List Procedure → Type 0
   AllFind [] = Unit {0}
-  AllFind (p ∷ behind) = FindsCalls p behind × AllFind behind
+  AllFind (p ∷ later) = FindsCalls p later × AllFind later
 
   none_find : (ps : List Procedure) → AllOf (λ p. p.left ≡ zero) ps → AllFind ps
   none_find [] h = tt
@@ -284,16 +284,16 @@ module _ (lib : Library) where
   unfolding procedures
   all_find known_as main = led_finds 7 (main_procedure known_as main ∷ []) (refl, tt)
 
-  -- those behind the main script
-  pub behind_main : (known_as : Option (List ℕ)) (main : Commands) → List Procedure
-  behind_main known_as main = led_to lib 6 (called_by lib 6 (main_procedure known_as main ∷ []))
+  -- those after the main script
+  pub after_main : (known_as : Option (List ℕ)) (main : Commands) → List Procedure
+  after_main known_as main = led_to lib 6 (called_by lib 6 (main_procedure known_as main ∷ []))
 
-  pub procedures_are : (known_as : Option (List ℕ)) (main : Commands) → procedures lib known_as main ≡ main_procedure known_as main ∷ behind_main known_as main
-  unfolding procedures behind_main
+  pub procedures_are : (known_as : Option (List ℕ)) (main : Commands) → procedures lib known_as main ≡ main_procedure known_as main ∷ after_main known_as main
+  unfolding procedures after_main
   procedures_are known_as main = refl
 
-  pub behind_entered : (known_as : Option (List ℕ)) (main : Commands) → AllOf IsSomeEntered (behind_main known_as main)
-  unfolding behind_main
-  behind_entered known_as main =
+  pub after_main_entered : (known_as : Option (List ℕ)) (main : Commands) → AllOf IsSomeEntered (after_main known_as main)
+  unfolding after_main
+  after_main_entered known_as main =
       let first = main_procedure known_as main ∷ [] in
       led_entered 6 (called_by lib 6 first) (omega arith) (all_once (is_shared lib) (IsEntered lib 6) (all_entered 6 first) (are_entered 6 first))
