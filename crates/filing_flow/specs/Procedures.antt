@@ -7,11 +7,11 @@ use Rattle.filing_image.specs.declared.instruction.Operation.TheVariants.{Return
 use Rattle.filing_verify.specs.Well.{IsWell}
 use Rattle.sieve_meaning.specs.Case.{Facts}
 use Rattle.filing_table.specs.Ends.{HasOutcome}
-use Rattle.filing_flow.specs.Structure.{Action, CallTo, Flow, nothing, action, sequence, block, leave, leave_if, size, Bounds, IsSound}
+use Rattle.filing_flow.specs.Structure.{Action, CallTo, End, Flow, nothing, action, sequence, block, leave, leave_if, size, Bounds, IsSound}
 use Rattle.filing_flow.specs.Code.{Operands, places_in, Stands}
 use Rattle.filing_flow.specs.Effect.{Filing, Stuck, EndsRun, Called, effect}
 use Rattle.filing_flow.specs.Types.{HasType}
-use Rattle.filing_flow.specs.Whole.{whole, nothing_done, outcome_from}
+use Rattle.filing_flow.specs.Whole.{nothing_done, outcome_from}
 
 -- CODE
 
@@ -82,16 +82,20 @@ steps_by from (a ∷ later) b = if nat_eq b from
 
 -- LAWS
 
--- A program of sound procedures runs on the table machine as its first procedure runs in blocks. RETURN ends the run
--- there. Where the code ends the run, the run of the program ends, with the same fault and the same outcome.
+-- calls the first procedure, and then ends the run
+abbrev pub first_called : Flow
+first_called = sequence (action (CallTo 0)) (action End)
+
+-- A program of sound procedures runs on the table machine as the call of the first one, and then the end of the run:
+-- where that code ends the run, the run of the program ends, with the same fault and the same outcome.
 abbrev pub RunsAsItsProcedures : Type 0
-RunsAsItsProcedures = (p : Program) (c : Facts) (a : Flow) (later : List Flow) (fault : Option ℕ) (f : Filing) →
-    AreProceduresOf p (a ∷ later) → AreSound p.slots (length (a ∷ later)) 0 (a ∷ later) →
-    effect (called_by c 1 later) c (whole a) nothing_done [] ≡ EndsRun fault f → (n : ℕ) ×
+RunsAsItsProcedures = (p : Program) (c : Facts) (procedures : List Flow) (fault : Option ℕ) (f : Filing) →
+    AreProceduresOf p procedures → AreSound p.slots (length procedures) 0 procedures →
+    effect (called_by c 0 procedures) c first_called nothing_done [] ≡ EndsRun fault f → (n : ℕ) ×
     HasOutcome p c n (outcome_from fault f)
 
--- A program of procedures that have types and are sound may run, where its budget has the steps of the first one.
+-- A program of 1 to 256 procedures that have types and are sound may run, where its budget has the steps of the first.
 abbrev pub TypedProceduresAreWell : Type 0
-TypedProceduresAreWell = (p : Program) (a : Flow) (later : List Flow) → AreProceduresOf p (a ∷ later) →
-    AreTyped (a ∷ later) → AreSound p.slots (length (a ∷ later)) 0 (a ∷ later) → p.slots ≤ 64 →
-    length (a ∷ later) ≤ 256 → flow_steps (steps_by 1 later) a + 1 ≤ p.budget → p.budget ≤ 1000000 → IsWell p
+TypedProceduresAreWell = (p : Program) (procedures : List Flow) → AreProceduresOf p procedures → AreTyped procedures →
+    AreSound p.slots (length procedures) 0 procedures → p.slots ≤ 64 → 1 ≤ length procedures →
+    length procedures ≤ 256 → steps_by 0 procedures 0 ≤ p.budget → p.budget ≤ 1000000 → IsWell p
