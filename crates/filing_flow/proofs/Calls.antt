@@ -34,18 +34,22 @@ module _ (p : Program) (c : Facts) where
     procedure_runs a later from place rest calls run f =
         flow_runs p c calls (called_by c (suc from) later) run (record { slots = p.slots; own = from; procedures = count }) refl (block a) [] place f [] rest.sound.0 rest.stand.0
 
-    pub calls_run : (procedures : List Flow) (from place : ℕ) → RestOf p count from place procedures → (calls : List ℕ) → CallsRun p c calls (called_by c from procedures)
-    calls_run [] from place rest calls b f pc ends at = tt
-    calls_run (a ∷ later) from place rest calls b f pc ends at = go (nat_eq b from) refl
+    -- a call of the first of these, or of a later one
+    call_runs : (a : Flow) (later : List Flow) (from place : ℕ) → RestOf p count from place (a ∷ later) → ((calls : List ℕ) → CallsRun p c calls (called_by c (suc from) later)) → (calls : List ℕ) → CallsRun p c calls (called_by c from (a ∷ later))
+    call_runs a later from place rest run calls b f pc ends at = go (nat_eq b from) refl
       where
         go : (t : Bool) → nat_eq b from ≡ t → Arrives p c calls (returned (cond t (effect (called_by c (suc from) later) c (block a) f []) (called_by c (suc from) later b f))) (pc + 1) ends (At (on calls f pc []))
         go true e =
             let x = effect (called_by c (suc from) later) c (block a) f [] in
             let is : first_place p b ≡ Some place = ap (first_place p) (eqb-true b from e) ∙ first_is p count from place a later rest in
-            let body = procedure_runs a later from place rest ((pc + 1) ∷ calls) (calls_run later (suc from) (place + size a + 1) (after_it p count from place a later rest) ((pc + 1) ∷ calls)) f in
+            let body = procedure_runs a later from place rest ((pc + 1) ∷ calls) (run ((pc + 1) ∷ calls)) f in
             arrives_later p c calls (returned x) (pc + 1) ends (At (on calls f pc [])) (At (on ((pc + 1) ∷ calls) f place [])) (enters calls b place pc f at is)
             (goes_back calls x (pc + 1) (place + size a) ends (At (on ((pc + 1) ∷ calls) f place [])) rest.stand.1 body)
-        go false e = calls_run later (suc from) (place + size a + 1) (after_it p count from place a later rest) calls b f pc ends at
+        go false e = run calls b f pc ends at
+
+    pub calls_run : (procedures : List Flow) (from place : ℕ) → RestOf p count from place procedures → (calls : List ℕ) → CallsRun p c calls (called_by c from procedures)
+    calls_run [] from place rest calls = λ b f pc ends at. tt
+    calls_run (a ∷ later) from place rest calls = call_runs a later from place rest (calls_run later (suc from) (place + size a + 1) (after_it p count from place a later rest)) calls
 
   -- a RETURN with no place to return to ends the run
   last_returns : (x : Exit) (end : ℕ) (y : Run) → slice_get p.code end ≡ Some Return → Arrives p c [] x end [] y → Arrives p c [] (and_then (returned x) (λ f es. EndsRun None f)) end [] y
