@@ -211,7 +211,7 @@ module _ (p : Program) (procedures : List Flow) (are : AreProceduresOf p procedu
   begins : first_place p 0 ≡ Some 0
   begins = begins_by procedures are.places some
     where
-      begins_by : (as : List Flow) → p.procedures ≡ Some (places_from 0 as) → 1 ≤ length as → first_place p 0 ≡ Some 0
+      begins_by : (ps : List Flow) → p.procedures ≡ Some (places_from 0 ps) → 1 ≤ length ps → first_place p 0 ≡ Some 0
       begins_by [] e some = absurd (omega arith)
       begins_by (a ∷ later) e some = ap (λ (x : Option (List ℕ)). slice_get (firsts_of x) 0) e
 
@@ -222,14 +222,14 @@ module _ (p : Program) (procedures : List Flow) (are : AreProceduresOf p procedu
   some_steps : 1 ≤ steps_by 0 procedures 0
   some_steps = steps_some procedures some
     where
-      steps_some : (as : List Flow) → 1 ≤ length as → 1 ≤ steps_by 0 as 0
+      steps_some : (ps : List Flow) → 1 ≤ length ps → 1 ≤ steps_by 0 ps 0
       steps_some [] some = absurd (omega arith)
       steps_some (a ∷ later) some = omega arith
 
   some_places : 0 < length p.code
   some_places = places_by procedures are.long some
     where
-      places_by : (as : List Flow) → length p.code ≡ whole_size as → 1 ≤ length as → 0 < length p.code
+      places_by : (ps : List Flow) → length p.code ≡ whole_size ps → 1 ≤ length ps → 0 < length p.code
       places_by [] e some = absurd (omega arith)
       places_by (a ∷ later) e some = omega (arith, e)
 
