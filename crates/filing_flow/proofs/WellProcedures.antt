@@ -1,5 +1,5 @@
 -- A program of procedures is well formed.
-use Rattle.std.proofs.Common.{◌≡◌, ℕ, zero, suc, ◌+◌, ◌-◌, ◌<◌, ◌≤◌, Bool, true, false, cond, leb, List, [], ◌∷◌, ◌++◌, length, get_or, Option, Some, None, refl, sym, ap, ◌∙◌, subst, arith, inl, inr}
+use Rattle.std.proofs.Common.{◌≡◌, ℕ, suc, ◌+◌, ◌<◌, ◌≤◌, Bool, true, false, leb, List, [], ◌∷◌, ◌++◌, length, get_or, Option, Some, refl, sym, ap, ◌∙◌, subst, arith, inl, inr}
 use Rattle.std.specs.Prelude.{slice_get, slice_index_or, nat_eq, All}
 use Rattle.std.specs.List.{count_by}
 use Rattle.std.proofs.lemmas.Bool.{cases_lt}
@@ -8,16 +8,16 @@ use Rattle.std.proofs.lemmas.Option.{slice_get_within, slice_get-get_or}
 use Rattle.filing_image.specs.declared.instruction.Operation.{Operation}
 use Rattle.filing_image.specs.declared.instruction.Operation.TheVariants.{Stop, Call, Return}
 use Rattle.filing_image.specs.Program.{Program, first_places, firsts_of}
-use Rattle.filing_verify.specs.Flow.{jump_target, first_place, goes_on, Reached, procedure_of}
+use Rattle.filing_verify.specs.Flow.{first_place, goes_on, Reached, procedure_of}
 use Rattle.filing_verify.specs.Shapes as shapes
-use Rattle.filing_verify.specs.Well.{InRange, HasProcedures, AreInRange, greatest_budget, AreCosts, Suffices, IsWell}
+use Rattle.filing_verify.specs.Well.{InRange, HasProcedures, AreInRange, greatest_budget, Suffices, IsWell}
 use Rattle.filing_verify.specs.Passes.{RunsOn}
 use Rattle.filing_verify.proofs.Procedures.{jump_is, stays}
 use Rattle.filing_flow.specs.Structure.{Flow, block, size, Bounds}
-use Rattle.filing_flow.specs.Types.{Shape, HasType}
+use Rattle.filing_flow.specs.Types.{Shape}
 use Rattle.filing_flow.specs.Procedures.{places_from, whole_size, AreProceduresOf, AreSound, AreTyped, steps_by, TypedProceduresAreWell}
 use Rattle.filing_flow.proofs.Rest.{RestOf, all, after_it, first_is, first_or_later, none_after}
-use Rattle.filing_flow.proofs.Typed.{shapes_of, shapes_long, ShapedAt, shaped_front, shaped_back, FineAt, CallsFine, flow_fine, starts}
+use Rattle.filing_flow.proofs.Typed.{shapes_of, shapes_long, ShapedAt, shaped_front, shaped_back, FineAt, flow_fine, starts}
 use Rattle.filing_flow.proofs.Within.{Within, flow_within}
 use Rattle.filing_flow.proofs.Well.{deep, shaped_from}
 use Rattle.filing_flow.proofs.Costs.{AreExact, costs, costs_are, procedures_cost}
