@@ -1,5 +1,5 @@
--- The code of a procedure does what its script means, behind any active scripts that agree with the procedure's own on what the
--- script reaches.
+-- The code of a procedure does what its script means, after any active scripts that agree with the procedure's own on
+-- what the script reaches.
 use Rattle.std.proofs.Common.{◌≡◌, ◌≤◌, ℕ, zero, suc, List, [], ◌∷◌, Bool, true, false, ◌||◌, Option, Some, None, refl, sym, ap, ◌∙◌, subst, arith}
 use Rattle.std.specs.Prelude.{slice_get}
 use Rattle.std.specs.List.{list_any}
@@ -8,7 +8,7 @@ use Rattle.sieve_meaning.specs.Case.{Facts}
 use Rattle.sieve_meaning.specs.Program.{Include, Commands}
 use Rattle.sieve_meaning.specs.Meaning.{ScriptName, script_named, same_script, is_among, Library, Filing, Faults, run, included, ended, entering}
 use Rattle.sieve_meaning.specs.Procedures.{includes_of, reaches_within, Procedure, is_shared, entered_if, entered}
-use Rattle.sieve_meaning.proofs.SharingLemmas.{IsIn, SameFor, at_include, behind_include, reaches_more, same_reached, shared_tests}
+use Rattle.sieve_meaning.proofs.SharingLemmas.{IsIn, SameFor, at_include, inside_include, reaches_more, same_reached, shared_tests}
 use Rattle.sieve_meaning.proofs.ProcedureLemmas.{IsEntered, FindsCalls, named_once, shared_script}
 use Rattle.filing_flow.specs.Structure.{Fail, Flow, action}
 use Rattle.filing_flow.specs.Effect.{effect}
@@ -24,22 +24,22 @@ use Rattle.filing_gen.proofs.Means.{AgreesAt, means_at}
 -- NUMBERS
 
 -- the first procedure that an include shares
-pub record Numbered (lib : Library) (behind : List Procedure) (e : Procedure) : Type 0 where
+pub record Numbered (lib : Library) (later : List Procedure) (e : Procedure) : Type 0 where
   pub number : ℕ
   pub procedure : Procedure
-  pub number_is : number_of lib behind e ≡ Some number
-  pub stands : slice_get behind number ≡ Some procedure
+  pub number_is : number_of lib later e ≡ Some number
+  pub stands : slice_get later number ≡ Some procedure
   pub shared : is_shared lib procedure e ≡ true
 
-numbered_from : (lib : Library) (q : Procedure) (behind : List Procedure) (e : Procedure) (b : Bool) → is_shared lib q e ≡ b → (b || list_any (λ q. is_shared lib q e) behind) ≡ true → (list_any (λ q. is_shared lib q e) behind ≡ true → Numbered lib behind e) → Numbered lib (q ∷ behind) e
-numbered_from lib q behind e true is h later = record { number = 0; procedure = q; number_is = rw is refl; stands = refl; shared = is }
-numbered_from lib q behind e false is h later =
-    let n = later h in
+numbered_from : (lib : Library) (q : Procedure) (later : List Procedure) (e : Procedure) (b : Bool) → is_shared lib q e ≡ b → (b || list_any (λ q. is_shared lib q e) later) ≡ true → (list_any (λ q. is_shared lib q e) later ≡ true → Numbered lib later e) → Numbered lib (q ∷ later) e
+numbered_from lib q later e true is h rest_has = record { number = 0; procedure = q; number_is = rw is refl; stands = refl; shared = is }
+numbered_from lib q later e false is h rest_has =
+    let n = rest_has h in
     record { number = suc n.number; procedure = n.procedure; number_is = rw (is, n.number_is) refl; stands = n.stands; shared = n.shared }
 
-pub numbered : (lib : Library) (behind : List Procedure) (e : Procedure) → list_any (λ q. is_shared lib q e) behind ≡ true → Numbered lib behind e
+pub numbered : (lib : Library) (later : List Procedure) (e : Procedure) → list_any (λ q. is_shared lib q e) later ≡ true → Numbered lib later e
 numbered lib [] e h = absurd (cc h)
-numbered lib (q ∷ behind) e h = numbered_from lib q behind e (is_shared lib q e) refl h (numbered lib behind e)
+numbered lib (q ∷ later) e h = numbered_from lib q later e (is_shared lib q e) refl h (numbered lib later e)
 
 -- ENTRIES
 
@@ -56,31 +56,31 @@ pub entered_there : (lib : Library) (left : ℕ) (chain : List ScriptName) (s : 
 entered_there lib left chain s x at out = ap (λ (o : Option Commands). entered_if o (is_among chain s) left (s ∷ chain)) at ∙ ap (λ (b : Bool). entered_if (Some x) b left (s ∷ chain)) out
 
 module _ (c : Facts) (lib : Library) (slot : Slots) (count : ℕ) (has : HasSlots lib slot count) (main : List ScriptName) where
-  -- What a call of a procedure does: it runs the script behind the scripts that are active, and returns.
+  -- What a call of a procedure does: it runs the script after the scripts that are active, and returns.
   abbrev pub CallMeans : Flow → Procedure → Type 0
   CallMeans a q =
       (chain : List ScriptName) → SameFor lib (suc q.left) q.script q.chain chain → ((s : ScriptName) → is_among main s ≡ true → is_among chain s ≡ true)
       → (n : ℕ) (f : Filing) (g : code.Filing) → Related (Marked lib slot main chain) f g → Alike (Marked lib slot main chain) n (ended (run c (included c lib q.left chain) q.script f)) (effect c a g [])
 
   abbrev pub CallsMean : Calls → List Procedure → Type 0
-  CallsMean call behind = (n : ℕ) (q : Procedure) → slice_get behind n ≡ Some q → CallMeans (call n) q × (lefts : ℕ) × IsEntered lib lefts q
+  CallsMean call later = (n : ℕ) (q : Procedure) → slice_get later n ≡ Some q → CallMeans (call n) q × (lefts : ℕ) × IsEntered lib lefts q
 
-  module _ (call : Calls) (behind : List Procedure) (means : CallsMean call behind) (p : Procedure) (few : p.left ≤ 7) (finds : FindsCalls lib p behind) (chain : List ScriptName) (same : SameFor lib (suc p.left) p.script p.chain chain) (within : (s : ScriptName) → is_among main s ≡ true → is_among chain s ≡ true) where
+  module _ (call : Calls) (later : List Procedure) (means : CallsMean call later) (p : Procedure) (few : p.left ≤ 7) (finds : FindsCalls lib p later) (chain : List ScriptName) (same : SameFor lib (suc p.left) p.script p.chain chain) (within : (s : ScriptName) → is_among main s ≡ true → is_among chain s ≡ true) where
     -- the call of an include that enters a script
     called : (left : ℕ) → p.left ≡ suc left → (i : Include) → IsIn i (includes_of p.script) → (x : Commands) → lib.find (script_named i) ≡ Some x → is_among p.chain (script_named i) ≡ false
         → (n : ℕ) (f : Filing) (g : code.Filing) → Related (Marked lib slot main (script_named i ∷ chain)) f g
-        → Alike (Marked lib slot main (script_named i ∷ chain)) n (ended (run c (included c lib left (script_named i ∷ chain)) x f)) (effect c (call_flow call (number_of lib behind (record { script = x; left = left; chain = script_named i ∷ p.chain }))) g [])
+        → Alike (Marked lib slot main (script_named i ∷ chain)) n (ended (run c (included c lib left (script_named i ∷ chain)) x f)) (effect c (call_flow call (number_of lib later (record { script = x; left = left; chain = script_named i ∷ p.chain }))) g [])
     called left is i there x at out n f g r =
         let s = script_named i in
         let e : Procedure = record { script = x; left = left; chain = s ∷ p.chain } in
-        let found = numbered lib behind e (finds left is s e (named_once p.script i there) (entered_there lib left p.chain s x at out)) in
+        let found = numbered lib later e (finds left is s e (named_once p.script i there) (entered_there lib left p.chain s x at out)) in
         let q = found.procedure in
         let known = means found.number q found.stands in
         let t = shared_tests lib q e found.shared in
         let lefts : q.left ≡ left = eqb-true q.left left t.1 in
         let script : q.script ≡ x = shared_script lib q e known.1 known.2 s p.chain refl at found.shared in
         let own : SameFor lib (suc (suc left)) p.script p.chain chain = subst (λ (m : ℕ). SameFor lib (suc m) p.script p.chain chain) is same in
-        let inner : SameFor lib (suc left) x (s ∷ p.chain) (s ∷ chain) = behind_include lib (suc left) p.script x i p.chain chain there at own in
+        let inner : SameFor lib (suc left) x (s ∷ p.chain) (s ∷ chain) = inside_include lib (suc left) p.script x i p.chain chain there at own in
         let shares : SameFor lib 64 q.script q.chain (s ∷ p.chain) = same_reached lib q.script q.chain (s ∷ p.chain) t.2 t.3 in
         let both : SameFor lib (suc left) x q.chain (s ∷ chain) =
         λ u reached. shares u (subst (λ (y : Commands). reaches_within lib 64 y u ≡ true) (sym script) (reaches_more lib (suc left) 64 (omega (arith, few, is)) x u reached)) ∙ inner u reached in
@@ -91,7 +91,7 @@ module _ (c : Facts) (lib : Library) (slot : Slots) (count : ℕ) (has : HasSlot
         subst (λ (o : Option ℕ). Does left x o) (sym found.number_is) (subst (λ (y : Commands). Does left y (Some found.number)) script (subst (λ (m : ℕ). Does m q.script (Some found.number)) lefts here))
 
     by_left : (left : ℕ) → p.left ≡ left → (i : Include) → IsIn i (includes_of p.script) → (n : ℕ) (f : Filing) (g : code.Filing) → Related (Marked lib slot main chain) f g
-        → Alike (Marked lib slot main chain) n (included c lib left chain i f) (effect c (including_flow lib slot main p.chain (call_entry lib slot call behind left p.chain (script_named i)) i) g [])
+        → Alike (Marked lib slot main chain) n (included c lib left chain i f) (effect c (including_flow lib slot main p.chain (call_entry lib slot call later left p.chain (script_named i)) i) g [])
     by_left zero is i there n f g r =
         let enter : Commands → Flow = λ x. action (Fail 4) in
         let swap = chain_alike lib slot main p.chain chain enter i (λ y at. at_include lib p.left p.script y i p.chain chain there at same) in
@@ -99,7 +99,7 @@ module _ (c : Facts) (lib : Library) (slot : Slots) (count : ℕ) (has : HasSlot
         (including_alike c lib slot count has main chain within (λ script f. Faults 4 f) enter i (λ x at out n f g r. record { filing = g; related = r; exit = refl }) n f g r)
     by_left (suc left) is i there n f g r =
         let s = script_named i in
-        let enter : Commands → Flow = λ x. call_entry lib slot call behind (suc left) p.chain s x in
+        let enter : Commands → Flow = λ x. call_entry lib slot call later (suc left) p.chain s x in
         let swap = chain_alike lib slot main p.chain chain enter i (λ y at. at_include lib p.left p.script y i p.chain chain there at same) in
         subst (λ (a : Flow). Alike (Marked lib slot main chain) n (included c lib (suc left) chain i f) (effect c a g [])) (sym swap)
         (including_alike c lib slot count has main chain within (λ script f. ended (run c (included c lib left (s ∷ chain)) script (entering s f))) enter i
@@ -109,9 +109,9 @@ module _ (c : Facts) (lib : Library) (slot : Slots) (count : ℕ) (has : HasSlot
         let h = called left is i there x at free n (entering s f) now (entered_related c lib slot count has main chain s x at f g r) in
         record { filing = h.filing; related = shrunk c lib slot count has main chain s (filing_at (ended (run c (included c lib left (s ∷ chain)) x (entering s f)))) h.filing h.related; exit = h.exit }) n f g r)
 
-    calls_agree : AgreesAt c (Marked lib slot main chain) (calling_flow lib slot main call behind p) (included c lib p.left chain) (includes_of p.script)
+    calls_agree : AgreesAt c (Marked lib slot main chain) (calling_flow lib slot main call later p) (included c lib p.left chain) (includes_of p.script)
     calls_agree i there n f g r = by_left p.left refl i there n f g r
 
     -- the code of the procedure
-    pub procedure_means : (f : Filing) (g : code.Filing) → Related (Marked lib slot main chain) f g → Alike (Marked lib slot main chain) 0 (run c (included c lib p.left chain) p.script f) (effect c (script_flow (calling_flow lib slot main call behind p) p.script) g [])
-    procedure_means f g r = means_at c (Marked lib slot main chain) (calling_flow lib slot main call behind p) (included c lib p.left chain) 0 p.script calls_agree f g r
+    pub procedure_means : (f : Filing) (g : code.Filing) → Related (Marked lib slot main chain) f g → Alike (Marked lib slot main chain) 0 (run c (included c lib p.left chain) p.script f) (effect c (script_flow (calling_flow lib slot main call later p) p.script) g [])
+    procedure_means f g r = means_at c (Marked lib slot main chain) (calling_flow lib slot main call later p) (included c lib p.left chain) 0 p.script calls_agree f g r

@@ -87,20 +87,20 @@ module _ (lib : Library) (slot : Slots) (count : ℕ) (has : HasSlots lib slot c
       good (omega (arith, slots, has.few)) (omega (arith, budget, script_small)) (omega (arith, budget, small))
 
   -- what was written is the program
-  code_of : (o : Output) (p : Program) (a : Flow) (b : ℕ) → IsCode o a → IsImageOf b count o p → IsCodeOf p a
+  code_of : (o : Output) (p : Program) (a : Flow) (b : ℕ) → IsCode o a → IsImageOf b count None o p → IsCodeOf p a
   code_of o p a b is made =
       let named : Named (operands_of o) (places_in p.texts p.numbers) = record { text = made.text; number = made.number } in
       record {
-        one_piece = made.one_piece;
+        one_piece = made.procedures_are;
         stands = stands_there (operands_of o) (places_in p.texts p.numbers) named o.code.items p.code 0 (λ i x low at. subst (λ (l : List Operation). slice_get l i ≡ Some x) (sym made.code) at) (whole a) [] 0 (omega arith) is.stands;
         long = ap length made.code ∙ is.long;
       }
 
-  pub built_well : (o : Output) (p : Program) (b : ℕ) → IsCode o (main_flow lib slot known_as main) → IsImageOf b count o p → b ≡ linked_weight lib known_as main → b ≤ 60000 → IsWell p
+  pub built_well : (o : Output) (p : Program) (b : ℕ) → IsCode o (main_flow lib slot known_as main) → IsImageOf b count None o p → b ≡ linked_weight lib known_as main → b ≤ 60000 → IsWell p
   built_well o p b is made weight small =
       well p (code_of o p (main_flow lib slot known_as main) b is made) made.slots (made.budget_is ∙ weight) (omega (arith, weight, small))
 
-  pub built : (o : Output) (p : Program) (b : ℕ) → IsCode o (main_flow lib slot known_as main) → IsImageOf b count o p → IsWell p → b ≡ linked_weight lib known_as main → IsCompiled lib known_as main p
+  pub built : (o : Output) (p : Program) (b : ℕ) → IsCode o (main_flow lib slot known_as main) → IsImageOf b count None o p → IsWell p → b ≡ linked_weight lib known_as main → IsCompiled lib known_as main p
   unfolding script_budget
   built o p b is made good weight = record { budget = made.budget_is ∙ weight; well = good; outcomes = has_outcome p (code_of o p (main_flow lib slot known_as main) b is made) made.slots }
 

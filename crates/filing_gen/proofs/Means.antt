@@ -80,10 +80,10 @@ module _ (c : Facts) (marking : Marking) where
       branches_means n (otherwise xs) agree f s r = caught_means n (run c h xs f) (effect c (flow g (suc n) xs) s []) (means_at (suc n) xs agree f s r)
       branches_means n (if_then t xs bs) agree f s r =
           let inside : AgreesAt g h (includes_of xs) = λ i is. agree i (in_front i (includes_of xs) (branch_includes bs) is) in
-          let behind : AgreesAt g h (branch_includes bs) = λ i is. agree i (in_rest i (includes_of xs) (branch_includes bs) is) in
+          let others : AgreesAt g h (branch_includes bs) = λ i is. agree i (in_rest i (includes_of xs) (branch_includes bs) is) in
           rw (test_means c t s) (elim (truth c t) as (λ b. Alike marking n (cond b (run c h xs f) (run_branches c h bs f)) (caught (code.and_then (caught (code.and_then (code.leaving false 0 s (T b ∷ [])) (effect c (sequence (flow g (suc (suc n)) xs) (leave 1))))) (effect c (branches_flow g (suc n) bs))))) [
             | true ↦ taken_means n (run c h xs f) (effect c (flow g (suc (suc n)) xs) s []) (effect c (branches_flow g (suc n) bs)) (means_at (suc (suc n)) xs inside f s r)
-            | false ↦ branches_means n bs behind f s r
+            | false ↦ branches_means n bs others f s r
           ])
 
   module _ (g : Include → Flow) (h : Included) (agree : Agrees c marking g h) where

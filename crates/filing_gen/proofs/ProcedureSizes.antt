@@ -19,19 +19,19 @@ module _ (lib : Library) (slot : Slots) (main : List ScriptName) (call : Calls) 
   call_single None = refl
   call_single (Some n) = single n
 
-  entry_small : (behind : List Procedure) (left : ℕ) (chain : List ScriptName) (s : ScriptName) (x : Commands) → size (call_entry lib slot call behind left chain s x) ≤ 2 + 0
-  entry_small behind zero chain s x = omega arith
-  entry_small behind (suc left) chain s x = let one = call_single (number_of lib behind (record { script = x; left = left; chain = s ∷ chain })) in omega (arith, one)
+  entry_small : (later : List Procedure) (left : ℕ) (chain : List ScriptName) (s : ScriptName) (x : Commands) → size (call_entry lib slot call later left chain s x) ≤ 2 + 0
+  entry_small later zero chain s x = omega arith
+  entry_small later (suc left) chain s x = let one = call_single (number_of lib later (record { script = x; left = left; chain = s ∷ chain })) in omega (arith, one)
 
-  calling_small : (behind : List Procedure) (p : Procedure) → IncludesSmall (calling_flow lib slot main call behind p) (λ i. 0)
-  calling_small behind p i =
+  calling_small : (later : List Procedure) (p : Procedure) → IncludesSmall (calling_flow lib slot main call later p) (λ i. 0)
+  calling_small later p i =
       let s = script_named i in
-      let h = including_small lib slot main p.chain (call_entry lib slot call behind p.left p.chain s) (λ x. 0) i (entry_small behind p.left p.chain s) in
+      let h = including_small lib slot main p.chain (call_entry lib slot call later p.left p.chain s) (λ x. 0) i (entry_small later p.left p.chain s) in
       let none = nothing_there (lib.find s) (is_among p.chain s) in
       omega (arith, h, none)
 
-  pub procedure_small : (behind : List Procedure) (p : Procedure) → size (script_flow (calling_flow lib slot main call behind p) p.script) + 1 ≤ own_weight p.script
-  procedure_small behind p = let h = flow_small (calling_flow lib slot main call behind p) (λ i. 0) (calling_small behind p) 0 p.script in omega (arith, h)
+  pub procedure_small : (later : List Procedure) (p : Procedure) → size (script_flow (calling_flow lib slot main call later p) p.script) + 1 ≤ own_weight p.script
+  procedure_small later p = let h = flow_small (calling_flow lib slot main call later p) (λ i. 0) (calling_small later p) 0 p.script in omega (arith, h)
 
 -- how many operations the code of all procedures takes, with the end of each
 abbrev pub whole_size : List Flow → ℕ

@@ -18,32 +18,32 @@ AreTyped call = (n : ℕ) (es : List Shape) → HasType (call n) es [] []
 abbrev pub AreSound : ℕ → Calls → Type 0
 AreSound count call = (n : ℕ) → IsSound count (call n)
 
-module _ (lib : Library) (slot : Slots) (main : List ScriptName) (call : Calls) (behind : List Procedure) where
+module _ (lib : Library) (slot : Slots) (main : List ScriptName) (call : Calls) (later : List Procedure) where
   call_typed : AreTyped call → (number : Option ℕ) (es : List Shape) → HasType (call_flow call number) es [] []
   call_typed typed None es = (refl, omega arith, omega arith)
   call_typed typed (Some n) es = typed n es
 
-  entry_typed : AreTyped call → (left : ℕ) (chain : List ScriptName) (s : ScriptName) (x : Commands) (es : List Shape) → HasType (call_entry lib slot call behind left chain s x) es [] []
+  entry_typed : AreTyped call → (left : ℕ) (chain : List ScriptName) (s : ScriptName) (x : Commands) (es : List Shape) → HasType (call_entry lib slot call later left chain s x) es [] []
   entry_typed typed zero chain s x es = (refl, omega arith, omega arith)
-  entry_typed typed (suc left) chain s x es = ([], (refl, omega arith, omega arith), call_typed typed (number_of lib behind (record { script = x; left = left; chain = s ∷ chain })) es)
+  entry_typed typed (suc left) chain s x es = ([], (refl, omega arith, omega arith), call_typed typed (number_of lib later (record { script = x; left = left; chain = s ∷ chain })) es)
 
-  calling_typed : AreTyped call → (p : Procedure) → IncludesTyped (calling_flow lib slot main call behind p)
-  calling_typed typed p i es = including_typed lib slot main p.chain (call_entry lib slot call behind p.left p.chain (script_named i)) i (λ x es. entry_typed typed p.left p.chain (script_named i) x es) es
+  calling_typed : AreTyped call → (p : Procedure) → IncludesTyped (calling_flow lib slot main call later p)
+  calling_typed typed p i es = including_typed lib slot main p.chain (call_entry lib slot call later p.left p.chain (script_named i)) i (λ x es. entry_typed typed p.left p.chain (script_named i) x es) es
 
-  pub procedure_typed : AreTyped call → (p : Procedure) (es : List Shape) → HasType (script_flow (calling_flow lib slot main call behind p) p.script) ([] ∷ es) [] []
-  procedure_typed typed p es = flow_typed (calling_flow lib slot main call behind p) (calling_typed typed p) 0 p.script ([] ∷ es) refl
+  pub procedure_typed : AreTyped call → (p : Procedure) (es : List Shape) → HasType (script_flow (calling_flow lib slot main call later p) p.script) ([] ∷ es) [] []
+  procedure_typed typed p es = flow_typed (calling_flow lib slot main call later p) (calling_typed typed p) 0 p.script ([] ∷ es) refl
 
   module _ (count : ℕ) (has : HasSlots lib slot count) (sound : AreSound count call) where
     call_sound : (number : Option ℕ) → IsSound count (call_flow call number)
     call_sound None = (omega arith, omega arith)
     call_sound (Some n) = sound n
 
-    entry_sound : (left : ℕ) (chain : List ScriptName) (s : ScriptName) (x : Commands) → slot s < count → IsSound count (call_entry lib slot call behind left chain s x)
+    entry_sound : (left : ℕ) (chain : List ScriptName) (s : ScriptName) (x : Commands) → slot s < count → IsSound count (call_entry lib slot call later left chain s x)
     entry_sound zero chain s x lt = (omega arith, omega arith)
-    entry_sound (suc left) chain s x lt = (lt, call_sound (number_of lib behind (record { script = x; left = left; chain = s ∷ chain })))
+    entry_sound (suc left) chain s x lt = (lt, call_sound (number_of lib later (record { script = x; left = left; chain = s ∷ chain })))
 
-    calling_sound : (p : Procedure) → IncludesSound count (calling_flow lib slot main call behind p)
-    calling_sound p i = including_sound count lib slot has main p.chain (call_entry lib slot call behind p.left p.chain (script_named i)) i (λ x lt. entry_sound p.left p.chain (script_named i) x lt)
+    calling_sound : (p : Procedure) → IncludesSound count (calling_flow lib slot main call later p)
+    calling_sound p i = including_sound count lib slot has main p.chain (call_entry lib slot call later p.left p.chain (script_named i)) i (λ x lt. entry_sound p.left p.chain (script_named i) x lt)
 
-    pub procedure_sound : (p : Procedure) → IsSound count (script_flow (calling_flow lib slot main call behind p) p.script)
-    procedure_sound p = flow_sound count (calling_flow lib slot main call behind p) (calling_sound p) 0 p.script
+    pub procedure_sound : (p : Procedure) → IsSound count (script_flow (calling_flow lib slot main call later p) p.script)
+    procedure_sound p = flow_sound count (calling_flow lib slot main call later p) (calling_sound p) 0 p.script

@@ -12,13 +12,8 @@ use Rattle.sieve_meaning.specs.TooHeavy.{script_budget}
 use Rattle.filing_gen.specs.declared.fault.GenFault.{GenFault}
 use Rattle.filing_gen.specs.declared.fault.GenFault.TheVariants.{TooLarge, NoMemory}
 
-<<<<<<< HEAD
--- The image of a main script, which may have a name: it declares the script's budget, it may run, and in every case it ends
--- with the outcome of what the script means.
-=======
--- The image of a main script, which may have a name: it declares the script's weight as its budget, and it may run. In
--- every case its run ends with the outcome of what the script means.
->>>>>>> main
+-- The image of a main script, which may have a name: it declares the script's budget, and it may run. In every case its
+-- run ends with the outcome of what the script means.
 pub record IsCompiled (lib : Library) (known_as : Option (List ℕ)) (main : Commands) (p : Program) : Type 0 where
   pub budget : p.budget ≡ script_budget lib known_as main
   pub well : IsWell p

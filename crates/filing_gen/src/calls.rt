@@ -69,7 +69,8 @@ impl Linker for Calls<'_> {
 
     ghost flow_of = { λ s i. nothing };
 
-    /// Nothing, a fault, or the entry of a script; under `:once` behind a jump past it where the script is marked.
+    /// Nothing, a fault, or the entry of a script; under `:once` a jump before the entry skips it where the
+    /// script is marked.
     fn emit(
         &self,
         _alloc: Global,

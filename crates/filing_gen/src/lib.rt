@@ -16,7 +16,6 @@
 //! instead. `program` makes the image, which is proved to be one that may run.
 #![tactic(auto)]
 
-mod calls;
 mod chain;
 mod emit_commands;
 mod emit_tests;
@@ -24,16 +23,11 @@ mod ends;
 mod fault;
 mod field_names;
 mod finding;
-mod included;
 mod levels;
 mod linker;
 mod number_pool;
 mod output;
-mod procedures;
 mod program;
-mod reach;
-mod shared;
-mod slot_set;
 mod slots;
 mod text_pool;
 mod weight;

@@ -11,16 +11,8 @@ use crate::output::Output;
 use sieve_meaning::Include;
 use std::alloc::{AllocError, Global};
 
-<<<<<<< HEAD
-/// What the includes of a script weigh, by what they ask for.
+/// The weight of each include of a script, by what it asks for.
 pub trait Weights {
-=======
-/// The code and the weight of each include of a script, by what it asks for.
-pub trait Linker {
-    /// The code of each include.
-    ghost flow_of: { Self → program.Include → Flow };
-
->>>>>>> main
     /// What each include adds to the weight.
     ghost weight_of: { Self → program.Include → ℕ };
 
@@ -29,7 +21,7 @@ pub trait Linker {
         ensures { IsLeft left (weight_of self.now (asked include.now)) result };
 }
 
-/// What stands for the includes of a script, by what they ask for.
+/// The code of each include of a script, by what it asks for.
 pub trait Linker {
     /// The code of each include.
     ghost flow_of: { Self → program.Include → Flow };

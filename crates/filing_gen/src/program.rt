@@ -8,6 +8,7 @@ ghost use Rattle.sieve_meaning.specs.TooHeavy.{IsTooHeavy};
 ghost use Rattle.sieve_meaning.specs.Weight.{greatest_weight, linked_weight};
 ghost use Rattle.script_library.specs.Lent.{scripts_of};
 ghost use Rattle.script_library.specs.Libraries.{library_of};
+ghost use Rattle.filing_image.specs.Program.{held};
 ghost use Rattle.filing_flow.specs.Structure.{size};
 ghost use Rattle.filing_flow.specs.Types.{HasType};
 ghost use Rattle.filing_gen.specs.Structured.{script_flow};
@@ -24,7 +25,6 @@ use crate::finding::Scope;
 use crate::levels::{Above, Deepest, Includes};
 use crate::linker::Linker;
 use crate::output::{Output, put};
-use crate::shared::build_shared;
 use crate::slots::slot_count;
 use crate::weight::script_weight;
 use filing_image::{Image, Operation};
@@ -36,11 +36,7 @@ use std::alloc::{AllocError, Global};
 use std::marker::PhantomData;
 
 /// The greatest weight of a script that is run.
-<<<<<<< HEAD
-pub const GREATEST_WEIGHT: u32 = 60_000;
-=======
 const MAX_WEIGHT: u32 = 60_000;
->>>>>>> main
 
 /// Writes a script, and after it the end of the run, to which a `return` of the script jumps. Room for `operations`
 /// operations is taken at once.
@@ -65,20 +61,15 @@ fn emit_program<L: Linker>(
     Ok(out)
 }
 
-<<<<<<< HEAD
-/// The image of what was written, with so many slots. It has a form unless a string is too long for it.
+/// The image of what was written, with this budget, number of slots and first places of its procedures. `NoMemory` also
+/// where a string has more than 65,535 octets.
 pub fn image_of(
     budget: u32,
     slots: u16,
     mut out: Output,
     first_places: Option<Vec<u16>>,
 ) -> Result<Image, GenFault>
-=======
-/// The image of what was written, with this budget and number of slots. `NoMemory` also where a string has more than
-/// 65,535 octets.
-fn image_of(budget: u32, slots: u16, mut out: Output) -> Result<Image, GenFault>
->>>>>>> main
-    ensures made { IfOk result (λ i. IsImageOf budget slots out i) }
+    ensures made { IfOk result (λ i. IsImageOf budget slots (held first_places) out i) }
     ensures once { IfOk result (λ i. NamesOnce i) }
     ensures refused { IfErr result (λ f. f ≡ NoMemory) }
 {
@@ -157,13 +148,9 @@ pub fn compile(
         (λ v. IsCompiled (library_of library.now) (option_map (λ s. s.now) known_as.entry)
         (program_of (tree_of main.now.script)) v) }
     ensures once { IfOk result (λ v. NamesOnce v) }
-<<<<<<< HEAD
-    ensures too_large { result ≡ Err TooLarge ↔ IsTooHeavy (library_of library.now) (option_map (λ s. s.now) known_as.entry) (program_of (tree_of main.now.script)) }
-=======
     ensures too_large { result ≡ Err TooLarge ↔
-        greatest_weight < linked_weight (library_of library.now) (option_map (λ s. s.now) known_as.entry)
+        IsTooHeavy (library_of library.now) (option_map (λ s. s.now) known_as.entry)
         (program_of (tree_of main.now.script)) }
->>>>>>> main
 {
     compile_with(alloc, main, known_as, library.shelves())
 }
@@ -180,13 +167,9 @@ pub fn compile_with(
         (λ v. IsCompiled (library_of (scripts_of shelves.entry)) (option_map (λ s. s.now) known_as.entry)
         (program_of (tree_of main.now.script)) v) }
     ensures once { IfOk result (λ v. NamesOnce v) }
-<<<<<<< HEAD
-    ensures too_large { result ≡ Err TooLarge ↔ IsTooHeavy (library_of (scripts_of shelves.entry)) (option_map (λ s. s.now) known_as.entry) (program_of (tree_of main.now.script)) }
-=======
     ensures too_large { result ≡ Err TooLarge ↔
-        greatest_weight < linked_weight (library_of (scripts_of shelves.entry))
-        (option_map (λ s. s.now) known_as.entry) (program_of (tree_of main.now.script)) }
->>>>>>> main
+        IsTooHeavy (library_of (scripts_of shelves.entry)) (option_map (λ s. s.now) known_as.entry)
+        (program_of (tree_of main.now.script)) }
 {
     let script = main.script();
     let scope = Scope {
@@ -194,7 +177,7 @@ pub fn compile_with(
         main: MainScript { known_as },
     };
     match weigh(script, scope) {
-        None => build_shared(alloc, script, scope),
+        None => Err(GenFault::TooLarge),
         Some(weight) => build(alloc, script, scope, weight),
     }
 }

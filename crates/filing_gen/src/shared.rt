@@ -51,7 +51,7 @@ fn path_weight(
     Ok(Some(last))
 }
 
-/// The code of a procedure, and the return behind it, to which a `return` of the script goes.
+/// Writes the code of a procedure, and after it the return, to which a `return` of the script goes.
 fn emit_procedure(
     alloc: Global,
     scope: Scope<'_>,

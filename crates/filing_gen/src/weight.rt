@@ -100,13 +100,8 @@ fn weigh_tests(tests: &Tests, left: u32) -> Option<u32>
     }
 }
 
-<<<<<<< HEAD
-/// Takes the weight of a command that has no block: 4, and of an `include` also what it includes.
-fn weigh_plain<L: Weights>(
-=======
 /// Subtracts the weight of a command that has no block: 4, and for an `include` also what it includes.
-fn weigh_plain<L: Linker>(
->>>>>>> main
+fn weigh_plain<L: Weights>(
     linker: &L,
     word: CommandWord,
     arguments: &[Argument],
@@ -159,14 +154,9 @@ fn weigh_part<L: Weights>(linker: &L, command: &Command, part: Part, left: u32) 
 
 /// Subtracts the weight of commands; none where it is more than `left`.
 #[cycle(weights)]
-<<<<<<< HEAD
 pub fn weigh_commands<L: Weights>(linker: &L, commands: &Vec<Command>, left: u32) -> Option<u32>
-    ensures { IsLeft left (weight (L.weight_of linker.now) (program_of (commands_of (map command_of commands.now.items)))) result }
-=======
-pub fn weigh_commands<L: Linker>(linker: &L, commands: &Vec<Command>, left: u32) -> Option<u32>
     ensures { IsLeft left (weight (L.weight_of linker.now)
         (program_of (commands_of (map command_of commands.now.items)))) result }
->>>>>>> main
 {
     let mut rest = left;
     let mut is_open = false;
@@ -178,18 +168,11 @@ pub fn weigh_commands<L: Linker>(linker: &L, commands: &Vec<Command>, left: u32)
     Some(rest)
 }
 
-<<<<<<< HEAD
-/// The weight of a script and all that it includes, and 1; none where it is above the greatest. It takes time linear in
-/// the smaller of both.
-pub fn script_weight<L: Weights>(linker: &L, script: &Script, greatest: u32) -> Option<u32>
-    ensures { MatchOption result (greatest < weight (L.weight_of linker.now) (program_of (tree_of script.now)) + 1) (λ w. (w ≡ weight (L.weight_of linker.now) (program_of (tree_of script.now)) + 1) × (w ≤ greatest)) }
-=======
 /// The weight of a script and all that it includes, and 1; none where that is above `greatest`. Time is linear in the
 /// smaller of the two.
-pub fn script_weight<L: Linker>(linker: &L, script: &Script, greatest: u32) -> Option<u32>
+pub fn script_weight<L: Weights>(linker: &L, script: &Script, greatest: u32) -> Option<u32>
     ensures { MatchOption result (greatest < weight (L.weight_of linker.now) (program_of (tree_of script.now)) + 1)
         (λ w. (w ≡ weight (L.weight_of linker.now) (program_of (tree_of script.now)) + 1) × (w ≤ greatest)) }
->>>>>>> main
 {
     let left = weigh_commands(linker, &script.commands, greatest.checked_sub(1)?)?;
     Some(greatest - left)

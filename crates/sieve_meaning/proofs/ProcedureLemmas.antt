@@ -1,4 +1,4 @@
--- Each include of a procedure that enters a script has its procedure among those behind.
+-- Each include of a procedure that enters a script has its procedure among those after the include's own.
 use Rattle.std.proofs.Common.{◌≡◌, ◌≤◌, ◌⊎◌, ℕ, zero, suc, List, [], ◌∷◌, ◌++◌, map, filter, flat_map, filter_map, Bool, true, false, not, ◌&&◌, ◌||◌, cond, Option, Some, None, inl, inr, refl, sym, ap, ◌∙◌, subst, arith}
 use Rattle.std.specs.Prelude.{nat_eq}
 use Rattle.std.specs.List.{list_any, cons_option}
@@ -23,11 +23,11 @@ all_element P x [] h there = absurd there
 all_element P x (y ∷ ys) h (inl e) = subst P (sym e) h.0
 all_element P x (y ∷ ys) h (inr there) = all_element P x ys h.1 there
 
-all_mapped : {A : Type 0} (P Q : A → Type 0) (xs : List A) → ((x : A) → P x → Q x) → AllOf P xs → AllOf Q xs
+pub all_mapped : {A : Type 0} (P Q : A → Type 0) (xs : List A) → ((x : A) → P x → Q x) → AllOf P xs → AllOf Q xs
 all_mapped P Q [] f h = tt
 all_mapped P Q (x ∷ xs) f h = (f x h.0, all_mapped P Q xs f h.1)
 
-all_append : {A : Type 0} (P : A → Type 0) (xs ys : List A) → AllOf P xs → AllOf P ys → AllOf P (xs ++ ys)
+pub all_append : {A : Type 0} (P : A → Type 0) (xs ys : List A) → AllOf P xs → AllOf P ys → AllOf P (xs ++ ys)
 all_append P [] ys h k = k
 all_append P (x ∷ xs) ys h k = (h.0, all_append P xs ys h.1 k)
 
@@ -35,11 +35,11 @@ all_cond : {A : Type 0} (P : A → Type 0) (b : Bool) (x : A) (xs : List A) → 
 all_cond P true x xs p h = (p, h)
 all_cond P false x xs p h = h
 
-all_filter : {A : Type 0} (P : A → Type 0) (q : A → Bool) (xs : List A) → AllOf P xs → AllOf P (filter q xs)
+pub all_filter : {A : Type 0} (P : A → Type 0) (q : A → Bool) (xs : List A) → AllOf P xs → AllOf P (filter q xs)
 all_filter P q [] h = tt
 all_filter P q (x ∷ xs) h = all_cond P (q x) x (filter q xs) h.0 (all_filter P q xs h.1)
 
-all_once : {A : Type 0} (alike : A → A → Bool) (P : A → Type 0) (xs : List A) → AllOf P xs → AllOf P (once alike xs)
+pub all_once : {A : Type 0} (alike : A → A → Bool) (P : A → Type 0) (xs : List A) → AllOf P xs → AllOf P (once alike xs)
 all_once alike P [] h = tt
 all_once alike P (x ∷ xs) h = (h.0, all_filter P (λ y. not (alike x y)) (once alike xs) (all_once alike P xs h.1))
 
@@ -74,15 +74,15 @@ in_filter_map f y x [] there at = absurd there
 in_filter_map f y x (z ∷ xs) (inl e) at = subst (λ o. IsElement y (cons_option o (filter_map f xs))) (sym at ∙ ap f e) (inl refl)
 in_filter_map f y x (z ∷ xs) (inr there) at = in_option (f z) y (filter_map f xs) (in_filter_map f y x xs there at)
 
-all_filter_map : {A B : Type 0} (P : B → Type 0) (f : A → Option B) (xs : List A) → ((x : A) (y : B) → f x ≡ Some y → P y) → AllOf P (filter_map f xs)
+pub all_filter_map : {A B : Type 0} (P : B → Type 0) (f : A → Option B) (xs : List A) → ((x : A) (y : B) → f x ≡ Some y → P y) → AllOf P (filter_map f xs)
 all_filter_map P f [] h = tt
 all_filter_map P f (x ∷ xs) h = all_option P (f x) (filter_map f xs) (h x) (all_filter_map P f xs h)
 
-any_first : {A : Type 0} (t : A → Bool) (xs ys : List A) → list_any t xs ≡ true → list_any t (xs ++ ys) ≡ true
+pub any_first : {A : Type 0} (t : A → Bool) (xs ys : List A) → list_any t xs ≡ true → list_any t (xs ++ ys) ≡ true
 any_first t [] ys h = absurd (cc h)
 any_first t (x ∷ xs) ys h = or_else (t x) (list_any t xs) (list_any t (xs ++ ys)) h (λ other k. any_first t xs ys k)
 
-any_second : {A : Type 0} (t : A → Bool) (xs ys : List A) → list_any t ys ≡ true → list_any t (xs ++ ys) ≡ true
+pub any_second : {A : Type 0} (t : A → Bool) (xs ys : List A) → list_any t ys ≡ true → list_any t (xs ++ ys) ≡ true
 any_second t [] ys h = h
 any_second t (x ∷ xs) ys h = or_right (t x) (list_any t (xs ++ ys)) (any_second t xs ys h)
 
@@ -149,47 +149,47 @@ some_is x y e = cc e
 suc_is : (m n : ℕ) → suc m ≡ suc n → m ≡ n
 suc_is m n e = omega (arith, e)
 
-implied : (a b : Bool) → (a ≡ true → b ≡ true) → (not a || b) ≡ true
+pub implied : (a b : Bool) → (a ≡ true → b ≡ true) → (not a || b) ≡ true
 implied true b h = h refl
 implied false b h = refl
 
 module _ (lib : Library) where
-  are_among_from : (x : Commands) (these others : List ScriptName) → ((s : ScriptName) → is_among these s ≡ true → reaches lib x s ≡ true → is_among others s ≡ true) → are_among lib x these others ≡ true
+  pub are_among_from : (x : Commands) (these others : List ScriptName) → ((s : ScriptName) → is_among these s ≡ true → reaches lib x s ≡ true → is_among others s ≡ true) → are_among lib x these others ≡ true
   are_among_from x [] others h = refl
   are_among_from x (u ∷ us) others h =
       and_from (not (reaches lib x u) || is_among others u) (are_among lib x us others)
       (implied (reaches lib x u) (is_among others u) (λ r. h u (or_left (same_script u u) (is_among us u) (same_self u)) r))
       (are_among_from x us others (λ s there r. h s (or_right (same_script s u) (is_among us s) there) r))
 
-  shared_from : (p q : Procedure) → same_first p.chain q.chain ≡ true → p.left ≡ q.left → are_among lib p.script p.chain q.chain ≡ true → are_among lib p.script q.chain p.chain ≡ true → is_shared lib p q ≡ true
+  pub shared_from : (p q : Procedure) → same_first p.chain q.chain ≡ true → p.left ≡ q.left → are_among lib p.script p.chain q.chain ≡ true → are_among lib p.script q.chain p.chain ≡ true → is_shared lib p q ≡ true
   shared_from p q first as_many here there =
       and_from (same_first p.chain q.chain && nat_eq p.left q.left && are_among lib p.script p.chain q.chain) (are_among lib p.script q.chain p.chain)
       (and_from (same_first p.chain q.chain && nat_eq p.left q.left) (are_among lib p.script p.chain q.chain)
       (and_from (same_first p.chain q.chain) (nat_eq p.left q.left) first (eq-eqb p.left q.left as_many)) here) there
 
-  first_is : (a b : List ScriptName) (s t : ScriptName) (ss ts : List ScriptName) → a ≡ s ∷ ss → b ≡ t ∷ ts → same_first a b ≡ true → s ≡ t
+  pub first_is : (a b : List ScriptName) (s t : ScriptName) (ss ts : List ScriptName) → a ≡ s ∷ ss → b ≡ t ∷ ts → same_first a b ≡ true → s ≡ t
   first_is a b s t ss ts ea eb h =
       let first : same_first (s ∷ ss) (t ∷ ts) ≡ true = subst (λ (c : List ScriptName). same_first c (t ∷ ts) ≡ true) ea (subst (λ (c : List ScriptName). same_first a c ≡ true) eb h) in
       same_is s t first
 
-  first_from : (a b : List ScriptName) (s t : ScriptName) (ss ts : List ScriptName) → a ≡ s ∷ ss → b ≡ t ∷ ts → s ≡ t → same_first a b ≡ true
+  pub first_from : (a b : List ScriptName) (s t : ScriptName) (ss ts : List ScriptName) → a ≡ s ∷ ss → b ≡ t ∷ ts → s ≡ t → same_first a b ≡ true
   first_from a b s t ss ts ea eb e =
       let first : same_first (s ∷ ss) (t ∷ ts) ≡ true = subst (λ (u : ScriptName). same_script s u ≡ true) e (same_self s) in
       subst (λ (c : List ScriptName). same_first c b ≡ true) (sym ea) (subst (λ (c : List ScriptName). same_first (s ∷ ss) c ≡ true) (sym eb) first)
 
   module _ (left : ℕ) where
-    shared_self : (p : Procedure) → IsEntered lib left p → is_shared lib p p ≡ true
+    pub shared_self : (p : Procedure) → IsEntered lib left p → is_shared lib p p ≡ true
     shared_self p h =
         let all = are_among_from p.script p.chain p.chain (λ s there r. there) in
         shared_from p p (first_from p.chain p.chain h.name h.name h.before h.before h.chain h.chain refl) refl all all
 
-    same_scripts : (p q : Procedure) → IsEntered lib left p → IsEntered lib left q → is_shared lib p q ≡ true → (p.script ≡ q.script) × ((h : IsEntered lib left p) → (k : IsEntered lib left q) → h.name ≡ k.name)
+    pub same_scripts : (p q : Procedure) → IsEntered lib left p → IsEntered lib left q → is_shared lib p q ≡ true → (p.script ≡ q.script) × ((h : IsEntered lib left p) → (k : IsEntered lib left q) → h.name ≡ k.name)
     same_scripts p q h k shared =
         let t = shared_tests lib p q shared in
         let names : (h : IsEntered lib left p) → (k : IsEntered lib left q) → h.name ≡ k.name = λ h k. first_is p.chain q.chain h.name k.name h.before k.before h.chain k.chain t.0 in
         (some_is p.script q.script (sym h.there ∙ ap (λ (s : ScriptName). lib.find s) (names h k) ∙ k.there), names)
 
-    shared_along : (x y z : Procedure) → IsEntered lib left x → IsEntered lib left y → IsEntered lib left z → is_shared lib x y ≡ true → is_shared lib y z ≡ true → is_shared lib x z ≡ true
+    pub shared_along : (x y z : Procedure) → IsEntered lib left x → IsEntered lib left y → IsEntered lib left z → is_shared lib x y ≡ true → is_shared lib y z ≡ true → is_shared lib x z ≡ true
     shared_along x y z hx hy hz xy yz =
         let tx = shared_tests lib x y xy in
         let ty = shared_tests lib y z yz in
@@ -202,7 +202,7 @@ module _ (lib : Library) where
         (are_among_from x.script x.chain z.chain (λ s there r. among_those lib y.script y.chain z.chain s ty.2 (back s r) (among_those lib x.script x.chain y.chain s tx.2 r there)))
         (are_among_from x.script z.chain x.chain (λ s there r. among_those lib x.script y.chain x.chain s tx.3 r (among_those lib y.script z.chain y.chain s ty.3 (back s r) there)))
 
-    entered_is : (chain : List ScriptName) (s : ScriptName) (e : Procedure) → entered lib left chain s ≡ Some e → IsEntered lib left e
+    pub entered_is : (chain : List ScriptName) (s : ScriptName) (e : Procedure) → entered lib left chain s ≡ Some e → IsEntered lib left e
     entered_is chain s e h = go (lib.find s) refl (is_among chain s) h
       where
         go : (o : Option Commands) → lib.find s ≡ o → (active : Bool) → entered_if o active left (s ∷ chain) ≡ Some e → IsEntered lib left e
@@ -212,10 +212,10 @@ module _ (lib : Library) where
             let made : Procedure = record { script = x; left = left; chain = s ∷ chain } in
             subst (IsEntered lib left) (some_is made e k) (record { name = s; before = chain; chain = refl; there = at; left_is = refl })
 
-    abbrev all_entered : List Procedure → List Procedure
+    abbrev pub all_entered : List Procedure → List Procedure
     all_entered ps = flat_map (λ p. filter_map (entered lib left p.chain) (included_names p.script)) ps
 
-    are_entered : (ps : List Procedure) → AllOf (IsEntered lib left) (all_entered ps)
+    pub are_entered : (ps : List Procedure) → AllOf (IsEntered lib left) (all_entered ps)
     are_entered ps =
         all_flat_map (IsEntered lib left) (λ p. filter_map (entered lib left p.chain) (included_names p.script)) ps
         (λ p. all_filter_map (IsEntered lib left) (entered lib left p.chain) (included_names p.script) (λ s e h. entered_is p.chain s e h))
@@ -225,7 +225,7 @@ module _ (lib : Library) where
         once_covers (is_shared lib) (IsEntered lib left) shared_self shared_along (all_entered ps) (are_entered ps) e
         (in_flat_map (λ p. filter_map (entered lib left p.chain) (included_names p.script)) e p ps there (in_filter_map (entered lib left p.chain) e s (included_names p.script) named h))
 
-    called_left : (ps : List Procedure) → AllOf (λ p. p.left ≡ left) (called_by lib left ps)
+    pub called_left : (ps : List Procedure) → AllOf (λ p. p.left ≡ left) (called_by lib left ps)
     called_left ps = all_mapped (IsEntered lib left) (λ p. p.left ≡ left) (called_by lib left ps) (λ p h. h.left_is) (all_once (is_shared lib) (IsEntered lib left) (all_entered ps) (are_entered ps))
 
   -- an include that shares a procedure enters its script
@@ -236,12 +236,12 @@ module _ (lib : Library) where
 
   -- what an include of the procedure enters is among these
   abbrev pub FindsCalls : Procedure → List Procedure → Type 0
-  FindsCalls p behind = (left : ℕ) → p.left ≡ suc left → (s : ScriptName) (e : Procedure) → IsElement s (included_names p.script) → entered lib left p.chain s ≡ Some e → list_any (λ q. is_shared lib q e) behind ≡ true
+  FindsCalls p later = (left : ℕ) → p.left ≡ suc left → (s : ScriptName) (e : Procedure) → IsElement s (included_names p.script) → entered lib left p.chain s ≡ Some e → list_any (λ q. is_shared lib q e) later ≡ true
 
-  -- what includes enter is behind them
+  -- what includes enter comes after them
   abbrev pub AllFind : List Procedure → Type 0
   AllFind [] = Unit {0}
-  AllFind (p ∷ behind) = FindsCalls p behind × AllFind behind
+  AllFind (p ∷ later) = FindsCalls p later × AllFind later
 
   none_find : (ps : List Procedure) → AllOf (λ p. p.left ≡ zero) ps → AllFind ps
   none_find [] h = tt
@@ -251,7 +251,7 @@ module _ (lib : Library) where
   level_finds [] rest h k = k
   level_finds (p ∷ ps) rest h k = (λ left is s e named at. any_second (λ q. is_shared lib q e) ps rest (h.0 left is s e named at), level_finds ps rest h.1 k)
 
-  led_any : (t : Procedure → Bool) (left : ℕ) (ps : List Procedure) → list_any t ps ≡ true → list_any t (led_to lib left ps) ≡ true
+  pub led_any : (t : Procedure → Bool) (left : ℕ) (ps : List Procedure) → list_any t ps ≡ true → list_any t (led_to lib left ps) ≡ true
   led_any t zero ps h = h
   led_any t (suc left) ps h = any_first t ps (led_to lib left (called_by lib left ps)) h
 
@@ -284,16 +284,16 @@ module _ (lib : Library) where
   unfolding procedures
   all_find known_as main = led_finds 7 (main_procedure known_as main ∷ []) (refl, tt)
 
-  -- those behind the main script
-  pub behind_main : (known_as : Option (List ℕ)) (main : Commands) → List Procedure
-  behind_main known_as main = led_to lib 6 (called_by lib 6 (main_procedure known_as main ∷ []))
+  -- those after the main script
+  pub after_main : (known_as : Option (List ℕ)) (main : Commands) → List Procedure
+  after_main known_as main = led_to lib 6 (called_by lib 6 (main_procedure known_as main ∷ []))
 
-  pub procedures_are : (known_as : Option (List ℕ)) (main : Commands) → procedures lib known_as main ≡ main_procedure known_as main ∷ behind_main known_as main
-  unfolding procedures behind_main
+  pub procedures_are : (known_as : Option (List ℕ)) (main : Commands) → procedures lib known_as main ≡ main_procedure known_as main ∷ after_main known_as main
+  unfolding procedures after_main
   procedures_are known_as main = refl
 
-  pub behind_entered : (known_as : Option (List ℕ)) (main : Commands) → AllOf IsSomeEntered (behind_main known_as main)
-  unfolding behind_main
-  behind_entered known_as main =
+  pub after_main_entered : (known_as : Option (List ℕ)) (main : Commands) → AllOf IsSomeEntered (after_main known_as main)
+  unfolding after_main
+  after_main_entered known_as main =
       let first = main_procedure known_as main ∷ [] in
       led_entered 6 (called_by lib 6 first) (omega arith) (all_once (is_shared lib) (IsEntered lib 6) (all_entered 6 first) (are_entered 6 first))

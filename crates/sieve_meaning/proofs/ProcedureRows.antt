@@ -61,7 +61,7 @@ shared_once : map shown (procedures shared None both) ≡ (7, []) ∷ (6, codes 
 unfolding procedures reaches
 shared_once = refl
 
--- where x includes a, they do not: behind a it finds a active, and behind b it does not
+-- where x includes a, they do not: after a it finds a active, and after b it does not
 abbrev apart : Library
 apart = library ((codes "a", includes 1 (codes "x")) ∷ (codes "b", includes 1 (codes "x")) ∷ (codes "x", includes 1 (codes "a")) ∷ [])
 

@@ -100,7 +100,7 @@ module _ (lib : Library) where
     | inr later ↦ walk_found r h.0 ws t h.2 u later
   ]
 
-  -- what is left of a walk behind a script on it
+  -- what is left of a walk after a script on it
   cut : (s : ScriptName) (x : Commands) → lib.find s ≡ Some x → (r : ScriptName) (y : Commands) (ws : List ScriptName) (t : ScriptName) → OnWalk r y ws t → AreOnce ws → is_among ws s ≡ true → (vs : List ScriptName) × OnWalk s x vs t × AreOnce (s ∷ vs)
   cut s x at r y [] t h each there = absurd (cc there)
   cut s x at r y (q ∷ ws) t h each there = elim (or_cases (same_script s q) (is_among ws s) there) [

@@ -204,8 +204,8 @@ module _ (lib : Library) where
   at_include m x y i a b is there same =
       same (script_named i) (reaches_named m x y i is there (script_named i) (or_left (same_script (script_named i) (script_named i)) (reaches_within lib m y (script_named i)) (same_self (script_named i))))
 
-  pub behind_include : (m : ℕ) (x y : Commands) (i : Include) (a b : List ScriptName) → IsIn i (includes_of x) → lib.find (script_named i) ≡ Some y → SameFor lib (suc m) x a b → SameFor lib m y (script_named i ∷ a) (script_named i ∷ b)
-  behind_include m x y i a b is there same t reached =
+  pub inside_include : (m : ℕ) (x y : Commands) (i : Include) (a b : List ScriptName) → IsIn i (includes_of x) → lib.find (script_named i) ≡ Some y → SameFor lib (suc m) x a b → SameFor lib m y (script_named i ∷ a) (script_named i ∷ b)
+  inside_include m x y i a b is there same t reached =
       ap (λ (t' : Bool). same_script t (script_named i) || t') (same t (reaches_named m x y i is there t (or_right (same_script (script_named i) t) (reaches_within lib m y t) reached)))
 
   -- what of these chains the script reaches is the same
@@ -251,7 +251,7 @@ including_case lib a b e k i f h =
     (missing_case (lib.find s) i.optional (is_among a s) (is_among b s) e k f h)
 
 module _ (c : Facts) (lib : Library) where
-  -- includes of a script run alike behind chains that agree on what it reaches
+  -- includes of a script run alike after chains that agree on what it reaches
   pub included_alike : (left m : ℕ) → left ≤ m → (x : Commands) (a b : List ScriptName) → SameFor lib (suc m) x a b → RunsAlike (included c lib left a) (included c lib left b) (includes_of x)
   included_alike zero m le x a b same i is f = including_case lib a b (λ script g. Faults 4 g) (λ script g. Faults 4 g) i f (λ y there. (at_include lib m x y i a b is there same, λ g. refl))
   included_alike (suc left) zero le x a b same i is f = absurd (omega (arith, le))
@@ -260,7 +260,7 @@ module _ (c : Facts) (lib : Library) where
       including_case lib a b (λ script g. ended (run c (included c lib left (s ∷ a)) script (entering s g))) (λ script g. ended (run c (included c lib left (s ∷ b)) script (entering s g))) i f
       (λ y there. (
         at_include lib (suc m) x y i a b is there same,
-        λ g. ap ended (run_alike c (included c lib left (s ∷ a)) (included c lib left (s ∷ b)) y (included_alike left m (omega (arith, le)) y (s ∷ a) (s ∷ b) (behind_include lib (suc m) x y i a b is there same)) (entering s g)),
+        λ g. ap ended (run_alike c (included c lib left (s ∷ a)) (included c lib left (s ∷ b)) y (included_alike left m (omega (arith, le)) y (s ∷ a) (s ∷ b) (inside_include lib (suc m) x y i a b is there same)) (entering s g)),
       ))
 
 module _ (lib : Library) where
@@ -273,7 +273,7 @@ module _ (lib : Library) where
       path_case (lib.find s) (is_among a s) (is_among b s) (λ script. weight (included_path lib left (s ∷ a)) script + 1) (λ script. weight (included_path lib left (s ∷ b)) script + 1)
       (λ y there. (
         at_include lib (suc m) x y i a b is there same,
-        ap (λ (n : ℕ). n + 1) (weight_alike (included_path lib left (s ∷ a)) (included_path lib left (s ∷ b)) y (paths_alike left m (omega (arith, le)) y (s ∷ a) (s ∷ b) (behind_include lib (suc m) x y i a b is there same))),
+        ap (λ (n : ℕ). n + 1) (weight_alike (included_path lib left (s ∷ a)) (included_path lib left (s ∷ b)) y (paths_alike left m (omega (arith, le)) y (s ∷ a) (s ∷ b) (inside_include lib (suc m) x y i a b is there same))),
       ))
 
 -- PROCEDURES

@@ -29,19 +29,8 @@ outcome_of (Returns f) = outcome_with None f
 outcome_of (Stops f) = outcome_with None f
 outcome_of (Faults n f) = outcome_with (Some n) f
 
-<<<<<<< HEAD
 -- a main script that is too heavy is fault 5
 unfoldable pub outcome : Facts → Library → (known_as : Option (List ℕ)) → Commands → Outcome
 outcome facts lib known_as main =
-    if is_too_heavy lib known_as main then outcome_at (Some 5) [] false false else outcome_of (meaning facts lib known_as main)
-=======
--- the greatest weight of a script that runs
-abbrev pub greatest_weight : ℕ
-greatest_weight = 60000
-
--- a main script above the greatest weight is fault 5
-unfoldable pub outcome : Facts → Library → (known_as : Option (List ℕ)) → Commands → Outcome
-outcome facts lib known_as main =
-    if nat_lt greatest_weight (linked_weight lib known_as main) then outcome_at (Some 5) [] false false
+    if is_too_heavy lib known_as main then outcome_at (Some 5) [] false false
     else outcome_of (meaning facts lib known_as main)
->>>>>>> main

@@ -1,5 +1,5 @@
--- How the scripts that a main script includes can share their code: a procedure is a script as some of its includes run it,
--- and its code stands once for all of them.
+-- How the scripts that a main script includes can share their code: a procedure is a script as some of its includes run
+-- it, and its code stands once for all of them.
 use Rattle.std.specs.Prelude.{ℕ, zero, suc, ◌+◌, List, [], ◌∷◌, ◌++◌, length, map, filter, Bool, true, false, not, ◌&&◌, ◌||◌, Option, Some, None, nat_eq, nat_lt}
 use Rattle.std.specs.List.{list_any, list_all, flat_map, filter_map}
 use Rattle.sieve_meaning.specs.Program.{Include, Command, require, keep, discard, stop, return, file_into, branch, include, Commands, no_command, command_then, Branches, no_branch, otherwise, if_then}
@@ -42,11 +42,12 @@ abbrev pub holds_if_there : Option Commands → (Commands → Bool) → Bool
 holds_if_there None holds = false
 holds_if_there (Some script) holds = holds script
 
--- Whether a script reaches another over so many includes at most: it includes it, or one that reaches it, among scripts that
--- are there.
+-- Whether a script reaches another over so many includes at most: it includes it, or one that reaches it, among scripts
+-- that are there.
 abbrev pub reaches_within : Library → ℕ → Commands → ScriptName → Bool
 reaches_within lib zero script s = false
-reaches_within lib (suc n) script s = list_any (λ t. holds_if_there (lib.find t) (λ x. same_script t s || reaches_within lib n x s)) (included_names script)
+reaches_within lib (suc n) script s = list_any
+    (λ t. holds_if_there (lib.find t) (λ x. same_script t s || reaches_within lib n x s)) (included_names script)
 
 -- Whether a script reaches another. There are sixty-four scripts at most, so that more includes lead no further.
 unfoldable pub reaches : Library → Commands → ScriptName → Bool
@@ -73,23 +74,26 @@ same_first (s ∷ ss) (t ∷ ts) = same_script s t
 abbrev pub are_among : Library → Commands → (these others : List ScriptName) → Bool
 are_among lib script these others = list_all (λ s. not (reaches lib script s) || is_among others s) these
 
--- Includes share a procedure where they enter the same script, as many scripts are active, and the same of these are reached by
--- the script.
+-- Includes share a procedure where they enter the same script, as many scripts are active, and the script reaches the
+-- same of these.
 abbrev pub is_shared : Library → Procedure → Procedure → Bool
-is_shared lib p q = same_first p.chain q.chain && nat_eq p.left q.left && are_among lib p.script p.chain q.chain && are_among lib p.script q.chain p.chain
+is_shared lib p q = same_first p.chain q.chain && nat_eq p.left q.left && are_among lib p.script p.chain q.chain &&
+    are_among lib p.script q.chain p.chain
 
 abbrev pub entered_if : Option Commands → (active : Bool) → (left : ℕ) → (chain : List ScriptName) → Option Procedure
 entered_if None active left chain = None
 entered_if (Some script) true left chain = None
 entered_if (Some script) false left chain = Some (record { script = script; left = left; chain = chain })
 
--- The script that an include enters behind the active ones: it is there, and not active. So many further ones may be active.
+-- The script that an include enters after the active ones: it is there, and not active. `left` further ones may be
+-- active.
 abbrev pub entered : Library → (left : ℕ) → (chain : List ScriptName) → ScriptName → Option Procedure
 entered lib left chain s = entered_if (lib.find s) (is_among chain s) left (s ∷ chain)
 
 -- the procedures that these call, each once, where so many further scripts may be active
 abbrev pub called_by : Library → (left : ℕ) → List Procedure → List Procedure
-called_by lib left ps = once (is_shared lib) (flat_map (λ p. filter_map (entered lib left p.chain) (included_names p.script)) ps)
+called_by lib left ps = once (is_shared lib)
+    (flat_map (λ p. filter_map (entered lib left p.chain) (included_names p.script)) ps)
 
 -- these procedures and all that they lead to, ordered by the number of active scripts
 abbrev pub led_to : Library → (left : ℕ) → List Procedure → List Procedure
@@ -115,11 +119,14 @@ abbrev pub shared_weight : List Procedure → ℕ
 shared_weight [] = 0
 shared_weight (p ∷ ps) = own_weight p.script + shared_weight ps
 
--- What an include adds to a path: the weight of its script, taken with that script active, and 1 for its end, where it is there,
--- is not active and so many further scripts may be active.
+-- What an include adds to a path: the weight of its script, computed with that script active, and 1 for its end. It adds
+-- nothing if the script is missing or active. The number is how many further scripts may be active; if none may, it adds
+-- nothing either.
 abbrev pub included_path : Library → ℕ → (chain : List ScriptName) → Include → ℕ
 included_path lib zero chain n = 0
-included_path lib (suc left) chain n = unless_missing (lib.find (script_named n)) (λ script. unless_active (is_among chain (script_named n)) (weight (included_path lib left (script_named n ∷ chain)) script + 1))
+included_path lib (suc left) chain n = unless_missing (lib.find (script_named n))
+    (λ script. unless_active (is_among chain (script_named n))
+    (weight (included_path lib left (script_named n ∷ chain)) script + 1))
 
 -- the weight of a longest path, on which a script counts as often as it is called
 unfoldable pub path_weight : Library → (known_as : Option (List ℕ)) → Commands → ℕ
@@ -135,8 +142,10 @@ greatest_path = 1000000
 
 -- whether procedures are too many, or too heavy
 abbrev pub is_beyond : (ps : List Procedure) → (path : ℕ) → Bool
-is_beyond ps path = nat_lt most_procedures (length ps) || nat_lt greatest_weight (shared_weight ps) || nat_lt greatest_path path
+is_beyond ps path = nat_lt most_procedures (length ps) || nat_lt greatest_weight (shared_weight ps) ||
+    nat_lt greatest_path path
 
 -- whether a main script, which may have a name, is too heavy even where scripts share their code
 unfoldable pub is_too_heavy_shared : Library → (known_as : Option (List ℕ)) → Commands → Bool
-is_too_heavy_shared lib known_as main = nat_lt greatest_weight (linked_weight lib known_as main) && is_beyond (procedures lib known_as main) (path_weight lib known_as main)
+is_too_heavy_shared lib known_as main = nat_lt greatest_weight (linked_weight lib known_as main) &&
+    is_beyond (procedures lib known_as main) (path_weight lib known_as main)

@@ -10,16 +10,11 @@
 //! - `Reading`: from the tree of the grammar (`sieve_syntax`) to a program;
 //! - `Branching`, `Parts`: how a command of the tree relates to the branches before it, and its place in the program;
 //! - `Truth`, `Meaning`, `Outcome`: tests, runs, and the classes that a run captures;
-<<<<<<< HEAD
-//! - `Scripts`: what the code's names of scripts and includes stand for;
-//! - `Weight`: how large the code of a script may be;
-//! - `Procedures`: how included scripts can share their code, and what that weighs;
-//! - `Sharing`: what it is for;
-//! - `TooHeavy`: which scripts are too heavy to be run, and the budgets of all others.
-=======
 //! - `Scripts`: what the code's script names and includes mean;
-//! - `Weight`: a bound on the size of a script's code.
->>>>>>> main
+//! - `Weight`: a bound on the size of a script's code;
+//! - `Procedures`: how included scripts can share their code, and what that weighs;
+//! - `Sharing`: why sharing is right;
+//! - `TooHeavy`: which scripts are too heavy to be run, and the budgets of all others.
 //!
 //! `laws` states what is proved of these definitions.
 #![tactic(auto)]
