@@ -95,7 +95,8 @@ counted_to p (x ∷ xs) zero le low high =
     passed p x (begun p xs) (high zero (omega arith) (omega arith)) ∙ rest
 counted_to p (x ∷ xs) (suc i) le low high =
     let rest : begun p xs ≡ i = counted_to p xs i (omega arith) (λ k lt. low (suc k) (omega arith)) (λ k from lt. high (suc k) (omega arith) (omega arith)) in
-    counted p x (begun p xs) (low zero (omega arith)) ∙ ap suc rest
+    let more : begun p (x ∷ xs) ≡ 1 + begun p xs = counted p x (begun p xs) (low zero (omega arith)) in
+    omega arith
 
 -- ---- the procedures of a program
 
