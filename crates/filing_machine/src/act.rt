@@ -116,7 +116,7 @@ fn push_on(item: Item, at: &mut Standing) -> Result<Option<End>, AllocError>
     go_on(at)
 }
 
-/// Enters a procedure, to return to the next place.
+/// Enters the procedure with this first place, to return to the next place.
 fn enter(first: u16, at: &mut Standing) -> Result<Option<End>, AllocError>
     requires place { at.old.place + 1 < 2 ^ 16 }
     requires bare { IsBare at.old.stack }
@@ -147,6 +147,7 @@ fn go_back(at: &mut Standing) -> Result<Option<End>, AllocError>
         None => Ok(Some(None)),
     }
 }
+
 fn mark(slot: u16, at: &mut Standing) -> Result<Option<End>, AllocError>
     requires place { at.old.place < 2 ^ 62 }
     requires slot { slot < 64 }

@@ -2,6 +2,7 @@
 
 ghost use Rattle.std.specs.Prelude.{◌≡◌, ◌<◌, ◌^◌, length, slice_get, Some};
 ghost use Rattle.filing_verify.specs.Flow.{jump_target, first_place, target, goes_on, procedure_of};
+ghost use Rattle.filing_verify.specs.Well.{HasProcedures};
 
 use filing_image::{Image, Operation};
 
@@ -49,15 +50,14 @@ fn first_place(image: &Image, procedure: u16) -> Option<usize>
     Some(first as usize)
 }
 
-/// The number of the procedure that a place is in; 0 in version 1.
+/// The number of the procedure that a place is in; 0 in version 1. In version 2 the first places must ascend.
 pub fn procedure_of(image: &Image, place: usize) -> usize
+    requires { HasProcedures image.now image.now.procedures }
     ensures { result ≡ procedure_of image.now place }
 {
     let begun = image
         .first_places()
-        .iter()
-        .filter(|first| **first as usize <= place)
-        .count();
+        .partition_point(|first| *first as usize <= place);
     begun.saturating_sub(1)
 }
 

@@ -30,6 +30,7 @@ pub fn stays_inside(image: &Image, marks: &[bool]) -> bool
 /// Whether a place is reached and goes on to the next one, which is no place of its procedure.
 fn runs_on(image: &Image, marks: &[bool], place: usize) -> bool
     requires within { place < length image.now.code }
+    requires in_range { AreInRange image.now }
     requires marks { MarksReached image.now marks.now }
     ensures off { result ≡ true → Reached image.now place × RunsOn image.now place }
     ensures on { result ≡ false → Reached image.now place → RunsOn image.now place → ⊥ }
@@ -45,7 +46,8 @@ fn runs_on(image: &Image, marks: &[bool], place: usize) -> bool
 
 /// Whether a place is the last of its procedure, or of the code.
 fn is_last(image: &Image, place: usize) -> bool
-    requires { place < length image.now.code }
+    requires within { place < length image.now.code }
+    requires in_range { AreInRange image.now }
     ensures yes { result ≡ true → (place + 1 < length image.now.code) ×
         (procedure_of image.now (place + 1) ≡ procedure_of image.now place) → ⊥ }
     ensures no { result ≡ false → (place + 1 < length image.now.code) ×

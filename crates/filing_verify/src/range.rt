@@ -76,6 +76,7 @@ fn ascends(numbers: &[u16]) -> bool
 
 /// Whether each jump goes to a place of its own procedure.
 fn jumps_stay(image: &Image) -> bool
+    requires { HasProcedures image.now image.now.procedures }
     ensures yes { result ≡ true → JumpsStay image.now }
     ensures no { result ≡ false → JumpsStay image.now → ⊥ }
 {
@@ -89,7 +90,8 @@ fn jumps_stay(image: &Image) -> bool
 
 /// Whether the operation at this place is a jump to another procedure.
 fn jumps_out(image: &Image, place: usize) -> bool
-    requires { place < length image.now.code }
+    requires within { place < length image.now.code }
+    requires procedures { HasProcedures image.now image.now.procedures }
     ensures out { result ≡ true → JumpsOut image.now place }
     ensures stays { result ≡ false → (q : ℕ) (o : OperationType) → slice_get image.now.code place ≡ Some o →
         jump_target o ≡ Some q → procedure_of image.now q ≡ procedure_of image.now place }
