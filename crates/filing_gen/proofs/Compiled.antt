@@ -17,7 +17,8 @@ use Rattle.sieve_meaning.specs.Outcome.{Outcome, outcome_at, outcome_of}
 use Rattle.sieve_meaning.specs.TooHeavy.{script_budget}
 use Rattle.sieve_meaning.specs.Weight.{linked_weight, included_weight}
 use Rattle.filing_gen.specs.Structured.{script_flow}
-use Rattle.filing_gen.specs.Linked.{Slots, linked_flow, HasSlots, Marked}
+use Rattle.script_procedures.specs.Slots.{Slots, HasSlots}
+use Rattle.filing_gen.specs.Linked.{linked_flow, Marked}
 use Rattle.filing_gen.specs.Alike.{Marking, Related, filing_at, exit_of, Alike}
 use Rattle.std.specs.Prelude.{slice_get}
 use Rattle.filing_image.specs.declared.instruction.Operation.{Operation}

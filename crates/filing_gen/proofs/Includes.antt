@@ -14,7 +14,8 @@ use Rattle.filing_flow.specs.Effect.{Exit, FallsThrough, Leaves, EndsRun, effect
 use Rattle.filing_flow.specs.Effect as code
 use Rattle.filing_gen.specs.Structured.{flow}
 use Rattle.filing_gen.specs.Alike.{Marking, Related, filing_at, Alike, Agrees}
-use Rattle.filing_gen.specs.Linked.{Slots, once_flow, active_flow, found_flow, including_flow, included_flow, HasSlots, Marked, is_passed}
+use Rattle.script_procedures.specs.Slots.{Slots, HasSlots}
+use Rattle.filing_gen.specs.Linked.{once_flow, active_flow, found_flow, including_flow, included_flow, Marked, is_passed}
 use Rattle.filing_gen.proofs.Means.{flow_means}
 
 same_bool_is : (a b : Bool) → same_bool a b ≡ true → a ≡ b

@@ -8,7 +8,8 @@ use Rattle.sieve_meaning.specs.Meaning.{ScriptName, script_named, is_among, Libr
 use Rattle.sieve_meaning.specs.Weight.{weight, included_weight, unless_missing, unless_active}
 use Rattle.filing_gen.specs.Structured.{flow}
 use Rattle.filing_gen.specs.Levels.{entered_flow}
-use Rattle.filing_gen.specs.Linked.{Slots, once_flow, active_flow, found_flow, including_flow, included_flow, HasSlots, is_passed}
+use Rattle.script_procedures.specs.Slots.{Slots, HasSlots}
+use Rattle.filing_gen.specs.Linked.{once_flow, active_flow, found_flow, including_flow, included_flow, is_passed}
 use Rattle.filing_gen.proofs.Types.{flow_typed, flow_small, flow_sound, IncludesTyped, IncludesSmall, IncludesSound}
 
 -- TYPES

@@ -6,7 +6,7 @@ use Rattle.sieve_meaning.specs.Program.{Command, Commands, no_command, command_t
 use Rattle.sieve_meaning.specs.Meaning.{Library}
 use Rattle.sieve_meaning.specs.Procedures.{reaches, procedures}
 use Rattle.filing_flow.specs.Structure.{SetMark, SetCancelled, Fail, nothing, action, sequence}
-use Rattle.filing_gen.specs.Linked.{Slots}
+use Rattle.script_procedures.specs.Slots.{Slots}
 use Rattle.filing_gen.specs.Procedures.{Calls, shared_flows, first_places}
 use Rattle.filing_gen.proofs.ProcedureSizes.{whole_size}
 

@@ -5,7 +5,7 @@ use Rattle.sieve_meaning.specs.Meaning.{ScriptName, script_named, is_among, Libr
 use Rattle.sieve_meaning.specs.Procedures.{Procedure, own_weight, shared_weight}
 use Rattle.filing_flow.specs.Structure.{Flow, size}
 use Rattle.filing_gen.specs.Structured.{script_flow}
-use Rattle.filing_gen.specs.Linked.{Slots}
+use Rattle.script_procedures.specs.Slots.{Slots}
 use Rattle.filing_gen.specs.Procedures.{Calls, call_flow, number_of, call_entry, calling_flow, procedure_flows}
 use Rattle.filing_gen.proofs.IncludesTypes.{including_small, nothing_there}
 use Rattle.filing_gen.proofs.Types.{flow_small, IncludesSmall}

@@ -6,7 +6,7 @@ use Rattle.sieve_meaning.specs.Procedures.{Procedure}
 use Rattle.filing_flow.specs.Structure.{IsSound}
 use Rattle.filing_flow.specs.Types.{Shape, HasType}
 use Rattle.filing_gen.specs.Structured.{script_flow}
-use Rattle.filing_gen.specs.Linked.{Slots, HasSlots}
+use Rattle.script_procedures.specs.Slots.{Slots, HasSlots}
 use Rattle.filing_gen.specs.Procedures.{Calls, call_flow, number_of, call_entry, calling_flow}
 use Rattle.filing_gen.proofs.IncludesTypes.{including_typed, including_sound}
 use Rattle.filing_gen.proofs.Types.{flow_typed, flow_sound, IncludesTyped, IncludesSound}

@@ -7,7 +7,8 @@ use Rattle.sieve_meaning.specs.Weight.{weight, unless_missing, unless_active}
 use Rattle.sieve_meaning.specs.Procedures.{Procedure, is_shared, procedures}
 use Rattle.filing_flow.specs.Structure.{SetMark, Fail, Flow, action, sequence, size}
 use Rattle.filing_gen.specs.Structured.{script_flow}
-use Rattle.filing_gen.specs.Linked.{Slots, including_flow}
+use Rattle.script_procedures.specs.Slots.{Slots}
+use Rattle.filing_gen.specs.Linked.{including_flow}
 
 -- how a procedure is called by its number among those after the caller's, of which the next one has 0
 abbrev pub Calls : Type 0

@@ -1,0 +1,2 @@
+mod SlotLemmas
+mod SetLemmas
