@@ -1,5 +1,6 @@
 -- The names of the scripts that a script includes, as they are gathered from left to right.
 use Rattle.std.specs.Prelude.{List, [], ◌∷◌, ◌++◌, filter, Bool, true, false, not, ◌&&◌, if◌then◌else◌}
+use Rattle.std.specs.List.{list_any}
 use Rattle.sieve_syntax.specs.Tree.{CommandTree, command, CommandTrees}
 use Rattle.sieve_syntax.specs.declared.tree.Argument.{Argument}
 use Rattle.sieve_meaning.specs.declared.words.CommandWord.{CommandWord}
@@ -9,7 +10,7 @@ use Rattle.sieve_meaning.specs.declared.branches.Part.TheVariants.{Branch, Other
 use Rattle.sieve_meaning.specs.Words.{command_word}
 use Rattle.sieve_meaning.specs.Program.{Include, Command, require, keep, discard, stop, return, file_into, branch, include, Commands, no_command, command_then, Branches, no_branch, otherwise, if_then}
 use Rattle.sieve_meaning.specs.Reading.{block_in, program_of, branches_of, include_of}
-use Rattle.sieve_meaning.specs.Meaning.{Library, ScriptName, script_named, is_among}
+use Rattle.sieve_meaning.specs.Meaning.{Library, ScriptName, script_named, same_script}
 use Rattle.sieve_meaning.specs.Procedures.{holds_if_there, included_names}
 
 -- whether the script of a name is there
@@ -22,7 +23,7 @@ names_there lib script = filter (is_there lib) (included_names script)
 
 -- these names and one more, where its script is there and it is none of them
 abbrev pub with_name : Library → List ScriptName → ScriptName → List ScriptName
-with_name lib names s = if is_there lib s && not (is_among names s) then names ++ s ∷ [] else names
+with_name lib names s = if is_there lib s && not (list_any (λ t. same_script t s) names) then names ++ s ∷ [] else names
 
 -- these names and those that commands include
 abbrev mutual

@@ -1,9 +1,10 @@
 //! The names of the scripts that a script includes, each once, in the order in which the script names them.
 
 ghost use Rattle.std.specs.Prelude.{◌≡◌, map, IfOk, OnOk};
+ghost use Rattle.std.specs.List.{list_any};
 ghost use Rattle.sieve_syntax.specs.View.{command_of, commands_of, ending_of, tree_of};
 ghost use Rattle.sieve_meaning.specs.Reading.{block_in, program_of};
-ghost use Rattle.sieve_meaning.specs.Meaning.{is_among, script_named};
+ghost use Rattle.sieve_meaning.specs.Meaning.{same_script, script_named};
 ghost use Rattle.sieve_meaning.specs.Scripts.{asked, script_of};
 ghost use Rattle.script_library.specs.Lent.{scripts_of};
 ghost use Rattle.script_library.specs.Libraries.{library_of};
@@ -18,10 +19,10 @@ use sieve_syntax::{Command, Ending, Script};
 use std::alloc::{AllocError, Global};
 
 /// Whether a name is among these.
-pub fn is_listed(names: &[ScriptName<'_>], name: &ScriptName<'_>) -> bool
-    ensures { result ≡ is_among (map script_of names.now) (script_of name.now) }
+fn is_listed(names: &[ScriptName<'_>], name: &ScriptName<'_>) -> bool
+    ensures { result ≡ list_any (λ t. same_script t (script_of name.now)) (map script_of names.now) }
 {
-    names.iter().any(|other| name.is_same(other))
+    names.iter().any(|other| other.is_same(name))
 }
 
 /// Adds the name of an include, if its script is there and it is none of these.
