@@ -224,15 +224,9 @@ after_mark v = number_at w32 v.1 >>= after_budget v.0
 abbrev body : List (List ℕ) → List ℕ → Option (List ℕ) → List Instruction → List ℕ
 body texts numbers firsts instructions = flat_map text texts ++ (flat_map (to_be_bytes w64) numbers ++ (procedures firsts ++ flat_map instruction instructions))
 
-<<<<<<< HEAD
--- a spelling with a version and counts of its own
+-- a spelling with a given version and given counts
 abbrev spelled : Version → ℕ → Counts → List (List ℕ) → List ℕ → Option (List ℕ) → List Instruction → List ℕ
 spelled v budget c texts numbers firsts instructions = mark v ++ (to_be_bytes w32 budget ++ (counts c ++ body texts numbers firsts instructions))
-=======
--- a spelling with given counts
-abbrev spelled : ℕ → Counts → List (List ℕ) → List ℕ → List Instruction → List ℕ
-spelled budget c texts numbers instructions = mark ++ (to_be_bytes w32 budget ++ (counts c ++ body texts numbers instructions))
->>>>>>> main
 
 abbrev counts_of : Parts → Counts
 counts_of p = record { texts = length p.texts; numbers = length p.numbers; slots = p.slots; procedures = length_of p.procedures; instructions = length p.instructions }

@@ -1,10 +1,5 @@
-<<<<<<< HEAD
--- What an image says: a filing program, and the same as it is written.
-use Rattle.std.specs.Prelude.{ℕ, List, [], map, Vec, Option, Some, None, option_map}
-=======
 -- Filing programs, and their parts as an image encodes them.
-use Rattle.std.specs.Prelude.{ℕ, List, map, Vec}
->>>>>>> main
+use Rattle.std.specs.Prelude.{ℕ, List, [], map, Vec, Option, Some, None, option_map}
 use Rattle.std.specs.declared.alloc.Global.{Global}
 use Rattle.filing_image.specs.declared.instruction.Instruction.{Instruction}
 use Rattle.filing_image.specs.declared.instruction.Operation.{Operation}
@@ -42,13 +37,8 @@ instruction_of (Fault a) = written 21 a 0
 instruction_of (Call b) = written 22 0 b
 instruction_of Return = written 23 0 0
 
-<<<<<<< HEAD
--- a filing program: its budget of steps, the texts and numbers that its operations name, how many slots it
--- has for marks, the first place of each of its procedures in version 2 and none in version 1, and its code
-=======
--- a filing program: its budget in steps, the texts and numbers that its operations name, the number of its slots, and
--- its code
->>>>>>> main
+-- a filing program: its budget in steps, the texts and numbers that its operations name, the number of its slots, in
+-- version 2 the first place of each of its procedures (none in version 1), and its code
 pub record Program : Type 0 where
   pub budget : ℕ
   pub texts : List (List ℕ)
@@ -87,22 +77,12 @@ first_places p = firsts_of p.procedures
 abbrev pub held : Option (Vec ℕ Global) → Option (List ℕ)
 held firsts = option_map (λ v. v.items) firsts
 
-<<<<<<< HEAD
--- the same from what holds each
-abbrev pub parts_from : (budget : ℕ) (texts : List (Vec ℕ Global)) (numbers : List ℕ) (slots : ℕ) (procedures : Option (List ℕ)) (instructions : List Instruction) → Parts
-parts_from budget texts numbers slots procedures instructions = record { budget = budget; texts = map (λ t. t.items) texts; numbers = numbers; slots = slots; procedures = procedures; instructions = instructions }
-
--- a program from what holds each of its parts
-abbrev pub program_from : (budget : ℕ) (texts : List (Vec ℕ Global)) (numbers : List ℕ) (slots : ℕ) (procedures : Option (List ℕ)) (code : List Operation) → Program
-program_from budget texts numbers slots procedures code = record { budget = budget; texts = map (λ t. t.items) texts; numbers = numbers; slots = slots; procedures = procedures; code = code }
-=======
 -- the parts of a program from the vectors that hold them
 abbrev pub parts_from : (budget : ℕ) (texts : List (Vec ℕ Global)) (numbers : List ℕ) (slots : ℕ)
-    (instructions : List Instruction) → Parts
-parts_from budget texts numbers slots instructions = record { budget = budget; texts = map (λ t. t.items) texts; numbers = numbers; slots = slots; instructions = instructions }
+    (procedures : Option (List ℕ)) (instructions : List Instruction) → Parts
+parts_from budget texts numbers slots procedures instructions = record { budget = budget; texts = map (λ t. t.items) texts; numbers = numbers; slots = slots; procedures = procedures; instructions = instructions }
 
 -- a program from the vectors that hold its parts
 abbrev pub program_from : (budget : ℕ) (texts : List (Vec ℕ Global)) (numbers : List ℕ) (slots : ℕ)
-    (code : List Operation) → Program
-program_from budget texts numbers slots code = record { budget = budget; texts = map (λ t. t.items) texts; numbers = numbers; slots = slots; code = code }
->>>>>>> main
+    (procedures : Option (List ℕ)) (code : List Operation) → Program
+program_from budget texts numbers slots procedures code = record { budget = budget; texts = map (λ t. t.items) texts; numbers = numbers; slots = slots; procedures = procedures; code = code }

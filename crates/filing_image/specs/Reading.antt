@@ -44,36 +44,27 @@ many_at read (suc n) octets = do
   others ← many_at read n first.1
   Some (first.0 ∷ others.0, others.1)
 
-<<<<<<< HEAD
 -- the version that the last octet of a mark tells
 abbrev pub version_told : ℕ → Option Version
 version_told b = if b == 0x31 then Some One else (if b == 0x32 then Some Two else None)
 
--- the version that the mark tells, and what follows it
+-- the version that the mark tells, and the octets after the mark
 unfoldable pub marked : List ℕ → Option (Version × List ℕ)
-marked (b0 ∷ b1 ∷ b2 ∷ b3 ∷ rest) = if (b0 == 0x53) && ((b1 == 0x46) && (b2 == 0x49)) then version_told b3 >>= (λ v. Some (v, rest)) else None
+marked (b0 ∷ b1 ∷ b2 ∷ b3 ∷ rest) = if (b0 == 0x53) && ((b1 == 0x46) && (b2 == 0x49))
+    then version_told b3 >>= (λ v. Some (v, rest)) else None
 marked _ = None
 
--- how many procedures there are, in version 2 alone
+-- the count of procedures, which version 2 alone has
 unfoldable pub procedure_count_at : Version → List ℕ → Option (Option ℕ × List ℕ)
 procedure_count_at One octets = Some (None, octets)
 procedure_count_at Two octets = number_at w16 octets >>= λ n. Some (Some n.0, n.1)
 
--- so many first places of procedures, where there are procedures
+-- the first places of the procedures, where they are counted
 unfoldable pub procedures_at : Option ℕ → List ℕ → Option (Option (List ℕ) × List ℕ)
 procedures_at None octets = Some (None, octets)
 procedures_at (Some count) octets = many_at (number_at w16) count octets >>= λ x. Some (Some x.0, x.1)
 
--- how many there are of each
-=======
--- the octets after the mark
-unfoldable pub marked : List ℕ → Option (List ℕ)
-marked (b0 ∷ b1 ∷ b2 ∷ b3 ∷ rest) = if (b0 == 0x53) && ((b1 == 0x46) && ((b2 == 0x49) && (b3 == 0x31))) then Some rest
-    else None
-marked _ = None
-
--- the four counts of an image
->>>>>>> main
+-- the counts of an image
 pub record Counts : Type 0 where
   pub texts : ℕ
   pub numbers : ℕ

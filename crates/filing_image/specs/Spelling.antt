@@ -1,16 +1,9 @@
-<<<<<<< HEAD
--- The one spelling of each program in octets. All numbers are big-endian: the octets 53 46 49 31 in version 1, and
--- 53 46 49 32 in version 2; the budget in four octets; in two each how many texts, numbers, slots, in version 2
--- procedures, and instructions there are; then each text, its length in two octets before it; each number in eight
--- octets; in version 2 the first place of each procedure in two; each instruction in four. Nothing follows.
-use Rattle.std.specs.Prelude.{◌≡◌, ℕ, ◌<◌, ◌≤◌, ◌^◌, List, [], ◌∷◌, ◌++◌, length, All, Option, Some, None}
-=======
 -- The one spelling of each program in octets. All numbers are big-endian. First come the octets 53 46 49 31
--- (hexadecimal), the budget in four octets, and the counts of texts, numbers, slots and instructions in two octets
--- each. Then come the texts, each after its length in two octets, the numbers in eight octets each, and the
+-- (hexadecimal) in version 1 and 53 46 49 32 in version 2, the budget in four octets, and the counts of texts, numbers,
+-- slots, in version 2 procedures, and instructions in two octets each. Then come the texts, each after its length in two
+-- octets, the numbers in eight octets each, in version 2 the first place of each procedure in two octets, and the
 -- instructions in four octets each. Nothing follows.
-use Rattle.std.specs.Prelude.{◌≡◌, ℕ, ◌<◌, ◌^◌, List, [], ◌∷◌, ◌++◌, length, All}
->>>>>>> main
+use Rattle.std.specs.Prelude.{◌≡◌, ℕ, ◌<◌, ◌≤◌, ◌^◌, List, [], ◌∷◌, ◌++◌, length, All, Option, Some, None}
 use Rattle.std.specs.List.{flat_map}
 use Rattle.std.specs.Int.{w8, w16, w32, w64, to_be_bytes}
 use Rattle.filing_image.specs.declared.instruction.Instruction.{Instruction}
@@ -62,13 +55,8 @@ pub record IsShort (p : Parts) : Type 0 where
   pub instruction_count : length p.instructions < 2 ^ 16
   pub texts : All (λ t. length t < 2 ^ 16) p.texts
 
-<<<<<<< HEAD
--- each number fits its octets
-pub record FitsOctets (p : Parts) : Type 0 where
-=======
 -- each part fits its octets
-pub record Fits (p : Parts) : Type 0 where
->>>>>>> main
+pub record FitsOctets (p : Parts) : Type 0 where
   pub short : IsShort p
   pub budget : p.budget < 2 ^ 32
   pub slots : p.slots < 2 ^ 16
@@ -76,8 +64,7 @@ pub record Fits (p : Parts) : Type 0 where
   pub firsts : All (λ f. f < 2 ^ 16) (firsts_of p.procedures)
   pub instructions : All FitsInstruction p.instructions
 
-<<<<<<< HEAD
--- the number of the last operation that a version has: a call and a return are in version 2 alone
+-- the number of a version's last operation: version 2 alone has calls and returns
 abbrev pub last_operation : Version → ℕ
 last_operation One = 21
 last_operation Two = 23
@@ -86,18 +73,13 @@ last_operation Two = 23
 abbrev pub IsOfVersion : Parts → Type 0
 IsOfVersion p = All (λ i. i.op ≤ last_operation (version_of p.procedures)) p.instructions
 
--- each number fits its octets, and each operation is one of the version's
+-- each part fits its octets, and each operation is one of the version's
 pub record Fits (p : Parts) : Type 0 where
   pub octets : FitsOctets p
   pub operations : IsOfVersion p
 
--- the parts of some program, which each instruction writes an operation of, one of the version's
+-- the parts of some program, where each instruction encodes an operation of the version
 pub record IsProgram (x : Parts) : Type 0 where
   pub program : Program
   pub is : parts program ≡ x
   pub operations : IsOfVersion x
-=======
--- the parts of some program, where each instruction encodes an operation
-abbrev pub IsProgram : Parts → Type 0
-IsProgram x = (p : Program) × (parts p ≡ x)
->>>>>>> main

@@ -10,20 +10,15 @@ use crate::version::Version;
 use std::alloc::Global;
 use std::marker::Model;
 
-<<<<<<< HEAD
-/// A filing program, as contracts see it: its budget in steps, its texts, numbers and slots, in version 2 the first
-/// place of each of its procedures, and its code.
-=======
-/// The image of a filing program. Contracts see the program: its budget in steps, its texts, numbers and slots, and its
-/// code.
->>>>>>> main
+/// The image of a filing program. Contracts see the program: its budget in steps, its texts, numbers and slots, in
+/// version 2 the first place of each of its procedures, and its code.
 #[derive(Debug, Drop)]
 pub struct Image {
     budget: u32,
     texts: Vec<Vec<u8>>,
     numbers: Vec<u64>,
     slots: u16,
-    /// In version 2 alone.
+    /// The first place of each procedure; some in version 2 alone.
     first_places: Option<Vec<u16>>,
     code: Vec<Operation>,
 }
@@ -33,30 +28,20 @@ impl Model for Image {
 
     ghost view = { λ i. record { budget = i.budget; texts = map (λ t. t.items) i.texts.items; numbers = i.numbers.items; slots = i.slots; procedures = held i.first_places; code = i.code.items } };
 
-<<<<<<< HEAD
-    ghost invariant = { λ i. (length i.texts.items < 2 ^ 16) × (length i.numbers.items < 2 ^ 16) × (length i.code.items < 2 ^ 16) × All (λ t. length t.items < 2 ^ 16) i.texts.items × All (λ n. n < 2 ^ 64) i.numbers.items × All FitsInstruction (map instruction_of i.code.items) × (i.budget < 2 ^ 32) × (i.slots < 2 ^ 16) × (length (firsts_of (held i.first_places)) < 2 ^ 16) × All (λ f. f < 2 ^ 16) (firsts_of (held i.first_places)) × All (λ x. x.op ≤ last_operation (version_of (held i.first_places))) (map instruction_of i.code.items) };
-}
-
-impl Image {
-    /// The image of version 1 of these parts. `BadForm`, 60, exactly where that version has no spelling of them: more
-    /// than 65,535 texts, numbers or instructions, a text of more than 65,535 octets, an instruction whose number is none
-    /// of 1 to 21, or a non-zero operand that its operation does not have. `NoMemory`, 99, where an allocation was
-    /// refused: counts and lengths that are too great are told as 60 all the same, since they are judged before memory
-    /// is taken.
-=======
     ghost invariant = { λ i. (length i.texts.items < 2 ^ 16) × (length i.numbers.items < 2 ^ 16) ×
         (length i.code.items < 2 ^ 16) × All (λ t. length t.items < 2 ^ 16) i.texts.items ×
         All (λ n. n < 2 ^ 64) i.numbers.items × All FitsInstruction (map instruction_of i.code.items) ×
-        (i.budget < 2 ^ 32) × (i.slots < 2 ^ 16) };
+        (i.budget < 2 ^ 32) × (i.slots < 2 ^ 16) × (length (firsts_of (held i.first_places)) < 2 ^ 16) ×
+        All (λ f. f < 2 ^ 16) (firsts_of (held i.first_places)) ×
+        All (λ x. x.op ≤ last_operation (version_of (held i.first_places))) (map instruction_of i.code.items) };
 }
 
 impl Image {
-    /// The image of these parts; `budget` is in steps. `BadForm` (60) only where the format has no spelling of them. It
-    /// has none for more than 65,535 texts, numbers or instructions, a text of more than 65,535 octets, an instruction
-    /// number outside 1 to 21, or a non-zero operand that the operation does not have. `NoMemory` (99) where an
-    /// allocation was refused before such a fault was found. Counts and lengths that are too great are always 60, since
-    /// they are checked before memory is taken.
->>>>>>> main
+    /// The version 1 image of these parts; `budget` is in steps. `BadForm` (60) only where version 1 has no spelling of
+    /// them. It has none for more than 65,535 texts, numbers or instructions, a text of more than 65,535 octets, an
+    /// instruction number outside 1 to 21, or a non-zero operand that the operation does not have. `NoMemory` (99) where
+    /// an allocation was refused before such a fault was found. Counts and lengths that are too great are always 60,
+    /// since they are checked before memory is taken.
     pub fn new(
         alloc: Global,
         budget: u32,
@@ -65,24 +50,19 @@ impl Image {
         slots: u16,
         instructions: Vec<Instruction>,
     ) -> Result<Image, FormFault>
-<<<<<<< HEAD
-        ensures made { IfOk result (λ i. parts i ≡ parts_from budget texts.items numbers.items slots None instructions.items) }
-=======
         ensures made { IfOk result (λ i. parts i ≡
-            parts_from budget texts.items numbers.items slots instructions.items) }
->>>>>>> main
+            parts_from budget texts.items numbers.items slots None instructions.items) }
         ensures fits { IfOk result (λ i. Fits (parts i)) }
         ensures refused { let given = parts_from budget texts.items numbers.items slots None instructions.items in
             result ≡ Err FormFault.BadForm → IsShort given → IsProgram given → ⊥ }
-<<<<<<< HEAD
-        ensures short { result ≡ Err FormFault.NoMemory → IsShort (parts_from budget texts.items numbers.items slots None instructions.items) }
+        ensures short { result ≡ Err FormFault.NoMemory →
+            IsShort (parts_from budget texts.items numbers.items slots None instructions.items) }
     {
         Image::of_instructions(alloc, budget, texts, numbers, slots, None, instructions)
     }
 
-    /// The image of version 2 of these parts, with the first place of each procedure. `BadForm`, 60, exactly where that
-    /// version has no spelling of them: as `new`, but that instructions are numbered 1 to 23, and also with more than
-    /// 65,535 procedures. `NoMemory`, 99, as there.
+    /// The version 2 image of these parts, where `first_places` has the first place of each procedure. It is refused as
+    /// in `new`, except that instruction numbers go up to 23. More than 65,535 procedures are `BadForm` (60), too.
     pub fn new_with_procedures(
         alloc: Global,
         budget: u32,
@@ -92,11 +72,14 @@ impl Image {
         first_places: Vec<u16>,
         instructions: Vec<Instruction>,
     ) -> Result<Image, FormFault>
-        ensures made { IfOk result (λ i. parts i ≡ parts_from budget texts.items numbers.items slots (Some first_places.items) instructions.items) }
+        ensures made { IfOk result (λ i. parts i ≡
+            parts_from budget texts.items numbers.items slots (Some first_places.items) instructions.items) }
         ensures fits { IfOk result (λ i. Fits (parts i)) }
-        ensures refused { let given = parts_from budget texts.items numbers.items slots (Some first_places.items) instructions.items in
+        ensures refused { let given =
+                parts_from budget texts.items numbers.items slots (Some first_places.items) instructions.items in
             result ≡ Err FormFault.BadForm → IsShort given → IsProgram given → ⊥ }
-        ensures short { result ≡ Err FormFault.NoMemory → IsShort (parts_from budget texts.items numbers.items slots (Some first_places.items) instructions.items) }
+        ensures short { result ≡ Err FormFault.NoMemory →
+            IsShort (parts_from budget texts.items numbers.items slots (Some first_places.items) instructions.items) }
     {
         let first_places = Some(first_places);
         Image::of_instructions(
@@ -120,15 +103,14 @@ impl Image {
         first_places: Option<Vec<u16>>,
         instructions: Vec<Instruction>,
     ) -> Result<Image, FormFault>
-        ensures made { IfOk result (λ i. parts i ≡ parts_from budget texts.items numbers.items slots (held first_places) instructions.items) }
+        ensures made { IfOk result (λ i. parts i ≡
+            parts_from budget texts.items numbers.items slots (held first_places) instructions.items) }
         ensures fits { IfOk result (λ i. Fits (parts i)) }
-        ensures refused { let given = parts_from budget texts.items numbers.items slots (held first_places) instructions.items in
+        ensures refused { let given =
+                parts_from budget texts.items numbers.items slots (held first_places) instructions.items in
             result ≡ Err FormFault.BadForm → IsShort given → IsProgram given → ⊥ }
-        ensures short { result ≡ Err FormFault.NoMemory → IsShort (parts_from budget texts.items numbers.items slots (held first_places) instructions.items) }
-=======
         ensures short { result ≡ Err FormFault.NoMemory →
-            IsShort (parts_from budget texts.items numbers.items slots instructions.items) }
->>>>>>> main
+            IsShort (parts_from budget texts.items numbers.items slots (held first_places) instructions.items) }
     {
         if texts.len() > 65_535 || numbers.len() > 65_535 || instructions.len() > 65_535 {
             return Err(FormFault::BadForm);
@@ -157,16 +139,10 @@ impl Image {
         Ok(image)
     }
 
-<<<<<<< HEAD
-    /// The image of these parts, whose code is at hand as operations; it takes no memory. It is of version 2 where there
-    /// are first places of procedures, and else of version 1. `BadForm`, 60, exactly where that version has no spelling
-    /// of them: more than 65,535 texts, numbers, procedures or operations, a text of more than 65,535 octets, or a call or
-    /// a return in version 1. It answers nothing else.
-=======
-    /// The image of these parts, with the code given as operations; `budget` is in steps. It takes no memory. `BadForm`
-    /// (60) exactly where the format has no spelling of the parts: more than 65,535 texts, numbers or operations, or a
-    /// text of more than 65,535 octets. There is no other refusal.
->>>>>>> main
+    /// The image of these parts, with the code given as operations; `budget` is in steps. It is of version 2 where there
+    /// are first places of procedures, and else of version 1. It takes no memory. `BadForm` (60) exactly where the
+    /// version has no spelling of the parts: more than 65,535 texts, numbers, procedures or operations, a text of more
+    /// than 65,535 octets, or in version 1 a call or a return. There is no other refusal.
     pub fn from_code(
         budget: u32,
         texts: Vec<Vec<u8>>,
@@ -175,15 +151,11 @@ impl Image {
         first_places: Option<Vec<u16>>,
         code: Vec<Operation>,
     ) -> Result<Image, FormFault>
-<<<<<<< HEAD
-        ensures made { IfOk result (λ i. i ≡ program_from budget texts.items numbers.items slots (held first_places) code.items) }
-        ensures refused { let given = parts (program_from budget texts.items numbers.items slots (held first_places) code.items) in
+        ensures made { IfOk result (λ i. i ≡
+            program_from budget texts.items numbers.items slots (held first_places) code.items) }
+        ensures refused { let given =
+                parts (program_from budget texts.items numbers.items slots (held first_places) code.items) in
             IfErr result (λ f. (f ≡ FormFault.BadForm) × (IsShort given → IsOfVersion given → ⊥)) }
-=======
-        ensures made { IfOk result (λ i. i ≡ program_from budget texts.items numbers.items slots code.items) }
-        ensures refused { IfErr result (λ f. (f ≡ FormFault.BadForm) ×
-            (IsShort (parts (program_from budget texts.items numbers.items slots code.items)) → ⊥)) }
->>>>>>> main
     {
         if texts.len() > 65_535 || numbers.len() > 65_535 || code.len() > 65_535 {
             return Err(FormFault::BadForm);
@@ -210,14 +182,14 @@ impl Image {
         })
     }
 
-    /// The version of the format that the image is of.
+    /// The version of the format that the image has.
     pub fn version(&self) -> Version
         ensures { result ≡ version_of self.now.procedures }
     {
         version_of(&self.first_places)
     }
 
-    /// The first place of each procedure, in order; none in version 1.
+    /// The first place of each procedure, procedure 0 first; none in version 1.
     pub fn first_places(&self) -> &[u16]
         ensures value { result.now ≡ first_places self.now }
         ensures short { length result.now < 2 ^ 16 }
@@ -303,7 +275,6 @@ fn has_long(texts: &[Vec<u8>]) -> bool
     !are_short(texts)
 }
 
-<<<<<<< HEAD
 /// The version of an image with these first places of procedures.
 fn version_of(first_places: &Option<Vec<u16>>) -> Version
     ensures { result ≡ version_of (held first_places.now) }
@@ -314,7 +285,7 @@ fn version_of(first_places: &Option<Vec<u16>>) -> Version
     }
 }
 
-/// The first places of the procedures, where there are any.
+/// The first places of the procedures, none in version 1.
 fn listed(first_places: &Option<Vec<u16>>) -> &[u16]
     ensures { result.now ≡ firsts_of (held first_places.now) }
 {
@@ -324,14 +295,14 @@ fn listed(first_places: &Option<Vec<u16>>) -> &[u16]
     }
 }
 
-/// Nothing happens: each place fits its octets.
+/// Proves that each place fits its octets; it has no effect.
 fn places_fit(places: &[u16])
     ensures { All (λ f. f < 2 ^ 16) places.now }
 {
     let _count = places.len();
 }
 
-/// Whether the instructions write operations that a version has.
+/// Whether a version has the operations that the instructions encode.
 fn are_of(version: Version, instructions: &[Instruction]) -> bool
     ensures { IsTrue result ↔ All (λ i. i.op ≤ last_operation version) instructions.now }
 {
@@ -349,10 +320,7 @@ fn has(version: Version, code: &[Operation]) -> bool
     code.iter().all(|operation| operation.instruction().op <= last)
 }
 
-/// Nothing happens: each operation fits its octets.
-=======
 /// Proves that each operation fits its octets; it has no effect.
->>>>>>> main
 fn all_fit(code: &[Operation])
     ensures { All (λ o. FitsInstruction (instruction_of o)) code.now }
 {

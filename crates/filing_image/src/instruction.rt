@@ -4,13 +4,8 @@ ghost use Rattle.std.specs.Prelude.{◌≡◌, ◌≢◌, IfSome, IfNone};
 ghost use Rattle.filing_image.specs.Program.{instruction_of};
 ghost use Rattle.filing_image.specs.Spelling.{FitsInstruction};
 
-<<<<<<< HEAD
-/// An instruction as it is written in four octets: the operation's number, 1 to 23, and two operands, each 0 where the
-/// operation has none.
-=======
-/// An instruction, which takes four octets: the operation's number `op`, 1 to 21, in one octet, the operand `a` in one,
+/// An instruction, which takes four octets: the operation's number `op`, 1 to 23, in one octet, the operand `a` in one,
 /// and the operand `b` in two. An operand that the operation does not have is 0.
->>>>>>> main
 #[derive(Clone, Copy, Debug, PartialEq, Eq)]
 pub struct Instruction {
     pub op: u8,
@@ -75,11 +70,7 @@ pub enum Operation {
 }
 
 impl Operation {
-<<<<<<< HEAD
-    /// The operation that an instruction writes, or none where its number is none of 1 to 23, or an operand that the
-=======
-    /// The operation that an instruction encodes; none where its number is not 1 to 21, or an operand that the
->>>>>>> main
+    /// The operation that an instruction encodes; none where its number is not 1 to 23, or an operand that the
     /// operation does not have is not 0.
     pub fn of(instruction: Instruction) -> Option<Operation>
         ensures found { IfSome result (λ o. instruction_of o ≡ instruction) }

@@ -12,17 +12,10 @@ use crate::instruction::Instruction;
 use crate::version::Version;
 use std::alloc::Global;
 
-<<<<<<< HEAD
-/// The image whose spelling the octets are, all of them. `BadForm`, 60, exactly where they are no image's spelling:
-/// another mark, fewer octets than the counts and lengths say, more of them, an instruction whose number is none of 1
-/// to 21, or in version 2 to 23, or a non-zero operand that its operation does not have. `NoMemory`, 99, where an allocation was refused.
-/// Time and memory are linear in the length.
-=======
 /// Decodes the image that the octets spell, all of them. `BadForm` (60) only where they spell no image. That is another
-/// mark, fewer or more octets than the counts and lengths say, an instruction number outside 1 to 21, or a non-zero
-/// operand that the operation does not have. `NoMemory` (99) where an allocation was refused before such a fault was
-/// found. Time and memory are linear in the number of octets.
->>>>>>> main
+/// mark, fewer or more octets than the counts and lengths say, an instruction number outside 1 to 21 in version 1 and
+/// outside 1 to 23 in version 2, or a non-zero operand that the operation does not have. `NoMemory` (99) where an
+/// allocation was refused before such a fault was found. Time and memory are linear in the number of octets.
 pub fn decode(alloc: Global, octets: &[u8]) -> Result<Image, FormFault>
     // The octets are the image's spelling.
     ensures found { IfOk result (λ i. octets.now ≡ spelling (parts i)) }
@@ -92,11 +85,7 @@ fn written_at(alloc: Global, octets: &[u8]) -> Result<(Written, &[u8]), FormFaul
     Ok((written, rest))
 }
 
-<<<<<<< HEAD
-/// The version that the mark `SFI1` or `SFI2` tells, and the octets behind it.
-=======
-/// The octets after the mark `SFI1`.
->>>>>>> main
+/// Reads the mark `SFI1` or `SFI2`; answers the version that it tells and the rest.
 #[tactic(auto, unfolding(crate::specs::Reading::marked))]
 fn after_mark(octets: &[u8]) -> Result<(Version, &[u8]), FormFault>
     ensures { Gives (λ x. (x.0, x.1.now)) result (marked octets.now) }
@@ -118,22 +107,18 @@ fn version_told(told: u8) -> Result<Version, FormFault>
     }
 }
 
-/// The counts of texts, numbers, slots and instructions.
+/// The counts of an image.
 #[derive(Clone, Copy)]
 struct Heading {
     texts: u16,
     numbers: u16,
     slots: u16,
-    /// In version 2 alone.
+    /// Some in version 2 alone.
     procedures: Option<u16>,
     instructions: u16,
 }
 
-<<<<<<< HEAD
-/// The counts of texts, numbers, slots, in version 2 procedures, and instructions, and the octets behind them.
-=======
-/// Reads the four counts; answers them and the rest.
->>>>>>> main
+/// Reads the counts; answers them and the rest.
 #[tactic(auto, unfolding(crate::specs::Reading::counts_at))]
 fn heading_of(version: Version, octets: &[u8]) -> Result<(Heading, &[u8]), FormFault>
     ensures { Gives (λ x. (record { texts = x.0.texts; numbers = x.0.numbers; slots = x.0.slots; procedures = x.0.procedures; instructions = x.0.instructions }, x.1.now)) result (counts_at version octets.now) }
@@ -153,8 +138,7 @@ fn heading_of(version: Version, octets: &[u8]) -> Result<(Heading, &[u8]), FormF
     Ok((heading, rest))
 }
 
-<<<<<<< HEAD
-/// In version 2 the count of procedures, and the octets behind it.
+/// Reads the count of procedures, which version 2 alone has; answers it and the rest.
 #[tactic(auto, unfolding(crate::specs::Reading::procedure_count_at))]
 fn procedure_count_of(
     version: Version,
@@ -171,10 +155,7 @@ fn procedure_count_of(
     }
 }
 
-/// So many texts, and the octets behind them.
-=======
 /// Reads `count` texts; answers them and the rest.
->>>>>>> main
 fn texts_of(alloc: Global, count: u16, octets: &[u8]) -> Result<(Vec<Vec<u8>>, &[u8]), FormFault>
     ensures { Gives (λ x. (map (λ t. t.items) x.0.items, x.1.now)) result (many_at text_at count octets.now) }
 {
@@ -202,8 +183,7 @@ fn numbers_of(alloc: Global, count: u16, octets: &[u8]) -> Result<(Vec<u64>, &[u
     Ok((numbers, rest))
 }
 
-<<<<<<< HEAD
-/// So many first places of procedures, where there are procedures, and the octets behind them.
+/// Reads the first places of `count` procedures, none where there is no count; answers them and the rest.
 #[tactic(auto, unfolding(crate::specs::Reading::procedures_at))]
 fn first_places_of(
     alloc: Global,
@@ -221,7 +201,7 @@ fn first_places_of(
     }
 }
 
-/// So many places, and the octets behind them.
+/// Reads `count` places; answers them and the rest.
 fn places_of(alloc: Global, count: u16, octets: &[u8]) -> Result<(Vec<u16>, &[u8]), FormFault>
     ensures { Gives (λ x. (x.0.items, x.1.now)) result (many_at (number_at w16) count octets.now) }
 {
@@ -235,10 +215,7 @@ fn places_of(alloc: Global, count: u16, octets: &[u8]) -> Result<(Vec<u16>, &[u8
     Ok((places, rest))
 }
 
-/// So many instructions, and the octets behind them.
-=======
 /// Reads `count` instructions; answers them and the rest.
->>>>>>> main
 fn instructions_of(
     alloc: Global,
     count: u16,

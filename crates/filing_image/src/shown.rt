@@ -5,15 +5,10 @@ use crate::instruction::Operation;
 use std::fmt;
 
 impl fmt::Display for Image {
-<<<<<<< HEAD
-    /// A line for each instruction: its place, its name and its operands, with the text in quotes or the number in
-    /// place of the operand that names it, as `0 VALUES "subject"`. In version 2 also a line before each procedure, as
-    /// `procedure 1`.
-=======
     /// One line for each instruction: its place, its name and its operands, as in `0 VALUES "subject"`. An operand that
     /// names a text or a number is shown as the text, in quotes and with ASCII escapes, or as the number. Where the
-    /// image has none there, the operand is shown after `text` or `number`.
->>>>>>> main
+    /// image has none there, the operand is shown after `text` or `number`. In version 2 a line such as `procedure 1`
+    /// stands before the first instruction of each procedure.
     fn fmt<W: fmt::Write>(&self, f: &mut fmt::Formatter<W>) -> fmt::Result {
         for (place, operation) in self.code().iter().enumerate() {
             show_start(self, place, f)?;
@@ -26,8 +21,7 @@ impl fmt::Display for Image {
     }
 }
 
-<<<<<<< HEAD
-/// Shows each procedure that begins at a place.
+/// Shows the numbers of the procedures that begin at a place.
 fn show_start<W: fmt::Write>(
     image: &Image,
     place: usize,
@@ -40,10 +34,6 @@ fn show_start<W: fmt::Write>(
     }
     Ok(())
 }
-
-/// The name of an operation.
-=======
->>>>>>> main
 fn name(operation: Operation) -> &'static str {
     match operation {
         Operation::PushTrue => "TRUE",

@@ -11,15 +11,8 @@ use crate::instruction::{Instruction, Operation};
 use crate::version::Version;
 use std::alloc::{AllocError, Global};
 
-<<<<<<< HEAD
-/// The one spelling of an image: `decode` of it answers this image. Time and memory are linear in its length.
-=======
-/// The mark `SFI1`, with which each image begins.
-const MARK: [u8; 4] = [0x53, 0x46, 0x49, 0x31];
-
 /// The octets that spell an image. Each image has one spelling, and `decode` of it answers the same image. The only
 /// error is a refused allocation. Time and memory are linear in the number of octets.
->>>>>>> main
 pub fn encode(alloc: Global, image: &Image) -> Result<Vec<u8>, AllocError>
     ensures spelled { IfOk result (λ v. v.items ≡ spelling (parts image.now)) }
     // Each part fits its octets.
@@ -37,8 +30,7 @@ pub fn encode(alloc: Global, image: &Image) -> Result<Vec<u8>, AllocError>
     Ok(out)
 }
 
-<<<<<<< HEAD
-/// The octets that begin each image of a version.
+/// Writes the mark with which each image of a version begins: `SFI1` or `SFI2`.
 fn put_mark(out: &mut Vec<u8>, version: Version) -> Result<(), AllocError>
     ensures { OnOk result (out.new.items ≡ out.old.items ++ mark version) }
 {
@@ -50,17 +42,13 @@ fn put_mark(out: &mut Vec<u8>, version: Version) -> Result<(), AllocError>
     Ok(())
 }
 
-/// How many texts, numbers, slots, in version 2 procedures, and instructions there are.
-fn put_counts(out: &mut Vec<u8>, image: &Image) -> Result<(), AllocError>
-    ensures { OnOk result (out.new.items ≡ out.old.items ++ (to_be_bytes w16 (length image.now.texts) ++ (to_be_bytes w16 (length image.now.numbers) ++ (to_be_bytes w16 image.now.slots ++ (procedure_count image.now.procedures ++ to_be_bytes w16 (length image.now.code)))))) }
-=======
-/// Writes the counts of texts, numbers, slots and instructions, in two octets each.
+/// Writes the counts of texts, numbers, slots, in version 2 procedures, and instructions, in two octets each.
 fn put_counts(out: &mut Vec<u8>, image: &Image) -> Result<(), AllocError>
     ensures { OnOk result (out.new.items ≡ out.old.items ++
         (to_be_bytes w16 (length image.now.texts) ++
         (to_be_bytes w16 (length image.now.numbers) ++
-        (to_be_bytes w16 image.now.slots ++ to_be_bytes w16 (length image.now.code))))) }
->>>>>>> main
+        (to_be_bytes w16 image.now.slots ++
+        (procedure_count image.now.procedures ++ to_be_bytes w16 (length image.now.code)))))) }
 {
     put_u16(out, image.text_count() as u16)?;
     put_u16(out, image.numbers().len() as u16)?;
@@ -70,7 +58,7 @@ fn put_counts(out: &mut Vec<u8>, image: &Image) -> Result<(), AllocError>
     Ok(())
 }
 
-/// How many procedures there are, in version 2.
+/// Writes the count of procedures, which version 2 alone has, in two octets.
 fn put_procedure_count(out: &mut Vec<u8>, image: &Image) -> Result<(), AllocError>
     ensures { OnOk result (out.new.items ≡ out.old.items ++ procedure_count image.now.procedures) }
 {
@@ -80,7 +68,7 @@ fn put_procedure_count(out: &mut Vec<u8>, image: &Image) -> Result<(), AllocErro
     }
 }
 
-/// The first place of each procedure, in two octets.
+/// Writes the first place of each procedure; nothing in version 1.
 fn put_first_places(out: &mut Vec<u8>, image: &Image) -> Result<(), AllocError>
     ensures { OnOk result (out.new.items ≡ out.old.items ++ procedures image.now.procedures) }
 {

@@ -183,21 +183,18 @@ module _ (p : Program) (c : Facts) (well : IsWell p) where
   unfolding shape
   good = well.shaped.1
 
-<<<<<<< HEAD
-  -- each place to return to is reached, its stack is empty, and the calls behind it are in procedures before its own
+  -- each place to return to is reached, with the empty shape, and was put there by a procedure whose number is not below
+  -- the number of the calls before it
   Waits : List ℕ → Type 0
   Waits [] = Unit {0}
   Waits (q ∷ qs) = Reached p q × (q < length p.code) × (shape q ≡ []) × (length qs ≤ procedure_of p q) × Waits qs
 
-  -- in version 1 the run is a path; in version 2 the steps, and what is still to be paid, are within the budget
+  -- in version 1 the run is a path; in version 2 the budget covers the steps so far and the costs of what is left
   Spent : (x : Option (List ℕ)) → Suffices p x → ℕ → State → Type 0
   Spent None paths n s = Path p n s.place
   Spent (Some firsts) (cost, are, enough) n s = n + cost s.place + total cost s.calls ≤ p.budget
 
-  -- a run that goes on stands at a place that is reached, with the shape of that place
-=======
   -- a run that has not ended is at a reached place, and its stack has the shape of that place
->>>>>>> main
   pub record Keeps (n : ℕ) (s : State) : Type 0 where
     pub reached : Reached p s.place
     pub within : s.place < length p.code

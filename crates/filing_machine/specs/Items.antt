@@ -1,10 +1,5 @@
-<<<<<<< HEAD
--- What stands on the top of a machine's stack.
-use Rattle.std.specs.Prelude.{List, [], ◌∷◌}
-=======
 -- The topmost items of a machine's stack.
-use Rattle.std.specs.Prelude.{List, ◌∷◌}
->>>>>>> main
+use Rattle.std.specs.Prelude.{List, [], ◌∷◌}
 use Rattle.filing_machine.specs.declared.state.Item.{Item}
 use Rattle.filing_machine.specs.declared.state.Item.TheVariants.{Truth, Fields, Count}
 

@@ -32,13 +32,9 @@ pub fn act<C: Case>(
     requires in_range { InRange image.now operation }
     requires slots { image.now.slots ≤ 64 }
     requires deep { length at.old.stack ≤ 32 }
-<<<<<<< HEAD
     requires room { length at.old.calls < 256 }
-    ensures does { IfOk result (λ end. act image.now (C.facts case.now) operation (state (C.facts case.now) at.old) ≡ run_at end (state (C.facts case.now) at.new)) }
-=======
     ensures does { IfOk result (λ end. act image.now (C.facts case.now) operation (state (C.facts case.now) at.old) ≡
         run_at end (state (C.facts case.now) at.new)) }
->>>>>>> main
     ensures in_case { AllByRecursion (InCase (C.facts case.now)) at.new.stack }
     ensures err { OnErr result (at.new ≡ at.old) }
     ensures modest { IsModest operation → IsOk result }
@@ -120,8 +116,7 @@ fn push_on(item: Item, at: &mut Standing) -> Result<Option<End>, AllocError>
     go_on(at)
 }
 
-<<<<<<< HEAD
-/// Into a procedure, to come back to the next place.
+/// Enters the procedure with this first place, to return to the next place.
 fn enter(first: u16, at: &mut Standing) -> Result<Option<End>, AllocError>
     requires place { at.old.place + 1 < 2 ^ 16 }
     requires bare { IsBare at.old.stack }
@@ -135,13 +130,14 @@ fn enter(first: u16, at: &mut Standing) -> Result<Option<End>, AllocError>
     Ok(None)
 }
 
-/// On after the last call, or to the end of the run where there is none.
+/// Returns from the last call; ends the run where there is none.
 fn go_back(at: &mut Standing) -> Result<Option<End>, AllocError>
     requires bare { IsBare at.old.stack }
     ensures ok { IsOk result }
     ensures bare { at.old.stack ≡ [] }
     ensures stack { at.new.stack ≡ at.old.stack }
-    ensures does { (c : Facts) → IfOk result (λ end. go_back (state c at.old) at.old.calls ≡ run_at end (state c at.new)) }
+    ensures does { (c : Facts) →
+        IfOk result (λ end. go_back (state c at.old) at.old.calls ≡ run_at end (state c at.new)) }
 {
     match at.calls.pop() {
         Some(place) => {
@@ -152,9 +148,6 @@ fn go_back(at: &mut Standing) -> Result<Option<End>, AllocError>
     }
 }
 
-/// Sets a slot.
-=======
->>>>>>> main
 fn mark(slot: u16, at: &mut Standing) -> Result<Option<End>, AllocError>
     requires place { at.old.place < 2 ^ 62 }
     requires slot { slot < 64 }

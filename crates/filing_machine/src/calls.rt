@@ -1,10 +1,11 @@
-//! Places to return to, in a row that never grows.
+//! The places to which a run returns, in an array of fixed length.
 
 ghost use Rattle.std.specs.Prelude.{◌≡◌, ◌<◌, ◌≤◌, ◌^◌, ℕ, List, [], ◌∷◌, length, reverse, take, MatchOption};
 
 use std::marker::Model;
 
-/// Places to return to, with room for 256. Contracts see them as a list, that of the last call first.
+/// The places to return to, one for each call that has not returned; at most 256. Contracts see them as a list, that of
+/// the last call first.
 #[derive(Drop)]
 pub struct Calls {
     places: [u16; 256],
@@ -20,7 +21,7 @@ impl Model for Calls {
 }
 
 impl Calls {
-    /// No place.
+    /// The empty row; it takes no memory.
     pub fn new() -> Calls
         ensures { result ≡ [] }
     {
@@ -30,7 +31,7 @@ impl Calls {
         }
     }
 
-    /// Adds the place to return to from a call. The caller sees to it that there is room.
+    /// Adds the place to which a call returns. There must be fewer than 256.
     pub fn push(&mut self, place: u16)
         requires { length self.old < 256 }
         ensures { self.new ≡ place ∷ self.old }
@@ -39,7 +40,7 @@ impl Calls {
         self.depth += 1;
     }
 
-    /// Takes the place of the last call away; none where there is none.
+    /// Removes the place to which the last call returns, and answers it; none where no call is left.
     pub fn pop(&mut self) -> Option<u16>
         ensures { MatchOption result ((self.old ≡ []) × (self.new ≡ [])) (λ p. self.old ≡ p ∷ self.new) }
     {

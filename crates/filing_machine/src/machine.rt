@@ -41,13 +41,8 @@ impl Model for Machine {
 }
 
 impl Machine {
-<<<<<<< HEAD
     /// A machine before the first instruction of a program, with nothing done. It reserves the whole stack, and room for
-    /// 256 places to return to; the only error is want of memory.
-=======
-    /// A machine before the first instruction of a program, with nothing done. It reserves the whole stack. The only
-    /// error is a refused allocation.
->>>>>>> main
+    /// 256 places to return to. The only error is a refused allocation.
     pub fn start(alloc: Global, _program: &Verified) -> Result<Machine, AllocError>
         ensures start { IfOk result (λ m. (c : Facts) → seen c m ≡ At start) }
         ensures fresh { IfOk result (λ m. m.steps ≡ 0) }

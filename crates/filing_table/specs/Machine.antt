@@ -48,11 +48,7 @@ values_of c name = map (λ f. f.value) (filter (is_named name) c.fields)
 abbrev pub with_stack : State → List Entry → Run
 with_stack s stack = if nat_lt 32 (length stack) then Trap else At (record s { place = s.place + 1; stack = stack })
 
-<<<<<<< HEAD
--- the text, number or first place that an operand names
-=======
--- goes on with the text or number that an operand names; a trap where there is none
->>>>>>> main
+-- goes on with the text, number or first place that an operand names; a trap where there is none
 abbrev pub with_named : {A : Type 0} → Option A → (A → Run) → Run
 with_named None go = Trap
 with_named (Some x) go = go x

@@ -1,4 +1,4 @@
--- The rules of version 1 are those that were.
+-- In version 1 the rules accept and refuse as the rules before there were procedures.
 use Rattle.std.proofs.Common.{◌≡◌, ℕ, zero, suc, ◌+◌, ◌-◌, ◌<◌, ◌≤◌, List, [], ◌∷◌, length, leb, get_or, Option, Some, None, refl, sym, ap, ◌∙◌, subst, arith, inl, inr}
 use Rattle.std.specs.Prelude.{slice_get, ◌↔◌}
 use Rattle.std.specs.List.{count_by}
@@ -127,11 +127,11 @@ module _ (p : Program) (none : p.procedures ≡ None) where
     old_at : (i : ℕ) (o : Operation) → slice_get p.code i ≡ Some o → IsOld o
     old_at i o at = is_old o (in_range_at p in_range i o at)
 
-    follows_to : (o : Operation) (i q : ℕ) → IsOld o → Follows p o i q → one.Follows o i q
+    follows_to : (o : Operation) (i q : ℕ) → IsOld o → Follows p o i q → one.Follows p o i q
     follows_to o i q old (inl (g, e)) = inl (sym (goes_is o old) ∙ g, e)
     follows_to o i q old (inr to) = inr (sym (target_is o) ∙ to)
 
-    follows_from : (o : Operation) (i q : ℕ) → IsOld o → one.Follows o i q → Follows p o i q
+    follows_from : (o : Operation) (i q : ℕ) → IsOld o → one.Follows p o i q → Follows p o i q
     follows_from o i q old (inl (g, e)) = inl (goes_is o old ∙ g, e)
     follows_from o i q old (inr to) = inr (target_is o ∙ to)
 

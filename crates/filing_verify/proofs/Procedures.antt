@@ -2,10 +2,13 @@
 use Rattle.std.proofs.Common.{◌≡◌, ℕ, zero, suc, ◌+◌, ◌-◌, ◌<◌, ◌≤◌, Bool, true, false, cond, eqb, leb, List, [], ◌∷◌, length, get_or, Option, Some, None, refl, sym, ap, eq-eqb, ◌∙◌, subst, arith, inl, inr, ◌⊎◌}
 use Rattle.std.specs.Prelude.{slice_get, All}
 use Rattle.std.specs.List.{count_by}
+use Rattle.std.specs.List.Sorted.{IsPartitionedBy, IsPartitionPoint}
+use Rattle.std.proofs.lemmas.Grind.{get_or_default_zero}
+use Rattle.std.proofs.lemmas.List.Sorted.{IsPartitionedBy-leb, IsNonDecreasingBy-from_all_adjacent}
 use Rattle.std.proofs.lemmas.List.Recursion.{is_count_by}
 use Rattle.std.proofs.lemmas.List.Sums.{count_by-le-length}
 use Rattle.std.proofs.lemmas.Option.{slice_get_within, slice_get-get_or}
-use Rattle.std.proofs.lemmas.Bool.{cases_lt, eqb-true, le-leb, lt-leb}
+use Rattle.std.proofs.lemmas.Bool.{cases_lt, eqb-true, le-leb, lt-leb, leb-true, leb-false}
 use Rattle.filing_image.specs.Program.{Program, first_places, firsts_of, version_of}
 use Rattle.filing_image.specs.declared.version.Version.TheVariants.{One, Two}
 use Rattle.filing_image.specs.declared.instruction.Operation.{Operation}
@@ -83,11 +86,37 @@ counts_before p (x ∷ xs) (suc b) asc lt less =
       | inr more ↦ let e : begun p (x ∷ xs) ≡ 1 + begun p xs = counted p x (begun p xs) more in omega arith
     ]
 
+-- what a search by halves finds: the numbers below index i are at most p, and those from i on are above it
+counted_to : (p : ℕ) (fs : List ℕ) (i : ℕ) → i ≤ length fs → ((k : ℕ) → k < i → get_or fs k 0 ≤ p) → ((k : ℕ) → i ≤ k → k < length fs → p < get_or fs k 0) → begun p fs ≡ i
+unfolding begun
+counted_to p [] i le low high = omega arith
+counted_to p (x ∷ xs) zero le low high =
+    let rest : begun p xs ≡ 0 = counted_to p xs zero (omega arith) (λ k lt. absurd (omega arith)) (λ k from lt. high (suc k) (omega arith) (omega arith)) in
+    passed p x (begun p xs) (high zero (omega arith) (omega arith)) ∙ rest
+counted_to p (x ∷ xs) (suc i) le low high =
+    let rest : begun p xs ≡ i = counted_to p xs i (omega arith) (λ k lt. low (suc k) (omega arith)) (λ k from lt. high (suc k) (omega arith) (omega arith)) in
+    let more : begun p (x ∷ xs) ≡ 1 + begun p xs = counted p x (begun p xs) (low zero (omega arith)) in
+    omega arith
+
 -- ---- the procedures of a program
 
 procedures_are : (p : Program) (x : Option (List ℕ)) → HasProcedures p x → 0 < length (firsts_of x) → AreProcedures (length p.code) (firsts_of x)
 procedures_are p None h some = absurd (omega arith)
 procedures_are p (Some firsts) h some = h
+
+ascending : (p : Program) (x : Option (List ℕ)) → HasProcedures p x → Ascends (firsts_of x)
+ascending p None h = λ i lt. absurd (omega arith)
+ascending p (Some firsts) h = h.ascending
+
+pub are_partitioned : (p : Program) (t : ℕ) → HasProcedures p p.procedures → IsPartitionedBy (λ f. leb f t) (first_places p)
+are_partitioned p t h =
+    let fs = first_places p in
+    let asc = ascending p p.procedures h in
+    IsPartitionedBy-leb (λ f. f) fs t (IsNonDecreasingBy-from_all_adjacent (λ f. f) fs (λ k d lt. let less = asc k lt in omega (arith, get_or_default_zero fs k d (omega arith), get_or_default_zero fs (k + 1) d lt, less)))
+
+-- where the search ends, as the number of procedures that begin at or before a place
+pub begun_at : (p : Program) (t i : ℕ) → i ≤ length (first_places p) → IsPartitionPoint (λ f. leb f t ≡ true) (λ f. leb f t ≡ false) (first_places p) i → i ≡ count_by (λ f. leb f t) (first_places p)
+begun_at p t i le point = sym (counted_to t (first_places p) i le (λ k lt. leb-true _ _ (point.0 k 0 (omega arith) lt)) (λ k from lt. leb-false _ _ (point.1 k 0 from lt))) ∙ begun_is t (first_places p)
 
 -- the code of version 1 is one piece
 pub one_piece : (program : Program) → program.procedures ≡ None → (p : ℕ) → procedure_of program p ≡ 0

@@ -1,12 +1,7 @@
-<<<<<<< HEAD
--- Where an operation goes on, and which places a program comes to. Places count from 0.
+-- The successors of an operation, the places that a program reaches, and the procedures that places are in. Places
+-- count from 0.
 use Rattle.std.specs.Prelude.{◌≡◌, ℕ, zero, suc, ◌+◌, ◌-◌, Option, Some, None, Bool, true, false, nat_le, slice_get, count_by, ◌⊎◌}
 use Rattle.filing_image.specs.Program.{Program, first_places}
-=======
--- The successors of an operation, and the places that a program reaches. Places count from 0.
-use Rattle.std.specs.Prelude.{◌≡◌, ℕ, zero, suc, ◌+◌, Option, Some, None, Bool, true, false, slice_get, ◌⊎◌}
-use Rattle.filing_image.specs.Program.{Program}
->>>>>>> main
 use Rattle.filing_image.specs.declared.instruction.Operation.{Operation}
 use Rattle.filing_image.specs.declared.instruction.Operation.TheVariants.{Jump, JumpIf, JumpUnless, Stop, Fault, Call, Return}
 
@@ -26,7 +21,7 @@ abbrev pub target : Program → Operation → Option ℕ
 target program (Call b) = first_place program b
 target program o = jump_target o
 
--- whether the run may go on to the next place, at a call once the procedure has returned
+-- whether the run may go on to the next place; it may at a call, once the procedure has returned
 abbrev pub goes_on : Operation → Bool
 goes_on (Jump b) = false
 goes_on Stop = false
@@ -51,11 +46,12 @@ Path program (suc n) q = (p : ℕ) × Path program n p × Leads program p q
 abbrev pub Reached : Program → ℕ → Type 0
 Reached program q = (n : ℕ) × Path program n q
 
--- the number of the procedure that a place is in: each begins at its first place and ends where the next one begins,
--- and the code of version 1 is one piece
+-- the number of the procedure that a place is in: each reaches from its first place to that of the next one; 0 in version
+-- 1, whose code is one piece
 abbrev pub procedure_of : Program → ℕ → ℕ
 procedure_of program p = count_by (λ f. nat_le f p) (first_places program) - 1
 
--- Place q is a successor of place p that belongs in the same procedure: the next one, at a call too, or where a jump goes.
+-- Place q is a successor of place p other than the start of a called procedure: the next place, or that of a jump.
 abbrev pub Continues : Program → ℕ → ℕ → Type 0
-Continues program p q = (o : Operation) × (slice_get program.code p ≡ Some o) × (((goes_on o ≡ true) × (q ≡ p + 1)) ⊎ (jump_target o ≡ Some q))
+Continues program p q = (o : Operation) × (slice_get program.code p ≡ Some o) ×
+    (((goes_on o ≡ true) × (q ≡ p + 1)) ⊎ (jump_target o ≡ Some q))

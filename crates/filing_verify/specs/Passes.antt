@@ -1,10 +1,5 @@
-<<<<<<< HEAD
--- What the passes over the code keep: the tables of the proof, of which no statement of the verifier speaks.
-use Rattle.std.specs.Prelude.{◌≡◌, ◌≢◌, ℕ, ◌+◌, ◌<◌, ◌≤◌, ◌⊎◌, List, [], length, Bool, true, false, Option, Some, None, slice_get, slice_set, slice_index_or, min, max, ◌↔◌}
-=======
 -- Invariants of the passes over the code, which the contract of the verifier does not use.
-use Rattle.std.specs.Prelude.{◌≡◌, ◌≢◌, ℕ, ◌+◌, ◌<◌, ◌≤◌, ◌⊎◌, List, [], length, Bool, true, false, Option, Some, None, slice_get, slice_set, slice_index_or, max, ◌↔◌}
->>>>>>> main
+use Rattle.std.specs.Prelude.{◌≡◌, ◌≢◌, ℕ, ◌+◌, ◌<◌, ◌≤◌, ◌⊎◌, List, [], length, Bool, true, false, Option, Some, None, slice_get, slice_set, slice_index_or, min, max, ◌↔◌}
 use Rattle.filing_image.specs.Program.{Program}
 use Rattle.filing_image.specs.declared.instruction.Operation.{Operation}
 use Rattle.filing_verify.specs.declared.kind.Kind.{Kind}
@@ -12,15 +7,16 @@ use Rattle.filing_verify.specs.Flow.{jump_target, target, goes_on, Follows, Lead
 use Rattle.filing_verify.specs.Shapes.{after, IsAssignment}
 use Rattle.filing_verify.specs.Well.{cost_by}
 
--- each jump and each call that is reached goes to a greater place
+-- each reached jump and each reached call goes to a greater place
 abbrev pub GoesOnward : Program → Type 0
-GoesOnward program = (p q : ℕ) (o : Operation) → Reached program p → slice_get program.code p ≡ Some o → target program o ≡ Some q → p < q
+GoesOnward program = (p q : ℕ) (o : Operation) → Reached program p → slice_get program.code p ≡ Some o →
+    target program o ≡ Some q → p < q
 
--- each successor of a place that is reached is a place
+-- each successor of a reached place is a place of the code
 abbrev pub LeadsInside : Program → Type 0
 LeadsInside program = (p q : ℕ) → Reached program p → Leads program p q → q < length program.code
 
--- The run goes on from place p to the next one, which is no place of the same procedure.
+-- The run goes on from place p to the next one, which is no place of its procedure.
 pub record RunsOn (program : Program) (p : ℕ) : Type 0 where
   pub operation : Operation
   pub here : slice_get program.code p ≡ Some operation
@@ -50,29 +46,16 @@ pub record Marks (program : Program) (i : ℕ) (ms : List Bool) : Type 0 where
   pub first : 0 < length program.code → IsMarked ms 0
   pub sound : (p : ℕ) → IsMarked ms p → Reached program p
   pub closed : (p q : ℕ) → p < i → IsMarked ms p → Leads program p q → q < length program.code → IsMarked ms q
-<<<<<<< HEAD
-  pub forward : (p q : ℕ) (o : Operation) → p < i → IsMarked ms p → slice_get program.code p ≡ Some o → target program o ≡ Some q → p < q
-=======
   pub forward : (p q : ℕ) (o : Operation) → p < i → IsMarked ms p → slice_get program.code p ≡ Some o →
-      target o ≡ Some q → p < q
->>>>>>> main
+      target program o ≡ Some q → p < q
 
 -- the shape that a table has at a place
 abbrev pub Has : List (Option (List Kind)) → ℕ → List Kind → Type 0
 Has table p ks = slice_get table p ≡ Some (Some ks)
 
-<<<<<<< HEAD
--- The places At, and no others, have got this shape, where they are places of the table.
-pub record Takes (old : List (Option (List Kind))) (At : ℕ → Type 0) (r : List Kind) (new : List (Option (List Kind))) : Type 0 where
-=======
--- the successors that the operation at place p has in any program
-abbrev pub FollowsBy : Operation → ℕ → ℕ → Type 0
-FollowsBy o p q = ((goes_on o ≡ true) × (q ≡ p + 1)) ⊎ (target o ≡ Some q)
-
 -- The places At that the table has were given this shape, and no other place was changed.
 pub record Takes (old : List (Option (List Kind))) (At : ℕ → Type 0) (r : List Kind)
     (new : List (Option (List Kind))) : Type 0 where
->>>>>>> main
   pub long : length new ≡ length old
   pub offered : (q : ℕ) → At q → q < length old → Has new q r
   pub kept : (p : ℕ) (ks : List Kind) → Has old p ks → Has new p ks
@@ -107,54 +90,46 @@ abbrev pub by_next : Bool → ℕ → List ℕ → ℕ
 by_next true p costs = slice_index_or costs (p + 1) 0
 by_next false p costs = 0
 
-<<<<<<< HEAD
+-- the places on the longest path from a place on, by the costs of its successors; places past the end cost 0
 abbrev pub cost_at : Program → Operation → ℕ → List ℕ → ℕ
 cost_at program o p costs = 1 + max (by_next (goes_on o) p costs) (by_target (target program o) costs)
-=======
--- the places on the longest path from a place on, by the costs of its successors; places past the end cost 0
-abbrev pub cost_at : Operation → ℕ → List ℕ → ℕ
-cost_at o p costs = 1 + max (by_next (goes_on o) p costs) (by_target (target o) costs)
->>>>>>> main
 
 -- the cost of each reached place from i on is the number of places on the longest path from it
 pub record Costs (program : Program) (i : ℕ) (costs : List ℕ) : Type 0 where
   pub long : length costs ≡ length program.code
   pub small : (p : ℕ) → p < length program.code → slice_index_or costs p 0 + p ≤ length program.code
   pub some : (p : ℕ) → i ≤ p → p < length program.code → Reached program p → 1 ≤ slice_index_or costs p 0
-<<<<<<< HEAD
-  pub upper : (p q : ℕ) → i ≤ p → Reached program p → Leads program p q → q < length program.code → slice_index_or costs q 0 + 1 ≤ slice_index_or costs p 0
-  pub attained : (p : ℕ) → i ≤ p → p < length program.code → Reached program p → (slice_index_or costs p 0 ≡ 1) ⊎ ((q : ℕ) × (q < length program.code) × Leads program p q × (slice_index_or costs q 0 + 1 ≡ slice_index_or costs p 0))
+  pub upper : (p q : ℕ) → i ≤ p → Reached program p → Leads program p q → q < length program.code →
+      slice_index_or costs q 0 + 1 ≤ slice_index_or costs p 0
+  pub attained : (p : ℕ) → i ≤ p → p < length program.code → Reached program p → (slice_index_or costs p 0 ≡ 1) ⊎
+      ((q : ℕ) × (q < length program.code) × Leads program p q ×
+      (slice_index_or costs q 0 + 1 ≡ slice_index_or costs p 0))
 
--- these are costs of the places from i on
+-- the costs in steps of the reached places from i on
 abbrev pub AreCostsFrom : Program → ℕ → (ℕ → ℕ) → Type 0
-AreCostsFrom program i cost = (p : ℕ) (o : Operation) → i ≤ p → Reached program p → slice_get program.code p ≡ Some o → cost p ≡ cost_by program cost p o
+AreCostsFrom program i cost = (p : ℕ) (o : Operation) → i ≤ p → Reached program p → slice_get program.code p ≡ Some o →
+    cost p ≡ cost_by program cost p o
 
--- the costs in a table, of each place
+-- the cost of each place by a table; places past the end cost 0
 abbrev pub listed : List ℕ → ℕ → ℕ
 listed costs p = slice_index_or costs p 0
 
--- more than the greatest budget: what costs as much, or more, is told by it
+-- more than any budget: the table has it for this cost and all greater ones
 abbrev pub too_much : ℕ
 too_much = 1000001
 
--- the places from i on have their costs, where they are reached, up to that number
+-- the table has the cost of each reached place from i on, or too_much where that is less
 pub record Costing (program : Program) (i : ℕ) (costs : List ℕ) : Type 0 where
   pub long : length costs ≡ length program.code
   pub small : (p : ℕ) → listed costs p ≤ too_much
   pub there : (cost : ℕ → ℕ) × AreCostsFrom program i cost
-  pub are : (cost : ℕ → ℕ) → AreCostsFrom program i cost → (p : ℕ) → i ≤ p → p < length program.code → Reached program p → listed costs p ≡ min (cost p) too_much
+  pub are : (cost : ℕ → ℕ) → AreCostsFrom program i cost → (p : ℕ) → i ≤ p → p < length program.code →
+      Reached program p → listed costs p ≡ min (cost p) too_much
 
--- A jump at this place goes to a place of another procedure.
+-- The jump at this place goes to a place of another procedure.
 pub record JumpsOut (program : Program) (p : ℕ) : Type 0 where
   pub operation : Operation
   pub here : slice_get program.code p ≡ Some operation
   pub to : ℕ
   pub jumps : jump_target operation ≡ Some to
   pub out : procedure_of program to ≡ procedure_of program p → ⊥
-=======
-  pub upper : (p q : ℕ) → i ≤ p → Reached program p → Leads program p q → q < length program.code →
-      slice_index_or costs q 0 + 1 ≤ slice_index_or costs p 0
-  pub attained : (p : ℕ) → i ≤ p → p < length program.code → Reached program p → (slice_index_or costs p 0 ≡ 1) ⊎
-      ((q : ℕ) × (q < length program.code) × Leads program p q ×
-      (slice_index_or costs q 0 + 1 ≡ slice_index_or costs p 0))
->>>>>>> main

@@ -1,6 +1,6 @@
--- The rules of version 1, word for word as they were before there were procedures. No other definition cites them: they
--- stand here so that it is proved that they still hold of each image of version 1. Calls and returns, which version 1
--- does not have, are in no program that is in range here.
+-- The rules before there were procedures, each word for word. No other definition cites them. They stand here so that a
+-- law can say that they still decide each version 1 image. Three lines are new: calls and returns, which version 1 does
+-- not have, are out of range, and leave no shape.
 use Rattle.std.specs.Prelude.{◌≡◌, ℕ, zero, suc, ◌+◌, ◌≤◌, ◌<◌, ◌^◌, List, [], ◌∷◌, length, Option, Some, None, Bool, true, false, slice_get, All, ◌⊎◌}
 use Rattle.filing_image.specs.Program.{Program}
 use Rattle.filing_image.specs.declared.instruction.Operation.{Operation}
@@ -24,13 +24,13 @@ goes_on Stop = false
 goes_on (Fault a) = false
 goes_on _ = true
 
--- The run may come from the operation at place p to place q.
-abbrev pub Follows : Operation → ℕ → ℕ → Type 0
-Follows o p q = ((goes_on o ≡ true) × (q ≡ p + 1)) ⊎ (target o ≡ Some q)
+-- In this program the run may go from the operation at place p to place q.
+abbrev pub Follows : Program → Operation → ℕ → ℕ → Type 0
+Follows program o p q = ((goes_on o ≡ true) × (q ≡ p + 1)) ⊎ (target o ≡ Some q)
 
 -- Place q is a successor of place p.
 abbrev pub Leads : Program → ℕ → ℕ → Type 0
-Leads program p q = (o : Operation) × (slice_get program.code p ≡ Some o) × Follows o p q
+Leads program p q = (o : Operation) × (slice_get program.code p ≡ Some o) × Follows program o p q
 
 -- A path of n successors leads from place 0 to q: it has n + 1 places.
 abbrev pub Path : Program → ℕ → ℕ → Type 0
@@ -80,7 +80,7 @@ pub record IsFine (program : Program) (shape : ℕ → List Kind) (p : ℕ) (o :
   pub finds : after o (shape p) ≡ Some result
   pub shallow : length (shape p) ≤ 32
   pub shallow_after : length result ≤ 32
-  pub passed_on : (q : ℕ) → Follows o p q → q < length program.code → shape q ≡ result
+  pub passed_on : (q : ℕ) → Follows program o p q → q < length program.code → shape q ≡ result
 
 -- Place 0 has the empty shape, and each operation that is reached is fine.
 pub record IsAssignment (program : Program) (shape : ℕ → List Kind) : Type 0 where
@@ -91,8 +91,8 @@ pub record IsAssignment (program : Program) (shape : ℕ → List Kind) : Type 0
 abbrev pub HasShapes : Program → Type 0
 HasShapes program = (shape : ℕ → List Kind) × IsAssignment program shape
 
--- each operand names something that is there, or is one of its values: of Match, 0 to 5 name the comparisons; of
--- File, 1 is for a copy; of Fault, 2 to 5 are the faults
+-- each operand names something that exists, or has one of its values: for Match, 0 to 5 are the comparisons; for File,
+-- 1 is a copy; for Fault, 2 to 5 are the faults
 abbrev pub InRange : Program → Operation → Type 0
 InRange p (Values b) = b < length p.texts
 InRange p (Match a b) = (a ≤ 5) × (b < length p.texts)
@@ -114,11 +114,12 @@ pub record AreInRange (p : Program) : Type 0 where
   pub slots : p.slots ≤ 64
   pub each : All (InRange p) p.code
 
--- each jump that is reached goes to a greater place
+-- each reached jump goes to a greater place
 abbrev pub GoesForward : Program → Type 0
-GoesForward program = (p q : ℕ) (o : Operation) → Reached program p → slice_get program.code p ≡ Some o → target o ≡ Some q → p < q
+GoesForward program = (p q : ℕ) (o : Operation) → Reached program p → slice_get program.code p ≡ Some o →
+    target o ≡ Some q → p < q
 
--- there is a place, and no place that is reached leads one past the last
+-- there is a place, and no reached place leads to the one past the end
 pub record StaysInside (program : Program) : Type 0 where
   pub some : 0 < length program.code
   pub inside : (p : ℕ) → Reached program p → Leads program p (length program.code) → ⊥
@@ -137,7 +138,7 @@ pub record IsWell (program : Program) : Type 0 where
   pub inside : StaysInside program
   pub within : IsWithin program
 
--- The first that fails gives the fault. Memory is taken once all operations are in range, and not before.
+-- The first rule that is broken gives the fault. Memory is taken only once all operations are in range.
 abbrev pub Fails : VerifyFault → Program → Type 0
 Fails NoMemory p = AreInRange p
 Fails Operand p = AreInRange p → ⊥

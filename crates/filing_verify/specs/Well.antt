@@ -8,13 +8,8 @@ use Rattle.filing_verify.specs.declared.fault.VerifyFault.TheVariants.{NoMemory,
 use Rattle.filing_verify.specs.Flow.{jump_target, target, goes_on, Path, Reached, procedure_of, Continues}
 use Rattle.filing_verify.specs.Shapes.{HasShapes}
 
-<<<<<<< HEAD
--- each operand names something that is there, or is one of its values: of Match, 0 to 5 name the comparisons; of
--- File, 1 is for a copy; of Fault, 2 to 5 are the faults; calls and returns are in procedures
-=======
 -- each operand names something that exists, or has one of its values: for Match, 0 to 5 are the comparisons; for File,
--- 1 is a copy; for Fault, 2 to 5 are the faults
->>>>>>> main
+-- 1 is a copy; for Fault, 2 to 5 are the faults; only programs with procedures have calls and returns
 abbrev pub InRange : Program → Operation → Type 0
 InRange p (Values b) = b < length p.texts
 InRange p (Match a b) = (a ≤ 5) × (b < length p.texts)
@@ -35,8 +30,8 @@ InRange p _ = Unit {0}
 abbrev pub Ascends : List ℕ → Type 0
 Ascends numbers = (i : ℕ) → i + 1 < length numbers → slice_index numbers i < slice_index numbers (i + 1)
 
--- in code of so many places there are 1 to 256 procedures, the first begins at place 0, and each other one at a place
--- after that of the one before it
+-- the first places of 1 to 256 procedures in code with this number of places: the first is 0, and each other one is
+-- greater than the one before it
 pub record AreProcedures (places : ℕ) (firsts : List ℕ) : Type 0 where
   pub some : 0 < length firsts
   pub most : length firsts ≤ 256
@@ -44,14 +39,15 @@ pub record AreProcedures (places : ℕ) (firsts : List ℕ) : Type 0 where
   pub ascending : Ascends firsts
   pub within : All (λ f. f < places) firsts
 
--- those of version 2; version 1 has none
+-- the procedures of a version 2 program; version 1 has none
 abbrev pub HasProcedures : Program → Option (List ℕ) → Type 0
 HasProcedures p None = Unit {0}
 HasProcedures p (Some firsts) = AreProcedures (length p.code) firsts
 
 -- each jump, reached or not, goes to a place of its own procedure
 abbrev pub JumpsStay : Program → Type 0
-JumpsStay p = (i q : ℕ) (o : Operation) → slice_get p.code i ≡ Some o → jump_target o ≡ Some q → procedure_of p q ≡ procedure_of p i
+JumpsStay p = (i q : ℕ) (o : Operation) → slice_get p.code i ≡ Some o → jump_target o ≡ Some q →
+    procedure_of p q ≡ procedure_of p i
 
 -- at most 64 slots, each operation, reached or not, in range, procedures as version 2 must have them, and no jump out of
 -- its procedure
@@ -61,26 +57,20 @@ pub record AreInRange (p : Program) : Type 0 where
   pub procedures : HasProcedures p p.procedures
   pub jumps : JumpsStay p
 
-<<<<<<< HEAD
--- each jump that is reached goes to a greater place, and each call to a procedure with a greater number than its own
+-- each reached jump goes to a greater place, and each reached call to a procedure whose number is greater than that of
+-- its own
 pub record GoesForward (program : Program) : Type 0 where
-  pub jumps : (p q : ℕ) (o : Operation) → Reached program p → slice_get program.code p ≡ Some o → jump_target o ≡ Some q → p < q
+  pub jumps : (p q : ℕ) (o : Operation) → Reached program p → slice_get program.code p ≡ Some o →
+      jump_target o ≡ Some q → p < q
   pub calls : (p b : ℕ) → Reached program p → slice_get program.code p ≡ Some (Call b) → procedure_of program p < b
 
--- there is a place, and no place that is reached goes on, or jumps, out of its own procedure
-=======
--- each reached jump goes to a greater place
-abbrev pub GoesForward : Program → Type 0
-GoesForward program = (p q : ℕ) (o : Operation) → Reached program p → slice_get program.code p ≡ Some o →
-    target o ≡ Some q → p < q
-
--- there is a place, and no reached place leads to the one past the end
->>>>>>> main
+-- there is a place, and no reached place goes on or jumps out of its own procedure, nor past the end
 pub record StaysInside (program : Program) : Type 0 where
   pub some : 0 < length program.code
-  pub inside : (p q : ℕ) → Reached program p → Continues program p q → (q < length program.code) × (procedure_of program q ≡ procedure_of program p)
+  pub inside : (p q : ℕ) → Reached program p → Continues program p q →
+      (q < length program.code) × (procedure_of program q ≡ procedure_of program p)
 
--- the greatest budget that a version may declare
+-- the greatest budget that a program may declare: more in version 2
 abbrev pub greatest_budget : Option (List ℕ) → ℕ
 greatest_budget None = 65535
 greatest_budget (Some firsts) = 1000000
@@ -89,7 +79,7 @@ abbrev pub is_call : Operation → Bool
 is_call (Call b) = true
 is_call _ = false
 
--- what the next place and a target cost together: at a call the run comes to both, and else to one of them
+-- the costs of the next place and of a target together: at a call a run comes to both, and else to one of them
 abbrev pub together : Bool → ℕ → ℕ → ℕ
 together true a b = a + b
 together false a b = max a b
@@ -102,21 +92,22 @@ abbrev pub target_cost : Option ℕ → (ℕ → ℕ) → ℕ
 target_cost None cost = 0
 target_cost (Some q) cost = cost q
 
--- what an operation at place p costs in steps, by the costs of its successors: at a call both are added up, and else
--- the greater counts
+-- the cost in steps of an operation at place p, by the costs of its successors: at a call their sum and 1, and else the
+-- greater and 1
 abbrev pub cost_by : Program → (ℕ → ℕ) → ℕ → Operation → ℕ
 cost_by program cost p o = 1 + together (is_call o) (next_cost (goes_on o) p cost) (target_cost (target program o) cost)
 
--- the cost of each place that is reached
+-- the costs in steps of the reached places
 abbrev pub AreCosts : Program → (ℕ → ℕ) → Type 0
-AreCosts program cost = (p : ℕ) (o : Operation) → Reached program p → slice_get program.code p ≡ Some o → cost p ≡ cost_by program cost p o
+AreCosts program cost = (p : ℕ) (o : Operation) → Reached program p → slice_get program.code p ≡ Some o →
+    cost p ≡ cost_by program cost p o
 
--- in version 1 no path of successors from place 0 has more places than the budget; in version 2 place 0 costs no more
+-- the budget covers, in version 1, the places of each path from place 0, and in version 2 the cost of place 0
 abbrev pub Suffices : Program → Option (List ℕ) → Type 0
 Suffices program None = (n q : ℕ) → Path program n q → q < length program.code → n + 1 ≤ program.budget
 Suffices program (Some firsts) = (cost : ℕ → ℕ) × AreCosts program cost × (cost 0 ≤ program.budget)
 
--- the budget is 1 to 65,535, in version 2 to 1,000,000, and it suffices
+-- the budget is 1 to 65,535, or in version 2 to 1,000,000, and suffices
 pub record IsWithin (program : Program) : Type 0 where
   pub least : 1 ≤ program.budget
   pub most : program.budget ≤ greatest_budget program.procedures

@@ -1,4 +1,4 @@
-//! The longest path, by which the budget of version 1 is judged.
+//! The longest path, which the budget of version 1 must cover.
 
 ghost use Rattle.std.specs.Prelude.{◌≡◌, ◌<◌, ◌≤◌, ◌+◌, ℕ, IfOk, length, slice_index_or};
 ghost use Rattle.filing_verify.specs.Flow.{Path, target, goes_on};
@@ -38,13 +38,8 @@ fn set_cost(image: &Image, marks: &[bool], costs: &mut [usize], place: usize)
     }
 }
 
-<<<<<<< HEAD
-/// The most places of a path from a place on, by the costs of the places behind it.
-fn cost(image: &Image, operation: Operation, place: usize, costs: &[usize]) -> usize
-=======
 /// The number of places on the longest path from a place on, from the costs of the places after it.
-fn cost(operation: Operation, place: usize, costs: &[usize]) -> usize
->>>>>>> main
+fn cost(image: &Image, operation: Operation, place: usize, costs: &[usize]) -> usize
     requires small { (p : ℕ) → p < length costs.now → slice_index_or costs.now p 0 + p ≤ length costs.now }
     requires within { place < length costs.now }
     ensures { result ≡ cost_at image.now operation place costs.now }

@@ -1,4 +1,4 @@
-//! What a run may cost in steps, by which the budget of version 2 is judged.
+//! The cost of each place in steps, of which the budget of version 2 must cover the first.
 
 ghost use Rattle.std.specs.Prelude.{◌≡◌, ◌<◌, ◌≤◌, ◌+◌, ℕ, IfOk, length, min};
 ghost use Rattle.filing_verify.specs.Passes.{GoesOnward, LeadsInside, MarksReached, Costing, listed, too_much};
@@ -8,11 +8,12 @@ use crate::flow::{goes_on, operation_at, place_count, target};
 use filing_image::{Image, Operation};
 use std::alloc::{AllocError, Global};
 
-/// More than the greatest budget. What costs as much, or more, is told by it: a call adds up what it leads to, so that
-/// costs double with each procedure, and would soon fit no number.
+/// More than any budget; it stands for this cost and all greater ones. A call adds two costs, so that costs can double
+/// with each procedure, and would soon fit no integer type.
 const TOO_MUCH: u32 = 1_000_001;
 
-/// The cost of place 0, or `TOO_MUCH` where that is less.
+/// The cost of place 0, or `TOO_MUCH` where that is less. There must be a place, each reached place must lead to later
+/// places of the code, and `marks` must say which places are reached. The only error is a refused allocation.
 pub fn cost_of_start(alloc: Global, image: &Image, marks: &[bool]) -> Result<u32, AllocError>
     requires forward { GoesOnward image.now }
     requires inside { LeadsInside image.now }
@@ -29,7 +30,7 @@ pub fn cost_of_start(alloc: Global, image: &Image, marks: &[bool]) -> Result<u32
     Ok(costs[0])
 }
 
-/// Sets the cost of a place that is reached, over those of the places behind it.
+/// Sets the cost of a reached place from the costs of the places after it.
 fn set_cost(image: &Image, marks: &[bool], costs: &mut [u32], place: usize)
     requires within { place < length image.now.code }
     requires forward { GoesOnward image.now }
@@ -43,7 +44,7 @@ fn set_cost(image: &Image, marks: &[bool], costs: &mut [u32], place: usize)
     }
 }
 
-/// What an operation costs, by the costs of the places behind its own.
+/// The cost of a place from its operation and the costs of the places after it.
 fn cost(image: &Image, operation: Operation, place: usize, costs: &[u32]) -> u32
     requires small { (p : ℕ) → listed costs.now p ≤ too_much }
     requires within { place < length costs.now }
@@ -61,7 +62,7 @@ fn cost(image: &Image, operation: Operation, place: usize, costs: &[u32]) -> u32
     (1 + together(operation, next, target)).min(TOO_MUCH)
 }
 
-/// What the next place and a target cost together: at a call the run comes to both, and else to one of them.
+/// The cost of going on from an operation: to both of its successors at a call, and else to the costlier one.
 fn together(operation: Operation, next: u32, target: u32) -> u32
     requires next { next ≤ too_much }
     requires target { target ≤ too_much }

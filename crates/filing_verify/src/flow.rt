@@ -1,11 +1,8 @@
-<<<<<<< HEAD
-//! Where an operation goes on.
-=======
-//! The successors of an operation, and the range of its operands.
->>>>>>> main
+//! The successors of an operation, and the procedures that places are in.
 
 ghost use Rattle.std.specs.Prelude.{◌≡◌, ◌<◌, ◌^◌, length, slice_get, Some};
 ghost use Rattle.filing_verify.specs.Flow.{jump_target, first_place, target, goes_on, procedure_of};
+ghost use Rattle.filing_verify.specs.Well.{HasProcedures};
 
 use filing_image::{Image, Operation};
 
@@ -25,15 +22,9 @@ pub fn operation_at(image: &Image, place: usize) -> Operation
     image.code()[place]
 }
 
-<<<<<<< HEAD
-/// The place that a jump names.
+/// The place that a jump names; none for any other operation.
 pub fn jump_target(operation: Operation) -> Option<usize>
     ensures { result ≡ jump_target operation }
-=======
-/// The place that a jump names; none for any other operation.
-pub fn target(operation: Operation) -> Option<usize>
-    ensures { result ≡ target operation }
->>>>>>> main
 {
     match operation {
         Operation::Jump(b) | Operation::JumpIf(b) | Operation::JumpUnless(b) => Some(b as usize),
@@ -41,15 +32,9 @@ pub fn target(operation: Operation) -> Option<usize>
     }
 }
 
-<<<<<<< HEAD
-/// The place that a jump names, or the first place of the procedure that a call enters.
+/// The place that a jump names, or the first place of the procedure that a call enters; none for any other operation.
 pub fn target(image: &Image, operation: Operation) -> Option<usize>
     ensures { result ≡ target image.now operation }
-=======
-/// Whether the run may go on to the next place, which it may not after `Jump`, `Stop` and `Fault`.
-pub fn goes_on(operation: Operation) -> bool
-    ensures { result ≡ goes_on operation }
->>>>>>> main
 {
     match operation {
         Operation::Call(b) => first_place(image, b),
@@ -57,39 +42,27 @@ pub fn goes_on(operation: Operation) -> bool
     }
 }
 
-<<<<<<< HEAD
-/// The first place of a procedure, where there is one with this number.
+/// The first place of the procedure with this number, where there is one.
 fn first_place(image: &Image, procedure: u16) -> Option<usize>
     ensures { result ≡ first_place image.now procedure }
-=======
-/// Whether each operand names something that exists, or has one of its values.
-fn is_in_range(image: &Image, operation: Operation) -> bool
-    ensures { IsTrue result ↔ InRange image.now operation }
->>>>>>> main
 {
     let first = image.first_places().get(procedure as usize).copied()?;
     Some(first as usize)
 }
 
-<<<<<<< HEAD
-/// The number of the procedure that a place is in.
+/// The number of the procedure that a place is in; 0 in version 1. In version 2 the first places must ascend.
 pub fn procedure_of(image: &Image, place: usize) -> usize
+    requires { HasProcedures image.now image.now.procedures }
     ensures { result ≡ procedure_of image.now place }
-=======
-/// Whether there are at most 64 slots, and each operation, reached or not, has its operands in range.
-pub fn are_in_range(image: &Image) -> bool
-    ensures { IsTrue result ↔ AreInRange image.now }
->>>>>>> main
 {
     let begun = image
         .first_places()
-        .iter()
-        .filter(|first| **first as usize <= place)
-        .count();
+        .partition_point(|first| *first as usize <= place);
     begun.saturating_sub(1)
 }
 
-/// Whether the run may go on to the next place.
+/// Whether the run may go on to the next place, which it may not after `Jump`, `Stop`, `Fault` and `Return`. After
+/// `Call` it may, once the procedure has returned.
 pub fn goes_on(operation: Operation) -> bool
     ensures { result ≡ goes_on operation }
 {

@@ -8,12 +8,8 @@ ghost use Rattle.filing_verify.specs.Well.{AreInRange, StaysInside};
 use crate::flow::{goes_on, operation_at, place_count, procedure_of};
 use filing_image::Image;
 
-<<<<<<< HEAD
-/// Whether there is a place, and none that is reached leads out of its procedure.
-=======
-/// Whether the code has a place, and no reached place leads to the one past the end. `marks` must say which places are
-/// reached.
->>>>>>> main
+/// Whether the code has a place, and no reached place leads out of its procedure or past the end, except that a call
+/// enters another procedure. `marks` must say which places are reached.
 pub fn stays_inside(image: &Image, marks: &[bool]) -> bool
     requires in_range { AreInRange image.now }
     requires marks { MarksReached image.now marks.now }
@@ -31,14 +27,10 @@ pub fn stays_inside(image: &Image, marks: &[bool]) -> bool
     true
 }
 
-<<<<<<< HEAD
-/// Whether a place is reached and goes on to the next one, which is no place of the same procedure.
+/// Whether a place is reached and goes on to the next one, which is no place of its procedure.
 fn runs_on(image: &Image, marks: &[bool], place: usize) -> bool
-=======
-/// Whether a place is reached and leads to the one past the end.
-fn runs_off(image: &Image, marks: &[bool], place: usize) -> bool
->>>>>>> main
     requires within { place < length image.now.code }
+    requires in_range { AreInRange image.now }
     requires marks { MarksReached image.now marks.now }
     ensures off { result ≡ true → Reached image.now place × RunsOn image.now place }
     ensures on { result ≡ false → Reached image.now place → RunsOn image.now place → ⊥ }
@@ -54,9 +46,12 @@ fn runs_off(image: &Image, marks: &[bool], place: usize) -> bool
 
 /// Whether a place is the last of its procedure, or of the code.
 fn is_last(image: &Image, place: usize) -> bool
-    requires { place < length image.now.code }
-    ensures yes { result ≡ true → (place + 1 < length image.now.code) × (procedure_of image.now (place + 1) ≡ procedure_of image.now place) → ⊥ }
-    ensures no { result ≡ false → (place + 1 < length image.now.code) × (procedure_of image.now (place + 1) ≡ procedure_of image.now place) }
+    requires within { place < length image.now.code }
+    requires in_range { AreInRange image.now }
+    ensures yes { result ≡ true → (place + 1 < length image.now.code) ×
+        (procedure_of image.now (place + 1) ≡ procedure_of image.now place) → ⊥ }
+    ensures no { result ≡ false → (place + 1 < length image.now.code) ×
+        (procedure_of image.now (place + 1) ≡ procedure_of image.now place) }
 {
     let count = place_count(image);
     place + 1 >= count || procedure_of(image, place + 1) != procedure_of(image, place)

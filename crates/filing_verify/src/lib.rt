@@ -22,8 +22,5 @@ mod verifier;
 
 pub use fault::VerifyFault;
 pub use kind::Kind;
-<<<<<<< HEAD
 pub use laws::version_one_is_kept;
-=======
 pub use verifier::{Verified, verify};
->>>>>>> main

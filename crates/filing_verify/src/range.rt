@@ -1,4 +1,4 @@
-//! What operations may name, and which procedures there may be.
+//! The range of operands, and the procedures that version 2 may have.
 
 ghost use Rattle.std.specs.Prelude.{◌≡◌, IsTrue, ◌↔◌, ◌<◌, ℕ, length, slice_get, true, false, Some};
 ghost use Rattle.filing_image.specs.declared.instruction.Operation.{Operation as OperationType};
@@ -9,8 +9,8 @@ ghost use Rattle.filing_verify.specs.Well.{InRange, AreInRange, AreProcedures, A
 use crate::flow::{jump_target, operation_at, place_count, procedure_of};
 use filing_image::{Image, Operation, Version};
 
-/// Whether there are at most 64 slots, each operation is in range, the procedures are as they must be, and no jump
-/// leaves its procedure.
+/// Whether there are at most 64 slots, each operation, reached or not, has its operands in range, the procedures are as
+/// version 2 must have them, and no jump leaves its procedure.
 pub fn are_in_range(image: &Image) -> bool
     ensures { IsTrue result ↔ AreInRange image.now }
 {
@@ -20,7 +20,7 @@ pub fn are_in_range(image: &Image) -> bool
         && jumps_stay(image)
 }
 
-/// Whether each operand names something that is there, or is one of its values.
+/// Whether each operand names something that exists, or has one of its values.
 fn is_in_range(image: &Image, operation: Operation) -> bool
     ensures { IsTrue result ↔ InRange image.now operation }
 {
@@ -50,7 +50,7 @@ fn has_procedures(image: &Image) -> bool
     }
 }
 
-/// Whether these are the first places of 1 to 256 procedures, in code of so many places.
+/// Whether these are the first places of 1 to 256 procedures in code of `places` places.
 fn are_procedures(firsts: &[u16], places: usize) -> bool
     ensures { IsTrue result ↔ AreProcedures places firsts.now }
 {
@@ -76,6 +76,7 @@ fn ascends(numbers: &[u16]) -> bool
 
 /// Whether each jump goes to a place of its own procedure.
 fn jumps_stay(image: &Image) -> bool
+    requires { HasProcedures image.now image.now.procedures }
     ensures yes { result ≡ true → JumpsStay image.now }
     ensures no { result ≡ false → JumpsStay image.now → ⊥ }
 {
@@ -87,11 +88,13 @@ fn jumps_stay(image: &Image) -> bool
     true
 }
 
-/// Whether a jump at this place goes to a place of another procedure.
+/// Whether the operation at this place is a jump to another procedure.
 fn jumps_out(image: &Image, place: usize) -> bool
-    requires { place < length image.now.code }
+    requires within { place < length image.now.code }
+    requires procedures { HasProcedures image.now image.now.procedures }
     ensures out { result ≡ true → JumpsOut image.now place }
-    ensures stays { result ≡ false → (q : ℕ) (o : OperationType) → slice_get image.now.code place ≡ Some o → jump_target o ≡ Some q → procedure_of image.now q ≡ procedure_of image.now place }
+    ensures stays { result ≡ false → (q : ℕ) (o : OperationType) → slice_get image.now.code place ≡ Some o →
+        jump_target o ≡ Some q → procedure_of image.now q ≡ procedure_of image.now place }
 {
     let Some(to) = jump_target(operation_at(image, place)) else {
         return false;

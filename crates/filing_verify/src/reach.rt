@@ -9,12 +9,8 @@ use crate::flow::{goes_on, operation_at, place_count, target};
 use filing_image::{Image, Operation};
 use std::alloc::{AllocError, Global};
 
-<<<<<<< HEAD
-/// A mark for each place that is reached, or none where a jump or a call that is reached does not go forward.
-=======
-/// For each place, whether it is reached; none where a reached jump does not go forward. The only error is a refused
-/// allocation.
->>>>>>> main
+/// For each place, whether it is reached; none where a reached jump or call does not go forward. The only error is a
+/// refused allocation.
 pub fn reach(alloc: Global, image: &Image) -> Result<Option<Vec<bool>>, AllocError>
     requires { AreInRange image.now }
     ensures marks { IfOk result (λ m. IfSome m (λ v. MarksReached image.now v.items)) }
@@ -33,11 +29,7 @@ pub fn reach(alloc: Global, image: &Image) -> Result<Option<Vec<bool>>, AllocErr
     Ok(Some(marks))
 }
 
-<<<<<<< HEAD
-/// Passes the mark of a place on to its successors, or finds a jump or a call that does not go forward.
-=======
-/// Passes the mark of a place on to its successors; false where its jump does not go forward.
->>>>>>> main
+/// Passes the mark of a place on to its successors; false where its jump or call does not go forward.
 fn pass_on(image: &Image, marks: &mut [bool], place: usize) -> bool
     requires within { place < length image.now.code }
     requires so_far { Marks image.now place marks.old }

@@ -16,6 +16,12 @@ use filing_image::{Image, Version};
 use std::alloc::{AllocError, Global};
 use std::marker::Model;
 
+/// The greatest budget that an image of version 1 may declare.
+const MAX_BUDGET: u32 = 65_535;
+
+/// The greatest budget that an image of version 2 may declare.
+const MAX_BUDGET_WITH_CALLS: u32 = 1_000_000;
+
 /// An image that may run: its code is well formed, and each of its runs ends within its budget. Contracts see it as
 /// the image's program.
 #[derive(Debug, Drop)]
@@ -48,7 +54,7 @@ impl Verified {
         &self.image
     }
 
-    /// The budget that the image declares, 1 to 65,535 steps, and in version 2 to 1,000,000.
+    /// The budget that the image declares: 1 to 65,535 steps in version 1, and 1 to 1,000,000 in version 2.
     pub fn budget(&self) -> u32
         ensures { result ≡ self.now.budget }
     {
@@ -94,7 +100,7 @@ fn check_rules(alloc: Global, image: &Image) -> Result<(), VerifyFault>
     Ok(())
 }
 
-/// Whether the budget is one that the version may declare, and suffices.
+/// Whether the budget is in the range of the version, and no run needs more.
 fn is_within(alloc: Global, image: &Image, marks: &[bool]) -> Result<bool, AllocError>
     requires in_range { AreInRange image.now }
     requires forward { GoesOnward image.now }
@@ -109,7 +115,7 @@ fn is_within(alloc: Global, image: &Image, marks: &[bool]) -> Result<bool, Alloc
     }
 }
 
-/// In version 1: whether the budget is 1 to 65,535, and has a step for each place of the longest path.
+/// Whether the budget is 1 to 65,535, and has a step for each place of the longest path.
 fn is_within_paths(alloc: Global, image: &Image, marks: &[bool]) -> Result<bool, AllocError>
     requires version { Version.One ≡ version_of image.now.procedures }
     requires forward { GoesOnward image.now }
@@ -119,10 +125,10 @@ fn is_within_paths(alloc: Global, image: &Image, marks: &[bool]) -> Result<bool,
     ensures no { IfOk result (λ yes. yes ≡ false → IsWithin image.now → ⊥) }
 {
     let places = longest(alloc, image, marks)?;
-    Ok(is_between(places, image.budget(), 65_535))
+    Ok(is_between(places, image.budget(), MAX_BUDGET))
 }
 
-/// In version 2: whether the budget is 1 to 1,000,000, and place 0 costs no more.
+/// Whether the budget is 1 to 1,000,000 and at least the cost of place 0.
 fn is_within_costs(alloc: Global, image: &Image, marks: &[bool]) -> Result<bool, AllocError>
     requires version { Version.Two ≡ version_of image.now.procedures }
     requires in_range { AreInRange image.now }
@@ -133,12 +139,12 @@ fn is_within_costs(alloc: Global, image: &Image, marks: &[bool]) -> Result<bool,
     ensures no { IfOk result (λ yes. yes ≡ false → IsWithin image.now → ⊥) }
 {
     let steps = cost_of_start(alloc, image, marks)?;
-    Ok(is_between(steps as usize, image.budget(), 1_000_000))
+    Ok(is_between(steps as usize, image.budget(), MAX_BUDGET_WITH_CALLS))
 }
 
-/// Whether a budget is 1 or more, at least what is needed, and at most the greatest one.
-fn is_between(needed: usize, budget: u32, greatest: u32) -> bool
-    ensures { IsTrue result ↔ (1 ≤ budget) × (budget ≤ greatest) × (needed ≤ budget) }
+/// Whether a budget is 1 to `max`, and not below what is needed.
+fn is_between(needed: usize, budget: u32, max: u32) -> bool
+    ensures { IsTrue result ↔ (1 ≤ budget) × (budget ≤ max) × (needed ≤ budget) }
 {
-    1 <= budget && budget <= greatest && needed <= budget as usize
+    1 <= budget && budget <= max && needed <= budget as usize
 }

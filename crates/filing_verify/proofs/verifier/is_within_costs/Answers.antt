@@ -2,7 +2,7 @@ use Rattle.std.proofs.Common.{◌≡◌, ℕ, sym}
 use Rattle.filing_image.specs.Program.{firsts_of}
 use Rattle.filing_verify.proofs.Procedures.{some_procedures, leads_inside}
 use Rattle.filing_verify.proofs.Budgets.{IsBetween, two_within, two_between}
-use Rattle.filing_verify.proofs.judge.is_within_costs.Goals as goal
+use Rattle.filing_verify.proofs.verifier.is_within_costs.Goals as goal
 
 pub cost_of_start-requires-clause-inside : goal.cost_of_start-requires-clause-inside
 cost_of_start-requires-clause-inside c = leads_inside c.args.image.now c.requires.in_range c.requires.inside

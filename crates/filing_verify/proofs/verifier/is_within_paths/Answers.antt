@@ -1,7 +1,7 @@
 use Rattle.std.proofs.Common.{◌≡◌, ℕ, sym}
 use Rattle.filing_verify.proofs.Procedures.{no_procedures}
 use Rattle.filing_verify.proofs.Budgets.{IsBetween, one_within, one_between}
-use Rattle.filing_verify.proofs.judge.is_within_paths.Goals as goal
+use Rattle.filing_verify.proofs.verifier.is_within_paths.Goals as goal
 
 pub returns-clause-yes : goal.returns-clause-yes
 returns-clause-yes c = λ t.
