@@ -12,4 +12,7 @@
 
 mod laws;
 
-pub use laws::{a_program_runs_as_its_code, typed_code_is_well};
+pub use laws::{
+    a_program_runs_as_its_code, a_program_runs_as_its_procedures, typed_code_is_well,
+    typed_procedures_are_well,
+};
