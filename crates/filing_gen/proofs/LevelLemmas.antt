@@ -13,7 +13,8 @@ use Rattle.filing_gen.specs.Adds.{Puts, Emits}
 use Rattle.filing_gen.specs.declared.finding.Finding.{Finding}
 use Rattle.filing_gen.specs.declared.finding.Finding.TheVariants.{Pass, Fault}
 use Rattle.filing_gen.specs.Scopes.{told}
-use Rattle.filing_gen.specs.Linked.{Slots, is_passed, once_flow, active_flow, found_flow, included_flow}
+use Rattle.script_procedures.specs.Slots.{Slots}
+use Rattle.filing_gen.specs.Linked.{is_passed, once_flow, active_flow, found_flow, included_flow}
 use Rattle.filing_gen.specs.Levels.{Judgement, Passes, Fails, Enters, judged, judgement, judged_flow, judged_weight, entered_flow, entered_weight}
 use Rattle.filing_gen.specs.Ends.{no_place, IsEnded}
 use Rattle.filing_gen.proofs.Emitted.{emits_sequence, action_emitted, leave_if_emitted}

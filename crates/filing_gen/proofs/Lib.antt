@@ -18,6 +18,5 @@ pub mod ProcedureSizes
 pub mod ProcedureTypes
 mod ProcedureRows
 mod IncludesTypes
-mod SlotLemmas
 mod Rows
 mod LevelLemmas

@@ -5,10 +5,10 @@ use Rattle.std.specs.Str.{bytes_eq}
 use Rattle.sieve_meaning.specs.Program.{Command, Commands, no_command, command_then, require, discard, include}
 use Rattle.sieve_meaning.specs.Meaning.{Library}
 use Rattle.sieve_meaning.specs.Procedures.{reaches, procedures}
-use Rattle.filing_flow.specs.Structure.{SetMark, SetCancelled, Fail, nothing, action, sequence}
-use Rattle.filing_gen.specs.Linked.{Slots}
-use Rattle.filing_gen.specs.Procedures.{Calls, shared_flows, first_places}
-use Rattle.filing_gen.proofs.ProcedureSizes.{whole_size}
+use Rattle.filing_flow.specs.Structure.{SetMark, SetCancelled, CallTo, nothing, action, sequence}
+use Rattle.script_procedures.specs.Slots.{Slots}
+use Rattle.filing_flow.specs.Procedures.{places_from, whole_size}
+use Rattle.filing_gen.specs.Procedures.{shared_flows}
 
 abbrev named : List ℕ → List (List ℕ × Commands) → Option Commands
 named name [] = None
@@ -24,10 +24,6 @@ included name = include (record { global = false; once = false; optional = false
 abbrev first_slot : Slots
 first_slot s = 0
 
--- any one operation in the place of a call
-abbrev stand_in : Calls
-stand_in n = action (Fail n)
-
 -- a script that includes another, which discards
 abbrev discarding : Library
 discarding = library ((codes "x", command_then discard no_command) ∷ [])
@@ -35,12 +31,12 @@ discarding = library ((codes "x", command_then discard no_command) ∷ [])
 abbrev outer : Commands
 outer = command_then (included (codes "x")) no_command
 
-discard_is_called : (call : Calls) → shared_flows discarding first_slot call None outer ≡ sequence (sequence (action (SetMark 0)) (call 0)) nothing ∷ sequence (action SetCancelled) nothing ∷ []
+discard_is_called : shared_flows discarding first_slot None outer ≡ sequence (sequence (action (SetMark 0)) (action (CallTo 1))) nothing ∷ sequence (action SetCancelled) nothing ∷ []
 unfolding procedures reaches
-discard_is_called call = refl
+discard_is_called = refl
 
 -- a mark, a call and the end stand before the second one
-discard_begins : first_places 0 (shared_flows discarding first_slot stand_in None outer) ≡ 0 ∷ 3 ∷ []
+discard_begins : places_from 0 (shared_flows discarding first_slot None outer) ≡ 0 ∷ 3 ∷ []
 unfolding procedures reaches
 discard_begins = refl
 
@@ -55,10 +51,10 @@ ten name = command_then require (repeated 10 (included name))
 abbrev tens : Library
 tens = library ((codes "a", ten (codes "b")) ∷ (codes "b", ten (codes "c")) ∷ (codes "c", ten (codes "d")) ∷ (codes "d", ten (codes "e")) ∷ (codes "e", no_command) ∷ [])
 
-tens_begin : first_places 0 (shared_flows tens first_slot stand_in None (ten (codes "a"))) ≡ 0 ∷ 21 ∷ 42 ∷ 63 ∷ 84 ∷ 105 ∷ []
+tens_begin : places_from 0 (shared_flows tens first_slot None (ten (codes "a"))) ≡ 0 ∷ 21 ∷ 42 ∷ 63 ∷ 84 ∷ 105 ∷ []
 unfolding procedures reaches
 tens_begin = refl
 
-pub tens_size : whole_size (shared_flows tens first_slot stand_in None (ten (codes "a"))) ≡ 106
+pub tens_size : whole_size (shared_flows tens first_slot None (ten (codes "a"))) ≡ 106
 unfolding procedures reaches
 tens_size = refl

@@ -8,7 +8,6 @@ pub mod Correct
 pub mod Weights
 pub mod Linked
 pub mod Procedures
-pub mod Slots
 pub mod Levels
 pub mod Scopes
 pub mod Ends

@@ -12,7 +12,7 @@ ghost use Rattle.filing_gen.specs.Adds.{Emits, HasRoom};
 ghost use Rattle.filing_gen.specs.Levels.{entered_flow, entered_weight};
 ghost use Rattle.filing_gen.specs.Linked.{included_flow};
 ghost use Rattle.filing_gen.specs.Scopes.{names_of};
-ghost use Rattle.filing_gen.specs.Slots.{slots_of};
+ghost use Rattle.script_procedures.specs.Slots.{slots_of};
 ghost use Rattle.filing_gen.specs.Weights.{IsLeft};
 
 use crate::chain::{Chain, Link};

@@ -5,7 +5,7 @@ use Rattle.sieve_syntax.specs.View.{tree_of}
 use Rattle.sieve_meaning.specs.Meaning.{main_names}
 use Rattle.sieve_meaning.specs.Reading.{program_of}
 use Rattle.filing_gen.specs.Correct.{IsCompiled}
-use Rattle.filing_gen.specs.Slots.{slots_of}
+use Rattle.script_procedures.specs.Slots.{slots_of}
 use Rattle.script_library.specs.Lent.{scripts_of}
 use Rattle.script_library.specs.Libraries.{library_of}
 use Rattle.filing_gen.specs.Linked.{linked_flow}

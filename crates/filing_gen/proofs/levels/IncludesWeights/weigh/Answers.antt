@@ -4,7 +4,7 @@ use Rattle.sieve_meaning.specs.Reading.{program_of}
 use Rattle.sieve_meaning.specs.Scripts.{asked}
 use Rattle.script_library.specs.Lent.{scripts_of}
 use Rattle.script_library.specs.Libraries.{library_of}
-use Rattle.filing_gen.specs.Slots.{slots_of}
+use Rattle.script_procedures.specs.Slots.{slots_of}
 use Rattle.filing_gen.specs.Scopes.{names_of}
 use Rattle.filing_gen.specs.Weights.{IsLeft}
 use Rattle.filing_gen.proofs.LevelLemmas.{nothing_weighed, entry_weight}

@@ -4,8 +4,8 @@ ghost use Rattle.std.specs.Prelude.{◌≡◌, ◌<◌, ◌≤◌, ℕ, IfSome, 
 ghost use Rattle.sieve_meaning.specs.Scripts.{is_global, script_of};
 ghost use Rattle.script_library.specs.Lent.{scripts_of};
 ghost use Rattle.script_library.specs.Libraries.{named, location_of, library_of};
-ghost use Rattle.filing_gen.specs.Linked.{HasSlots};
-ghost use Rattle.filing_gen.specs.Slots.{slots_of};
+ghost use Rattle.script_procedures.specs.Slots.{HasSlots};
+ghost use Rattle.script_procedures.specs.Slots.{slots_of};
 
 use script_library::{MAX_SCRIPTS, Shelves};
 use sieve_check::Checked;

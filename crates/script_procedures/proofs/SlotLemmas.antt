@@ -10,8 +10,8 @@ use Rattle.sieve_syntax.specs.View.{tree_of}
 use Rattle.sieve_meaning.specs.Program.{Commands}
 use Rattle.sieve_meaning.specs.Reading.{program_of}
 use Rattle.script_library.specs.Libraries.{NamedScript, Scripts, EachOnce, IsLibrary, is_named, named, place_of, location_of, library_of, most_scripts}
-use Rattle.filing_gen.specs.Slots.{first_slot, slots_of}
-use Rattle.filing_gen.specs.Linked.{HasSlots}
+use Rattle.script_procedures.specs.Slots.{first_slot, slots_of}
+use Rattle.script_procedures.specs.Slots.{HasSlots}
 use Rattle.script_library.proofs.LocationLemmas.{found_passes, same_name, other_name}
 
 abbrev program : Script → Commands

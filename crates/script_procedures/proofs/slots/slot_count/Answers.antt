@@ -2,8 +2,8 @@ use Rattle.std.proofs.Common.{◌≡◌, ◌+◌, length, arith}
 use Rattle.std.proofs.lemmas.Grind.{common_steps}
 use Rattle.script_library.specs.Lent.{scripts_of}
 use Rattle.script_library.specs.Libraries.{Scripts, IsLibrary}
-use Rattle.filing_gen.proofs.SlotLemmas.{slots_personal, slots_global, least_personal, least_global}
-use Rattle.filing_gen.proofs.slots.slot_count.Goals as goal
+use Rattle.script_procedures.proofs.SlotLemmas.{slots_personal, slots_global, least_personal, least_global}
+use Rattle.script_procedures.proofs.slots.slot_count.Goals as goal
 
 pub returns-then-global-eq0 : goal.returns-then-global-eq0
 returns-then-global-eq0 c =

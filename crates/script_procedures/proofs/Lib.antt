@@ -1,0 +1,4 @@
+mod SlotLemmas
+mod SetLemmas
+mod OnceLemmas
+mod IncludedLemmas

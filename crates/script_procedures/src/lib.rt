@@ -1,0 +1,11 @@
+//! The procedures of a main script: included scripts as their includes run them, each once for all includes that run it
+//! alike.
+#![tactic(auto)]
+
+mod included;
+mod slot_set;
+mod slots;
+
+pub use included::included_scripts;
+pub use slot_set::SlotSet;
+pub use slots::{find_script, slot_count};
