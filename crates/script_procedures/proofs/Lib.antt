@@ -2,3 +2,4 @@ mod SlotLemmas
 mod SetLemmas
 mod OnceLemmas
 mod IncludedLemmas
+mod ReachTables

@@ -1,3 +1,4 @@
 pub mod Slots
 pub mod Sets
 pub mod Included
+pub mod Reached

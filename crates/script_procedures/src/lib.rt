@@ -3,9 +3,11 @@
 #![tactic(auto)]
 
 mod included;
+mod reach;
 mod slot_set;
 mod slots;
 
 pub use included::included_scripts;
+pub use reach::Reach;
 pub use slot_set::SlotSet;
 pub use slots::{find_script, slot_count};
