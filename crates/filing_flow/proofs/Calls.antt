@@ -1,15 +1,15 @@
 -- The machine does what procedures do.
-use Rattle.std.proofs.Common.{◌≡◌, ℕ, suc, ◌+◌, List, [], ◌∷◌, length, Bool, true, false, cond, Option, Some, None, refl, sym, ap, ◌∙◌, subst, arith}
+use Rattle.std.proofs.Common.{◌≡◌, ℕ, suc, ◌+◌, List, [], ◌∷◌, length, Bool, true, false, cond, Option, Some, None, refl, ap, ◌∙◌, subst}
 use Rattle.std.specs.Prelude.{slice_get, nat_eq}
 use Rattle.std.proofs.lemmas.Bool.{eqb-true}
 use Rattle.filing_image.specs.declared.instruction.Operation.TheVariants.{Call, Return}
 use Rattle.filing_image.specs.Program.{Program}
 use Rattle.filing_verify.specs.Flow.{first_place}
 use Rattle.sieve_meaning.specs.Case.{Facts}
-use Rattle.filing_table.specs.Machine.{Run, At, Over, with_named, enter, step}
-use Rattle.filing_flow.specs.Structure.{Flow, action, block, size, End}
+use Rattle.filing_table.specs.Machine.{Run, At, with_named, enter}
+use Rattle.filing_flow.specs.Structure.{Flow, block, size}
 use Rattle.filing_flow.specs.Effect.{Filing, Exit, FallsThrough, Leaves, EndsRun, Stuck, returned, and_then, effect}
-use Rattle.filing_flow.specs.Procedures.{called_by, first_called, RunsAsItsProcedures}
+use Rattle.filing_flow.specs.Procedures.{called_by, RunsAsItsProcedures}
 use Rattle.filing_flow.specs.Whole.{nothing_done}
 use Rattle.filing_flow.proofs.Follow.{on, Comes, then, by_one, stepped, Arrives, arrives_later, CallsRun, flow_runs}
 use Rattle.filing_flow.proofs.Ended.{outcome_at_end}

@@ -3,7 +3,7 @@ use Rattle.std.proofs.Common.{◌≡◌, ℕ, zero, suc, ◌+◌, ◌<◌, ◌�
 use Rattle.std.specs.Prelude.{slice_get, slice_index_or, nat_lt, nat_le, nat_eq, ◌||◌}
 use Rattle.std.specs.List.{list_any}
 use Rattle.filing_image.specs.declared.instruction.Operation.{Operation}
-use Rattle.filing_image.specs.declared.instruction.Operation.TheVariants.{PushTrue, PushFalse, Not, Values, Join, Match, Pop, Exists, Size, Number, Less, Jump, JumpIf, JumpUnless, Marked, Mark, File, Keep, Discard, Stop, Fault, Call}
+use Rattle.filing_image.specs.declared.instruction.Operation.TheVariants.{Jump, JumpIf, JumpUnless, Call}
 use Rattle.filing_image.specs.Program.{Program}
 use Rattle.sieve_meaning.specs.Case.{Facts}
 use Rattle.sieve_meaning.specs.Truth.{has_field}
@@ -142,7 +142,6 @@ module _ (p : Program) (c : Facts) (calls : List ℕ) where
   action_gives called bounds slots SetCancelled f pc es o is_step ok w = rw w refl
   action_gives called bounds slots End f pc es o is_step ok w = (pc, es, rw w refl)
   action_gives called bounds slots (Fail n) f pc es o is_step ok w = (pc, es, rw w (rw (le_is 2 n ok.0, le_is n 5 ok.1) refl))
-
   action_gives called bounds slots (CallTo b) f pc es o is_step ok w = absurd is_step
 
   leaves_if : (t : Bool) (n : ℕ) (ends : List ℕ) (pc : ℕ) (f : Filing) (es : List Entry) → slice_get p.code pc ≡ Some (jump_when t (end_at ends n)) → Arrives (leaving t n f es) (pc + 1) ends (At (on calls f pc es))

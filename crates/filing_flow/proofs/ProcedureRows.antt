@@ -1,5 +1,5 @@
 -- Small programs of procedures, whose places, effects and steps are known: each line computes.
-use Rattle.std.proofs.Common.{◌≡◌, ℕ, List, [], ◌∷◌, true, codes, Some, None, refl}
+use Rattle.std.proofs.Common.{◌≡◌, List, [], ◌∷◌, true, Some, None, refl}
 use Rattle.filing_image.specs.declared.instruction.Operation.TheVariants.{Discard, Call, Return}
 use Rattle.filing_image.specs.Program.{Program}
 use Rattle.sieve_meaning.specs.Case.{Facts}

@@ -3,7 +3,7 @@ use Rattle.std.proofs.Common.{◌≡◌, ℕ, ◌≤◌, List, [], ◌∷◌, tr
 use Rattle.std.specs.Prelude.{slice_get}
 use Rattle.std.specs.Str.{bytes_eq}
 use Rattle.filing_image.specs.declared.instruction.Operation.{Operation}
-use Rattle.filing_image.specs.declared.instruction.Operation.TheVariants.{PushTrue, PushFalse, Pop, Jump, JumpIf, JumpUnless, Exists, Number, File, Keep, Stop}
+use Rattle.filing_image.specs.declared.instruction.Operation.TheVariants.{PushTrue, PushFalse, Jump, JumpIf, JumpUnless, Exists, Number, File, Keep, Stop}
 use Rattle.filing_image.specs.Program.{Program}
 use Rattle.filing_verify.specs.declared.kind.Kind.TheVariants.{Truth}
 use Rattle.sieve_meaning.specs.Case.{Facts}

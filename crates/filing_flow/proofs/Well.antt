@@ -1,9 +1,9 @@
 -- A program of structured code is well formed.
-use Rattle.std.proofs.Common.{◌≡◌, ℕ, zero, suc, ◌+◌, ◌<◌, ◌≤◌, ◌^◌, List, [], ◌∷◌, ◌++◌, length, Option, Some, None, refl, sym, ap, ◌∙◌, subst, arith, inl, inr, length-append, append_assoc, replicate, get_or}
+use Rattle.std.proofs.Common.{◌≡◌, ℕ, zero, suc, ◌+◌, ◌<◌, ◌≤◌, ◌^◌, List, [], ◌∷◌, ◌++◌, length, Option, Some, refl, sym, ap, ◌∙◌, subst, arith, inl, inr, length-append, append_assoc, replicate, get_or}
 use Rattle.std.specs.Prelude.{slice_get, slice_index_or, All}
 use Rattle.std.proofs.lemmas.Bool.{cases_lt}
 use Rattle.std.proofs.lemmas.List.Elements.{All-from_get_or}
-use Rattle.std.proofs.lemmas.Option.{slice_get_within, get_or_from_slice_get, slice_get-get_or}
+use Rattle.std.proofs.lemmas.Option.{slice_get_within, slice_get-get_or}
 use Rattle.std.proofs.lemmas.List.{get_or_past}
 use Rattle.std.proofs.Math.Seq.{get_or-append_seam}
 use Rattle.filing_image.specs.declared.instruction.Operation.{Operation}
@@ -16,7 +16,6 @@ use Rattle.filing_verify.specs.Well.{InRange, HasProcedures, AreInRange, greates
 use Rattle.filing_verify.specs.Passes.{RunsOn}
 use Rattle.filing_verify.proofs.Procedures.{one_piece, jump_is, stays}
 use Rattle.filing_flow.specs.Structure.{Flow, block, size, without_procedures, IsSound}
-use Rattle.filing_flow.specs.Code.{Stands}
 use Rattle.filing_flow.specs.Types.{Shape, HasType}
 use Rattle.filing_flow.specs.Whole.{IsCodeOf, TypedIsWell}
 use Rattle.filing_flow.proofs.Typed.{shapes_of, shapes_long, ShapedAt, shaped_front, FineAt, CallsFine, flow_fine, starts}

@@ -1,13 +1,13 @@
 -- Programs of procedures: the code of each in one block, and a RETURN after it. They stand one after the other, and each
 -- calls only those after it. Procedures are counted from 0, which is the one that the run begins with.
-use Rattle.std.specs.Prelude.{◌≡◌, ℕ, zero, suc, ◌+◌, ◌≤◌, List, [], ◌∷◌, length, Option, Some, slice_get, nat_eq, if◌then◌else◌}
+use Rattle.std.specs.Prelude.{◌≡◌, ℕ, suc, ◌+◌, ◌≤◌, List, [], ◌∷◌, length, Option, Some, slice_get, nat_eq, if◌then◌else◌}
 use Rattle.filing_image.specs.Program.{Program}
 use Rattle.filing_image.specs.declared.instruction.Operation.{Operation}
 use Rattle.filing_image.specs.declared.instruction.Operation.TheVariants.{Return}
 use Rattle.filing_verify.specs.Well.{IsWell}
 use Rattle.sieve_meaning.specs.Case.{Facts}
 use Rattle.filing_table.specs.Ends.{HasOutcome}
-use Rattle.filing_flow.specs.Structure.{Action, CallTo, End, Flow, nothing, action, sequence, block, leave, leave_if, size, Bounds, IsSound}
+use Rattle.filing_flow.specs.Structure.{Action, CallTo, End, Flow, nothing, action, sequence, block, leave, leave_if, size, IsSound}
 use Rattle.filing_flow.specs.Code.{Operands, places_in, Stands}
 use Rattle.filing_flow.specs.Effect.{Filing, Stuck, EndsRun, Called, effect}
 use Rattle.filing_flow.specs.Types.{HasType}

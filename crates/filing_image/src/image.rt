@@ -76,7 +76,7 @@ impl Image {
             parts_from budget texts.items numbers.items slots (Some first_places.items) instructions.items) }
         ensures fits { IfOk result (λ i. Fits (parts i)) }
         ensures refused { let given =
-                parts_from budget texts.items numbers.items slots (Some first_places.items) instructions.items in
+            parts_from budget texts.items numbers.items slots (Some first_places.items) instructions.items in
             result ≡ Err FormFault.BadForm → IsShort given → IsProgram given → ⊥ }
         ensures short { result ≡ Err FormFault.NoMemory →
             IsShort (parts_from budget texts.items numbers.items slots (Some first_places.items) instructions.items) }
@@ -107,7 +107,7 @@ impl Image {
             parts_from budget texts.items numbers.items slots (held first_places) instructions.items) }
         ensures fits { IfOk result (λ i. Fits (parts i)) }
         ensures refused { let given =
-                parts_from budget texts.items numbers.items slots (held first_places) instructions.items in
+            parts_from budget texts.items numbers.items slots (held first_places) instructions.items in
             result ≡ Err FormFault.BadForm → IsShort given → IsProgram given → ⊥ }
         ensures short { result ≡ Err FormFault.NoMemory →
             IsShort (parts_from budget texts.items numbers.items slots (held first_places) instructions.items) }
@@ -154,7 +154,7 @@ impl Image {
         ensures made { IfOk result (λ i. i ≡
             program_from budget texts.items numbers.items slots (held first_places) code.items) }
         ensures refused { let given =
-                parts (program_from budget texts.items numbers.items slots (held first_places) code.items) in
+            parts (program_from budget texts.items numbers.items slots (held first_places) code.items) in
             IfErr result (λ f. (f ≡ FormFault.BadForm) × (IsShort given → IsOfVersion given → ⊥)) }
     {
         if texts.len() > 65_535 || numbers.len() > 65_535 || code.len() > 65_535 {
@@ -317,7 +317,8 @@ fn has(version: Version, code: &[Operation]) -> bool
     ensures { IsTrue result ↔ All (λ o. (instruction_of o).op ≤ last_operation version) code.now }
 {
     let last = version.last_operation();
-    code.iter().all(|operation| operation.instruction().op <= last)
+    code.iter()
+        .all(|operation| operation.instruction().op <= last)
 }
 
 /// Proves that each operation fits its octets; it has no effect.

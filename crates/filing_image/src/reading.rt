@@ -140,10 +140,7 @@ fn heading_of(version: Version, octets: &[u8]) -> Result<(Heading, &[u8]), FormF
 
 /// Reads the count of procedures, which version 2 alone has; answers it and the rest.
 #[tactic(auto, unfolding(crate::specs::Reading::procedure_count_at))]
-fn procedure_count_of(
-    version: Version,
-    octets: &[u8],
-) -> Result<(Option<u16>, &[u8]), FormFault>
+fn procedure_count_of(version: Version, octets: &[u8]) -> Result<(Option<u16>, &[u8]), FormFault>
     ensures { Gives (λ x. (x.0, x.1.now)) result (procedure_count_at version octets.now) }
 {
     match version {

@@ -34,6 +34,7 @@ fn show_start<W: fmt::Write>(
     }
     Ok(())
 }
+
 fn name(operation: Operation) -> &'static str {
     match operation {
         Operation::PushTrue => "TRUE",

@@ -185,12 +185,12 @@ module _ (p : Program) (c : Facts) (well : IsWell p) where
 
   -- each place to return to is reached, with the empty shape, and was put there by a procedure whose number is not below
   -- the number of the calls before it
-  Waits : List ℕ → Type 0
+  pub Waits : List ℕ → Type 0
   Waits [] = Unit {0}
   Waits (q ∷ qs) = Reached p q × (q < length p.code) × (shape q ≡ []) × (length qs ≤ procedure_of p q) × Waits qs
 
   -- in version 1 the run is a path; in version 2 the budget covers the steps so far and the costs of what is left
-  Spent : (x : Option (List ℕ)) → Suffices p x → ℕ → State → Type 0
+  pub Spent : (x : Option (List ℕ)) → Suffices p x → ℕ → State → Type 0
   Spent None paths n s = Path p n s.place
   Spent (Some firsts) (cost, are, enough) n s = n + cost s.place + total cost s.calls ≤ p.budget
 

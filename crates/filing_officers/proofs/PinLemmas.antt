@@ -1,13 +1,6 @@
-<<<<<<< HEAD
--- What the compiler gives is what is pinned.
+-- What the compiler answers is what is pinned.
 use Rattle.std.proofs.Common.{◌≡◌, ℕ, List, refl, ◌∙◌, sym, Bool, true, false, Option, Some, Result}
 use Rattle.std.specs.Prelude.{IfOk}
-=======
--- What the compiler answers is what is pinned.
-use Rattle.std.proofs.Common.{◌≡◌, ◌<◌, ℕ, List, refl, arith, ap, ◌∙◌, sym, subst, Bool, true, false, Option, Some, None, Result, Ok, Err}
-use Rattle.std.specs.Prelude.{nat_lt, option_map, IfOk}
-use Rattle.std.proofs.lemmas.Bool.Decides.{nat_tests}
->>>>>>> main
 use Rattle.sieve_meaning.specs.Program.{Commands}
 use Rattle.sieve_meaning.specs.Meaning.{Library}
 use Rattle.sieve_meaning.specs.TooHeavy.{is_too_heavy, IsTooHeavy}

@@ -1,5 +1,5 @@
 -- A program of version 1 runs as it did before there were procedures.
-use Rattle.std.proofs.Common.{◌≡◌, ℕ, zero, suc, ◌+◌, ◌<◌, ◌≤◌, Bool, true, false, not, ◌||◌, ◌&&◌, List, [], ◌∷◌, ◌++◌, length, map, All, get_or, Option, Some, None, refl, sym, ap, ◌∙◌, subst, arith, slice_get, slice_set}
+use Rattle.std.proofs.Common.{◌≡◌, ℕ, zero, suc, ◌+◌, ◌<◌, ◌≤◌, Bool, true, false, not, ◌||◌, ◌&&◌, List, [], ◌∷◌, ◌++◌, length, map, get_or, Option, Some, None, refl, sym, ap, ◌∙◌, arith, slice_get, slice_set}
 use Rattle.std.specs.Prelude.{◌↔◌, if◌then◌else◌, nat_lt, nat_le, nat_eq, slice_index_or}
 use Rattle.std.specs.List.{list_any}
 use Rattle.std.proofs.lemmas.List.{get_or-map, length-map}
@@ -14,7 +14,7 @@ use Rattle.sieve_meaning.specs.Outcome.{Outcome}
 use Rattle.sieve_meaning.specs.Paths.{insert_path}
 use Rattle.sieve_meaning.specs.Truth.{has_field}
 use Rattle.filing_table.specs.Machine.{Entry, T, L, N, State, Run, At, Over, Trap, with_stack, values_of, compared, with_named, only_if, file, on_stack, at_place, step, after_steps}
-use Rattle.filing_table.specs.Ends.{Ends, HasOutcome}
+use Rattle.filing_table.specs.Ends.{HasOutcome}
 use Rattle.filing_table.specs.VersionOne as one
 
 -- the state without the places to return to
@@ -161,8 +161,7 @@ module _ (p : Program) (c : Facts) where
 
     outcome_from : (n : ℕ) (o : Outcome) → one.HasOutcome p c n o → HasOutcome p c n o
     outcome_from n o (fault, t, ends, is) =
-        let back = over_back (after_steps p c n) fault t (same_run n ∙ ends.over) in
-        (
+        let back = over_back (after_steps p c n) fault t (same_run n ∙ ends.over) in (
           fault,
           back.0,
           record { over = back.1; going = λ k lt. let (u, e) = ends.going k lt in at_back (after_steps p c k) u (same_run k ∙ e) },

@@ -16,8 +16,9 @@ pub fn a_run_ends_once()
         a ≡ b }
 {}
 
-/// The run of a program of version 1 ends exactly as it did before there were procedures: with the same outcome and after
-/// the same number of steps, in each case.
+/// A version 1 program runs as it did before there were procedures: in each case its run ends with the same outcome, and
+/// after the same number of steps.
 pub fn version_one_runs_as_before()
-    ensures { (p : Program) (c : Facts) (n : ℕ) (o : Outcome) → p.procedures ≡ None → IsOfVersion (parts p) → (HasOutcome p c n o ↔ one.HasOutcome p c n o) }
+    ensures { (p : Program) (c : Facts) (n : ℕ) (o : Outcome) → p.procedures ≡ None → IsOfVersion (parts p) →
+        (HasOutcome p c n o ↔ one.HasOutcome p c n o) }
 {}

@@ -1,5 +1,5 @@
 -- Whether a budget suffices, by the longest path or by the cost of place 0.
-use Rattle.std.proofs.Common.{◌≡◌, ℕ, ◌+◌, ◌<◌, ◌≤◌, List, length, Option, Some, None, sym, ap, ◌∙◌, subst, arith}
+use Rattle.std.proofs.Common.{◌≡◌, ℕ, ◌+◌, ◌<◌, ◌≤◌, List, length, Some, None, sym, ap, subst, arith}
 use Rattle.std.specs.Prelude.{min}
 use Rattle.filing_image.specs.Program.{Program}
 use Rattle.filing_verify.specs.Flow.{Path}

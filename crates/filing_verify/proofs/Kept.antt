@@ -1,8 +1,7 @@
 -- In version 1 the rules accept and refuse as the rules before there were procedures.
-use Rattle.std.proofs.Common.{◌≡◌, ℕ, zero, suc, ◌+◌, ◌-◌, ◌<◌, ◌≤◌, List, [], ◌∷◌, length, leb, get_or, Option, Some, None, refl, sym, ap, ◌∙◌, subst, arith, inl, inr}
+use Rattle.std.proofs.Common.{◌≡◌, ℕ, zero, suc, ◌+◌, ◌-◌, ◌<◌, ◌≤◌, List, [], ◌∷◌, length, leb, get_or, Some, None, refl, sym, ap, ◌∙◌, subst, arith, inl, inr}
 use Rattle.std.specs.Prelude.{slice_get, ◌↔◌}
 use Rattle.std.specs.List.{count_by}
-use Rattle.std.proofs.lemmas.Option.{slice_get_within}
 use Rattle.std.proofs.lemmas.Bool.{cases_lt}
 use Rattle.filing_image.specs.Program.{Program, first_places, firsts_of}
 use Rattle.filing_image.specs.declared.instruction.Operation.{Operation}
@@ -11,8 +10,8 @@ use Rattle.filing_verify.specs.declared.kind.Kind.{Kind}
 use Rattle.filing_verify.specs.declared.kind.Kind.TheVariants.{Truth, Texts, Count}
 use Rattle.filing_verify.specs.declared.fault.VerifyFault.{VerifyFault}
 use Rattle.filing_verify.specs.declared.fault.VerifyFault.TheVariants.{NoMemory, Operand, Backward, Stack, RunsOff, Budget}
-use Rattle.filing_verify.specs.Flow.{jump_target, target, goes_on, Follows, Leads, Path, Reached, procedure_of}
-use Rattle.filing_verify.specs.Shapes.{after, IsFine, HasShapes}
+use Rattle.filing_verify.specs.Flow.{jump_target, target, goes_on, Follows, Path, Reached, procedure_of}
+use Rattle.filing_verify.specs.Shapes.{after, HasShapes}
 use Rattle.filing_verify.specs.Well.{InRange, HasProcedures, AreInRange, GoesForward, StaysInside, greatest_budget, Suffices, IsWithin, IsWell, Fails}
 use Rattle.filing_verify.specs.VersionOne as one
 use Rattle.filing_verify.proofs.Procedures.{in_range_at, stays}

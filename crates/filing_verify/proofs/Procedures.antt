@@ -1,6 +1,6 @@
 -- Procedures begin at places that ascend: which of them a place is in.
 use Rattle.std.proofs.Common.{◌≡◌, ℕ, zero, suc, ◌+◌, ◌-◌, ◌<◌, ◌≤◌, Bool, true, false, cond, eqb, leb, List, [], ◌∷◌, length, get_or, Option, Some, None, refl, sym, ap, eq-eqb, ◌∙◌, subst, arith, inl, inr, ◌⊎◌}
-use Rattle.std.specs.Prelude.{slice_get, All}
+use Rattle.std.specs.Prelude.{slice_get}
 use Rattle.std.specs.List.{count_by}
 use Rattle.std.specs.List.Sorted.{IsPartitionedBy, IsPartitionPoint}
 use Rattle.std.proofs.lemmas.Grind.{get_or_default_zero}
@@ -13,7 +13,7 @@ use Rattle.filing_image.specs.Program.{Program, first_places, firsts_of, version
 use Rattle.filing_image.specs.declared.version.Version.TheVariants.{One, Two}
 use Rattle.filing_image.specs.declared.instruction.Operation.{Operation}
 use Rattle.filing_image.specs.declared.instruction.Operation.TheVariants.{Jump, JumpIf, JumpUnless, Call}
-use Rattle.filing_verify.specs.Flow.{jump_target, first_place, target, goes_on, Reached, Continues, procedure_of}
+use Rattle.filing_verify.specs.Flow.{jump_target, first_place, target, Reached, Continues, procedure_of}
 use Rattle.filing_verify.specs.Well.{InRange, Ascends, AreProcedures, HasProcedures, AreInRange, GoesForward, StaysInside}
 use Rattle.filing_verify.specs.Passes.{GoesOnward, LeadsInside, RunsOn}
 

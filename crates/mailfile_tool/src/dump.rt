@@ -35,12 +35,19 @@ fn show_numbers(rt: &HostRuntime, image: &Image) -> Result<(), Failure> {
     Ok(())
 }
 
-/// Writes the parts of an image.
-fn show(rt: &HostRuntime, image: &Image) -> Result<(), Failure> {
+/// Writes the first places of the procedures of an image, a line each, with their numbers.
+fn show_first_places(rt: &HostRuntime, image: &Image) -> Result<(), Failure> {
+    for (number, place) in image.first_places().iter().enumerate() {
+        write_line(rt, format!(in rt.alloc(); "procedure {number} at place {place}")?)?;
+    }
+    Ok(())
+}
+
+/// Writes the version of an image and its numbers of parts. Version 1 has no procedures.
+fn show_counts(rt: &HostRuntime, image: &Image) -> Result<(), Failure> {
     let alloc = rt.alloc();
     let (budget, slots) = (image.budget(), image.slots());
     let (texts, numbers) = (image.text_count(), image.numbers().len());
-    let code = image.code().len();
     let version = match image.version() {
         Version::One => 1,
         Version::Two => 2,
@@ -48,12 +55,24 @@ fn show(rt: &HostRuntime, image: &Image) -> Result<(), Failure> {
     write_line(
         rt,
         format!(in alloc;
-            "version {version}\nbudget {budget}\nslots {slots}\ntexts {texts}\nnumbers {numbers}\ninstructions {code}"
+            "version {version}\nbudget {budget}\nslots {slots}\ntexts {texts}\nnumbers {numbers}"
         )?,
     )?;
+    if image.version() == Version::Two {
+        let procedures = image.first_places().len();
+        write_line(rt, format!(in alloc; "procedures {procedures}")?)?;
+    }
+    let code = image.code().len();
+    write_line(rt, format!(in alloc; "instructions {code}")?)
+}
+
+/// Writes the parts of an image.
+fn show(rt: &HostRuntime, image: &Image) -> Result<(), Failure> {
+    show_counts(rt, image)?;
     show_texts(rt, image)?;
     show_numbers(rt, image)?;
-    let instructions = format!(in alloc; "{image}")?;
+    show_first_places(rt, image)?;
+    let instructions = format!(in rt.alloc(); "{image}")?;
     write(rt, instructions.as_bytes())
 }
 
@@ -65,7 +84,6 @@ fn texts_of(alloc: Global, image: &Image) -> Result<Vec<Vec<u8>>, AllocError> {
     Ok(texts)
 }
 
-<<<<<<< HEAD
 /// The first places of the procedures of an image; none in version 1, which has no procedures.
 fn first_places_of(alloc: Global, image: &Image) -> Result<Option<Vec<u16>>, AllocError> {
     match image.version() {
@@ -74,11 +92,8 @@ fn first_places_of(alloc: Global, image: &Image) -> Result<Option<Vec<u16>>, All
     }
 }
 
-/// The image with so many of its first instructions, and STOP in place of each other one; none where that has no form.
-=======
 /// The image with its first `count` instructions, and STOP in place of each other one; none where the format has no
 /// such image.
->>>>>>> main
 fn cut(alloc: Global, image: &Image, count: usize) -> Result<Option<Image>, AllocError> {
     let mut code = Vec::new(alloc);
     for (place, operation) in image.code().iter().enumerate() {

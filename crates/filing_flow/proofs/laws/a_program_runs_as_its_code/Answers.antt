@@ -1,6 +1,4 @@
 use Rattle.filing_flow.proofs.Ended.{program_ends}
-use Rattle.filing_flow.proofs.Rows as rows
-use Rattle.filing_flow.proofs.ProcedureRows as procedure_rows
 use Rattle.filing_flow.proofs.laws.a_program_runs_as_its_code.Goals as goal
 
 pub returns : goal.returns

@@ -1,5 +1,4 @@
 use Rattle.filing_flow.proofs.Calls.{procedures_end}
-use Rattle.filing_flow.proofs.ProcedureRows as rows
 use Rattle.filing_flow.proofs.laws.a_program_runs_as_its_procedures.Goals as goal
 
 pub returns : goal.returns

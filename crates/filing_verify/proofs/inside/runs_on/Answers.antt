@@ -1,4 +1,4 @@
-use Rattle.std.proofs.Common.{◌≡◌, ap, ◌∙◌, sym, subst, arith, true, false, Some}
+use Rattle.std.proofs.Common.{◌≡◌, ap, ◌∙◌, subst, arith, true, Some}
 use Rattle.std.proofs.lemmas.Option.{slice_get-get_or}
 use Rattle.filing_image.specs.declared.instruction.Operation.{Operation}
 use Rattle.filing_verify.specs.Flow.{goes_on}

@@ -1,4 +1,4 @@
-use Rattle.std.proofs.Common.{◌≡◌, ℕ, sym}
+use Rattle.std.proofs.Common.{sym}
 use Rattle.filing_image.specs.Program.{firsts_of}
 use Rattle.filing_verify.proofs.Procedures.{some_procedures, leads_inside}
 use Rattle.filing_verify.proofs.Budgets.{IsBetween, two_within, two_between}

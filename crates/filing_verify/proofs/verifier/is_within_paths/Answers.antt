@@ -1,4 +1,4 @@
-use Rattle.std.proofs.Common.{◌≡◌, ℕ, sym}
+use Rattle.std.proofs.Common.{sym}
 use Rattle.filing_verify.proofs.Procedures.{no_procedures}
 use Rattle.filing_verify.proofs.Budgets.{IsBetween, one_within, one_between}
 use Rattle.filing_verify.proofs.verifier.is_within_paths.Goals as goal

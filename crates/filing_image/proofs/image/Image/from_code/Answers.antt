@@ -1,4 +1,4 @@
-use Rattle.std.proofs.Common.{◌≡◌, ◌<◌, ◌≤◌, ◌^◌, length, map, All, true, refl, sym, arith}
+use Rattle.std.proofs.Common.{◌≡◌, ◌<◌, ◌≤◌, ◌^◌, length, All, true, refl, arith}
 use Rattle.std.proofs.lemmas.Grind.{common_steps}
 use Rattle.std.proofs.lemmas.List.Elements.{All-map}
 use Rattle.filing_image.specs.Program.{instruction_of, version_of, firsts_of, held}
@@ -10,10 +10,13 @@ pub returns-then-has_long-clause-refused : goal.returns-then-has_long-clause-ref
 returns-then-has_long-clause-refused c = (refl, λ h _. c.has_long.ensures.long c.if-has_long.true (rw c.deref.ensures.value (All-of_map (λ t. length t < 2 ^ 16) (λ t. t.items) c.args.texts.items h.texts)))
 
 pub returns-then-not-has-clause-refused : goal.returns-then-not-has-clause-refused
-returns-then-not-has-clause-refused c = (refl, λ _ h.
-    let of_version : All (λ o. (instruction_of o).op ≤ last_operation (version_of (held c.args.first_places))) c.args.code.items = All-of_map (λ i. i.op ≤ last_operation (version_of (held c.args.first_places))) instruction_of c.args.code.items h in
-    let t : c.has.result ≡ true = c.has.ensures.1 (rw (c.version_of.ensures, c.deref-2.ensures.value) of_version) in
-    absurd (cc (t, c.if-not-has.true)))
+returns-then-not-has-clause-refused c = (
+  refl,
+  λ _ h.
+      let of_version : All (λ o. (instruction_of o).op ≤ last_operation (version_of (held c.args.first_places))) c.args.code.items = All-of_map (λ i. i.op ≤ last_operation (version_of (held c.args.first_places))) instruction_of c.args.code.items h in
+      let t : c.has.result ≡ true = c.has.ensures.1 (rw (c.version_of.ensures, c.deref-2.ensures.value) of_version) in
+      absurd (cc (t, c.if-not-has.true)),
+)
 
 pub invariant_of-result : goal.invariant_of-result
 invariant_of-result c =
