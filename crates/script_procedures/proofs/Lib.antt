@@ -3,3 +3,4 @@ mod SetLemmas
 mod OnceLemmas
 mod IncludedLemmas
 mod ReachTables
+mod KeyLemmas

@@ -2,3 +2,4 @@ pub mod Slots
 pub mod Sets
 pub mod Included
 pub mod Reached
+pub mod Keys

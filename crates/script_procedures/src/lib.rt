@@ -3,11 +3,13 @@
 #![tactic(auto)]
 
 mod included;
+mod key;
 mod reach;
 mod slot_set;
 mod slots;
 
 pub use included::included_scripts;
+pub use key::Key;
 pub use reach::Reach;
 pub use slot_set::SlotSet;
 pub use slots::{find_script, slot_count};
