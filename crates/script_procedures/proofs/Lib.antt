@@ -4,3 +4,4 @@ mod OnceLemmas
 mod IncludedLemmas
 mod ReachTables
 mod KeyLemmas
+mod MadeLemmas

@@ -32,7 +32,7 @@ got_pushed [] x y (suc i) h = absurd (cc h)
 got_pushed (z ∷ xs) x y zero h = inl h
 got_pushed (z ∷ xs) x y (suc i) h = elim (got_pushed xs x y i h) [ inl here ↦ inl here | inr last ↦ inr (ap suc last.0, last.1) ]
 
-item_more : {A : Type 0} (xs : List A) (i : ℕ) (x : A) → i < length xs → x ≡ get_or xs i x → take (i + 1) xs ≡ take i xs ++ x ∷ []
+pub item_more : {A : Type 0} (xs : List A) (i : ℕ) (x : A) → i < length xs → x ≡ get_or xs i x → take (i + 1) xs ≡ take i xs ++ x ∷ []
 item_more xs i x below is = grind (arith, common_steps)
 
 -- ROWS

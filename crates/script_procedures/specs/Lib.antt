@@ -3,3 +3,4 @@ pub mod Sets
 pub mod Included
 pub mod Reached
 pub mod Keys
+pub mod Made
