@@ -81,8 +81,8 @@ module _ (called : Called) (c : Facts) (lib : Library) (slot : Slots) (count : �
         let t = shared_tests lib q e found.shared in
         let lefts : q.left ≡ left = eqb-true q.left left t.1 in
         let script : q.script ≡ x = shared_script lib q e known.1 known.2 s p.chain refl at found.shared in
-        let own : SameFor lib (suc (suc left)) p.script p.chain chain = subst (λ (m : ℕ). SameFor lib (suc m) p.script p.chain chain) is same in
-        let inner : SameFor lib (suc left) x (s ∷ p.chain) (s ∷ chain) = inside_include lib (suc left) p.script x i p.chain chain there at own in
+        let agreed : SameFor lib (suc (suc left)) p.script p.chain chain = subst (λ (m : ℕ). SameFor lib (suc m) p.script p.chain chain) is same in
+        let inner : SameFor lib (suc left) x (s ∷ p.chain) (s ∷ chain) = inside_include lib (suc left) p.script x i p.chain chain there at agreed in
         let shares : SameFor lib 64 q.script q.chain (s ∷ p.chain) = same_reached lib q.script q.chain (s ∷ p.chain) t.2 t.3 in
         let both : SameFor lib (suc left) x q.chain (s ∷ chain) =
         λ u reached. shares u (subst (λ (y : Commands). reaches_within lib 64 y u ≡ true) (sym script) (reaches_more lib (suc left) 64 (omega (arith, few, is)) x u reached)) ∙ inner u reached in

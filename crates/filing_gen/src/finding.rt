@@ -12,8 +12,8 @@ ghost use Rattle.filing_gen.specs.Levels.{judged, judgement};
 ghost use Rattle.filing_gen.specs.Scopes.{names_of, told, EntersAt};
 
 use crate::chain::{Chain, MainScript};
-use crate::slots::find_script;
 use script_library::Shelves;
+use script_procedures::find_script;
 use sieve_check::Checked;
 use sieve_meaning::Include;
 use sieve_syntax::Script;

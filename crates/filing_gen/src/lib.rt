@@ -28,7 +28,6 @@ mod linker;
 mod number_pool;
 mod output;
 mod program;
-mod slots;
 mod text_pool;
 mod weight;
 

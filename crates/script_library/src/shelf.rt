@@ -91,7 +91,8 @@ impl Shelf {
 
     /// The script at a place, counted from 0; none from the number of scripts on.
     pub fn at(&self, place: usize) -> Option<&Checked>
-        ensures { option_map (λ c. c.now.script) result ≡ option_map (λ e. e.script) (slice_get self.now place) }
+        ensures script { option_map (λ c. c.now.script) result ≡ option_map (λ e. e.script) (slice_get self.now place) }
+        ensures location { IsLocation self.now }
     {
         match self.entries.get(place) {
             Some(entry) => Some(&*entry.script),

@@ -2,3 +2,6 @@ mod SlotLemmas
 mod SetLemmas
 mod OnceLemmas
 mod IncludedLemmas
+mod ReachTables
+mod KeyLemmas
+mod MadeLemmas

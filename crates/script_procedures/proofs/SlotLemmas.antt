@@ -1,5 +1,5 @@
 -- Each script of a library has its own slot.
-use Rattle.std.proofs.Common.{◌≡◌, ℕ, ◌+◌, ◌<◌, ◌≤◌, List, [], ◌∷◌, Bool, true, false, not, cond, Option, Some, None, option_map, length, refl, sym, ap, ◌∙◌, arith}
+use Rattle.std.proofs.Common.{◌≡◌, ℕ, ◌+◌, ◌-◌, ◌<◌, ◌≤◌, List, [], ◌∷◌, Bool, true, false, not, cond, Option, Some, None, option_map, length, refl, sym, ap, ◌∙◌, arith}
 use Rattle.std.specs.Prelude.{find}
 use Rattle.std.specs.List.{slice_get}
 use Rattle.std.proofs.lemmas.Slice.Eq.{bytes_eq-Decides}
@@ -9,9 +9,8 @@ use Rattle.sieve_syntax.specs.declared.tree.Script.{Script}
 use Rattle.sieve_syntax.specs.View.{tree_of}
 use Rattle.sieve_meaning.specs.Program.{Commands}
 use Rattle.sieve_meaning.specs.Reading.{program_of}
-use Rattle.script_library.specs.Libraries.{NamedScript, Scripts, EachOnce, IsLibrary, is_named, named, place_of, location_of, library_of, most_scripts}
-use Rattle.script_procedures.specs.Slots.{first_slot, slots_of}
-use Rattle.script_procedures.specs.Slots.{HasSlots}
+use Rattle.script_library.specs.Libraries.{NamedScript, Scripts, EachOnce, IsLocation, IsLibrary, is_named, named, place_of, location_of, library_of, most_scripts}
+use Rattle.script_procedures.specs.Slots.{first_slot, slots_of, HasSlots, IsAt}
 use Rattle.script_library.proofs.LocationLemmas.{found_passes, same_name, other_name}
 
 abbrev program : Script → Commands
@@ -23,6 +22,11 @@ entry_there (Some e) y h = (e, refl)
 
 at_place : (name : List ℕ) (es : List NamedScript) (e : NamedScript) → find (is_named name) es ≡ Some e → slice_get es (place_of name es) ≡ Some e
 at_place name es e h = sym (find_at (is_named name) es) ∙ h
+
+place_at : (name : List ℕ) (es : List NamedScript) (y : Commands) → option_map program (named name es) ≡ Some y → option_map program (option_map (λ (e : NamedScript). e.script) (slice_get es (place_of name es))) ≡ Some y
+place_at name es y h =
+    let e = entry_there (find (is_named name) es) y h in
+    ap (λ (o : Option NamedScript). option_map program (option_map (λ (d : NamedScript). d.script) o)) (at_place name es e.0 e.1 ∙ sym e.1) ∙ h
 
 place_inside : (name : List ℕ) (es : List NamedScript) (y : Commands) → option_map program (named name es) ≡ Some y → place_of name es < length es
 place_inside name es y h =
@@ -63,6 +67,28 @@ slots_personal l i count e none = slots_among l i count (omega (arith, e, i.pers
 
 pub slots_global : (l : Scripts) → IsLibrary l → (count : ℕ) → count ≡ most_scripts + length l.global → HasSlots (library_of l) (slots_of l) count
 slots_global l i count e = slots_among l i count (omega (arith, e, i.global.few)) (omega (arith, e, i.personal.few)) (λ _. omega (arith, e))
+
+pub map_twice : {A B C : Type 0} (f : A → B) (g : B → C) (o : Option A) → option_map (λ a. g (f a)) o ≡ option_map g (option_map f o)
+map_twice f g None = refl
+map_twice f g (Some a) = refl
+
+abbrev scripts : Option NamedScript → Option Script
+scripts o = option_map (λ (e : NamedScript). e.script) o
+
+-- the script whose slot this is, by its place in its location
+pub personal_at : (l : Scripts) (slot : ℕ) → slot < most_scripts → (o : Option Script) → o ≡ scripts (slice_get l.personal slot) → IsAt l slot (option_map program o)
+personal_at l slot low o is s x h at = by s.global s.name h at
+  where
+    by : (g : Bool) (name : List ℕ) → option_map program (named name (location_of g l)) ≡ Some x → first_slot g + place_of name (location_of g l) ≡ slot → option_map program o ≡ Some x
+    by true name k e = absurd (omega (arith, e, low))
+    by false name k e = let place : slot ≡ place_of name l.personal = omega (arith, e) in ap (option_map program) (is ∙ ap (λ (n : ℕ). scripts (slice_get l.personal n)) place) ∙ place_at name l.personal x k
+
+pub global_at : (l : Scripts) → IsLocation l.personal → (slot : ℕ) → most_scripts ≤ slot → (o : Option Script) → o ≡ scripts (slice_get l.global (slot - most_scripts)) → IsAt l slot (option_map program o)
+global_at l i slot high o is s x h at = by s.global s.name h at
+  where
+    by : (g : Bool) (name : List ℕ) → option_map program (named name (location_of g l)) ≡ Some x → first_slot g + place_of name (location_of g l) ≡ slot → option_map program o ≡ Some x
+    by false name k e = absurd (let inside = place_inside name l.personal x k in omega (arith, e, high, inside, i.few))
+    by true name k e = let place : slot - most_scripts ≡ place_of name l.global = omega (arith, e) in ap (option_map program) (is ∙ ap (λ (n : ℕ). scripts (slice_get l.global n)) place) ∙ place_at name l.global x k
 
 -- FEWEST
 

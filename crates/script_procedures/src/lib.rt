@@ -3,9 +3,15 @@
 #![tactic(auto)]
 
 mod included;
+mod key;
+mod procedure;
+mod reach;
 mod slot_set;
 mod slots;
 
 pub use included::included_scripts;
+pub use key::Key;
+pub use procedure::Procedure;
+pub use reach::Reach;
 pub use slot_set::SlotSet;
 pub use slots::{find_script, slot_count};

@@ -1,11 +1,12 @@
 //! The slots of the scripts that can be included: a script is marked at its slot when it is entered.
 
 ghost use Rattle.std.specs.Prelude.{◌≡◌, ◌<◌, ◌≤◌, ℕ, IfSome, option_map};
+ghost use Rattle.sieve_syntax.specs.View.{tree_of};
+ghost use Rattle.sieve_meaning.specs.Reading.{program_of};
 ghost use Rattle.sieve_meaning.specs.Scripts.{is_global, script_of};
 ghost use Rattle.script_library.specs.Lent.{scripts_of};
 ghost use Rattle.script_library.specs.Libraries.{named, location_of, library_of};
-ghost use Rattle.script_procedures.specs.Slots.{HasSlots};
-ghost use Rattle.script_procedures.specs.Slots.{slots_of};
+ghost use Rattle.script_procedures.specs.Slots.{slots_of, HasSlots, IsAt};
 
 use script_library::{MAX_SCRIPTS, Shelves};
 use sieve_check::Checked;
@@ -29,6 +30,17 @@ pub fn find_script<'a>(
             None => None,
         },
     }
+}
+
+/// The script of a slot; none where no script has it.
+pub fn script_at<'a>(shelves: Shelves<'a>, slot: usize) -> Option<&'a Checked>
+    ensures { IsAt (scripts_of shelves.entry) slot (option_map (λ c. program_of (tree_of c.now.script)) result) }
+{
+    let personal = shelves.personal.at(slot);
+    if slot < MAX_SCRIPTS {
+        return personal;
+    }
+    shelves.global.at(slot - MAX_SCRIPTS)
 }
 
 /// The smallest number of slots that is enough for the scripts: 0 where there is no script, and at most 64.

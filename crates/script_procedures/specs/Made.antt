@@ -1,0 +1,22 @@
+-- The procedures that the code makes.
+use Rattle.std.specs.Prelude.{List, map}
+use Rattle.sieve_syntax.specs.View.{tree_of}
+use Rattle.sieve_meaning.specs.Meaning.{ScriptName}
+use Rattle.sieve_meaning.specs.Procedures.{Procedure}
+use Rattle.sieve_meaning.specs.Reading.{program_of}
+use Rattle.sieve_meaning.specs.Scripts.{script_of}
+use Rattle.script_library.specs.Libraries.{Scripts}
+use Rattle.script_procedures.specs.Keys.{IsEnteredKey}
+use Rattle.script_procedures.specs.declared.procedure.Procedure as code
+
+-- the names of the active scripts
+abbrev pub names_of : code.Procedure → List ScriptName
+names_of p = map script_of p.chain.items
+
+-- a procedure as it is in the code
+abbrev pub procedure_of : code.Procedure → Procedure
+procedure_of p = record { script = program_of (tree_of p.script.now); left = p.key.left; chain = names_of p }
+
+-- an include entered it, and it has its key
+abbrev pub IsEntered : Scripts → code.Procedure → Type 0
+IsEntered l p = IsEnteredKey l p.key (procedure_of p)

@@ -1,0 +1,88 @@
+//! Scripts as some includes run them.
+
+ghost use Rattle.std.specs.Prelude.{◌≡◌, ◌<◌, ◌-◌, ◌∷◌, Some, map, IfOk};
+ghost use Rattle.std.specs.List.{list_any, All};
+ghost use Rattle.sieve_meaning.specs.Program.{Commands};
+ghost use Rattle.sieve_meaning.specs.Meaning as meaning;
+ghost use Rattle.sieve_meaning.specs.Meaning.{is_among};
+ghost use Rattle.sieve_meaning.specs.Procedures as sharing;
+ghost use Rattle.sieve_meaning.specs.Procedures.{is_shared};
+ghost use Rattle.sieve_meaning.specs.Scripts.{script_of};
+ghost use Rattle.script_library.specs.Lent.{scripts_of};
+ghost use Rattle.script_library.specs.Libraries.{Scripts, library_of};
+ghost use Rattle.script_procedures.specs.Keys.{IsKeyOf, IsEnteredKey};
+ghost use Rattle.script_procedures.specs.Made.{names_of, procedure_of, IsEntered};
+ghost use Rattle.script_procedures.specs.Slots.{slots_of};
+
+use crate::key::{Key, are_shared};
+use crate::reach::Reach;
+use sieve_meaning::ScriptName;
+use sieve_syntax::Script;
+use std::alloc::{AllocError, Global};
+
+/// A script as some includes run it.
+#[derive(Drop)]
+pub struct Procedure<'a> {
+    pub script: &'a Script,
+    pub key: Key,
+    /// The names of the active scripts that have one, the innermost first: the script itself.
+    pub chain: Vec<ScriptName<'a>>,
+}
+
+impl<'a> Procedure<'a> {
+    /// Whether a script is active.
+    pub fn contains(&self, script: &ScriptName<'_>) -> bool
+        ensures { result ≡ is_among (names_of self.now) (script_of script.now) }
+    {
+        self.chain.iter().any(|name| script.is_same(name))
+    }
+
+    /// The key of what an include of the script with this slot enters, where one more script may be active.
+    pub fn key_of_entry(&self, slot: usize) -> Key
+        requires left { 0 < self.now.key.left }
+        requires slot { slot < 64 }
+        ensures { (l : Scripts) (s : meaning.ScriptName) (x : Commands) → (library_of l).find s ≡ Some x →
+            slots_of l s ≡ slot → IsKeyOf l self.now.key (procedure_of self.now) →
+            IsEnteredKey l result (record { script = x; left = self.now.key.left - 1; chain = s ∷ names_of self.now }) }
+    {
+        Key {
+            slot: Some(slot),
+            left: self.key.left - 1,
+            active: self.key.active.with(slot),
+        }
+    }
+
+    /// What an include enters that this procedure runs: the script of a name, with this key.
+    pub fn entered(
+        &self,
+        alloc: Global,
+        name: ScriptName<'a>,
+        key: Key,
+        script: &'a Script,
+    ) -> Result<Procedure<'a>, AllocError>
+        ensures script { IfOk result (λ p. p.script ≡ script.entry) }
+        ensures key { IfOk result (λ p. p.key ≡ key) }
+        ensures chain { IfOk result (λ p. names_of p ≡ script_of name.entry ∷ names_of self.now) }
+    {
+        let mut chain = Vec::with_capacity(alloc, self.chain.len())?;
+        chain.push(name)?;
+        for name in &self.chain {
+            chain.push(*name)?;
+        }
+        Ok(Procedure { script, key, chain })
+    }
+}
+
+/// Whether includes share one of these procedures with those that have this key.
+pub fn is_made(reach: &Reach<'_>, procedures: &[Procedure<'_>], key: Key) -> bool
+    requires { All (IsEntered (scripts_of reach.now.shelves)) procedures.now }
+    ensures { (e : sharing.Procedure) → IsEnteredKey (scripts_of reach.now.shelves) key e →
+        result ≡ list_any (λ p. is_shared (library_of (scripts_of reach.now.shelves)) (procedure_of p) e) procedures.now }
+{
+    for procedure in procedures {
+        if are_shared(reach, procedure.key, key) {
+            return true;
+        }
+    }
+    false
+}
