@@ -1,5 +1,5 @@
 -- A call and a return, as the machine and as the table machine do them.
-use Rattle.std.proofs.Common.{◌≡◌, ℕ, ◌+◌, List, [], ◌∷◌, map, Option, Some, None, sym, ap, ◌∙◌}
+use Rattle.std.proofs.Common.{◌≡◌, ℕ, ◌+◌, [], ◌∷◌, map, Option, Some, None, sym, ap, ◌∙◌}
 use Rattle.std.specs.Prelude.{slice_get}
 use Rattle.filing_image.specs.Program.{Program, first_places}
 use Rattle.filing_image.specs.declared.instruction.Operation.TheVariants.{Call, Return}
