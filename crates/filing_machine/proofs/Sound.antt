@@ -1,7 +1,7 @@
 -- The run of a verified program never traps, and ends within its budget.
 use Rattle.std.proofs.Common.{◌≡◌, ◌≢◌, ℕ, zero, suc, ◌+◌, ◌<◌, ◌≤◌, List, [], ◌∷◌, ◌++◌, length, Bool, true, false, not, ◌||◌, cond, max, Option, Some, None, refl, sym, ap, ◌∙◌, subst, arith, inl, inr, ◌⊎◌, get_or}
 use Rattle.std.specs.Prelude.{slice_get, nat_lt, nat_eq}
-use Rattle.std.proofs.lemmas.Bool.{cases_lt, le-ltb, lt-ltb, le-leb, and_from}
+use Rattle.std.proofs.lemmas.Bool.{le-ltb, lt-ltb, le-leb, and_from}
 use Rattle.std.proofs.lemmas.Option.{slice_get-get_or, same_Some}
 use Rattle.std.proofs.lemmas.List.Elements.{All-get_or}
 use Rattle.filing_image.specs.declared.instruction.Operation.{Operation}
@@ -9,9 +9,9 @@ use Rattle.filing_image.specs.declared.instruction.Operation.TheVariants.{PushTr
 use Rattle.filing_image.specs.Program.{Program, first_places, firsts_of}
 use Rattle.filing_verify.specs.declared.kind.Kind.{Kind}
 use Rattle.filing_verify.specs.declared.kind.Kind.TheVariants.{Truth, Texts, Count}
-use Rattle.filing_verify.specs.Flow.{jump_target, first_place, target, goes_on, Follows, Continues, Path, Reached, procedure_of}
+use Rattle.filing_verify.specs.Flow.{first_place, target, goes_on, Follows, Continues, Path, Reached, procedure_of}
 use Rattle.filing_verify.specs.Shapes.{after, IsFine, IsAssignment}
-use Rattle.filing_verify.specs.Well.{InRange, is_call, together, next_cost, target_cost, cost_by, AreCosts, Suffices, IsWell}
+use Rattle.filing_verify.specs.Well.{InRange, is_call, together, next_cost, target_cost, cost_by, Suffices, IsWell}
 use Rattle.filing_verify.proofs.Procedures.{by_kind, enters, leads_inside, number_small}
 use Rattle.sieve_meaning.specs.Case.{Facts}
 use Rattle.sieve_meaning.specs.Truth.{has_field}
