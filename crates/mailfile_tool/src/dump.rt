@@ -38,7 +38,10 @@ fn show_numbers(rt: &HostRuntime, image: &Image) -> Result<(), Failure> {
 /// Writes the first places of the procedures of an image, a line each, with their numbers.
 fn show_first_places(rt: &HostRuntime, image: &Image) -> Result<(), Failure> {
     for (number, place) in image.first_places().iter().enumerate() {
-        write_line(rt, format!(in rt.alloc(); "procedure {number} at place {place}")?)?;
+        write_line(
+            rt,
+            format!(in rt.alloc(); "procedure {number} at place {place}")?,
+        )?;
     }
     Ok(())
 }
