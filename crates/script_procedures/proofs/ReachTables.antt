@@ -1,5 +1,5 @@
 -- The rounds of the tables of what scripts reach.
-use Rattle.std.proofs.Common.{◌≡◌, ◌⊎◌, ℕ, zero, suc, ◌+◌, ◌<◌, List, [], ◌∷◌, ◌++◌, map, filter, length, Bool, true, false, ◌||◌, cond, Option, Some, None, Result, Ok, Err, IfOk, Vec, Global, inl, inr, refl, sym, ap, ◌∙◌, subst, arith, length-append}
+use Rattle.std.proofs.Common.{◌≡◌, ◌⊎◌, ℕ, zero, suc, ◌+◌, ◌<◌, ◌≤◌, List, [], ◌∷◌, ◌++◌, map, filter, length, replicate, Bool, true, false, ◌||◌, cond, Option, Some, None, Result, Ok, Err, IfOk, Vec, Global, inl, inr, refl, sym, ap, ◌∙◌, subst, arith, length-append}
 use Rattle.std.specs.Prelude.{slice_get, nat_eq}
 use Rattle.std.specs.List.{list_any}
 use Rattle.std.specs.Prelude.{take}
@@ -107,12 +107,10 @@ further_more rows old new row set are is = record {
     inside [] i x h = absurd (cc h)
     inside (y ∷ ys) zero x h = omega arith
     inside (y ∷ ys) (suc i) x h = let l = inside ys i x h in omega (arith, l)
-
     kept : {A : Type 0} (xs : List A) (x : A) (i : ℕ) → i < length xs → slice_get (xs ++ x ∷ []) i ≡ slice_get xs i
     kept [] x i h = absurd (omega (arith, h))
     kept (y ∷ ys) x zero h = refl
     kept (y ∷ ys) x (suc i) h = kept ys x i (omega (arith, h))
-
     at_end : {A : Type 0} (xs : List A) (x : A) → slice_get (xs ++ x ∷ []) (length xs) ≡ Some x
     at_end [] x = refl
     at_end (y ∷ ys) x = at_end ys x
