@@ -71,6 +71,7 @@ module _ {A : Type 0} (alike : A → A → Bool) (k : A → Bool) where
         dropped true false true d e h n = absurd (cc n)
         dropped true b false d e h n = refl
         dropped false b true d e h n = absurd (cc e)
+
         by : (b : Bool) → alike x z ≡ b → is_new ys z ≡ (is_new ys z && not b)
         by false is = and_true (is_new ys z)
           where
@@ -98,6 +99,7 @@ module _ {A : Type 0} (alike : A → A → Bool) (k : A → Bool) where
       where
         rest : AllOf P (once alike xs)
         rest = all_once alike P xs all.1
+
         by : (b : Bool) → (k x && not (list_any (λ y. alike y x) ys)) ≡ b → ((zs : List A) → AllOf P zs → puts zs xs ≡ zs ++ filter (is_new zs) (once alike xs)) → puts (cond b (ys ++ x ∷ []) ys) xs ≡ ys ++ cond b (x ∷ filter (is_new ys) (filter (λ z. not (alike x z)) (once alike xs))) (filter (is_new ys) (filter (λ z. not (alike x z)) (once alike xs)))
         by true is go =
             go (ys ++ x ∷ []) (all_append P ys (x ∷ []) ally (all.0, tt))

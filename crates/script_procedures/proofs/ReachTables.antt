@@ -107,10 +107,12 @@ further_more rows old new row set are is = record {
     inside [] i x h = absurd (cc h)
     inside (y ∷ ys) zero x h = omega arith
     inside (y ∷ ys) (suc i) x h = let l = inside ys i x h in omega (arith, l)
+
     kept : {A : Type 0} (xs : List A) (x : A) (i : ℕ) → i < length xs → slice_get (xs ++ x ∷ []) i ≡ slice_get xs i
     kept [] x i h = absurd (omega (arith, h))
     kept (y ∷ ys) x zero h = refl
     kept (y ∷ ys) x (suc i) h = kept ys x i (omega (arith, h))
+
     at_end : {A : Type 0} (xs : List A) (x : A) → slice_get (xs ++ x ∷ []) (length xs) ≡ Some x
     at_end [] x = refl
     at_end (y ∷ ys) x = at_end ys x

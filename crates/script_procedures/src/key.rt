@@ -34,7 +34,5 @@ pub fn are_shared(reach: &Reach<'_>, key: Key, other: Key) -> bool
         return false;
     }
     let reached = reach.reached(slot);
-    key.active
-        .meet(reached)
-        .is_same(other.active.meet(reached))
+    key.active.meet(reached).is_same(other.active.meet(reached))
 }

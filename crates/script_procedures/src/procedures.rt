@@ -31,7 +31,7 @@ fn enter<'a>(
     ensures each { OnOk result (All (IsEntered (scripts_of reach.now.shelves)) next.new.items) }
     ensures made { let lib = library_of (scripts_of reach.now.shelves) in
         let all = with_procedure lib (map procedure_of next.old.items)
-            (entered lib (caller.now.key.left - 1) (names_of caller.now) (script_of name.now)) in
+        (entered lib (caller.now.key.left - 1) (names_of caller.now) (script_of name.now)) in
         IfOk result (λ b. MatchBool b (map procedure_of next.new.items ≡ all) (room < length all)) }
 {
     if caller.contains(name) {
