@@ -1,13 +1,13 @@
 -- The names that are gathered are those of the scripts that are included, each once.
-use Rattle.std.proofs.Common.{◌≡◌, List, [], ◌∷◌, ◌++◌, map, filter, Bool, true, ◌||◌, refl, sym, ap, ◌∙◌, subst}
+use Rattle.std.proofs.Common.{◌≡◌, List, [], ◌∷◌, ◌++◌, map, Bool, true, ◌||◌, refl, sym, ap, ◌∙◌, subst}
 use Rattle.std.specs.List.{list_any}
 use Rattle.std.proofs.lemmas.List.{map-append}
 use Rattle.sieve_meaning.specs.Program.{Include, Command, require, keep, discard, stop, return, file_into, branch, include, Commands, no_command, command_then, Branches, no_branch, otherwise, if_then}
 use Rattle.sieve_meaning.specs.Meaning.{Library, ScriptName, script_named, same_script}
-use Rattle.sieve_meaning.specs.Procedures.{includes_of, includes_in, branch_includes, once, included_names}
+use Rattle.sieve_meaning.specs.Procedures.{includes_of, includes_in, branch_includes}
 use Rattle.sieve_meaning.proofs.SharingLemmas.{same_is}
 use Rattle.sieve_meaning.proofs.ProcedureLemmas.{AllOf}
-use Rattle.script_procedures.specs.Included.{is_there, names_there, with_name, with_included, with_one, with_branches}
+use Rattle.script_procedures.specs.Included.{is_there, names_there, with_included, with_one, with_branches}
 use Rattle.script_procedures.proofs.OnceLemmas.{puts, puts_append, puts_once}
 
 pub any_map : {A B : Type 0} (p : B → Bool) (f : A → B) (xs : List A) → list_any p (map f xs) ≡ list_any (λ x. p (f x)) xs

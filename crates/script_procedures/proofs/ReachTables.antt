@@ -1,5 +1,5 @@
 -- The rounds of the tables of what scripts reach.
-use Rattle.std.proofs.Common.{◌≡◌, ◌⊎◌, ℕ, zero, suc, ◌+◌, ◌<◌, ◌≤◌, List, [], ◌∷◌, ◌++◌, map, filter, length, replicate, Bool, true, false, ◌||◌, cond, Option, Some, None, Result, Ok, Err, IfOk, Vec, Global, inl, inr, refl, sym, ap, ◌∙◌, subst, arith, length-append}
+use Rattle.std.proofs.Common.{◌≡◌, ◌⊎◌, ℕ, zero, suc, ◌+◌, ◌<◌, List, [], ◌∷◌, ◌++◌, map, filter, length, Bool, true, false, ◌||◌, cond, Option, Some, None, Result, Ok, Err, IfOk, Vec, Global, inl, inr, refl, sym, ap, ◌∙◌, subst, arith, length-append}
 use Rattle.std.specs.Prelude.{slice_get, nat_eq}
 use Rattle.std.specs.List.{list_any}
 use Rattle.std.specs.Prelude.{take}

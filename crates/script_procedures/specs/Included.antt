@@ -8,7 +8,7 @@ use Rattle.sieve_meaning.specs.declared.words.CommandWord.TheVariants as words
 use Rattle.sieve_meaning.specs.declared.branches.Part.{Part}
 use Rattle.sieve_meaning.specs.declared.branches.Part.TheVariants.{Branch, Otherwise, Plain}
 use Rattle.sieve_meaning.specs.Words.{command_word}
-use Rattle.sieve_meaning.specs.Program.{Include, Command, require, keep, discard, stop, return, file_into, branch, include, Commands, no_command, command_then, Branches, no_branch, otherwise, if_then}
+use Rattle.sieve_meaning.specs.Program.{Command, require, keep, discard, stop, return, file_into, branch, include, Commands, no_command, command_then, Branches, no_branch, otherwise, if_then}
 use Rattle.sieve_meaning.specs.Reading.{block_in, program_of, branches_of, include_of}
 use Rattle.sieve_meaning.specs.Meaning.{Library, ScriptName, script_named, same_script}
 use Rattle.sieve_meaning.specs.Procedures.{holds_if_there, included_names}

@@ -1,5 +1,5 @@
 -- What tells procedures apart.
-use Rattle.std.specs.Prelude.{◌≡◌, ℕ, List, ◌∷◌, Bool, ◌&&◌, Option, Some, nat_eq}
+use Rattle.std.specs.Prelude.{◌≡◌, ℕ, List, ◌∷◌, Bool, ◌&&◌, Some, nat_eq}
 use Rattle.std.specs.List.{list_any}
 use Rattle.sieve_meaning.specs.Meaning.{ScriptName}
 use Rattle.sieve_meaning.specs.Procedures.{Procedure}

@@ -1,9 +1,9 @@
 -- The procedures that the code makes.
-use Rattle.std.specs.Prelude.{List, [], ◌∷◌, ◌++◌, map, Option, Some, None, if◌then◌else◌, ℕ}
+use Rattle.std.specs.Prelude.{List, [], ◌∷◌, ◌++◌, map, Option, Some, None, if◌then◌else◌}
 use Rattle.std.specs.List.{list_any}
 use Rattle.sieve_syntax.specs.View.{tree_of}
 use Rattle.sieve_meaning.specs.Meaning.{ScriptName, Library}
-use Rattle.sieve_meaning.specs.Procedures.{Procedure, is_shared, entered}
+use Rattle.sieve_meaning.specs.Procedures.{Procedure, is_shared}
 use Rattle.sieve_meaning.specs.Reading.{program_of}
 use Rattle.sieve_meaning.specs.Scripts.{script_of}
 use Rattle.script_library.specs.Libraries.{Scripts}

@@ -1,7 +1,6 @@
 use Rattle.std.proofs.Common.{List, map, ap, ◌∙◌}
 use Rattle.sieve_syntax.specs.View.{tree_of}
 use Rattle.sieve_meaning.specs.Reading.{program_of}
-use Rattle.sieve_meaning.specs.Meaning.{ScriptName}
 use Rattle.sieve_meaning.specs.declared.scripts.ScriptName as code
 use Rattle.sieve_meaning.specs.Scripts.{script_of}
 use Rattle.script_library.specs.Lent.{scripts_of}

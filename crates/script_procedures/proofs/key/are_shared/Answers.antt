@@ -1,12 +1,11 @@
-use Rattle.std.proofs.Common.{◌≡◌, ◌<◌, ℕ, Bool, ◌&&◌, Option, Some, sym, ap, ◌∙◌, arith}
+use Rattle.std.proofs.Common.{◌≡◌, ◌<◌, ℕ, Bool, ◌&&◌, Some, sym, ap, ◌∙◌, arith}
 use Rattle.sieve_meaning.specs.Program.{Commands}
 use Rattle.sieve_meaning.specs.Meaning.{ScriptName}
-use Rattle.sieve_meaning.specs.Procedures.{Procedure, is_shared}
+use Rattle.sieve_meaning.specs.Procedures.{is_shared}
 use Rattle.script_library.specs.Lent.{scripts_of}
 use Rattle.script_library.specs.Libraries.{library_of}
 use Rattle.script_procedures.specs.Sets.{has}
 use Rattle.script_procedures.specs.Slots.{slots_of}
-use Rattle.script_procedures.specs.Keys.{IsEnteredKey}
 use Rattle.script_procedures.proofs.KeyLemmas.{same_tests, shared_from_keys, agree_at}
 use Rattle.script_procedures.proofs.key.are_shared.Goals as goal
 

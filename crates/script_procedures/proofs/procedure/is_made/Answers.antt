@@ -1,5 +1,5 @@
-use Rattle.std.proofs.Common.{◌≡◌, Bool, sym, subst, ◌∙◌, arith}
-use Rattle.sieve_meaning.specs.Procedures.{Procedure, is_shared}
+use Rattle.std.proofs.Common.{sym, subst, ◌∙◌, arith}
+use Rattle.sieve_meaning.specs.Procedures.{is_shared}
 use Rattle.script_library.specs.Lent.{scripts_of}
 use Rattle.script_library.specs.Libraries.{library_of}
 use Rattle.script_procedures.specs.Made.{procedure_of, IsEntered}

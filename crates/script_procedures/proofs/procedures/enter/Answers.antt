@@ -1,20 +1,17 @@
-use Rattle.std.proofs.Common.{◌≡◌, ◌-◌, ◌∷◌, ◌++◌, [], List, ℕ, Bool, true, false, Option, Some, None, Bor, map, option_map, sym, ap, ◌∙◌, subst, arith, length}
+use Rattle.std.proofs.Common.{◌≡◌, ◌-◌, ◌∷◌, ◌++◌, [], List, Some, Bor, map, option_map, sym, ap, ◌∙◌, subst, arith}
 use Rattle.std.specs.List.{list_any, All}
 use Rattle.std.proofs.lemmas.List.{map-append, length-map}
 use Rattle.std.proofs.lemmas.List.Elements.{All-push}
-use Rattle.sieve_check.specs.declared.checked.Checked.{Checked}
 use Rattle.sieve_syntax.specs.declared.tree.Script.{Script}
 use Rattle.sieve_syntax.specs.View.{tree_of}
-use Rattle.sieve_meaning.specs.Program.{Commands}
-use Rattle.sieve_meaning.specs.Meaning.{ScriptName}
 use Rattle.sieve_meaning.specs.Reading.{program_of}
-use Rattle.sieve_meaning.specs.Scripts.{script_of, is_global}
+use Rattle.sieve_meaning.specs.Scripts.{script_of}
 use Rattle.sieve_meaning.specs.Procedures.{Procedure, is_shared, entered}
 use Rattle.script_library.specs.Lent.{scripts_of}
 use Rattle.script_library.specs.Libraries.{library_of}
 use Rattle.script_procedures.specs.declared.key.Key.{Key}
 use Rattle.script_procedures.specs.Keys.{IsEnteredKey}
-use Rattle.script_procedures.specs.Made.{names_of, procedure_of, IsEntered, with_procedure}
+use Rattle.script_procedures.specs.Made.{names_of, procedure_of, IsEntered}
 use Rattle.script_procedures.specs.declared.procedure.Procedure as code
 use Rattle.script_procedures.proofs.IncludedLemmas.{any_map}
 use Rattle.script_procedures.proofs.EnterLemmas.{active_entered, there_entered, none_added, made_before, one_added, no_room, same_procedure}

@@ -1,4 +1,4 @@
-use Rattle.std.proofs.Common.{ℕ, sym, ◌∙◌}
+use Rattle.std.proofs.Common.{sym, ◌∙◌}
 use Rattle.script_procedures.proofs.ReachTables.{turn_some, turn_none}
 use Rattle.script_procedures.proofs.reach.reached_further.Goals.{in-Some, in_default}
 use Rattle.script_procedures.proofs.reach.reached_further.Goals as goal
