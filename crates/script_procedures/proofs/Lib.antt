@@ -5,3 +5,4 @@ mod IncludedLemmas
 mod ReachTables
 mod KeyLemmas
 mod MadeLemmas
+mod EnterLemmas

@@ -1,8 +1,9 @@
 -- The procedures that the code makes.
-use Rattle.std.specs.Prelude.{List, map}
+use Rattle.std.specs.Prelude.{List, [], ◌∷◌, ◌++◌, map, Option, Some, None, if◌then◌else◌}
+use Rattle.std.specs.List.{list_any}
 use Rattle.sieve_syntax.specs.View.{tree_of}
-use Rattle.sieve_meaning.specs.Meaning.{ScriptName}
-use Rattle.sieve_meaning.specs.Procedures.{Procedure}
+use Rattle.sieve_meaning.specs.Meaning.{ScriptName, Library}
+use Rattle.sieve_meaning.specs.Procedures.{Procedure, is_shared}
 use Rattle.sieve_meaning.specs.Reading.{program_of}
 use Rattle.sieve_meaning.specs.Scripts.{script_of}
 use Rattle.script_library.specs.Libraries.{Scripts}
@@ -20,3 +21,8 @@ procedure_of p = record { script = program_of (tree_of p.script.now); left = p.k
 -- an include entered it, and it has its key
 abbrev pub IsEntered : Scripts → code.Procedure → Type 0
 IsEntered l p = IsEnteredKey l p.key (procedure_of p)
+
+-- these procedures and one more, unless one that includes share with it is there
+abbrev pub with_procedure : Library → List Procedure → Option Procedure → List Procedure
+with_procedure lib ps None = ps
+with_procedure lib ps (Some e) = if list_any (λ p. is_shared lib p e) ps then ps else ps ++ e ∷ []

@@ -5,6 +5,7 @@
 mod included;
 mod key;
 mod procedure;
+mod procedures;
 mod reach;
 mod slot_set;
 mod slots;

@@ -127,7 +127,7 @@ fn reached_sets(
 /// What each script of a library reaches.
 #[derive(Drop)]
 pub struct Reach<'a> {
-    shelves: Shelves<'a>,
+    pub shelves: Shelves<'a>,
     /// The smallest number of slots that is enough for the scripts.
     slots: u16,
     sets: Vec<SlotSet>,
