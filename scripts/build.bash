@@ -183,13 +183,18 @@ start_builder() {
     builders[$1]=$!
 }
 
-# Waits for a builder to end, and sets `ended` to the name of its library; the status is the builder's.
+# Waits for a builder to end, and sets `ended` to the name of its library; the status is the builder's. It looks which one has ended,
+# since `wait -n` fails for builders that have ended at the same time.
 await_builder() {
-    local process status=0
-    wait -n -p process "${builders[@]}" || status=$?
-    for ended in "${!builders[@]}"; do
-        [[ ${builders[$ended]} != "$process" ]] || break
+    local name status=0
+    ended=
+    while [[ -z $ended ]]; do
+        for name in "${!builders[@]}"; do
+            kill -0 "${builders[$name]}" 2> /dev/null || ended=$name
+        done
+        [[ -n $ended ]] || sleep 0.1
     done
+    wait "${builders[$ended]}" || status=$?
     close_lane "$ended"
     unset "builders[$ended]"
     return "$status"
