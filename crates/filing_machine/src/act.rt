@@ -73,6 +73,7 @@ pub fn act<C: Case>(
         Operation::File(a, b) => file(alloc, case, a, image.text(b as usize), at),
         Operation::Keep => keep(at),
         Operation::Discard => discard(at),
+        // The run ends, without a fault.
         Operation::Stop => Ok(Some(None)),
         Operation::Fault(a) => Ok(Some(Some(a))),
     }
@@ -112,6 +113,7 @@ fn push_on(item: Item, at: &mut Standing) -> Result<Option<End>, AllocError>
     go_on(at)
 }
 
+/// Sets a slot.
 fn mark(slot: u16, at: &mut Standing) -> Result<Option<End>, AllocError>
     requires place { at.old.place < 2 ^ 62 }
     requires slot { slot < 64 }
