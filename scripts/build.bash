@@ -183,13 +183,18 @@ start_builder() {
     builders[$1]=$!
 }
 
-# Waits for a builder to end, and sets `ended` to the name of its library; the status is the builder's.
+# Waits for a builder to end, and sets `ended` to the name of its library; the status is the builder's. It looks which one has ended,
+# since `wait -n` fails for builders that have ended at the same time.
 await_builder() {
-    local process status=0
-    wait -n -p process "${builders[@]}" || status=$?
-    for ended in "${!builders[@]}"; do
-        [[ ${builders[$ended]} != "$process" ]] || break
+    local name status=0
+    ended=
+    while [[ -z $ended ]]; do
+        for name in "${!builders[@]}"; do
+            kill -0 "${builders[$name]}" 2> /dev/null || ended=$name
+        done
+        [[ -n $ended ]] || sleep 0.1
     done
+    wait "${builders[$ended]}" || status=$?
     close_lane "$ended"
     unset "builders[$ended]"
     return "$status"
@@ -287,7 +292,7 @@ build() {
     trap 'end_by 143' TERM
     lock_crates "$name"
     make_lanes "$name" || give_up "there is no folder to build in"
-    echo "$self: proving and building $total crates; from nothing this may take a quarter of an hour (provers at once: $provers)" >&2
+    echo "$self: proving and building $total crates; from nothing this may take half an hour (provers at once: $provers)" >&2
     if ! { build_libraries "$name" "$provers" "$total" && unlock_crates && build_program "$name"; }; then
         tail -n 40 -- "$folder/out/build.log" >&2
         if grep -q killed "$folder/out/build.log"; then

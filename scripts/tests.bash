@@ -9,10 +9,11 @@
 make_stage() {
     stage=$work/stage
     path=$stage/kit/bin:/usr/bin:/bin
-    mkdir -p -- "$stage"/kit/bin "$stage"/tree/{.git,docs,scripts} "$stage"/tree/crates/{low,beside,middle,mailfile,measures}/src
+    mkdir -p -- "$stage"/kit/bin "$stage"/tree/{.git,docs,scripts} "$stage"/tree/crates/{low,beside,one,two,three,middle,mailfile,measures}/src
     cp -- mailfile bench hostile failing "$stage/tree/"
     cp -- scripts/build.bash "$stage/tree/scripts/"
-    printf '%s\n' '# crates' low: 'beside:' 'middle: low thiserror' 'mailfile: beside middle clap' 'measures: low' > "$stage/tree/crates.txt"
+    printf '%s\n' '# crates' low: beside: one: two: three: 'middle: low thiserror' \
+        'mailfile: beside one two three middle clap' 'measures: low' > "$stage/tree/crates.txt"
     echo low > "$stage/tree/crates/low/src/lib.rt"
     echo 'Command::new("mailfile").version("1.2.3").about(' > "$stage/tree/crates/mailfile/src/command_line.rt"
     echo 'kit 1' > "$stage/kit/KIT-ID"
@@ -32,7 +33,7 @@ if [[ $1 == run ]]; then
     chmod +x "out/$name"
     exit
 fi
-if [[ -f $stage/meets && $name != middle ]]; then
+if [[ -f $stage/meets && ( $name == low || $name == beside ) ]]; then
     touch "$stage/met-$name"
     for _ in {1..500}; do
         [[ -f $stage/met-low && -f $stage/met-beside ]] && break
@@ -85,8 +86,8 @@ answers_unbuilt() {
 builds_side_by_side() {
     touch "$stage/meets"
     echo 'MemAvailable: 9000000 kB' > "$stage/memory"
-    MEMINFO=$stage/memory builds a && rm -- "$stage/meets" && [[ $(grep -c "proved [1-4] of 4: " "$work/error") -eq 4 ]] &&
-        [[ $(grep -o "proved 4 of 4: .*" "$work/error") == "proved 4 of 4: mailfile" && ! -e $stage/tree/.git/lanes ]]
+    MEMINFO=$stage/memory builds a && rm -- "$stage/meets" && [[ $(grep -c "proved [1-7] of 7: " "$work/error") -eq 7 ]] &&
+        [[ $(grep -o "proved 7 of 7: .*" "$work/error") == "proved 7 of 7: mailfile" && ! -e $stage/tree/.git/lanes ]]
 }
 
 builds_one_after_the_other() {

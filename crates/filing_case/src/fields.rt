@@ -40,8 +40,8 @@ impl Model for FieldValues {
 
 impl FieldValues {
     /// The fields of the header of a text of at most 8,388,608 octets, in order, each with the value of its body; each
-    /// value is decoded once, here. Memory is taken twice, for all fields and for all octets of their names and bodies.
-    /// It grows only where a value is longer than its body. The only error is a refused allocation.
+    /// value is decoded once, here. Two allocations are made, one for all fields and one for all octets of their names
+    /// and bodies. The second grows only where a value is longer than its body. The only error is a refused allocation.
     pub fn read(alloc: Global, text: &[u8]) -> Result<FieldValues, AllocError>
         requires { length text.now ≤ MAX_OCTETS }
         ensures { IfOk result (λ v. v ≡ map field_in (fields_of text.now)) }

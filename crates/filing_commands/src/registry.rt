@@ -21,7 +21,7 @@ use record_store::Line;
 ///
 /// Besides the refusals of each call, all calls but `deactivate` may be refused with 99 (no memory). `add_class`,
 /// `set_plan`, `hold`, `release`, `due`, `destroy` and `finish` may also be refused with 89 (the database). A refusal
-/// changes nothing, except that a turn refused with 99 keeps the steps that were made before.
+/// changes nothing, except that a `turn` refused with 99 keeps the steps that were made before.
 pub trait Registry {
     /// Holds while the disk returns what was written to it.
     ghost clean: { Self → Type 0 };
@@ -122,8 +122,8 @@ pub trait Registry {
         ensures { CallsWith clean stands self.old greatest_message message (λ m. commands.begin officer.now moment m)
             (told_ticket result) self.new };
 
-    /// Grants turns to a capture: it makes `count` steps, or fewer where it comes to its end. Refused where no capture
-    /// in flight has the ticket (91). Where there is no memory (99), the steps that were made before are kept.
+    /// Lets a capture make `count` more steps, or fewer where it comes to its end. Refused where no capture in flight
+    /// has the ticket (91). Where there is no memory (99), the steps that were made before are kept.
     fn turn(&mut self, ticket: u64, count: u32) -> Result<Turn, DeskFault>
         ensures { Calls clean stands self.old (commands.turn ticket count) (told_turn result) self.new };
 

@@ -164,8 +164,8 @@ impl<S: Alter> Desk<S> {
         Ok((ticket, budget))
     }
 
-    /// Grants `count` turns to the capture of a ticket, as `Registry` says. Refused with 91 (no such ticket). Where
-    /// there is no memory (99), the steps that were made before are kept.
+    /// Lets the capture of a ticket make `count` more steps, at most, as `Registry` says. Refused with 91 (no such
+    /// ticket). Where there is no memory (99), the steps that were made before are kept.
     pub fn turn(&mut self, ticket: u64, count: u32) -> Result<Turn, DeskFault>
         ensures { Calls (IsClean S.Store) (StandsFor S.Store) self.old (commands.turn ticket count)
             (told_turn result) self.new }

@@ -36,7 +36,7 @@ fn faulty(alloc: Global, fault: u8) -> Result<Outcome, AllocError>
     })
 }
 
-/// The outcome of an image's run in a case.
+/// The outcome of an image's run in a case, without the number of its steps.
 fn run_image<C: Case>(alloc: Global, program: &Verified, case: &C) -> Result<Outcome, AllocError>
     ensures { IfOk result (λ o. (n : ℕ) × HasOutcome program.now (C.facts case.now) n (outcome_view o)) }
 {
@@ -98,6 +98,7 @@ impl<S: Alter> Desk<S> {
     {
         let checked = judge_script(self.alloc, script)?;
         let case = judge_message(self.alloc, self.store.plan(), message)?;
+        // A dry run has no officer, so no personal scripts.
         let personal = Shelf::new(self.alloc);
         let shelves = Shelves {
             personal: &personal,

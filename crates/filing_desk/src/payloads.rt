@@ -49,7 +49,7 @@ pub fn judge_script(alloc: Global, script: &Payload) -> Result<Checked, DeskFaul
     }
 }
 
-/// The program of an image within its limit.
+/// The program of an image within its limit, from its octets.
 fn judge_octets(alloc: Global, image: &[u8]) -> Result<Verified, DeskFault>
     requires { length image.now ≤ greatest_image }
     ensures good { IfOk result (λ v. IsGoodImage image.now v) }

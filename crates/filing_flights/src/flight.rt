@@ -126,8 +126,8 @@ impl Flight {
         }
     }
 
-    /// Grants turns: the run makes `count` steps, or fewer where it comes to its end. The only error is out of memory
-    /// (99), which keeps the steps that were made before.
+    /// The run makes `count` more steps, or fewer where it comes to its end. The only error is out of memory (99),
+    /// which keeps the steps that were made before.
     pub fn turn(&mut self, count: u32) -> Result<(), AllocError>
         ensures ok { OnOk result (IsGranted self.old count self.new) }
         ensures err { OnErr result (StopsShort self.old count self.new) }

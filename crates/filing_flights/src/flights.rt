@@ -66,8 +66,8 @@ impl Flights {
         Some(&self.flights[at])
     }
 
-    /// Grants turns to the capture with that ticket. Refused where there is none (91), and where there is no memory
-    /// (99); the capture then keeps the steps that were made before. No other capture is changed.
+    /// Lets the capture with that ticket make `count` more steps, at most. Refused where there is none (91), and where
+    /// there is no memory (99); the capture then keeps the steps that were made before. No other capture is changed.
     pub fn turn(&mut self, ticket: u64, count: u32) -> Result<Turn, DeskFault>
         ensures { Turns self.old ticket count (told_turn result) self.new }
     {

@@ -51,7 +51,7 @@ flow-row b (t ∷ ts) = ap (λ (a : Flow). sequence (test_flow (test_in t)) (seq
 pub flow-listed : (b : Bool) (t : TestTree) (ts : List TestTree) → tests_flow b (tests_in (listed_tests t (row_of ts))) ≡ row_flow b (t ∷ ts)
 flow-listed b t ts = ap (λ (a : Flow). sequence (test_flow (test_in t)) (sequence (leave_if b 0) a)) (flow-row b ts)
 
--- a test outside brackets
+-- a test outside parentheses
 pub flow-one : (b : Box Test Global) (stop : Bool) → tests_flow stop (tests_in (inner_of (One b))) ≡ sequence (test_flow (test_in (test_of b.value))) (sequence (leave_if stop 0) nothing)
 flow-one b stop = rw (inner_of-One b) refl
 

@@ -23,14 +23,14 @@ use sieve_meaning::{CommandWord, command_word};
 use sieve_syntax::{Argument, Command, Ending};
 use std::alloc::{AllocError, Global};
 
-/// The first operand of FILE: 1 for a copy, and 0 to cancel the implicit keep (RFC 3894, section 3).
+/// The first operand of `File`: 1 for a copy, and 0 to cancel the implicit keep (RFC 3894, section 3).
 fn copy_code(is_copy: bool) -> u8
     ensures { result ≡ copy_number is_copy }
 {
     if is_copy { 1 } else { 0 }
 }
 
-/// Writes `fileinto`: one operation, which names the path.
+/// Writes `fileinto`: one operation, which names the path by its place among the texts.
 fn emit_file(out: &mut Output, arguments: &[Argument]) -> Result<(), AllocError>
     requires { HasRoom out.old 1 }
     ensures adds { OnOk result ((ends : List ℕ) →
@@ -44,8 +44,8 @@ fn emit_file(out: &mut Output, arguments: &[Argument]) -> Result<(), AllocError>
 }
 
 /// Writes a command that has no block. `keep`, `discard`, `stop` and `fileinto` are one operation each, `return` is a
-/// jump to the place `back`, and an `include` has the code of the linker. `require` has no code, nor has an `elsif` or
-/// `else` without open branches.
+/// jump to the place `back`, and for an `include` the linker writes the code. `require` has no code, nor has an `elsif`
+/// or `else` that continues no `if`.
 fn emit_plain<L: Linker>(
     alloc: Global,
     linker: &L,
@@ -149,7 +149,7 @@ fn emit_part<L: Linker>(
     }
 }
 
-/// Ends the open branches before a command that is none of them: it begins others, or is no part of branches.
+/// Ends the open branches where the next command does not continue them: an `if`, or a plain command.
 fn end_before(out: &mut Output, jumps: &mut Vec<usize>, word: CommandWord, part: Part)
     requires room { length out.old.code.items < 2 ^ 16 }
     requires places { All (λ p. p < length out.old.code.items) jumps.old.items }
@@ -164,7 +164,7 @@ fn end_before(out: &mut Output, jumps: &mut Vec<usize>, word: CommandWord, part:
 }
 
 /// Writes commands, one after the other; `return` jumps to the place `back`. The jumps at the ends of branches get
-/// their place where all branches end. The only error is a refused allocation.
+/// their target once the last branch is written. The only error is a refused allocation.
 #[cycle(emission)]
 pub fn emit_commands<L: Linker>(
     alloc: Global,
@@ -181,6 +181,7 @@ pub fn emit_commands<L: Linker>(
         (program_of (commands_of (map command_of commands.now.items)))) ends) }
 {
     let mut jumps = Vec::new(alloc);
+    // Whether an `elsif` or `else` would continue the commands before it.
     let mut is_open = false;
     for command in commands {
         let word = command_word(command.name.as_slice());

@@ -1,5 +1,6 @@
 //! Writes the code of tests (RFC 5228, section 5), which pushes the test's truth value. A jump within the code of a
-//! test gets its place once the code that it skips is written.
+//! test gets its target once the code that it skips is written. An operation names a text or a number by its place
+//! among those of the image.
 
 ghost use Rattle.std.specs.Prelude.{◌≡◌, ◌≤◌, ◌+◌, ◌<◌, ◌^◌, ℕ, List, [], ◌∷◌, length, OnOk, true, false, not, codes};
 ghost use Rattle.sieve_syntax.specs.Arguments.{strings_of, first_of, others_of};
@@ -23,7 +24,7 @@ use sieve_meaning::{Comparator, MatchType, TestWord, test_word};
 use sieve_syntax::{Argument, StringList, Test, Tests, Text};
 use std::alloc::{AllocError, Global};
 
-/// The number of a comparison, as MATCH has it.
+/// The number of a comparison, which is the first operand of `Match`.
 fn comparison_number(how: MatchType, comparator: Comparator) -> u8
     ensures { result ≡ comparison how comparator }
 {

@@ -34,7 +34,8 @@ impl Output {
     }
 }
 
-/// The operand that names a text, which is added where it is new. The only error is a refused allocation.
+/// The operand that names a text: its place among the texts. The text is added where it is new. The only error is a
+/// refused allocation.
 pub fn text_operand(out: &mut Output, text: &[u8]) -> Result<u16, AllocError>
     requires { length out.old.texts < 2 ^ 16 }
     ensures there { IfOk result (λ b. IsAmong (text.now, b) out.new.texts) }
@@ -43,7 +44,8 @@ pub fn text_operand(out: &mut Output, text: &[u8]) -> Result<u16, AllocError>
     out.texts.place(text)
 }
 
-/// The operand that names a number, which is added where it is new. The only error is a refused allocation.
+/// The operand that names a number: its place among the numbers. The number is added where it is new. The only error is
+/// a refused allocation.
 pub fn number_operand(out: &mut Output, number: u64) -> Result<u16, AllocError>
     requires { length out.old.numbers < 2 ^ 16 }
     ensures there { IfOk result (λ b. IsAmong (number, b) out.new.numbers) }
@@ -60,7 +62,7 @@ pub fn put(out: &mut Output, operation: Operation) -> Result<(), AllocError>
     Ok(())
 }
 
-/// Replaces the operation at a place.
+/// Replaces the operation at a place of the code.
 pub fn put_at(out: &mut Output, place: usize, operation: Operation)
     requires { place < length out.old.code.items }
     ensures { out.new ≡ with_operation out.old place operation }

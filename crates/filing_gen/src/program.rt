@@ -82,7 +82,8 @@ pub fn image_of(
     }
 }
 
-/// The levels at which scripts are included: eight may be active, the main one among them.
+/// The levels at which scripts are included: eight may be active, the main one among them. They are types, so that the
+/// compiler's recursion ends with them. A script without `include` uses none.
 type Levels = Above<Above<Above<Above<Above<Above<Above<Deepest>>>>>>>;
 
 /// The image of a script of this weight, which is at most 60,000.

@@ -100,7 +100,8 @@ fn weigh_tests(tests: &Tests, left: u32) -> Option<u32>
     }
 }
 
-/// Subtracts the weight of a command that has no block: 4, and for an `include` also what it includes.
+/// Subtracts the weight of a command that has no block: 4, and for an `include` also what it includes. An `elsif` or
+/// `else` that continues no `if` weighs nothing, nor does a command of another name.
 fn weigh_plain<L: Weights>(
     linker: &L,
     word: CommandWord,
@@ -132,7 +133,8 @@ fn weigh_block<L: Weights>(linker: &L, ending: &Ending, left: u32) -> Option<u32
     }
 }
 
-/// Subtracts the weight of a command by its part: 4, and for a branch also its test and its block.
+/// Subtracts the weight of a command by its part. A `Branch` (`if`, `elsif`) weighs 4, its test and its block;
+/// `Otherwise` (`else`) weighs 4 and its block. `weigh_plain` says what any other command weighs.
 #[cycle(weights)]
 fn weigh_part<L: Weights>(linker: &L, command: &Command, part: Part, left: u32) -> Option<u32>
     ensures { IsLeft left (part_weight (L.weight_of linker.now) part (command_of command.now)) result }
@@ -159,6 +161,7 @@ pub fn weigh_commands<L: Weights>(linker: &L, commands: &Vec<Command>, left: u32
         (program_of (commands_of (map command_of commands.now.items)))) result }
 {
     let mut rest = left;
+    // Whether an `elsif` or `else` would continue the commands before it.
     let mut is_open = false;
     for command in commands {
         let part = part_in(command_word(command.name.as_slice()), is_open);
@@ -168,8 +171,8 @@ pub fn weigh_commands<L: Weights>(linker: &L, commands: &Vec<Command>, left: u32
     Some(rest)
 }
 
-/// The weight of a script and all that it includes, and 1; none where that is above `greatest`. Time is linear in the
-/// smaller of the two.
+/// The weight of a script and all that it includes, and 1; none where that is above `greatest`. For a checked script,
+/// time is linear in the weight, or in `greatest` where that is less.
 pub fn script_weight<L: Weights>(linker: &L, script: &Script, greatest: u32) -> Option<u32>
     ensures { MatchOption result (greatest < weight (L.weight_of linker.now) (program_of (tree_of script.now)) + 1)
         (λ w. (w ≡ weight (L.weight_of linker.now) (program_of (tree_of script.now)) + 1) × (w ≤ greatest)) }

@@ -220,7 +220,7 @@ impl Image {
         &self.numbers
     }
 
-    /// The number of slots. MARK sets a slot, and MARKED reads it.
+    /// The number of slots. `Mark` sets a slot, and `Marked` reads it.
     pub fn slots(&self) -> u16
         ensures { result ≡ self.now.slots }
     {

@@ -14,12 +14,13 @@ pub struct Instruction {
 }
 
 /// What an instruction does, with its operands. On the stack, T is a truth value, L a list of texts and N a number; the
-/// topmost entry comes last. Each executed operation is one step.
+/// topmost entry comes last. Each executed operation is one step. An image that is shown has the names of operations in
+/// capitals; six of them have other names there.
 #[derive(Clone, Copy, Debug, PartialEq, Eq)]
 pub enum Operation {
-    /// 1: pushes T, true.
+    /// 1, shown as TRUE: pushes T, true.
     PushTrue,
-    /// 2: pushes T, false.
+    /// 2, shown as FALSE: pushes T, false.
     PushFalse,
     /// 3: replaces T by its negation.
     Not,
@@ -31,21 +32,21 @@ pub enum Operation {
     /// for `:is`, 2 for `:contains` and 4 for `:matches`; under `i;ascii-casemap` it is one more (RFC 5228, sections
     /// 2.7.1 and 2.7.3).
     Match(u8, u16),
-    /// 7: pops one entry of any kind.
+    /// 7, shown as DROP: pops one entry of any kind.
     Pop,
     /// 8: pushes T: whether the header has a field that the text names.
     Exists(u16),
     /// 9: pushes N: the size of the message in octets.
     Size,
-    /// 10: pushes N: a number of the program.
+    /// 10, shown as NUM: pushes N: a number of the program.
     Number(u16),
     /// 11: replaces N N by T: whether the number pushed first is less.
     Less,
     /// 12: jumps to a place.
     Jump(u16),
-    /// 13: pops T and jumps to a place if it is true.
+    /// 13, shown as JUMPT: pops T and jumps to a place if it is true.
     JumpIf(u16),
-    /// 14: pops T and jumps to a place if it is false.
+    /// 14, shown as JUMPF: pops T and jumps to a place if it is false.
     JumpUnless(u16),
     /// 15: pushes T: whether a slot is set.
     Marked(u16),

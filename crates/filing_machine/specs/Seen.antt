@@ -44,7 +44,7 @@ IsModest Join = ⊥
 IsModest (File a b) = ⊥
 IsModest _ = Unit {0}
 
--- the state after JOIN: one list in place of the two on the top
+-- the state after `Join`: one list in place of the two on the top
 abbrev pub joined : State → List Entry → State
 joined s (L ys ∷ L xs ∷ es) = record s { place = s.place + 1; stack = L (xs ++ ys) ∷ es }
 joined s _ = s

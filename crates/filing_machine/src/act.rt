@@ -75,6 +75,7 @@ pub fn act<C: Case>(
         Operation::File(a, b) => file(alloc, case, a, image.text(b as usize), at),
         Operation::Keep => keep(at),
         Operation::Discard => discard(at),
+        // The run ends, without a fault.
         Operation::Stop => Ok(Some(None)),
         Operation::Fault(a) => Ok(Some(Some(a))),
         Operation::Call(b) => enter(image.first_places()[b as usize], at),
@@ -148,6 +149,7 @@ fn go_back(at: &mut Standing) -> Result<Option<End>, AllocError>
     }
 }
 
+/// Sets a slot.
 fn mark(slot: u16, at: &mut Standing) -> Result<Option<End>, AllocError>
     requires place { at.old.place < 2 ^ 62 }
     requires slot { slot < 64 }

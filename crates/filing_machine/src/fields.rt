@@ -44,8 +44,7 @@ pub fn fields_named<C: Case>(
     Ok(fields)
 }
 
-/// Whether the value of one of the fields matches a key, by the number of the comparison. Under `i;octet` it is 0 for
-/// `:is`, 2 for `:contains` and 4 for `:matches`; under `i;ascii-casemap` it is one more.
+/// Whether the value of one of the fields matches a key. `comparison` is the first operand of a `Match`.
 #[tactic(auto, using(crate::proofs::FindLemmas::is_some_find, crate::proofs::FindLemmas::any_of_map))]
 pub fn any_matches<C: Case>(case: &C, fields: &FieldPlaces, comparison: u8, key: &[u8]) -> bool
     requires { All (λ place. place < length (C.facts case.now).fields) fields.now }

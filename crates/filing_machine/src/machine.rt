@@ -28,6 +28,7 @@ use std::marker::Model;
 pub struct Machine {
     alloc: Global,
     at: Standing,
+    /// How the run ended, once it has: with a fault or with none.
     end: Option<Option<u8>>,
     steps: u64,
 }
@@ -42,7 +43,7 @@ impl Model for Machine {
 
 impl Machine {
     /// A machine before the first instruction of a program, with nothing done. It reserves the whole stack, and room for
-    /// 256 places to return to. The only error is a refused allocation.
+    /// 256 places to return to. The program is only for the contract (`stands`). The only error is a refused allocation.
     pub fn start(alloc: Global, _program: &Verified) -> Result<Machine, AllocError>
         ensures start { IfOk result (λ m. (c : Facts) → seen c m ≡ At start) }
         ensures fresh { IfOk result (λ m. m.steps ≡ 0) }
@@ -69,7 +70,7 @@ impl Machine {
 
     /// Executes one instruction. The machine must not have ended, and must be in the run of this program in this case:
     /// it was started with the program, and stepped with these two alone. The only error is a refused allocation, which
-    /// comes at VALUES, JOIN and FILE alone; the machine is then unchanged.
+    /// comes at `Values`, `Join` and `File` alone; the machine is then unchanged.
     pub fn step<C: Case>(&mut self, program: &Verified, case: &C) -> Result<(), AllocError>
         requires running { self.old.end ≡ None }
         requires stands { Stands program.now (C.facts case.now) self.old }
@@ -114,9 +115,8 @@ impl Machine {
     }
 
     /// The first field of the list on the top of the stack whose value matches a key, by its place in the header,
-    /// counted from 0. None where no value matches, or where no list is on the top. Under `i;octet` the comparison is 0
-    /// for `:is`, 2 for `:contains` and 4 for `:matches`, as for MATCH; under `i;ascii-casemap` it is one more. The
-    /// machine must be in a run in this case.
+    /// counted from 0. None where no value matches, or where no list is on the top. `comparison` is the first operand
+    /// of a `Match`. The machine must be in a run in this case.
     pub fn first_match<C: Case>(&self, case: &C, comparison: u8, key: &[u8]) -> Option<usize>
         requires { AllByRecursion (InCase (C.facts case.now)) self.now.at.stack }
         ensures matches { IfSome result (λ f. value_matches (C.facts case.now) comparison key.now f ≡ true) }

@@ -13,7 +13,7 @@ pub enum Item {
     Count(u64),
 }
 
-/// The state of a run.
+/// The state of a run: the `State` of `filing_table`.
 #[derive(Drop)]
 pub struct Standing {
     /// The program counter: the place of the next instruction.

@@ -154,8 +154,8 @@ impl Officers {
     }
 
     /// What is pinned for a capture that begins now: the officer's image; the image of the officer's script with what
-    /// it includes, or one FAULT 5 where that weighs more than 60,000; or one STOP where no program is set. The only
-    /// error is out of memory.
+    /// it includes, or one `Fault 5` where that weighs more than 60,000; or one `Stop` where no program is set. The
+    /// only error is out of memory.
     ///
     /// A script is compiled once, and again only after the officer's program or a script that it can include was set.
     /// The image is shared. What officers have set stays the same.

@@ -26,14 +26,14 @@ fn single(alloc: Global, operation: Operation) -> Result<Verified, AllocError>
     }
 }
 
-/// What is pinned where no program is set: one STOP.
+/// What is pinned where no program is set: one `Stop`.
 pub(crate) fn pin_nothing(alloc: Global) -> Result<Verified, AllocError>
     ensures { IfOk result (λ v. v ≡ one_stop) }
 {
     single(alloc, Operation::Stop)
 }
 
-/// What is pinned for a script with its name: its image, or one FAULT 5 where it is too heavy.
+/// What is pinned for a script with its name: its image, or one `Fault 5` where it is too heavy.
 fn pin_script(
     alloc: Global,
     name: &[u8],
@@ -50,7 +50,7 @@ fn pin_script(
     }
 }
 
-/// What is pinned for the script that has the name now, or one STOP where there is none.
+/// What is pinned for the script that has the name now, or one `Stop` where there is none.
 pub(crate) fn pin_named(
     alloc: Global,
     name: &[u8],

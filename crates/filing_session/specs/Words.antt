@@ -33,7 +33,7 @@ greatest_number = 18446744073709551615
 abbrev pub greatest_length : ℕ
 greatest_length = 4294967295
 
--- the turns that one command grants
+-- the steps that one TURN grants
 abbrev pub greatest_count : ℕ
 greatest_count = 1000000
 

@@ -44,7 +44,7 @@ fn settled(done: Result<(), DeskFault>) -> Reply
     }
 }
 
-/// The reply to a dry run.
+/// The reply to a dry run, `FILE` or `TRY`.
 fn captured(outcome: Result<Outcome, DeskFault>) -> Reply
     ensures { answer_of result ≡ told_outcome outcome }
 {
@@ -54,7 +54,7 @@ fn captured(outcome: Result<Outcome, DeskFault>) -> Reply
     }
 }
 
-/// The reply to the beginning of a capture.
+/// The reply to `BEGIN`.
 fn begun(begun: Result<(u32, u32), DeskFault>) -> Reply
     ensures { answer_of result ≡ told_ticket begun }
 {
@@ -64,7 +64,7 @@ fn begun(begun: Result<(u32, u32), DeskFault>) -> Reply
     }
 }
 
-/// The reply to a grant of turns.
+/// The reply to `TURN`.
 fn turned(turn: Result<Turn, DeskFault>) -> Reply
     ensures { answer_of result ≡ told_turn turn }
 {
@@ -74,7 +74,7 @@ fn turned(turn: Result<Turn, DeskFault>) -> Reply
     }
 }
 
-/// The reply to the finish of a capture.
+/// The reply to `FINISH`.
 fn filed(capture: Result<Capture, DeskFault>) -> Reply
     ensures { answer_of result ≡ told_capture capture }
 {

@@ -1,4 +1,4 @@
-//! One line with its payloads, which is read and executed.
+//! An item of a session: one line with its payloads, which is read and executed.
 
 ghost use Rattle.std.specs.Prelude.{◌≡◌, IfOk, OnErr};
 ghost use Rattle.filing_commands.specs.Calls.{Calls};
@@ -81,7 +81,7 @@ fn answer_two<S: Source, R: Registry>(
     Ok(Said::Reply(do_two(registry, command, &first, &second)))
 }
 
-/// Executes what a line asks, once its payloads are read.
+/// Reads the payloads that a line announces, and executes what it asks.
 fn answer<S: Source, R: Registry>(
     alloc: Global,
     source: &mut S,

@@ -19,13 +19,13 @@ use sieve_syntax::Text;
 pub enum Reply {
     /// It is done.
     Done,
-    /// The outcome of a dry run.
+    /// The outcome of a dry run, `FILE` or `TRY`.
     Captured(Outcome),
     /// A capture has begun, with a budget in steps.
     Begun { ticket: u32, budget: u32 },
-    /// How far a capture is, after turns were granted to it.
+    /// How far a capture is after a `TURN`.
     Turned(Turn),
-    /// A capture is finished, with these records.
+    /// A capture is finished by `FINISH`, with these records.
     Filed(Capture),
     /// The records that are due.
     Listed(Vec<Line>),
@@ -33,6 +33,7 @@ pub enum Reply {
     Refused(Refusal),
 }
 
+/// Writes the line of a class.
 fn write_class<K: Sink>(sink: &mut K, path: &[u8]) -> Result<(), WriteFault>
     ensures written { K.tells → Writes result (K.written sink.old) (class_octets path.now) (K.written sink.new) }
     ensures troubles { TellsTroubles K.failures K.interruptions K.most_interruptions result sink.old sink.new }
@@ -54,6 +55,7 @@ fn write_classes<K: Sink>(sink: &mut K, paths: &[Text]) -> Result<(), WriteFault
     Ok(())
 }
 
+/// Writes the line of a fault.
 fn write_fault<K: Sink>(sink: &mut K, fault: u8) -> Result<(), WriteFault>
     ensures written { K.tells → Writes result (K.written sink.old) (fault_octets fault) (K.written sink.new) }
     ensures troubles { TellsTroubles K.failures K.interruptions K.most_interruptions result sink.old sink.new }
@@ -63,7 +65,7 @@ fn write_fault<K: Sink>(sink: &mut K, fault: u8) -> Result<(), WriteFault>
     write_pieces(sink, &[b"fault ".as_slice(), number, b"\n".as_slice()])
 }
 
-/// Writes the line of a fault, where there is one.
+/// Writes the line of the fault, where there is one. No outcome has more than one.
 fn write_faults<K: Sink>(sink: &mut K, fault: Option<u8>) -> Result<(), WriteFault>
     ensures written { K.tells → Writes result (K.written sink.old) (faults_octets fault) (K.written sink.new) }
     ensures troubles { TellsTroubles K.failures K.interruptions K.most_interruptions result sink.old sink.new }
@@ -74,6 +76,7 @@ fn write_faults<K: Sink>(sink: &mut K, fault: Option<u8>) -> Result<(), WriteFau
     }
 }
 
+/// Writes the fault, where there is one, and the classes.
 fn write_outcome<K: Sink>(sink: &mut K, outcome: &Outcome) -> Result<(), WriteFault>
     ensures written { K.tells →
         Writes result (K.written sink.old) (outcome_octets (outcome_view outcome.now)) (K.written sink.new) }
@@ -138,6 +141,7 @@ fn write_head<K: Sink>(sink: &mut K, number: u32, path: &[u8]) -> Result<(), Wri
     )
 }
 
+/// Writes the line of a record.
 fn write_record<K: Sink>(sink: &mut K, line: &Line) -> Result<(), WriteFault>
     ensures written { K.tells → Writes result (K.written sink.old) (line_octets line.now) (K.written sink.new) }
     ensures troubles { TellsTroubles K.failures K.interruptions K.most_interruptions result sink.old sink.new }
@@ -146,6 +150,7 @@ fn write_record<K: Sink>(sink: &mut K, line: &Line) -> Result<(), WriteFault>
     write_due(sink, line.due)
 }
 
+/// Writes a line for each record, and nothing where there is none.
 fn write_list<K: Sink>(sink: &mut K, lines: &[Line]) -> Result<(), WriteFault>
     ensures written { K.tells →
         Writes result (K.written sink.old) (flat_map line_octets lines.now) (K.written sink.new) }
@@ -190,6 +195,7 @@ fn write_due_list<K: Sink>(sink: &mut K, lines: &[Line]) -> Result<(), WriteFaul
     write_all(sink, b"ok\n")
 }
 
+/// Writes the line of a refusal, with its offset where it has one.
 fn write_refusal<K: Sink>(sink: &mut K, refusal: Refusal) -> Result<(), WriteFault>
     ensures written { K.tells →
         Writes result (K.written sink.old) (refused_octets refusal.number refusal.offset) (K.written sink.new) }

@@ -1,4 +1,4 @@
-//! What a command line asks.
+//! What a command line asks. A word that is the length of a payload has the name of that payload, such as `text`.
 
 ghost use Rattle.std.specs.Prelude.{◌≡◌};
 ghost use Rattle.filing_session.specs.Asked.{class_of, plan_of, script_of, global_of, active_of, inactive_of, image_of, file_of, try_of, begin_of, turn_of, finish_of, hold_of, release_of, due_of, destroy_of, quit_of, asked_of_officers, asked_of_captures, asked_by, asked, asked_as};
@@ -11,21 +11,21 @@ use crate::words::{Words, is_name, read_count, read_length, read_number};
 /// A command that has no payload.
 #[derive(Clone, Copy, Debug)]
 pub enum NoPayload<'a> {
-    /// Adds the class of a path.
+    /// Adds the class of this path.
     AddClass(&'a [u8]),
     /// Sets an officer's script of that name as the officer's program.
     Activate { officer: &'a [u8], name: &'a [u8] },
-    /// Sets no program for an officer.
+    /// Sets no program for this officer.
     Deactivate(&'a [u8]),
-    /// Grants `count` turns to the capture of a ticket.
+    /// Lets the capture of a ticket make `count` more steps, at most.
     Turn { ticket: u64, count: u32 },
-    /// Makes the records of the capture of a ticket.
+    /// Makes the records of the capture of this ticket.
     Finish(u64),
     /// Places a hold of that name on a record.
     Hold { name: &'a [u8], number: u64 },
     /// Ends a hold of that name on a record.
     Release { name: &'a [u8], number: u64 },
-    /// Lists the records that are due by a day.
+    /// Lists the records that are due by this day.
     Due(Day),
     /// Destroys a record that is due by a day.
     Destroy { number: u64, day: Day },
@@ -40,7 +40,7 @@ pub enum OnePayload<'a> {
     SetScript { officer: &'a [u8], name: &'a [u8] },
     /// Keeps the payload as a global script, under this name.
     SetGlobal(&'a [u8]),
-    /// Sets the payload, an image, as an officer's program.
+    /// Sets the payload, an image, as this officer's program.
     SetImage(&'a [u8]),
     /// Begins a capture of the payload, a message, by an officer's program, at a moment in seconds since
     /// 1970-01-01T00:00:00Z.
@@ -329,7 +329,7 @@ fn request_of_officers<'a>(name: &[u8], words: Words<'a>) -> Request<'a>
     }
 }
 
-/// The same with the commands of dry runs and captures.
+/// As `request_of_officers`, and the commands of dry runs and captures too.
 fn request_of_captures<'a>(name: &[u8], words: Words<'a>) -> Request<'a>
     ensures { asked_as result ≡ asked_of_captures name.now (words_left words.entry) }
 {
@@ -348,7 +348,7 @@ fn request_of_captures<'a>(name: &[u8], words: Words<'a>) -> Request<'a>
     }
 }
 
-/// The same with all commands.
+/// As `request_of_captures`, and all other commands too.
 fn request_by<'a>(name: &[u8], words: Words<'a>) -> Request<'a>
     ensures { asked_as result ≡ asked_by name.now (words_left words.entry) }
 {

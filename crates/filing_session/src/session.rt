@@ -39,6 +39,7 @@ fn ending_text(ending: Ending) -> &'static str
     }
 }
 
+/// Writes the last lines of a session.
 fn write_ending<K: Sink>(sink: &mut K, ending: Ending) -> Result<(), ServeFault>
     ensures written { K.tells → Writes result (K.written sink.old) (ending_octets ending) (K.written sink.new) }
     ensures read { result ≢ Err ServeFault.Read }
@@ -50,8 +51,9 @@ fn write_ending<K: Sink>(sink: &mut K, ending: Ending) -> Result<(), ServeFault>
     Ok(())
 }
 
-/// Serves a session: reads commands from a source, executes them at a registry, and writes their answers to a sink,
-/// until a command, the end of the input or a fault ends the session.
+/// Serves a session: reads commands from a source, executes them at a registry, and writes their answers to a sink.
+/// The session ends by `QUIT`, by the last command that it may have, by a line that is too long, by the end of the input
+/// or by a fault.
 ///
 /// What was done before a fault stays done, and nothing is done after it. On a read fault all that was done is
 /// answered. On a write fault only a rest of the last answer or of the ending is missing. Nothing is read after `QUIT`,

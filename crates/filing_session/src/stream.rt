@@ -2,7 +2,8 @@
 //!
 //! Nothing is known of the octets of a terminal, a file or a pipe. So each type that implements a trait decides whether
 //! it claims to know its octets (`tells`). Every type can count failures, interruptions in a row, and reads that met
-//! the end of the input. The program reads from an `Input` (`input`), and writes to an `Output` (`output`).
+//! the end of the input. The program reads from the `Input` of the module `input`, and writes to the `Output` of
+//! `output`.
 
 ghost use Rattle.std.specs.Prelude.{◌≡◌, ℕ, List, ◌+◌, ◌<◌, ◌≤◌, ◌++◌, ◌∷◌, [], length, take, drop, IfOk, OnErr, IfSome, IfNone, true, Ok, None, max, flat_map};
 ghost use Rattle.filing_session.specs.Streams.{Counts, tells_end, fails_to_read, fails_to_write, is_interrupted, moved, CountsInARow, TellsEnd, TellsTroubles};

@@ -14,7 +14,7 @@ const NAME_OCTETS: usize = 64;
 /// The greatest length in octets that a command line may give for a payload.
 const MAX_LENGTH: u64 = 4_294_967_295;
 
-/// How many turns one command grants at most.
+/// How many steps one `TURN` grants at most.
 const MAX_COUNT: u64 = 1_000_000;
 
 /// The words of a line that are still to be taken. None are left after the last word. An empty text is one empty word.
@@ -130,7 +130,7 @@ pub fn read_length(word: &[u8]) -> Option<usize>
     }
 }
 
-/// A number of turns: decimal, without a leading zero, at most 1,000,000.
+/// A number of steps: decimal, without a leading zero, at most 1,000,000.
 pub fn read_count(word: &[u8]) -> Option<u32>
     ensures { result ≡ number_of greatest_count word.now }
 {

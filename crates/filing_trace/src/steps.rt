@@ -21,8 +21,8 @@ pub struct Step {
     pub place: usize,
     /// The topmost entry of the stack after it; none where the stack is empty.
     pub top: Option<Top>,
-    /// For a MATCH that is true, the first field whose value matches the key, by its place in the header, counted from
-    /// 0; for any other step none.
+    /// For a `Match` that is true, the first field whose value matches the key, by its place in the header, counted
+    /// from 0; for any other step none.
     pub matched: Option<usize>,
 }
 
@@ -52,7 +52,7 @@ fn text_at(image: &Image, place: usize) -> Option<&[u8]>
     }
 }
 
-/// The field that decides the next instruction, where that is a MATCH that is true.
+/// The field that decides the next instruction, where that is a `Match` that is true.
 fn matched_field<C: Case>(image: &Image, case: &C, machine: &Machine) -> Option<usize>
     requires { AllByRecursion (InCase (C.facts case.now)) machine.now.at.stack }
     ensures found { is_some result ≡ finds image.now (state (C.facts case.now) machine.now.at) }

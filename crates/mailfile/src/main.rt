@@ -42,6 +42,7 @@ fn serve_at<S: Alter + Drop>(rt: &HostRuntime, desk: &mut Desk<S>) -> ExitCode {
     }
 }
 
+/// Serves a session over a new store in memory.
 fn serve_in_memory(rt: &HostRuntime) -> ExitCode {
     let Ok(conn) = Connection::open_in_memory(rt.alloc()) else {
         return end_without_store(rt);

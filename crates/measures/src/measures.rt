@@ -94,7 +94,7 @@ pub enum AcceptedText {
     Commands,
     /// `a 1;` alone.
     Numbers,
-    /// Commands with eight tests in brackets.
+    /// Commands with eight tests in parentheses.
     TestLists,
     /// Commands with tests inside one another, as many as may be, each of four octets.
     Nested,

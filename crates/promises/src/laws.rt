@@ -12,8 +12,8 @@ ghost use Rattle.promises.specs.Beginnings.{HasBegun};
 ghost use Rattle.promises.specs.Runs.{IsReached, Run};
 ghost use Rattle.promises.specs.Serial.{SerialRun, forget, kept_answers, kept_commands};
 
-/// Whatever turns are granted in it, a session is the serial one. The commands that are struck do nothing, and the
-/// others are answered as if each capture were made whole at its finish.
+/// Whatever TURNs are in it, a session is the serial one. The commands that are struck do nothing, and the others are
+/// answered as if each capture were made whole at its finish.
 pub fn turns_do_not_matter()
     ensures { (s : Standing) (commands : List Command) (answers : List Answer) (new : Standing) →
         Run s commands answers new
@@ -22,7 +22,7 @@ pub fn turns_do_not_matter()
 
 /// Two sessions that are equal after striking have the same answers, except for offsets and for 20 in the place of 21.
 /// They leave the same archive, scripts and programs, and the same tickets with what stood at their beginnings. Both
-/// begin in one state, or in two that differ only in the turns of their captures in flight.
+/// begin in one state, or in two that differ only in the steps granted to their captures in flight.
 pub fn equal_after_striking()
     ensures { (s t : Standing) (commands others : List Command) (answers replies : List Answer) (x y : Standing) →
         forget s ≡ forget t
@@ -31,7 +31,7 @@ pub fn equal_after_striking()
         → AllAlike (kept_answers commands answers) (kept_answers others replies) × (forget x ≡ forget y) }
 {}
 
-/// A refusal changes nothing, with one exception: a TURN that is refused with 99 (no memory) keeps the turns that were
+/// A refusal changes nothing, with one exception: a TURN that is refused with 99 (no memory) keeps the steps that were
 /// made before.
 pub fn refusals_change_nothing()
     ensures unchanged { (s : Standing) (c : Command) (n : ℕ) (at : Option ℕ) (new : Standing) →

@@ -10,12 +10,12 @@ ghost use Rattle.promises.specs.Runs.{IsReached, Run};
 ghost use Rattle.promises.specs.Turns.{AllGrant, HasEnded, TellsTurns};
 
 /// In a session that begins with an archive:
-/// - the turns of a capture in flight are the sum of those that the TURNs of its ticket granted; one that was answered
-///   99 granted fewer than it asked for;
-/// - a TURN is answered `ended N` where the turns so far, its own among them, reach the length N of the run of what is
-///   pinned; else it is answered `running` with the turns so far, or 99;
-/// - a FINISH of a capture in flight is refused with 92 exactly where its turns do not reach that length;
-/// - a capture that was granted as many turns as its budget has come to its end.
+/// - the steps granted to a capture in flight are the sum of those that the TURNs of its ticket granted; one that was
+///   answered 99 granted fewer than it asked for;
+/// - a TURN is answered `ended N` where the steps granted so far, its own among them, reach the length N of the run of
+///   what is pinned; else it is answered `running` with the steps granted so far, or 99;
+/// - a FINISH of a capture in flight is refused with 92 exactly where the steps granted do not reach that length;
+/// - a capture that was granted as many steps as its budget has come to its end.
 pub fn turns_add_up()
     ensures sum { (archive : Archive) (commands : List Command) (answers : List Answer) (s : Standing) (t : ℕ)
         (f : Flight)

@@ -213,7 +213,7 @@ lacks_branch role follows = goes_on role && not follows
 abbrev pub has_wrong_ending : Bool → Bool → Bool
 has_wrong_ending wanted there = if wanted then not there else there
 
--- 41: other tests than the table's (RFC 5228, sections 2.5 and 2.9). One test in brackets is a list of tests.
+-- 41: other tests than the table's (RFC 5228, sections 2.5 and 2.9). One test in parentheses is a list of tests.
 abbrev pub tests_there : InnerTests → TestsForm
 tests_there no_tests = NoTest
 tests_there (one_test t) = OneTest

@@ -100,7 +100,7 @@ ShapeLaw = (tree : CommandTrees) → refusal_of tree ≡ None → CommandsShape 
 abbrev pub NameLaw : Type 0
 NameLaw = (a b : List ℕ) → same_name a b ≡ true → (command_named a ≡ command_named b) × (test_named a ≡ test_named b)
 
--- an `if` has no argument, one test outside brackets, and a block
+-- an `if` has no argument, one test outside parentheses, and a block
 abbrev pub IfLaw : Type 0
 IfLaw = (follows : Bool) (name : List ℕ) (args : List Argument) (inner : InnerTests) (finish : EndingTree) →
     same_name name (codes "if") ≡ true → HasCommandRow follows name args inner finish → (args ≡ []) ×

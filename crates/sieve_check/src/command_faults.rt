@@ -1,4 +1,6 @@
-//! The least rule that a command breaks, its tests at any depth included.
+//! The least rule that a command breaks, its tests at any depth included. Each function tries its rules in the order of
+//! their numbers, so the first one that is broken is the least. `named` are the capabilities that the `require`s before
+//! the command name.
 
 ghost use Rattle.std.specs.Prelude.{◌≡◌, Some};
 ghost use Rattle.std.specs.Option.{option_map};
@@ -30,7 +32,7 @@ fn lesser(fault: Option<CheckFault>, other: Option<CheckFault>) -> Option<CheckF
     }
 }
 
-/// The first rule that is broken by what follows a name, without the inner tests.
+/// The least rule that is broken by what follows a name, without the inner tests.
 fn form_fault(named: Named, form: &Form, arguments: &Arguments, tests: &Tests) -> Option<CheckFault>
     ensures { option_map number_of result ≡
         first_broken (form_rules (has_of named) (form_view form.now) (pieces (form_view form.now).tags arguments.now)
@@ -104,7 +106,7 @@ fn has_wrong_ending(row: &CommandRow, ending: &Ending) -> bool
     }
 }
 
-/// The first rule that a command breaks by its place, by what it requires or by how it ends.
+/// The least rule that a command breaks by its place, by what it requires or by how it ends.
 fn place_fault(
     context: Context,
     row: &CommandRow,

@@ -12,7 +12,7 @@ pub fn name_law()
     ensures { NameLaw }
 {}
 
-/// An `if` of that shape has no argument, one test outside brackets, and a block (RFC 5228, section 3.1).
+/// An `if` of that shape has no argument, one test outside parentheses, and a block (RFC 5228, section 3.1).
 pub fn if_law()
     ensures { IfLaw }
 {}

@@ -87,9 +87,9 @@ impl Positional {
 #[derive(Clone, Copy, PartialEq, Eq)]
 pub enum TestsForm {
     NoTest,
-    /// One test outside brackets.
+    /// One test outside parentheses.
     OneTest,
-    /// Tests in brackets.
+    /// Tests in parentheses.
     TestList,
 }
 

@@ -14,7 +14,7 @@ mutual
   pub data TestTree : Type 0 where
     test : (name : List ℕ) (args : List Argument) (inner : InnerTests) → TestTree
 
-  -- the tests of a command or of a test: none, one, or a test-list in brackets
+  -- the tests of a command or of a test: none, one, or a test-list in parentheses
   pub data InnerTests : Type 0 where
     no_tests : InnerTests
     one_test : TestTree → InnerTests

@@ -1,4 +1,5 @@
-//! The tree of a script (RFC 5228, section 8.2). It records whether a string or a test was written in brackets.
+//! The tree of a script (RFC 5228, section 8.2). It records what strings were written in brackets, and what tests in
+//! parentheses.
 
 ghost use Rattle.std.specs.Prelude.{◌≡◌, [], IfOk};
 ghost use Rattle.sieve_syntax.specs.Arguments.{strings_of, others_of, first_of};
@@ -123,13 +124,13 @@ pub struct Test {
 #[derive(Drop)]
 pub enum Tests {
     None,
-    /// One test outside brackets.
+    /// One test outside parentheses.
     One(Box<Test>),
-    /// Tests in brackets.
+    /// Tests in parentheses.
     Listed(Box<TestList>),
 }
 
-/// The tests of a list in brackets, which has a first test and perhaps others.
+/// The tests of a list in parentheses, which has a first test and perhaps others.
 #[cycle(tests)]
 #[derive(Drop)]
 pub struct TestList {

@@ -126,7 +126,7 @@ refusal_parts script at r e = elim (cases_lt (at + gap_len 0 (drop at script)) (
     answer (Ok k) is lt = absurd (no_answer (Some (record { kind = k.0; start = at + gap_len 0 (drop at script); end = at + gap_len 0 (drop at script) + k.1 })) r (sym (token_is script at k lt is) ∙ e))
     answer (Err q) is lt = is ∙ errors q (sym (token_refused script at q lt is) ∙ e)
 
--- why a script has no tokens, and where, as it is read
+-- why a text is no sequence of tokens, and where, as it is read
 abbrev pub IsReadFault : List ℕ → ScanRefusal → ℕ → Type 0
 IsReadFault script r place = (ts : List Token) × (end : ℕ) × Reads script 0 ts end × (token_at script end ≡ Err r) × (place ≡ fault_place script end r)
 

@@ -195,7 +195,7 @@ fails_at script at refusal e = go (nat_lt start (length script)) refl (kind_at (
     go true b (Ok y) k f = absurd (some (record { kind = y.0; start = start; end = start + y.1 }) f)
     go true b (Err r) k f = (ltb-true start (length script) b, k ∙ ap (λ (q : ScanRefusal). Err q) (same r f))
 
--- a script of which nothing is left has tokens
+-- a script of which nothing is left is a sequence of tokens
 pub nothing_left : (script : List ℕ) → IsSound script → left_in script ≡ [] → (ts : List Token) × IsScan script ts
 nothing_left script sound none = go (some_verdict script)
   where

@@ -137,7 +137,7 @@ sound_verdict : (script : List ℕ) → IsSound script → Verdict script 0 → 
 sound_verdict script sound (inl h) = inl (h.0, (sound, (h.1, h.2, h.3)))
 sound_verdict script sound (inr h) = inr (h.0, inr (sound, (h.1, h.2, h.3, h.4)))
 
--- a script has tokens or a refusal
+-- a text is a sequence of tokens or has a refusal
 pub some_verdict : (script : List ℕ) → ((ts : List Token) × IsScan script ts) ⊎ ((refusal : ScanRefusal) × IsFaulty script refusal)
 some_verdict script = elim (cases_lt 262144 (length script)) [
   | inl long ↦ inr (ScriptTooLong, inl long)

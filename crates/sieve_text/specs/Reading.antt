@@ -106,7 +106,7 @@ argument_at (t ∷ ts) = Ok None
 unfoldable pub arguments_at : Reads (List Argument)
 arguments_at ts = many_at argument_at (length ts) ts
 
--- the tests of a list, after its opening bracket
+-- the tests of a list, after its opening parenthesis
 abbrev pub test_list_with : Reads TestTree → Reads InnerTests
 test_list_with read ts =
     read ts >>= λ first.

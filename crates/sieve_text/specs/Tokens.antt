@@ -137,7 +137,7 @@ abbrev pub IsFirstFault : List ℕ → ScanRefusal → Type 0
 IsFirstFault script refusal = (ts : List Token) × (end : ℕ) × Reads script 0 ts end ×
     (token_at script end ≡ Err refusal)
 
--- why a script has no tokens: it is unsound, or else its first faulty place
+-- why a text is no sequence of tokens: it is unsound, or else its first faulty place
 abbrev pub IsFaulty : List ℕ → ScanRefusal → Type 0
 IsFaulty script refusal = IsUnsound script refusal ⊎ (IsSound script × IsFirstFault script refusal)
 

@@ -6,7 +6,7 @@ ghost use Rattle.sieve_text.specs.Tokens.{scan_number};
 
 use std::alloc::{AllocError, AllocFailed};
 
-/// Why a script has no tokens (RFC 5228, section 8.1).
+/// Why a text is no sequence of tokens (RFC 5228, section 8.1).
 #[derive(Clone, Copy, Debug, PartialEq, Eq)]
 pub enum ScanRefusal {
     /// 10: the script is not UTF-8 (RFC 5228, section 2.1).
@@ -103,7 +103,7 @@ impl<T: Drop> From<AllocFailed<T>> for ScanFault {
 /// Why a text is not a script.
 #[derive(Clone, Copy, Debug, PartialEq, Eq)]
 pub enum TextRefusal {
-    /// 10 to 16: the text has no tokens.
+    /// 10 to 16: the text is no sequence of tokens.
     Scan(ScanRefusal),
     /// 20: the tokens do not follow the grammar of RFC 5228, section 8.2.
     Syntax,

@@ -20,7 +20,7 @@ pub fn one_verdict()
     ensures refusal { (script : List ℕ) (a b : ScanRefusal) → IsFaulty script a → IsFaulty script b → a ≡ b }
 {}
 
-/// Every script has tokens or a refusal.
+/// Every text is a sequence of tokens or has a refusal.
 pub fn some_verdict()
     ensures { (script : List ℕ) → ((ts : List Token) × IsScan script ts) ⊎
         ((refusal : ScanRefusal) × IsFaulty script refusal) }

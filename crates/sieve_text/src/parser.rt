@@ -31,7 +31,8 @@ use stop::{Misfit, Stop, left_from, syntax};
 /// How many blocks may be nested.
 const BLOCK_DEPTH: u8 = 32;
 
-/// The commands of a text, up to the first place where none begins, and how many octets remain from that place on.
+/// The commands of a text, and how many octets are left where no token can be read any more. A token that begins no
+/// command is a misfit.
 #[tactic(auto, unfolding(crate::specs::Reading::script_at))]
 fn all_commands(alloc: Global, text: &[u8]) -> Result<(Vec<Command>, usize), Stop>
     ensures value { Gives (λ x. commands_of (map command_of x.0.items)) result (script_at 32 32 (kinds_in text.now)) }
@@ -44,8 +45,8 @@ fn all_commands(alloc: Global, text: &[u8]) -> Result<(Vec<Command>, usize), Sto
     Ok((commands, left_from(rest)))
 }
 
-/// Judges whether a script that was judged as a whole has tokens. It has some if its commands were read and nothing is
-/// left after them.
+/// Judges whether a script that was judged as a whole is a sequence of tokens. It is one if its commands were read and
+/// nothing is left after them.
 fn judge_tokens(script: &[u8], read: &Result<(Vec<Command>, usize), Stop>) -> Result<(), ScanFault>
     requires sound { IsSound script.now }
     requires left { IfOk read.now (λ x. x.1 ≡ length (left_in script.now)) }
@@ -75,12 +76,13 @@ fn answer(read: Result<(Vec<Command>, usize), Stop>, end: usize) -> Result<Scrip
     Err(TextFault::Refused(refusal, end.saturating_sub(left)))
 }
 
-/// The tree of a script (RFC 5228, section 8.2), which records whether a string or a test was written in brackets.
+/// The tree of a script (RFC 5228, section 8.2), which records what strings were written in brackets, and what tests in
+/// parentheses.
 ///
-/// A script has at most 32 nested blocks and at most 32 nested tests. A text without tokens is refused as by `scan` (10
-/// to 16). Tokens of a deeper tree are refused with 21. Tokens of no tree are refused with 20, or with 21 if the 33rd
-/// nested test or block comes before the first token that does not fit the grammar. Any answer may be replaced by no
-/// memory (99).
+/// A script has at most 32 nested blocks and at most 32 nested tests. A text that is no sequence of tokens is refused
+/// as by `scan` (10 to 16). Tokens of a deeper tree are refused with 21. Tokens of no tree are refused with 20, or with
+/// 21 if the 33rd nested test or block comes before the first token that does not fit the grammar. Any answer may be
+/// replaced by no memory (99).
 pub fn parse(alloc: Global, script: &[u8]) -> Result<Script, TextFault>
     // The answer is the script's tree.
     ensures found { IfOk result (λ s. IsScript script.now (tree_of s)) }
@@ -91,7 +93,7 @@ pub fn parse(alloc: Global, script: &[u8]) -> Result<Script, TextFault>
     // A tree that is too deep is refused for that reason.
     ensures nests { (t : CommandTrees) → Spells script.now t → IsDeep t → AnswersRefusal TextRefusal.Nesting result }
 
-    // A text without tokens is refused for that reason.
+    // A text that is no sequence of tokens is refused for that reason.
     ensures faulty { (r : ScanRefusal) → IsFaulty script.now r → AnswersRefusal (TextRefusal.Scan r) result }
 
     // Each refusal says what the text lacks.

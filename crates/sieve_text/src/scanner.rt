@@ -218,7 +218,7 @@ pub fn split_lexeme(text: &[u8]) -> Option<(Lexeme<'_>, &[u8])>
     split_other(text)
 }
 
-/// How many tokens a script has; one without tokens is refused as by `scan`.
+/// How many tokens a script has. A text that is no sequence of tokens is refused as by `scan`.
 pub fn count_tokens(script: &[u8]) -> Result<usize, ScanFault>
     ensures tokens { IfOk result (λ n. (ts : List Token) × IsScan script.now ts × (length ts ≡ n)) }
     ensures fault { IfErr result (λ e. FaultsBy script.now e) }
@@ -258,10 +258,10 @@ fn token(alloc: Global, placed: PlacedLexeme<'_>) -> Result<Token, AllocError>
 /// longest that fits. Comments and white space may come between them. A bare LF counts as a line end, and in a string
 /// it is read as CR LF.
 ///
-/// A script without tokens is refused by the first of these that holds: it has more than 262,144 octets (15); it is not
-/// UTF-8 (10); it has an octet 0, or a CR without LF (11). Otherwise its first faulty place decides: a string (12) or
-/// bracketed comment (13) that is not closed, a number above 2^63 - 1 (14), a string that is closed and too long (16),
-/// or an octet where no token begins (11). Any answer may be replaced by no memory (99).
+/// A text that is no sequence of tokens is refused by the first of these that holds: it has more than 262,144 octets
+/// (15); it is not UTF-8 (10); it has an octet 0, or a CR without LF (11). Otherwise its first faulty place decides: a
+/// string (12) or bracketed comment (13) that is not closed, a number above 2^63 - 1 (14), a string that is closed and
+/// too long (16), or an octet where no token begins (11). Any answer may be replaced by no memory (99).
 pub fn scan(alloc: Global, script: &[u8]) -> Result<Vec<Token>, ScanFault>
     ensures tokens { IfOk result (λ v. IsScan script.now v.items) }
     ensures fault { IfErr result (λ e. FaultsBy script.now e) }

@@ -25,6 +25,7 @@ pub fn commands(alloc: Global, depth: u8, text: &[u8]) -> Result<(Vec<Command>, 
     ensures fewer { IfOk result (λ x. length (kinds_in x.1.now) ≤ length (kinds_in text.now)) }
     ensures left { IfOk result (λ x. left_in x.1.now ≡ left_in text.now) }
 {
+    // Many blocks have one command, so `push` takes room for one first.
     let mut commands = Vec::new(alloc);
     let mut rest = text;
     while let Some((next, after)) = next_command(alloc, depth, rest)? {

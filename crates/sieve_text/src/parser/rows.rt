@@ -1,16 +1,17 @@
-//! Lists that grow as they are read: of commands, tests, arguments and strings.
+//! Lists that grow as they are read: of commands, tests, arguments and strings. A row is one item of such a list. The
+//! third argument of `push` counts the items for which a list has room at first.
 
 ghost use Rattle.std.specs.Prelude.{◌≡◌, [], ◌∷◌, ◌++◌, OnOk};
 
 use std::alloc::AllocError;
 
-/// The first capacity of a list that mostly has several rows.
+/// The first capacity of a list that mostly has several items.
 pub const SEVERAL: usize = 4;
 
-/// Adds a row at the end. Fails only if memory runs out.
+/// Adds an item at the end. Fails only if memory runs out.
 ///
-/// The first capacity is `first` rows. It grows by a fifth and four, so that lists that are read at the same time never
-/// have much spare capacity.
+/// The first capacity is `first` items. It grows by a fifth and four, so that lists that are read at the same time
+/// never have much spare capacity.
 pub fn push<T: Drop>(rows: &mut Vec<T>, row: T, first: usize) -> Result<(), AllocError>
     ensures ok { OnOk result (rows.new.items ≡ rows.old.items ++ row ∷ []) }
 {

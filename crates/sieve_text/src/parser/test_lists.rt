@@ -64,8 +64,8 @@ fn read_test(alloc: Global, depth: u8, text: &[u8]) -> Result<(Test, &[u8]), Sto
     }
 }
 
-/// Whether the front of the text shows at once that no test begins there: a mark other than an opening bracket, with no
-/// gap before it.
+/// Whether the front of the text shows at once that no test begins there: a mark other than an opening parenthesis,
+/// with no gap before it.
 #[inline(always)]
 pub fn has_no_test(text: &[u8]) -> bool
     ensures { result ≡ true → (read : Reads TestTree) →
@@ -98,7 +98,7 @@ pub fn inner_tests(alloc: Global, depth: u8, text: &[u8]) -> Result<(Tests, &[u8
     }
 }
 
-/// A list of tests, after its opening bracket.
+/// A list of tests, after its opening parenthesis.
 #[cycle(test_reader)]
 fn test_list(alloc: Global, depth: u8, text: &[u8]) -> Result<(Tests, &[u8]), Stop>
     ensures value { Gives (λ x. (inner_of x.0, kinds_in x.1.now)) result
@@ -145,7 +145,7 @@ fn next_test(alloc: Global, depth: u8, text: &[u8]) -> Result<Option<(Test, &[u8
     }
 }
 
-/// The tokens after the bracket that closes a list of tests.
+/// The tokens after the parenthesis that closes a list of tests.
 fn after_paren(text: &[u8]) -> Result<&[u8], Stop>
     ensures value { Gives (λ x. kinds_in x.now) result (after_paren (kinds_in text.now)) }
     ensures fewer { IfOk result (λ x. length (kinds_in x.now) < length (kinds_in text.now)) }

@@ -93,7 +93,7 @@ fn push_plain_test(chance: &mut Chance, script: &mut String) -> Result<(), Alloc
     }
 }
 
-/// Two or three tests in brackets, each with tests inside it to this depth.
+/// Two or three tests in parentheses, each with tests inside it to this depth.
 #[cycle(tests)]
 fn push_tests(chance: &mut Chance, script: &mut String, depth: u8) -> Result<(), AllocError> {
     script.push_str("(")?;
