@@ -20,3 +20,4 @@ mod ProcedureRows
 mod IncludesTypes
 mod Rows
 mod LevelLemmas
+pub mod SharedMeaning
