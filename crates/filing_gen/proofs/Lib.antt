@@ -21,3 +21,4 @@ mod IncludesTypes
 mod Rows
 mod LevelLemmas
 pub mod SharedMeaning
+pub mod SharedSteps
