@@ -22,3 +22,5 @@ mod Rows
 mod LevelLemmas
 pub mod SharedMeaning
 pub mod SharedSteps
+pub mod SharedTypes
+pub mod SharedCompiled
