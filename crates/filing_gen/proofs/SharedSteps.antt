@@ -7,13 +7,13 @@ use Rattle.sieve_meaning.specs.Program.{Test, always, negated, all_of, any_of, h
 use Rattle.sieve_meaning.specs.Meaning.{ScriptName, script_named, is_among, main_names, Library}
 use Rattle.sieve_meaning.specs.Weight.{test_weight, tests_weight, weight, weight_one, branches_weight, unless_missing, unless_active}
 use Rattle.sieve_meaning.specs.Procedures.{Procedure, procedures, path_weight}
-use Rattle.filing_flow.specs.Structure.{Flow}
+use Rattle.filing_flow.specs.Structure.{SetMark, Flow, action, sequence}
 use Rattle.filing_flow.specs.Procedures.{flow_steps, steps_by}
 use Rattle.script_procedures.specs.Slots.{Slots}
 use Rattle.filing_gen.specs.Names.{each_once, others_once}
 use Rattle.filing_gen.specs.Structured.{comparison, values_flow, keys_flow, names_flow, test_flow, tests_flow, flow, flow_one, branches_flow, script_flow}
 use Rattle.filing_gen.specs.Linked.{once_flow, active_flow, found_flow, including_flow, is_passed}
-use Rattle.filing_gen.specs.Procedures.{call_flow, number_of, call_entry, calling_flow, procedure_flows, shared_flows, path_at, called_path, path_weights}
+use Rattle.filing_gen.specs.Procedures.{call_flow, call_entry, calling_flow, procedure_flows, shared_flows, path_at, called_path, path_weights}
 use Rattle.filing_gen.proofs.IncludesTypes.{nothing_there}
 use Rattle.filing_gen.proofs.Names.{once_fewer, others_fewer}
 use Rattle.filing_gen.proofs.PathLemmas.{path_first}
@@ -103,15 +103,16 @@ module _ (calls : ℕ → ℕ) where
     call_steps None = omega arith
     call_steps (Some n) = omega (arith, within n)
 
+    marked_steps : (slot : ℕ) (number : Option ℕ) → flow_steps calls (sequence (action (SetMark slot)) (call_flow own number)) ≤ 2 + path_at paths number
+    marked_steps slot number = let one = call_steps number in omega (arith, one)
+
     entry_steps : (left : ℕ) (chain : List ScriptName) (i : Include)
         → flow_steps calls (including_flow lib slot main chain (call_entry lib slot own later left chain (script_named i)) i) ≤ 4 + called_path lib later paths left chain i
     entry_steps zero chain i =
         let h = including_steps lib slot main chain (call_entry lib slot own later zero chain (script_named i)) (λ x. 0) i (λ x. omega arith) in
         omega (arith, h, nothing_there (lib.find (script_named i)) (is_among chain (script_named i)))
     entry_steps (suc left) chain i =
-        let s = script_named i in
-        let number : Commands → Option ℕ = λ x. number_of lib later (record { script = x; left = left; chain = s ∷ chain }) in
-        including_steps lib slot main chain (call_entry lib slot own later (suc left) chain s) (λ x. path_at paths (number x)) i (λ x. let one = call_steps (number x) in omega (arith, one))
+        including_steps lib slot main chain (call_entry lib slot own later (suc left) chain (script_named i)) _ i (λ x. marked_steps (slot (script_named i)) _)
 
     procedure_steps : (p : Procedure) → flow_steps calls (script_flow (calling_flow lib slot main own later p) p.script) ≤ weight (called_path lib later paths p.left p.chain) p.script
     procedure_steps p = script_steps (calling_flow lib slot main own later p) (called_path lib later paths p.left p.chain) (λ i. entry_steps p.left p.chain i) 0 p.script
