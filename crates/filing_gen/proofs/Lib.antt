@@ -20,3 +20,7 @@ mod ProcedureRows
 mod IncludesTypes
 mod Rows
 mod LevelLemmas
+pub mod SharedMeaning
+pub mod SharedSteps
+pub mod SharedTypes
+pub mod SharedCompiled
