@@ -22,6 +22,6 @@ mod Rows
 mod LevelLemmas
 mod SharedMeaning
 mod SharedSteps
-mod SharedCode
+mod WrittenProcedures
 mod SharedTypes
 mod SharedCompiled

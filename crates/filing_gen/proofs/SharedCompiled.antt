@@ -21,7 +21,7 @@ use Rattle.script_procedures.specs.Slots.{Slots, HasSlots}
 use Rattle.filing_gen.specs.Adds.{operands_of, IsImageOf}
 use Rattle.filing_gen.specs.Procedures.{shared_flows}
 use Rattle.filing_gen.specs.declared.output.Output.{Output}
-use Rattle.filing_gen.proofs.SharedCode.{procedures_there}
+use Rattle.filing_gen.proofs.WrittenProcedures.{procedures_there}
 use Rattle.filing_gen.proofs.SharedMeaning.{has_outcome}
 use Rattle.filing_gen.proofs.SharedSteps.{shared_steps}
 use Rattle.filing_gen.proofs.SharedTypes.{flows_long, shared_first, shared_typed, shared_sound}

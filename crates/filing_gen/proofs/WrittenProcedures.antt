@@ -1,5 +1,5 @@
 -- The code of procedures, written one after the other.
-use Rattle.std.proofs.Common.{◌≡◌, ℕ, zero, suc, ◌+◌, ◌≤◌, List, [], ◌∷◌, ◌++◌, Some, length, take, drop, refl, sym, ap, ◌∙◌, subst, arith, append_assoc}
+use Rattle.std.proofs.Common.{◌≡◌, ℕ, zero, suc, ◌+◌, ◌≤◌, List, [], ◌∷◌, ◌++◌, Some, length, take, drop, sym, ap, ◌∙◌, subst, arith, append_assoc, length-append}
 use Rattle.std.specs.Prelude.{slice_get}
 use Rattle.filing_image.specs.declared.instruction.Operation.{Operation}
 use Rattle.filing_image.specs.declared.instruction.Operation.TheVariants.{Return}
@@ -12,10 +12,10 @@ use Rattle.filing_flow.specs.Procedures.{ProceduresStand, places_from, whole_siz
 use Rattle.filing_flow.proofs.Stands.{Named, SameFrom, stands_there}
 use Rattle.script_procedures.specs.Slots.{Slots}
 use Rattle.filing_gen.specs.Structured.{script_flow}
-use Rattle.filing_gen.specs.Adds.{operands_of, Puts, Emits}
+use Rattle.filing_gen.specs.Adds.{operands_of, Puts, Keeps, Emits}
 use Rattle.filing_gen.specs.Procedures.{calling_flow, procedure_flows}
 use Rattle.filing_gen.specs.declared.output.Output.{Output}
-use Rattle.filing_gen.proofs.Emitted.{same_front, put_at_end, still_stands, named_by, keeps_put, keeps_then, grows, put_grows}
+use Rattle.filing_gen.proofs.Emitted.{same_front, put_at_end, still_stands, named_by, keeps_put, keeps_then, grows}
 
 -- LISTS
 
@@ -60,33 +60,50 @@ module _ (n : Operands) (os : List Operation) (a : Flow) where
       let here : place + (size b + 1 + whole_size done) ≡ place + size b + 1 + whole_size done = omega arith in
       (h.0, h.1, stand_append done (place + size b + 1) h.2 (subst (λ (k : ℕ). Stands n os (block a) [] k) here body) (subst (λ (k : ℕ). slice_get os (k + size a) ≡ Some Return) here end))
 
--- The output has the code of these procedures, which begin at these places.
-pub record HasProcedures (o : Output) (flows : List Flow) (places : List ℕ) : Type 0 where
-  pub stand : ProceduresStand (operands_of o) o.code.items flows 0
-  pub long : length o.code.items ≡ whole_size flows
-  pub texts : length o.texts ≤ whole_size flows
-  pub numbers : length o.numbers ≤ whole_size flows
-  pub begin : places ≡ places_from 0 flows
+-- The operations of a procedure and its RETURN were added, and operands still name what they named.
+pub record EmitsProcedure (old new : Output) (a : Flow) : Type 0 where
+  pub keeps : Keeps old new (size a)
+  pub added : List Operation
+  pub code : new.code.items ≡ old.code.items ++ added
+  pub long : length added ≡ size a + 1
+  pub stands : Stands (operands_of new) new.code.items (block a) [] (length old.code.items)
+  pub ends : slice_get new.code.items (length old.code.items + size a) ≡ Some Return
 
--- one more was written, and its end
-pub one_more : (x m y : Output) (done : List Flow) (places : List ℕ) (a : Flow) → HasProcedures x done places → Emits x m (block a) [] → Puts m y Return → HasProcedures y (done ++ a ∷ []) (places ++ length x.code.items ∷ [])
-one_more x m y done places a h body end =
-    let g = grows x m (block a) [] body in
-    let e = put_grows m y Return end in
+-- the code of the procedure, and after it its end
+pub procedure_emitted : (x m y : Output) (a : Flow) → Emits x m (block a) [] → Puts m y Return → EmitsProcedure x y a
+procedure_emitted x m y a body end =
+    let kept = keeps_put m y Return end in
+    record {
+      keeps = keeps_then x m y (size a) 0 (size a) (omega arith) body.keeps kept;
+      added = body.added ++ Return ∷ [];
+      code = end.code ∙ ap (λ (l : List Operation). l ++ Return ∷ []) body.code ∙ append_assoc x.code.items body.added (Return ∷ []);
+      long = length-append body.added (Return ∷ []) ∙ ap (λ (n : ℕ). n + 1) body.long;
+      stands = still_stands x m y 0 (Return ∷ []) (block a) [] (length x.code.items) kept end.code body.stands;
+      ends = subst (λ (k : ℕ). slice_get y.code.items k ≡ Some Return) (grows x m (block a) [] body).code (put_at_end m y Return end);
+    }
+
+-- The output has the code of these procedures, which begin at these places.
+pub record HasProcedures (o : Output) (first_places : List ℕ) (procedures : List Flow) : Type 0 where
+  pub places : first_places ≡ places_from 0 procedures
+  pub stand : ProceduresStand (operands_of o) o.code.items procedures 0
+  pub long : length o.code.items ≡ whole_size procedures
+  pub texts : length o.texts ≤ whole_size procedures
+  pub numbers : length o.numbers ≤ whole_size procedures
+
+-- one more was written
+pub one_more : (x y : Output) (first_places : List ℕ) (done : List Flow) (a : Flow) → HasProcedures x first_places done → EmitsProcedure x y a → HasProcedures y (first_places ++ length x.code.items ∷ []) (done ++ a ∷ [])
+one_more x y first_places done a h e =
     let at : 0 + whole_size done ≡ length x.code.items = omega (arith, h.long) in
-    let front : y.code.items ≡ x.code.items ++ (body.added ++ Return ∷ []) = end.code ∙ ap (λ (l : List Operation). l ++ Return ∷ []) body.code ∙ append_assoc x.code.items body.added (Return ∷ []) in
-    let named = named_by x y (size a + 0) (keeps_then x m y (size a) 0 (size a + 0) refl body.keeps (keeps_put m y Return end)) in
     let n = operands_of y in
     let os = y.code.items in
     record {
+      places = ap (λ (ns : List ℕ). ns ++ length x.code.items ∷ []) h.places ∙ ap (λ (k : ℕ). places_from 0 done ++ k ∷ []) (sym at) ∙ sym (places_append 0 done a);
       stand =
-          stand_append n os a done 0 (procedures_there (operands_of x) n named x.code.items os (same_front x.code.items (body.added ++ Return ∷ []) os front) done 0 h.stand)
-          (subst (λ (k : ℕ). Stands n os (block a) [] k) (sym at) (still_stands x m y 0 (Return ∷ []) (block a) [] (length x.code.items) (keeps_put m y Return end) end.code body.stands))
-          (subst (λ (k : ℕ). slice_get os k ≡ Some Return) (omega (arith, g.code, h.long)) (put_at_end m y Return end));
-      long = omega (arith, whole_append done a, h.long, g.code, e.code);
-      texts = omega (arith, whole_append done a, h.texts, g.texts, e.texts);
-      numbers = omega (arith, whole_append done a, h.numbers, g.numbers, e.numbers);
-      begin = ap (λ (ns : List ℕ). ns ++ length x.code.items ∷ []) h.begin ∙ ap (λ (k : ℕ). places_from 0 done ++ k ∷ []) (sym at) ∙ sym (places_append 0 done a);
+          stand_append n os a done 0 (procedures_there (operands_of x) n (named_by x y (size a) e.keeps) x.code.items os (same_front x.code.items e.added os e.code) done 0 h.stand)
+          (subst (λ (k : ℕ). Stands n os (block a) [] k) (sym at) e.stands) (subst (λ (k : ℕ). slice_get os (k + size a) ≡ Some Return) (sym at) e.ends);
+      long = ap length e.code ∙ length-append x.code.items e.added ∙ omega (arith, whole_append done a, h.long, e.long);
+      texts = omega (arith, whole_append done a, h.texts, e.keeps.texts);
+      numbers = omega (arith, whole_append done a, h.numbers, e.keeps.numbers);
     }
 
 module _ (lib : Library) (slot : Slots) (main : List ScriptName) where
