@@ -20,7 +20,8 @@ mod ProcedureRows
 mod IncludesTypes
 mod Rows
 mod LevelLemmas
-pub mod SharedMeaning
-pub mod SharedSteps
-pub mod SharedTypes
-pub mod SharedCompiled
+mod SharedMeaning
+mod SharedSteps
+mod WrittenProcedures
+mod SharedTypes
+mod SharedCompiled

@@ -1,5 +1,5 @@
 -- The program of all procedures may run, and has the main script's outcome in every case.
-use Rattle.std.proofs.Common.{◌≡◌, ◌⊎◌, ℕ, ◌+◌, ◌≤◌, ◌<◌, List, [], ◌∷◌, Bool, true, false, ◌||◌, Option, Some, length, inl, inr, refl, sym, ap, ◌∙◌, subst, arith}
+use Rattle.std.proofs.Common.{◌≡◌, ◌⊎◌, ℕ, ◌≤◌, ◌<◌, List, Bool, true, false, ◌||◌, Option, Some, length, inl, inr, refl, sym, ap, ◌∙◌, subst, arith}
 use Rattle.std.specs.Prelude.{nat_lt}
 use Rattle.std.proofs.lemmas.Bool.{lt-ltb, le-ltb}
 use Rattle.filing_image.specs.Program.{Program}
@@ -12,15 +12,16 @@ use Rattle.sieve_meaning.specs.Meaning.{meaning, main_names, Library}
 use Rattle.sieve_meaning.specs.Weight.{greatest_weight}
 use Rattle.sieve_meaning.specs.Outcome.{outcome_of}
 use Rattle.sieve_meaning.specs.Procedures.{Procedure, procedures, path_weight, shared_weight, most_procedures, greatest_path, is_beyond}
-use Rattle.filing_flow.specs.Structure.{Flow, block, size}
-use Rattle.filing_flow.specs.Code.{Operands, places_in}
+use Rattle.filing_flow.specs.Structure.{Flow}
+use Rattle.filing_flow.specs.Code.{places_in}
 use Rattle.filing_flow.specs.Procedures.{AreProceduresOf, AreSound, ProceduresStand, places_from, whole_size}
-use Rattle.filing_flow.proofs.Stands.{Named, stands_there}
+use Rattle.filing_flow.proofs.Stands.{Named}
 use Rattle.filing_flow.proofs.WellProcedures.{typed_procedures_are_well}
 use Rattle.script_procedures.specs.Slots.{Slots, HasSlots}
 use Rattle.filing_gen.specs.Adds.{operands_of, IsImageOf}
 use Rattle.filing_gen.specs.Procedures.{shared_flows}
 use Rattle.filing_gen.specs.declared.output.Output.{Output}
+use Rattle.filing_gen.proofs.WrittenProcedures.{procedures_there}
 use Rattle.filing_gen.proofs.SharedMeaning.{has_outcome}
 use Rattle.filing_gen.proofs.SharedSteps.{shared_steps}
 use Rattle.filing_gen.proofs.SharedTypes.{flows_long, shared_first, shared_typed, shared_sound}
@@ -55,31 +56,22 @@ module _ (ps : List Procedure) (path : ℕ) where
 
 -- PROGRAMS
 
-module _ (n m : Operands) (named : Named n m) (os : List Operation) where
-  procedures_there : (flows : List Flow) (place : ℕ) → ProceduresStand n os flows place → ProceduresStand m os flows place
-  procedures_there [] place h = tt
-  procedures_there (a ∷ later) place h = (
-    stands_there n m named os os 0 (λ i o low at. at) (block a) [] place (omega arith) h.0,
-    h.1,
-    procedures_there later (place + size a + 1) h.2,
-  )
-
-module _ (o : Output) (p : Program) (flows : List Flow) where
-  -- what was written is the program
-  pub shared_program : ProceduresStand (operands_of o) o.code.items flows 0 → length o.code.items ≡ whole_size flows → (budget count : ℕ) → IsImageOf budget count (Some (places_from 0 flows)) o p → AreProceduresOf p flows
-  shared_program stand long budget count made =
-      let named : Named (operands_of o) (places_in p.texts p.numbers) = record { text = made.text; number = made.number } in
-      record {
-        places = made.procedures_are;
-        stand = subst (λ (os : List Operation). ProceduresStand (places_in p.texts p.numbers) os flows 0) (sym made.code) (procedures_there (operands_of o) (places_in p.texts p.numbers) named o.code.items flows 0 stand);
-        long = ap length made.code ∙ long;
-      }
+-- what was written is the program
+pub shared_program : (o : Output) (p : Program) (flows : List Flow) → ProceduresStand (operands_of o) o.code.items flows 0 → length o.code.items ≡ whole_size flows → (budget count : ℕ) → IsImageOf budget count (Some (places_from 0 flows)) o p → AreProceduresOf p flows
+shared_program o p flows stand long budget count made =
+    let named : Named (operands_of o) (places_in p.texts p.numbers) = record { text = made.text; number = made.number } in
+    record {
+      places = made.procedures_are;
+      stand = subst (λ (os : List Operation). ProceduresStand (places_in p.texts p.numbers) os flows 0) (sym made.code) (procedures_there (operands_of o) (places_in p.texts p.numbers) named o.code.items o.code.items (λ i x low at. at) flows 0 stand);
+      long = ap length made.code ∙ long;
+    }
 
 module _ (lib : Library) (slot : Slots) (count : ℕ) (has : HasSlots lib slot count) (known_as : Option (List ℕ)) (main : Commands) where
   abbrev flows : List Flow
   flows = shared_flows lib slot known_as main
 
-  -- The program is what was written, with the path weight as its budget.
+  -- The program declares the path weight as its budget, and it may run. In every case its run ends with the outcome of what
+  -- the main script means.
   pub record IsShared (p : Program) : Type 0 where
     pub budget : p.budget ≡ path_weight lib known_as main
     pub well : IsWell p

@@ -46,6 +46,7 @@ module _ (c : Facts) (lib : Library) (slot : Slots) (count : ℕ) (has : HasSlot
   abbrev calls_of : (own : ℕ) → List Procedure → Called
   calls_of own ps = called_by c own (procedure_flows lib slot main own ps)
 
+  -- calls of these do what their scripts mean
   abbrev AreMeant : (own : ℕ) → List Procedure → Type 0
   AreMeant own ps = (n : ℕ) (q : Procedure) → slice_get ps n ≡ Some q → CallMeans (calls_of own ps) c lib slot count has main (action (CallTo (own + n))) q
 
