@@ -12,7 +12,7 @@ mod slots;
 
 pub use included::included_scripts;
 pub use key::Key;
-pub use procedure::Procedure;
+pub use procedure::{Procedure, number_of};
 pub use reach::Reach;
 pub use slot_set::SlotSet;
 pub use slots::{find_script, slot_count};

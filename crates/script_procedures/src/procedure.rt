@@ -11,7 +11,7 @@ ghost use Rattle.sieve_meaning.specs.Scripts.{script_of};
 ghost use Rattle.script_library.specs.Lent.{scripts_of};
 ghost use Rattle.script_library.specs.Libraries.{Scripts, library_of};
 ghost use Rattle.script_procedures.specs.Keys.{IsKeyOf, IsEnteredKey};
-ghost use Rattle.script_procedures.specs.Made.{names_of, procedure_of, IsEntered};
+ghost use Rattle.script_procedures.specs.Made.{names_of, procedure_of, number_of, IsEntered};
 ghost use Rattle.script_procedures.specs.Slots.{slots_of};
 
 use crate::key::{Key, are_shared};
@@ -85,4 +85,19 @@ pub fn is_made(reach: &Reach<'_>, procedures: &[Procedure<'_>], key: Key) -> boo
         }
     }
     false
+}
+
+/// The number of the first of these procedures that includes share with those that have this key. None where there is no
+/// such procedure.
+pub fn number_of(reach: &Reach<'_>, procedures: &[Procedure<'_>], key: Key) -> Option<usize>
+    requires { All (IsEntered (scripts_of reach.now.shelves)) procedures.now }
+    ensures { (e : sharing.Procedure) → IsEnteredKey (scripts_of reach.now.shelves) key e →
+        result ≡ number_of (library_of (scripts_of reach.now.shelves)) (map procedure_of procedures.now) e }
+{
+    for (number, procedure) in procedures.iter().enumerate() {
+        if are_shared(reach, procedure.key, key) {
+            return Some(number);
+        }
+    }
+    None
 }
