@@ -8,7 +8,7 @@ use Rattle.sieve_meaning.specs.Procedures.{holds_if_there, once, included_names,
 use Rattle.sieve_meaning.specs.Scripts.{script_of}
 use Rattle.sieve_meaning.specs.declared.scripts.ScriptName as code
 use Rattle.sieve_meaning.proofs.ProcedureLemmas.{AllOf, IsEntered, shared_along, all_entered, are_entered}
-use Rattle.script_procedures.specs.Included.{is_there, names_there}
+use Rattle.script_procedures.specs.Included.{is_there}
 use Rattle.script_procedures.specs.Made.{procedure_of, with_procedure, with_procedures, entered_by}
 use Rattle.script_procedures.specs.declared.procedure.Procedure as made
 use Rattle.script_procedures.proofs.OnceLemmas.{filter_all, puts, puts_once}

@@ -4,7 +4,7 @@ ghost use Rattle.std.specs.Prelude.{◌≡◌, ◌<◌, ◌≤◌, ◌-◌, ℕ,
 ghost use Rattle.std.specs.List.{All};
 ghost use Rattle.sieve_syntax.specs.View.{tree_of};
 ghost use Rattle.sieve_meaning.specs.Reading.{program_of};
-ghost use Rattle.sieve_meaning.specs.Procedures.{entered, called_by, procedures};
+ghost use Rattle.sieve_meaning.specs.Procedures.{entered, called_by, procedures, most_procedures};
 ghost use Rattle.sieve_meaning.specs.Scripts.{script_of};
 ghost use Rattle.script_library.specs.Lent.{scripts_of};
 ghost use Rattle.script_library.specs.Libraries.{library_of};
@@ -112,18 +112,19 @@ fn called<'a>(
 }
 
 /// The procedures of a main script, which may be known by a personal name. None where they are more than 256. Time is
-/// linear in their includes, and memory in their number. The only error is a refused allocation.
+/// linear in their includes, each of which is compared with at most 256 procedures; memory is linear in the procedures.
+/// The only error is a refused allocation.
 pub fn procedures<'a>(
     alloc: Global,
     reach: &Reach<'a>,
     main: &'a Script,
     known_as: Option<&'a [u8]>,
 ) -> Result<Option<Vec<Procedure<'a>>>, AllocError>
-    ensures few { IfOk result (λ o. IfSome o (λ ps. length ps.items ≤ 256)) }
+    ensures few { IfOk result (λ o. IfSome o (λ ps. length ps.items ≤ most_procedures)) }
     ensures are { let l = scripts_of reach.now.shelves in
         let name = option_map (λ s. s.now) known_as.entry in
         IfOk result (λ o. MatchOption o
-        (256 < length (procedures (library_of l) name (program_of (tree_of main.now))))
+        (most_procedures < length (procedures (library_of l) name (program_of (tree_of main.now))))
         (λ ps. AreProcedures l name (program_of (tree_of main.now)) ps.items)) }
 {
     let mut procedures = Vec::new(alloc);
