@@ -20,3 +20,7 @@ mod ProcedureRows
 mod IncludesTypes
 mod Rows
 mod LevelLemmas
+mod NumberLemmas
+mod PathTables
+mod CallsEmitted
+pub mod InclusionLemmas

@@ -16,8 +16,11 @@
 //! instead. `program` makes the image, which is proved to be one that may run.
 #![tactic(auto)]
 
+mod callees;
+mod calls;
 mod chain;
 mod emit_commands;
+mod emit_procedures;
 mod emit_tests;
 mod ends;
 mod fault;
@@ -27,6 +30,7 @@ mod levels;
 mod linker;
 mod number_pool;
 mod output;
+mod paths;
 mod program;
 mod text_pool;
 mod weight;

@@ -25,7 +25,7 @@ use crate::finding::Scope;
 use crate::levels::{Above, Deepest, Includes};
 use crate::linker::Linker;
 use crate::output::{Output, put};
-use crate::weight::script_weight;
+use crate::weight::{MAX_WEIGHT, script_weight};
 use filing_image::{Image, Operation};
 use filing_verify::Verified;
 use script_library::{Library, Shelves};
@@ -34,9 +34,6 @@ use sieve_check::Checked;
 use sieve_syntax::{Command, Script};
 use std::alloc::{AllocError, Global};
 use std::marker::PhantomData;
-
-/// The greatest weight of a script that is run.
-const MAX_WEIGHT: u32 = 60_000;
 
 /// Writes a script, and after it the end of the run, to which a `return` of the script jumps. Room for `operations`
 /// operations is taken at once.
