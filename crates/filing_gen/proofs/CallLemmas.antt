@@ -18,7 +18,8 @@ use Rattle.filing_gen.specs.Structured.{script_flow}
 use Rattle.filing_gen.specs.Alike.{Related, filing_at, Alike}
 use Rattle.script_procedures.specs.Slots.{Slots, HasSlots}
 use Rattle.filing_gen.specs.Linked.{once_flow, active_flow, found_flow, including_flow, Marked, is_passed}
-use Rattle.filing_gen.specs.Procedures.{call_flow, number_of, call_entry, calling_flow}
+use Rattle.script_procedures.specs.Made.{number_of}
+use Rattle.filing_gen.specs.Procedures.{call_flow, call_entry, calling_flow}
 use Rattle.filing_gen.proofs.Includes.{including_alike, entered_related, shrunk}
 use Rattle.filing_gen.proofs.Means.{AgreesAt, means_at}
 

@@ -24,7 +24,7 @@ use Rattle.filing_gen.proofs.IncludesTypes.{once_typed}
 
 -- CODE
 
-flow_cases : (o : Option Commands) (passed active once : Bool) (slot : ℕ) (enter : Commands → Flow)
+pub flow_cases : (o : Option Commands) (passed active once : Bool) (slot : ℕ) (enter : Commands → Flow)
     → found_flow o passed (λ script. active_flow active once (once_flow once slot (enter script))) ≡ judged_flow (judged o passed active once) once slot enter
 flow_cases None true active once slot enter = refl
 flow_cases None false active once slot enter = refl
@@ -46,7 +46,7 @@ no_weight Passes = refl
 no_weight (Fails n) = refl
 no_weight (Enters script) = refl
 
-weight_cases : (o : Option Commands) (passed active once : Bool) (enter : Commands → ℕ) → unless_missing o (λ script. unless_active active (enter script)) ≡ judged_weight (judged o passed active once) enter
+pub weight_cases : (o : Option Commands) (passed active once : Bool) (enter : Commands → ℕ) → unless_missing o (λ script. unless_active active (enter script)) ≡ judged_weight (judged o passed active once) enter
 weight_cases None true active once enter = refl
 weight_cases None false active once enter = refl
 weight_cases (Some x) passed true true enter = refl

@@ -25,3 +25,7 @@ mod SharedSteps
 mod WrittenProcedures
 mod SharedTypes
 mod SharedCompiled
+mod NumberLemmas
+mod PathTables
+mod CallsEmitted
+pub mod InclusionLemmas

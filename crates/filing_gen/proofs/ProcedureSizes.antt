@@ -7,7 +7,8 @@ use Rattle.filing_flow.specs.Structure.{Flow, size}
 use Rattle.filing_flow.specs.Procedures.{whole_size}
 use Rattle.filing_gen.specs.Structured.{script_flow}
 use Rattle.script_procedures.specs.Slots.{Slots}
-use Rattle.filing_gen.specs.Procedures.{call_flow, number_of, call_entry, calling_flow, procedure_flows}
+use Rattle.script_procedures.specs.Made.{number_of}
+use Rattle.filing_gen.specs.Procedures.{call_flow, call_entry, calling_flow, procedure_flows}
 use Rattle.filing_gen.proofs.IncludesTypes.{including_small, nothing_there}
 use Rattle.filing_gen.proofs.Types.{flow_small, IncludesSmall}
 

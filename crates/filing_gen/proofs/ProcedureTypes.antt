@@ -8,7 +8,8 @@ use Rattle.filing_flow.specs.Types.{Shape, HasType}
 use Rattle.filing_flow.specs.Procedures.{AreSound, AreTyped}
 use Rattle.filing_gen.specs.Structured.{script_flow}
 use Rattle.script_procedures.specs.Slots.{Slots, HasSlots}
-use Rattle.filing_gen.specs.Procedures.{call_flow, number_of, call_entry, calling_flow, procedure_flows}
+use Rattle.script_procedures.specs.Made.{number_of}
+use Rattle.filing_gen.specs.Procedures.{call_flow, call_entry, calling_flow, procedure_flows}
 use Rattle.filing_gen.proofs.IncludesTypes.{including_typed, including_sound}
 use Rattle.filing_gen.proofs.Types.{flow_typed, flow_sound, IncludesTyped, IncludesSound}
 

@@ -8,6 +8,10 @@ pub mod Correct
 pub mod Weights
 pub mod Linked
 pub mod Procedures
+pub mod Numbers
+pub mod Inclusions
+pub mod Paths
+pub mod SharedCode
 pub mod Levels
 pub mod Scopes
 pub mod Ends

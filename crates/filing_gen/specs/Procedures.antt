@@ -1,12 +1,13 @@
 -- The code of procedures: an include marks its script and calls the script's procedure, whose code stands once for all
 -- includes that share it.
-use Rattle.std.specs.Prelude.{ℕ, zero, suc, ◌+◌, List, [], ◌∷◌, Option, Some, None, option_map, slice_index, if◌then◌else◌}
+use Rattle.std.specs.Prelude.{ℕ, zero, suc, ◌+◌, List, [], ◌∷◌, Option, Some, None, slice_index}
 use Rattle.sieve_meaning.specs.Program.{Include, Commands}
 use Rattle.sieve_meaning.specs.Meaning.{ScriptName, script_named, is_among, Library, main_names}
 use Rattle.sieve_meaning.specs.Weight.{weight, unless_missing, unless_active}
-use Rattle.sieve_meaning.specs.Procedures.{Procedure, is_shared, procedures}
+use Rattle.sieve_meaning.specs.Procedures.{Procedure, procedures}
 use Rattle.filing_flow.specs.Structure.{SetMark, Fail, CallTo, Flow, action, sequence}
 use Rattle.script_procedures.specs.Slots.{Slots}
+use Rattle.script_procedures.specs.Made.{number_of}
 use Rattle.filing_gen.specs.Structured.{script_flow}
 use Rattle.filing_gen.specs.Linked.{including_flow}
 
@@ -15,11 +16,6 @@ use Rattle.filing_gen.specs.Linked.{including_flow}
 abbrev pub call_flow : (own : ℕ) → (number : Option ℕ) → Flow
 call_flow own None = action (Fail 4)
 call_flow own (Some n) = action (CallTo (own + suc n))
-
--- the number of the procedure that an include enters, among those after the include's own
-abbrev pub number_of : Library → (later : List Procedure) → (entered : Procedure) → Option ℕ
-number_of lib [] entered = None
-number_of lib (p ∷ later) entered = if is_shared lib p entered then Some 0 else option_map suc (number_of lib later entered)
 
 -- the entry of a script where this number of further scripts may be active
 abbrev pub call_entry : Library → Slots → (own : ℕ) → (later : List Procedure) → (left : ℕ) → (chain : List ScriptName) →

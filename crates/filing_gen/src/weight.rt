@@ -14,6 +14,9 @@ use sieve_meaning::reading::{include, next_string_list};
 use sieve_meaning::{CommandWord, TestWord, command_word, test_word};
 use sieve_syntax::{Argument, Command, Ending, Script, StringList, Test, Tests};
 
+/// The greatest weight of code.
+pub const MAX_WEIGHT: u32 = 60_000;
+
 /// Subtracts `each` for each string of a list.
 fn weigh_strings(list: &StringList, each: u32, left: u32) -> Option<u32>
     ensures { IsLeft left ((length (others_of list.now) + 1) * each) result }
