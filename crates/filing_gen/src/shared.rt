@@ -24,10 +24,10 @@ use std::alloc::Global;
 
 /// The image of a script whose weight is above 60,000. `TooLarge` where there are more than 256 procedures, where their
 /// code weighs more than 60,000, or a path through it more than 1,000,000.
-pub fn build_shared(
+pub fn build_shared<'a>(
     alloc: Global,
-    script: &Script,
-    scope: Scope<'_>,
+    script: &'a Script,
+    scope: Scope<'a>,
 ) -> Result<Verified, GenFault>
     requires { greatest_weight <
         linked_weight (library_of (scripts_of scope.shelves)) (option_map (λ s. s.now) scope.main.known_as)
@@ -50,8 +50,13 @@ pub fn build_shared(
     let Some(path) = main_path(alloc, &reach, scope.main, procedures.as_slice())? else {
         return Err(GenFault::TooLarge);
     };
-    let (out, first_places) =
-        emit_procedures(alloc, &reach, scope.main, procedures.as_slice(), weight)?;
+    let (out, first_places) = emit_procedures(
+        alloc,
+        &reach,
+        scope.main,
+        procedures.as_slice(),
+        weight,
+    )?;
     let slots = slot_count(scope.shelves);
     let image = image_of(path, slots, out, Some(first_places))?;
     Ok(Verified::known(image))
