@@ -6,3 +6,4 @@ mod ReachTables
 mod KeyLemmas
 mod MadeLemmas
 mod EnterLemmas
+pub mod LevelLemmas

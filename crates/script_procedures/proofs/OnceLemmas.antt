@@ -17,7 +17,7 @@ module _ {A : Type 0} where
       or_assoc true b c = refl
       or_assoc false b c = refl
 
-  filter_all : (q : A → Bool) → ((x : A) → q x ≡ true) → (xs : List A) → filter q xs ≡ xs
+  pub filter_all : (q : A → Bool) → ((x : A) → q x ≡ true) → (xs : List A) → filter q xs ≡ xs
   filter_all q h [] = refl
   filter_all q h (x ∷ xs) = ap (λ (b : Bool). cond b (x ∷ filter q xs) (filter q xs)) (h x) ∙ ap (λ (l : List A). x ∷ l) (filter_all q h xs)
 

@@ -1,10 +1,10 @@
 -- The procedures that the code makes.
-use Rattle.std.specs.Prelude.{◌≡◌, ℕ, suc, List, [], ◌∷◌, ◌++◌, map, Option, Some, None, option_map, if◌then◌else◌}
-use Rattle.std.specs.List.{list_any, All}
+use Rattle.std.specs.Prelude.{◌≡◌, ℕ, suc, ◌-◌, List, [], ◌∷◌, ◌++◌, map, Option, Some, None, option_map, if◌then◌else◌}
+use Rattle.std.specs.List.{list_any, filter_map, All}
 use Rattle.sieve_syntax.specs.View.{tree_of}
 use Rattle.sieve_meaning.specs.Meaning.{ScriptName, Library}
 use Rattle.sieve_meaning.specs.Program.{Commands}
-use Rattle.sieve_meaning.specs.Procedures.{Procedure, is_shared, procedures}
+use Rattle.sieve_meaning.specs.Procedures.{Procedure, included_names, is_shared, entered, procedures}
 use Rattle.sieve_meaning.specs.Reading.{program_of}
 use Rattle.sieve_meaning.specs.Scripts.{script_of}
 use Rattle.script_library.specs.Libraries.{Scripts, library_of}
@@ -28,15 +28,28 @@ abbrev pub with_procedure : Library → List Procedure → Option Procedure → 
 with_procedure lib ps None = ps
 with_procedure lib ps (Some e) = if list_any (λ p. is_shared lib p e) ps then ps else ps ++ e ∷ []
 
+-- these procedures and then the others in turn, each unless one that includes share with it is there
+abbrev pub with_procedures : Library → List Procedure → List Procedure → List Procedure
+with_procedures lib ps [] = ps
+with_procedures lib ps (e ∷ es) = with_procedures lib (with_procedure lib ps (Some e)) es
+
+-- what the includes of a procedure enter
+abbrev pub entered_by : Library → Procedure → List Procedure
+entered_by lib p = filter_map (entered lib (p.left - 1) p.chain) (included_names p.script)
+
 -- the number of the procedure that an include enters, among those after the include's own
 abbrev pub number_of : Library → (later : List Procedure) → (entered : Procedure) → Option ℕ
 number_of lib [] entered = None
 number_of lib (p ∷ later) entered = if is_shared lib p entered then Some 0 else option_map suc (number_of lib later entered)
 
+-- it has its key
+abbrev pub HasKey : Scripts → code.Procedure → Type 0
+HasKey l p = IsKeyOf l p.key (procedure_of p)
+
 -- the first has its key, and includes entered all others
 abbrev pub HaveKeys : Scripts → List code.Procedure → Type 0
 HaveKeys l [] = Unit {0}
-HaveKeys l (p ∷ later) = IsKeyOf l p.key (procedure_of p) × All (IsEntered l) later
+HaveKeys l (p ∷ later) = HasKey l p × All (IsEntered l) later
 
 -- These are the procedures of a main script, with their keys.
 pub record AreProcedures (l : Scripts) (known_as : Option (List ℕ)) (main : Commands) (ps : List code.Procedure) : Type 0 where

@@ -1,13 +1,18 @@
 //! What tells procedures apart.
 
-ghost use Rattle.std.specs.Prelude.{◌≡◌};
+ghost use Rattle.std.specs.Prelude.{◌≡◌, ℕ, map};
 ghost use Rattle.sieve_meaning.specs.Procedures.{Procedure, is_shared};
+ghost use Rattle.sieve_meaning.specs.Scripts.{script_of};
 ghost use Rattle.script_library.specs.Lent.{scripts_of};
 ghost use Rattle.script_library.specs.Libraries.{library_of};
-ghost use Rattle.script_procedures.specs.Keys.{IsEnteredKey};
+ghost use Rattle.script_procedures.specs.Keys.{is_active, IsEnteredKey};
+ghost use Rattle.script_procedures.specs.Sets.{has};
 
 use crate::reach::Reach;
 use crate::slot_set::SlotSet;
+use crate::slots::find_script;
+use script_library::Shelves;
+use sieve_meaning::ScriptName;
 
 /// What is the same for all includes that share a procedure, by what the script reaches.
 #[derive(Clone, Copy, Drop)]
@@ -18,6 +23,19 @@ pub struct Key {
     pub left: usize,
     /// The slots of the active scripts that can be included.
     pub active: SlotSet,
+}
+
+/// The slots of those of these active scripts that can be included.
+pub fn slots_of_active(shelves: Shelves<'_>, chain: &[ScriptName<'_>]) -> SlotSet
+    ensures { (k : ℕ) → has result k ≡ is_active (scripts_of shelves.entry) (map script_of chain.now) k }
+{
+    let mut active = SlotSet::empty();
+    for script in chain {
+        if let Some((slot, _)) = find_script(shelves, script) {
+            active = active.with(slot);
+        }
+    }
+    active
 }
 
 /// Whether includes with these keys share a procedure: they enter the same script, as many scripts are active, and the

@@ -4,14 +4,15 @@
 
 mod included;
 mod key;
+mod levels;
 mod procedure;
-mod procedures;
 mod reach;
 mod slot_set;
 mod slots;
 
 pub use included::included_scripts;
 pub use key::Key;
+pub use levels::procedures;
 pub use procedure::{Procedure, number_of};
 pub use reach::Reach;
 pub use slot_set::SlotSet;

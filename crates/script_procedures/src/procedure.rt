@@ -1,24 +1,30 @@
 //! Scripts as some includes run them.
 
-ghost use Rattle.std.specs.Prelude.{◌≡◌, ◌<◌, ◌-◌, ◌∷◌, Some, map, IfOk};
+ghost use Rattle.std.specs.Prelude.{◌≡◌, ◌<◌, ◌-◌, ◌∷◌, Some, map, option_map, IfOk};
 ghost use Rattle.std.specs.List.{list_any, All};
+ghost use Rattle.sieve_syntax.specs.View.{tree_of};
 ghost use Rattle.sieve_meaning.specs.Program.{Commands};
+ghost use Rattle.sieve_meaning.specs.Reading.{program_of};
 ghost use Rattle.sieve_meaning.specs.Meaning as meaning;
-ghost use Rattle.sieve_meaning.specs.Meaning.{is_among};
+ghost use Rattle.sieve_meaning.specs.Meaning.{is_among, main_names};
 ghost use Rattle.sieve_meaning.specs.Procedures as sharing;
-ghost use Rattle.sieve_meaning.specs.Procedures.{is_shared};
+ghost use Rattle.sieve_meaning.specs.Procedures.{is_shared, main_procedure};
 ghost use Rattle.sieve_meaning.specs.Scripts.{script_of};
 ghost use Rattle.script_library.specs.Lent.{scripts_of};
 ghost use Rattle.script_library.specs.Libraries.{Scripts, library_of};
 ghost use Rattle.script_procedures.specs.Keys.{IsKeyOf, IsEnteredKey};
-ghost use Rattle.script_procedures.specs.Made.{names_of, procedure_of, number_of, IsEntered};
+ghost use Rattle.script_procedures.specs.Made.{names_of, procedure_of, number_of, HasKey, IsEntered};
 ghost use Rattle.script_procedures.specs.Slots.{slots_of};
 
-use crate::key::{Key, are_shared};
+use crate::key::{Key, are_shared, slots_of_active};
 use crate::reach::Reach;
-use sieve_meaning::ScriptName;
+use script_library::Shelves;
+use sieve_meaning::{Location, ScriptName};
 use sieve_syntax::Script;
 use std::alloc::{AllocError, Global};
+
+/// How many scripts may be active beside the main script.
+pub const MAX_FURTHER: usize = 7;
 
 /// A script as some includes run it.
 #[derive(Drop)]
@@ -71,6 +77,47 @@ impl<'a> Procedure<'a> {
         }
         Ok(Procedure { script, key, chain })
     }
+}
+
+/// The main script's personal name, if it has one.
+fn main_names<'a>(
+    alloc: Global,
+    known_as: Option<&'a [u8]>,
+) -> Result<Vec<ScriptName<'a>>, AllocError>
+    ensures { IfOk result (λ v. map script_of v.items ≡ main_names (option_map (λ s. s.now) known_as.entry)) }
+{
+    let mut names = Vec::new(alloc);
+    if let Some(name) = known_as {
+        names.push(ScriptName {
+            location: Location::Personal,
+            name,
+        })?;
+    }
+    Ok(names)
+}
+
+/// The main script, which may be known by a personal name, as the first procedure.
+pub fn main_procedure<'a>(
+    alloc: Global,
+    shelves: Shelves<'_>,
+    main: &'a Script,
+    known_as: Option<&'a [u8]>,
+) -> Result<Procedure<'a>, AllocError>
+    ensures key { IfOk result (HasKey (scripts_of shelves.entry)) }
+    ensures is { IfOk result (λ p. procedure_of p ≡
+        main_procedure (option_map (λ s. s.now) known_as.entry) (program_of (tree_of main.now))) }
+{
+    let chain = main_names(alloc, known_as)?;
+    let key = Key {
+        slot: None,
+        left: MAX_FURTHER,
+        active: slots_of_active(shelves, &chain),
+    };
+    Ok(Procedure {
+        script: main,
+        key,
+        chain,
+    })
 }
 
 /// Whether includes share one of these procedures with those that have this key.

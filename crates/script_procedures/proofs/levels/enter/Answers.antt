@@ -15,7 +15,7 @@ use Rattle.script_procedures.specs.Made.{names_of, procedure_of, IsEntered}
 use Rattle.script_procedures.specs.declared.procedure.Procedure as code
 use Rattle.script_procedures.proofs.IncludedLemmas.{any_map}
 use Rattle.script_procedures.proofs.EnterLemmas.{active_entered, there_entered, none_added, made_before, one_added, no_room, same_procedure}
-use Rattle.script_procedures.proofs.procedures.enter.Goals as goal
+use Rattle.script_procedures.proofs.levels.enter.Goals as goal
 
 pub returns-then-contains-clause-made : goal.returns-then-contains-clause-made
 returns-then-contains-clause-made c =
