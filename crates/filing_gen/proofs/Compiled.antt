@@ -35,7 +35,7 @@ use Rattle.filing_gen.proofs.IncludesTypes.{included_typed, included_small, incl
 use Rattle.filing_gen.proofs.Types.{flow_typed, flow_small, flow_sound}
 
 -- how the run ends after a script's ending
-abbrev fault_of : Ending → Option ℕ
+abbrev pub fault_of : Ending → Option ℕ
 fault_of (GoesOn f) = None
 fault_of (Returns f) = None
 fault_of (Stops f) = None
@@ -53,17 +53,22 @@ outcome_is (Returns f) = refl
 outcome_is (Stops f) = refl
 outcome_is (Faults n f) = refl
 
-same_outcome : (marking : Marking) (e : Ending) (g : code.Filing) → Related marking (filing_at e) g → outcome_from (fault_of e) g ≡ outcome_of e
+pub same_outcome : (marking : Marking) (e : Ending) (g : code.Filing) → Related marking (filing_at e) g → outcome_from (fault_of e) g ≡ outcome_of e
 same_outcome marking e g r = rw (r.filed, r.kept, r.cancelled) (outcome_is e)
 
 abbrev pub main_flow : Library → Slots → Option (List ℕ) → Commands → Flow
 main_flow lib slot known_as main = script_flow (linked_flow lib slot known_as) main
 
+-- before a run only the main script was entered, and no mark is set
+pub opening_related : (lib : Library) (slot : Slots) (count : ℕ) → HasSlots lib slot count → (known_as : Option (List ℕ)) → Related (Marked lib slot (main_names known_as) (main_names known_as)) (opening known_as) nothing_done
+opening_related lib slot count has known_as =
+    record { filed = refl; kept = refl; cancelled = refl; marks = record { long = length-replicate 64 false; active = λ s h. h; found = λ s x at out. get_or-replicate 64 (slot s) false false (let l = has.inside s x at in omega (arith, l, has.few)) ∙ sym out; missing = λ s none. refl } }
+
 module _ (lib : Library) (slot : Slots) (count : ℕ) (has : HasSlots lib slot count) (known_as : Option (List ℕ)) (main : Commands) where
   script_means : (c : Facts) → Alike (Marked lib slot (main_names known_as) (main_names known_as)) 0 (meaning c lib known_as main) (effect no_calls c (main_flow lib slot known_as main) nothing_done [])
   script_means c =
       flow_means no_calls c (Marked lib slot (main_names known_as) (main_names known_as)) (linked_flow lib slot known_as) (included c lib 7 (main_names known_as)) (included_agrees no_calls c lib slot count has (main_names known_as) 7 (main_names known_as) (λ s h. h)) 0 main (opening known_as) nothing_done
-      (record { filed = refl; kept = refl; cancelled = refl; marks = record { long = length-replicate 64 false; active = λ s h. h; found = λ s x at out. get_or-replicate 64 (slot s) false false (let l = has.inside s x at in omega (arith, l, has.few)) ∙ sym out; missing = λ s none. refl } })
+      (opening_related lib slot count has known_as)
 
   sound : IsSound (without_procedures count) (main_flow lib slot known_as main)
   sound = flow_sound (without_procedures count) (linked_flow lib slot known_as) (included_sound (without_procedures count) lib slot has (main_names known_as) 7 (main_names known_as)) 0 main

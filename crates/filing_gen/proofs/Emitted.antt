@@ -24,7 +24,7 @@ get_seam : {A : Type 0} (xs : List A) (x : A) (ys : List A) → slice_get (xs ++
 get_seam [] x ys = refl
 get_seam (y ∷ xs) x ys = get_seam xs x ys
 
-same_front : (os more ps : List Operation) → ps ≡ os ++ more → SameFrom 0 os ps
+pub same_front : (os more ps : List Operation) → ps ≡ os ++ more → SameFrom 0 os ps
 same_front os more ps is i o low at = subst (λ (qs : List Operation). slice_get qs i ≡ Some o) (sym is) (get_front os more i o at)
 
 pub named_by : (x y : Output) (n : ℕ) → Keeps x y n → Named (operands_of x) (operands_of y)

@@ -24,3 +24,8 @@ mod NumberLemmas
 mod PathTables
 mod CallsEmitted
 pub mod InclusionLemmas
+mod SharedMeaning
+mod SharedSteps
+mod WrittenProcedures
+mod SharedTypes
+mod SharedCompiled

@@ -11,7 +11,7 @@ use Rattle.script_procedures.specs.Made.{number_of}
 use Rattle.filing_gen.specs.Procedures.{path_at, called_path, path_weights}
 use Rattle.filing_gen.proofs.CallLemmas.{numbered, entered_there}
 
-got_element : {A : Type 0} (xs : List A) (n : ℕ) (x : A) → slice_get xs n ≡ Some x → IsElement x xs
+pub got_element : {A : Type 0} (xs : List A) (n : ℕ) (x : A) → slice_get xs n ≡ Some x → IsElement x xs
 got_element [] n x h = absurd (cc h)
 got_element (y ∷ ys) zero x h = inl (sym (some_is y x h))
 got_element (y ∷ ys) (suc n) x h = inr (got_element ys n x h)
