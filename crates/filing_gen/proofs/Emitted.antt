@@ -15,7 +15,7 @@ use Rattle.filing_gen.specs.Adds.{operands_of, Puts, Keeps, Brings, Emits}
 
 -- WHAT STAYS
 
-get_front : {A : Type 0} (xs ys : List A) (i : ℕ) (x : A) → slice_get xs i ≡ Some x → slice_get (xs ++ ys) i ≡ Some x
+pub get_front : {A : Type 0} (xs ys : List A) (i : ℕ) (x : A) → slice_get xs i ≡ Some x → slice_get (xs ++ ys) i ≡ Some x
 get_front [] ys i x at = absurd (cc at)
 get_front (y ∷ xs) ys zero x at = at
 get_front (y ∷ xs) ys (suc i) x at = get_front xs ys i x at
@@ -30,7 +30,7 @@ same_front os more ps is i o low at = subst (λ (qs : List Operation). slice_get
 pub named_by : (x y : Output) (n : ℕ) → Keeps x y n → Named (operands_of x) (operands_of y)
 named_by x y n k = record { text = k.text; number = k.number }
 
-keeps_same : (x : Output) (n : ℕ) → Keeps x x n
+pub keeps_same : (x : Output) (n : ℕ) → Keeps x x n
 keeps_same x n = record { text = λ b t h. h; number = λ b k h. h; texts = omega arith; numbers = omega arith }
 
 pub keeps_then : (x y z : Output) (n m k : ℕ) → k ≡ n + m → Keeps x y n → Keeps y z m → Keeps x z k

@@ -20,12 +20,12 @@ mod ProcedureRows
 mod IncludesTypes
 mod Rows
 mod LevelLemmas
+mod NumberLemmas
+mod PathTables
+mod CallsEmitted
+pub mod InclusionLemmas
 mod SharedMeaning
 mod SharedSteps
 mod WrittenProcedures
 mod SharedTypes
 mod SharedCompiled
-mod NumberLemmas
-mod PathTables
-mod CallsEmitted
-pub mod InclusionLemmas

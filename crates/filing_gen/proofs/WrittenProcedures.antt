@@ -12,8 +12,9 @@ use Rattle.filing_flow.specs.Procedures.{ProceduresStand, places_from, whole_siz
 use Rattle.filing_flow.proofs.Stands.{Named, SameFrom, stands_there}
 use Rattle.script_procedures.specs.Slots.{Slots}
 use Rattle.filing_gen.specs.Structured.{script_flow}
-use Rattle.filing_gen.specs.Adds.{operands_of, Puts, Keeps, Emits}
+use Rattle.filing_gen.specs.Adds.{operands_of, Puts, Emits}
 use Rattle.filing_gen.specs.Procedures.{calling_flow, procedure_flows}
+use Rattle.filing_gen.specs.SharedCode.{EmitsProcedure}
 use Rattle.filing_gen.specs.declared.output.Output.{Output}
 use Rattle.filing_gen.proofs.Emitted.{same_front, put_at_end, still_stands, named_by, keeps_put, keeps_then, grows}
 
@@ -59,15 +60,6 @@ module _ (n : Operands) (os : List Operation) (a : Flow) where
   stand_append (b ∷ done) place h body end =
       let here : place + (size b + 1 + whole_size done) ≡ place + size b + 1 + whole_size done = omega arith in
       (h.0, h.1, stand_append done (place + size b + 1) h.2 (subst (λ (k : ℕ). Stands n os (block a) [] k) here body) (subst (λ (k : ℕ). slice_get os (k + size a) ≡ Some Return) here end))
-
--- The operations of a procedure and its RETURN were added, and operands still name what they named.
-pub record EmitsProcedure (old new : Output) (a : Flow) : Type 0 where
-  pub keeps : Keeps old new (size a)
-  pub added : List Operation
-  pub code : new.code.items ≡ old.code.items ++ added
-  pub long : length added ≡ size a + 1
-  pub stands : Stands (operands_of new) new.code.items (block a) [] (length old.code.items)
-  pub ends : slice_get new.code.items (length old.code.items + size a) ≡ Some Return
 
 -- the code of the procedure, and after it its end
 pub procedure_emitted : (x m y : Output) (a : Flow) → Emits x m (block a) [] → Puts m y Return → EmitsProcedure x y a

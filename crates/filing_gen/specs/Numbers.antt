@@ -17,9 +17,9 @@ abbrev pub number_if_there : Option (Option ℕ) → Option ℕ
 number_if_there None = None
 number_if_there (Some number) = number
 
--- the number of a slot, where the table has one
-abbrev pub number_at : (numbers : List (Option ℕ)) → (slot : ℕ) → Option ℕ
-number_at numbers slot = number_if_there (slice_get numbers slot)
+-- the number that a table has at a place, where it has one
+abbrev pub number_at : (numbers : List (Option ℕ)) → (place : ℕ) → Option ℕ
+number_at numbers place = number_if_there (slice_get numbers place)
 
 -- those of all slots
 abbrev pub AreNumbers : Scripts → (later : List Procedure) → Procedure → (numbers : List (Option ℕ)) → Type 0

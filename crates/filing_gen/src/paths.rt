@@ -9,6 +9,7 @@ ghost use Rattle.script_library.specs.Lent.{scripts_of};
 ghost use Rattle.script_library.specs.Libraries.{library_of};
 ghost use Rattle.script_procedures.specs.Keys.{IsKeyOf};
 ghost use Rattle.script_procedures.specs.Made.{procedure_of, IsEntered, HaveKeys, AreProcedures};
+ghost use Rattle.filing_gen.specs.Numbers.{number_at};
 ghost use Rattle.filing_gen.specs.Paths.{known_path, path_from};
 ghost use Rattle.filing_gen.specs.Procedures.{path_weights as path_weights_of};
 
@@ -50,6 +51,16 @@ pub fn shared_weight(procedures: &[Procedure<'_>]) -> Option<u32>
     Some(MAX_WEIGHT - left)
 }
 
+/// The weight that a table has at a place, where it is known.
+fn weight_at(weights: &[Option<u32>], place: usize) -> Option<u32>
+    ensures { result ≡ number_at weights.now place }
+{
+    match weights.get(place) {
+        Some(weight) => *weight,
+        None => None,
+    }
+}
+
 /// The includes of a procedure, each with the weight of a longest path through the procedure that it enters.
 #[derive(Clone, Copy, Drop)]
 pub struct Paths<'a, 'b> {
@@ -67,7 +78,7 @@ impl Weights for Paths<'_, '_> {
 
     fn weigh(&self, include: &Include<'_>, left: u32) -> Option<u32> {
         match self.callees.inclusion(include) {
-            Inclusion::Enter(_, Call::To(number)) => left.checked_sub(self.later[number]?),
+            Inclusion::Enter(_, Call::To(number)) => left.checked_sub(weight_at(self.later, number)?),
             Inclusion::Pass | Inclusion::Fault(_) | Inclusion::Enter(..) => Some(left),
         }
     }
@@ -149,8 +160,9 @@ pub fn main_path<'a>(
         (w ≤ greatest_path))) }
 {
     let paths = path_weights(alloc, reach, main, procedures)?;
-    match paths.first() {
-        Some(Some(path)) if *path <= MAX_PATH => Ok(Some(*path)),
-        Some(_) | None => Ok(None),
+    match weight_at(&paths, 0) {
+        None => Ok(None),
+        Some(path) if path > MAX_PATH => Ok(None),
+        Some(path) => Ok(Some(path)),
     }
 }

@@ -28,7 +28,7 @@ abbrev pub with_procedure : Library → List Procedure → Option Procedure → 
 with_procedure lib ps None = ps
 with_procedure lib ps (Some e) = if list_any (λ p. is_shared lib p e) ps then ps else ps ++ e ∷ []
 
--- these procedures and those, from left to right, each unless one that includes share with it is there
+-- these procedures and then the others in turn, each unless one that includes share with it is there
 abbrev pub with_procedures : Library → List Procedure → List Procedure → List Procedure
 with_procedures lib ps [] = ps
 with_procedures lib ps (e ∷ es) = with_procedures lib (with_procedure lib ps (Some e)) es
