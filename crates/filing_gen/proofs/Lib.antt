@@ -27,5 +27,6 @@ pub mod InclusionLemmas
 mod SharedMeaning
 mod SharedSteps
 mod WrittenProcedures
+mod ProceduresEmitted
 mod SharedTypes
 mod SharedCompiled

@@ -66,7 +66,7 @@ fn emit_procedure<'a>(
     requires room { HasRoom out.old (size
         (script_flow
         (calling_flow (library_of (scripts_of reach.now.shelves)) (slots_of (scripts_of reach.now.shelves))
-        (names_of main.entry) own (map procedure_of later.now) (procedure_of procedure.now))
+        (names_of main) own (map procedure_of later.now) (procedure_of procedure.now))
         (procedure_of procedure.now).script) + 1) }
     ensures { OnOk result (EmitsProcedure out.old out.new
         (script_flow
