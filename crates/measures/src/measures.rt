@@ -265,9 +265,7 @@ impl Measure {
             Measure::TenIncludes
             | Measure::SharedIncludes
             | Measure::IncludesInIfs
-            | Measure::AllIncludes => {
-                Ok(setting.weight(alloc))
-            }
+            | Measure::AllIncludes => { Ok(setting.weight(alloc)) }
             Measure::Filings | Measure::Classes => octets_answered(alloc, input),
             _ => Ok(parts_that_may_run(alloc, input)),
         }
