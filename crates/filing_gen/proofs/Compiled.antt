@@ -14,7 +14,7 @@ use Rattle.sieve_meaning.specs.Case.{Facts}
 use Rattle.sieve_meaning.specs.Program.{Commands}
 use Rattle.sieve_meaning.specs.Meaning.{Ending, GoesOn, Returns, Stops, Faults, included, meaning, opening, main_names, Library}
 use Rattle.sieve_meaning.specs.Outcome.{Outcome, outcome_at, outcome_of}
-use Rattle.sieve_meaning.specs.TooHeavy.{script_budget}
+use Rattle.sieve_meaning.proofs.OutcomeLaws.{budget_by_weight}
 use Rattle.sieve_meaning.specs.Weight.{linked_weight, included_weight}
 use Rattle.filing_gen.specs.Structured.{script_flow}
 use Rattle.script_procedures.specs.Slots.{Slots, HasSlots}
@@ -106,9 +106,13 @@ module _ (lib : Library) (slot : Slots) (count : ℕ) (has : HasSlots lib slot c
   built_well o p b is made weight small =
       well p (code_of o p (main_flow lib slot known_as main) b is made) made.slots (made.budget_is ∙ weight) (omega (arith, weight, small))
 
-  pub built : (o : Output) (p : Program) (b : ℕ) → IsCode o (main_flow lib slot known_as main) → IsImageOf b count None o p → IsWell p → b ≡ linked_weight lib known_as main → IsCompiled lib known_as main p
-  unfolding script_budget
-  built o p b is made good weight = record { budget = made.budget_is ∙ weight; well = good; outcomes = has_outcome p (code_of o p (main_flow lib slot known_as main) b is made) made.slots }
+  pub built : (o : Output) (p : Program) (b : ℕ) → IsCode o (main_flow lib slot known_as main) → IsImageOf b count None o p → IsWell p → b ≡ linked_weight lib known_as main → b ≤ 60000 → IsCompiled lib known_as main p
+  built o p b is made good weight small =
+      record {
+        budget = made.budget_is ∙ weight ∙ sym (budget_by_weight lib known_as main (omega (arith, weight, small)));
+        well = good;
+        outcomes = has_outcome p (code_of o p (main_flow lib slot known_as main) b is made) made.slots;
+      }
 
   pub room : linked_weight lib known_as main ≤ 60000 → commands_long (λ i. size (linked_flow lib slot known_as i)) main + 1 < 2 ^ 16
   room small = omega (arith, small, script_small, flow_long (linked_flow lib slot known_as) 0 main)

@@ -32,6 +32,7 @@ mod number_pool;
 mod output;
 mod paths;
 mod program;
+mod shared;
 mod text_pool;
 mod weight;
 

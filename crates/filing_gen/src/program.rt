@@ -1,6 +1,6 @@
 //! From a checked script to an image that may run.
 
-ghost use Rattle.std.specs.Prelude.{◌≡◌, ◌↔◌, ◌+◌, ◌<◌, ◌≤◌, ◌^◌, [], ◌∷◌, map, Err, IfOk, IfErr, MatchOption};
+ghost use Rattle.std.specs.Prelude.{◌≡◌, ◌≢◌, ◌↔◌, ◌+◌, ◌<◌, ◌≤◌, ◌^◌, [], ◌∷◌, map, Err, IfOk, IfErr, MatchOption};
 ghost use Rattle.std.specs.Option.{option_map};
 ghost use Rattle.sieve_syntax.specs.View.{command_of, commands_of, tree_of};
 ghost use Rattle.sieve_meaning.specs.Reading.{program_of};
@@ -25,6 +25,7 @@ use crate::finding::Scope;
 use crate::levels::{Above, Deepest, Includes};
 use crate::linker::Linker;
 use crate::output::{Output, put};
+use crate::shared::build_shared;
 use crate::weight::{MAX_WEIGHT, script_weight};
 use filing_image::{Image, Operation};
 use filing_verify::Verified;
@@ -128,14 +129,19 @@ fn weigh(script: &Script, scope: Scope<'_>) -> Option<u32>
 }
 
 /// Compiles a checked script, which may be known by a personal name, and the scripts that it includes, to an image that
-/// may run. The image's budget in steps is the script's weight, and in every case its run ends with the outcome of what
-/// the script means. No text and no number stands in it twice. `TooLarge` (5) exactly where the weight is above 60,000.
-/// `NoMemory` (99) where an allocation was refused, or a string has more than 65,535 octets.
+/// may run. In every case its run ends with the outcome of what the script means. No text and no number stands in it
+/// twice. Where the script's weight is at most 60,000, the image has version 1 and the weight as its budget in steps.
+/// Otherwise it has version 2: each included script is a procedure, and the budget is the path weight.
+///
+/// `TooLarge` (5) where the weight is above 60,000 and there are more than 256 procedures, their shared weight is above
+/// 60,000, or the path weight is above 1,000,000. `NoMemory` (99) where an allocation was refused, or a string has more
+/// than 65,535 octets.
 ///
 /// However often a script is included, its strings are stored once. Memory is linear in the octets of the strings of
-/// the scripts, and in the weight; the image takes 4 octets for each instruction. Time is that of one look-up of each
-/// string each time that its script is included, and linear in the weight times the depth of nested tests. A script
-/// that is too heavy takes time linear in 60,000.
+/// the scripts, and in the weight of the code; the image takes 4 octets for each instruction. Time is that of one
+/// look-up of each string each time that the code of its script is written, and linear in the weight of the code times
+/// the depth of nested tests. Procedures take time linear in their includes, each of which is compared with at most 256
+/// procedures.
 pub fn compile(
     alloc: Global,
     main: &Checked,
@@ -146,7 +152,7 @@ pub fn compile(
         (λ v. IsCompiled (library_of library.now) (option_map (λ s. s.now) known_as.entry)
         (program_of (tree_of main.now.script)) v) }
     ensures once { IfOk result (λ v. NamesOnce v) }
-    ensures too_large { result ≡ Err TooLarge ↔
+    ensures too_large { result ≢ Err NoMemory → result ≡ Err TooLarge ↔
         IsTooHeavy (library_of library.now) (option_map (λ s. s.now) known_as.entry)
         (program_of (tree_of main.now.script)) }
 {
@@ -165,7 +171,7 @@ pub fn compile_with(
         (λ v. IsCompiled (library_of (scripts_of shelves.entry)) (option_map (λ s. s.now) known_as.entry)
         (program_of (tree_of main.now.script)) v) }
     ensures once { IfOk result (λ v. NamesOnce v) }
-    ensures too_large { result ≡ Err TooLarge ↔
+    ensures too_large { result ≢ Err NoMemory → result ≡ Err TooLarge ↔
         IsTooHeavy (library_of (scripts_of shelves.entry)) (option_map (λ s. s.now) known_as.entry)
         (program_of (tree_of main.now.script)) }
 {
@@ -175,7 +181,7 @@ pub fn compile_with(
         main: MainScript { known_as },
     };
     match weigh(script, scope) {
-        None => Err(GenFault::TooLarge),
+        None => build_shared(alloc, script, scope),
         Some(weight) => build(alloc, script, scope, weight),
     }
 }

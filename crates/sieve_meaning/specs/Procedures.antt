@@ -4,7 +4,7 @@ use Rattle.std.specs.Prelude.{ℕ, zero, suc, ◌+◌, List, [], ◌∷◌, ◌+
 use Rattle.std.specs.List.{list_any, list_all, flat_map, filter_map}
 use Rattle.sieve_meaning.specs.Program.{Include, Command, require, keep, discard, stop, return, file_into, branch, include, Commands, no_command, command_then, Branches, no_branch, otherwise, if_then}
 use Rattle.sieve_meaning.specs.Meaning.{Library, ScriptName, script_named, same_script, is_among, main_names}
-use Rattle.sieve_meaning.specs.Weight.{weight, greatest_weight, linked_weight, unless_missing, unless_active}
+use Rattle.sieve_meaning.specs.Weight.{weight, greatest_weight, unless_missing, unless_active}
 
 -- INCLUDED SCRIPTS
 
@@ -144,8 +144,3 @@ greatest_path = 1000000
 abbrev pub is_beyond : (ps : List Procedure) → (path : ℕ) → Bool
 is_beyond ps path = nat_lt most_procedures (length ps) || nat_lt greatest_weight (shared_weight ps) ||
     nat_lt greatest_path path
-
--- whether a main script, which may have a name, is too heavy even where scripts share their code
-unfoldable pub is_too_heavy_shared : Library → (known_as : Option (List ℕ)) → Commands → Bool
-is_too_heavy_shared lib known_as main = nat_lt greatest_weight (linked_weight lib known_as main) &&
-    is_beyond (procedures lib known_as main) (path_weight lib known_as main)

@@ -5,28 +5,20 @@ use Rattle.sieve_syntax.specs.View.{tree_of}
 use Rattle.sieve_syntax.specs.declared.tree.Script.{Script}
 use Rattle.sieve_meaning.specs.Reading.{program_of}
 use Rattle.sieve_meaning.specs.Weight.{greatest_weight, linked_weight}
-use Rattle.sieve_meaning.proofs.OutcomeLaws.{heavy_by_weight, over_by_weight}
+use Rattle.sieve_meaning.proofs.OutcomeLaws.{light_by_weight}
 use Rattle.script_library.specs.Lent.{scripts_of}
 use Rattle.script_library.specs.Libraries.{library_of}
 use Rattle.filing_gen.specs.declared.fault.GenFault.{GenFault}
 use Rattle.filing_gen.specs.declared.fault.GenFault.TheVariants.{NoMemory}
 use Rattle.filing_gen.proofs.program.compile_with.Goals as goal
 
-pub returns-in-None-clause-too_large : goal.returns-in-None-clause-too_large
-returns-in-None-clause-too_large c =
-    let lib = library_of (scripts_of c.args.shelves) in
-    let known : Option (List ℕ) = option_map (λ (s : Bor (List ℕ)). s.now) c.args.known_as in
-    let main = program_of (tree_of c.args.main.now.script) in
-    let same = ap (λ (s : Script). linked_weight lib known (program_of (tree_of s))) c.script-script.ensures.value in
-    let over : greatest_weight < linked_weight lib known main = omega (arith, same, c.in-None.ensures) in
-    (λ h. heavy_by_weight lib known main over, λ h. refl)
-
 pub returns-in-Some-clause-too_large : goal.returns-in-Some-clause-too_large
 returns-in-Some-clause-too_large c =
     let lib = library_of (scripts_of c.args.shelves) in
     let known : Option (List ℕ) = option_map (λ (s : Bor (List ℕ)). s.now) c.args.known_as in
     let main = program_of (tree_of c.args.main.now.script) in
-    let same = ap (λ (s : Script). linked_weight lib known (program_of (tree_of s))) c.script-script.ensures.value in (
+    let same = ap (λ (s : Script). linked_weight lib known (program_of (tree_of s))) c.script-script.ensures.value in
+    let light = light_by_weight lib known main (omega (arith, same, c.in-Some.ensures.0, c.in-Some.ensures.1)) in (
       λ h. absurd (cc (IfErr-at_err (λ (f : GenFault). f ≡ NoMemory) h c.build.ensures.refused)),
-      λ h. absurd (let over = over_by_weight lib known main h in omega (arith, same, over, c.in-Some.ensures.0, c.in-Some.ensures.1)),
+      λ h. absurd (cc (light, h)),
     )

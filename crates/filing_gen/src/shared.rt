@@ -1,0 +1,63 @@
+//! Images of scripts that are too heavy for code in which each include has a copy of its script: each included script is
+//! a procedure.
+
+ghost use Rattle.std.specs.Prelude.{◌≡◌, ◌≢◌, ◌↔◌, ◌<◌, Err, IfOk};
+ghost use Rattle.std.specs.Option.{option_map};
+ghost use Rattle.sieve_syntax.specs.View.{tree_of};
+ghost use Rattle.sieve_meaning.specs.Reading.{program_of};
+ghost use Rattle.sieve_meaning.specs.TooHeavy.{IsTooHeavy};
+ghost use Rattle.sieve_meaning.specs.Weight.{greatest_weight, linked_weight};
+ghost use Rattle.script_library.specs.Lent.{scripts_of};
+ghost use Rattle.script_library.specs.Libraries.{library_of};
+ghost use Rattle.filing_gen.specs.Correct.{IsCompiled, NamesOnce};
+ghost use Rattle.filing_gen.specs.declared.fault.GenFault.TheVariants.{NoMemory, TooLarge};
+
+use crate::emit_procedures::emit_procedures;
+use crate::fault::GenFault;
+use crate::finding::Scope;
+use crate::paths::{main_path, shared_weight};
+use crate::program::image_of;
+use filing_verify::Verified;
+use script_procedures::{Reach, procedures, slot_count};
+use sieve_syntax::Script;
+use std::alloc::Global;
+
+/// The image of a script whose weight is above 60,000. `TooLarge` where there are more than 256 procedures, where their
+/// code weighs more than 60,000, or a path through it more than 1,000,000.
+pub fn build_shared<'a>(
+    alloc: Global,
+    script: &'a Script,
+    scope: Scope<'a>,
+) -> Result<Verified, GenFault>
+    requires { greatest_weight <
+        linked_weight (library_of (scripts_of scope.shelves)) (option_map (λ s. s.now) scope.main.known_as)
+        (program_of (tree_of script.now)) }
+    ensures compiled { IfOk result
+        (λ v. IsCompiled (library_of (scripts_of scope.entry.shelves))
+        (option_map (λ s. s.now) scope.entry.main.known_as) (program_of (tree_of script.now)) v) }
+    ensures once { IfOk result (λ v. NamesOnce v) }
+    ensures too_large { result ≢ Err NoMemory → result ≡ Err TooLarge ↔
+        IsTooHeavy (library_of (scripts_of scope.entry.shelves)) (option_map (λ s. s.now) scope.entry.main.known_as)
+        (program_of (tree_of script.now)) }
+{
+    let reach = Reach::of(alloc, scope.shelves)?;
+    let Some(procedures) = procedures(alloc, &reach, script, scope.main.known_as)? else {
+        return Err(GenFault::TooLarge);
+    };
+    let Some(weight) = shared_weight(procedures.as_slice()) else {
+        return Err(GenFault::TooLarge);
+    };
+    let Some(path) = main_path(alloc, &reach, scope.main, procedures.as_slice())? else {
+        return Err(GenFault::TooLarge);
+    };
+    let (out, first_places) = emit_procedures(
+        alloc,
+        &reach,
+        scope.main,
+        procedures.as_slice(),
+        weight,
+    )?;
+    let slots = slot_count(scope.shelves);
+    let image = image_of(path, slots, out, Some(first_places))?;
+    Ok(Verified::known(image))
+}
