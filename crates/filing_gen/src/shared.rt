@@ -41,7 +41,8 @@ pub fn build_shared<'a>(
         (program_of (tree_of script.now)) }
 {
     let reach = Reach::of(alloc, scope.shelves)?;
-    let Some(procedures) = procedures(alloc, &reach, script, scope.main.known_as)? else {
+    let known_as = scope.main.known_as;
+    let Some(procedures) = procedures(alloc, &reach, script, known_as)? else {
         return Err(GenFault::TooLarge);
     };
     let Some(weight) = shared_weight(procedures.as_slice()) else {
