@@ -30,3 +30,4 @@ mod WrittenProcedures
 mod ProceduresEmitted
 mod SharedTypes
 mod SharedCompiled
+mod SharedBuilt
