@@ -57,8 +57,7 @@ fn build_procedures<'a>(
     let Some(path) = main_path(alloc, &*reach, main, procedures.as_slice())? else {
         return Err(GenFault::TooLarge);
     };
-    let (out, first_places) =
-        emit_procedures(alloc, &*reach, main, procedures.as_slice(), weight)?;
+    let (out, first_places) = emit_procedures(alloc, &*reach, main, procedures.as_slice(), weight)?;
     let slots = slot_count(reach.shelves);
     let image = image_of(path, slots, out, Some(first_places))?;
     Ok(Verified::known(image))
