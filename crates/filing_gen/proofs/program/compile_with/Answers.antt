@@ -18,7 +18,7 @@ returns-in-Some-clause-too_large c =
     let known : Option (List ℕ) = option_map (λ (s : Bor (List ℕ)). s.now) c.args.known_as in
     let main = program_of (tree_of c.args.main.now.script) in
     let same = ap (λ (s : Script). linked_weight lib known (program_of (tree_of s))) c.script-script.ensures.value in
-    let light = light_by_weight lib known main (omega (arith, same, c.in-Some.ensures.0, c.in-Some.ensures.1)) in (
+    let light = light_by_weight lib known main (omega (arith, same, c.in-Some.ensures.0, c.in-Some.ensures.1)) in λ told. (
       λ h. absurd (cc (IfErr-at_err (λ (f : GenFault). f ≡ NoMemory) h c.build.ensures.refused)),
       λ h. absurd (cc (light, h)),
     )
