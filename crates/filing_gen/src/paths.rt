@@ -78,9 +78,9 @@ impl Weights for Paths<'_, '_> {
 
     fn weigh(&self, include: &Include<'_>, left: u32) -> Option<u32> {
         match self.callees.inclusion(include) {
-            Inclusion::Enter(_, Call::To(number)) => {
-                left.checked_sub(weight_at(self.later, number)?)
-            }
+            Inclusion::Enter(_, Call::To(number)) => left.checked_sub(weight_at(
+                self.later, number,
+            )?),
             Inclusion::Pass | Inclusion::Fault(_) | Inclusion::Enter(..) => Some(left),
         }
     }
