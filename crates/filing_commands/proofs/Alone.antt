@@ -2,13 +2,15 @@
 use Rattle.std.proofs.Common.{◌≡◌, ◌<◌, ℕ, zero, suc, List, refl, arith, ◌∙◌, sym, subst, Bool, true, false, Some, None, []}
 use Rattle.sieve_meaning.specs.Case.{Facts}
 use Rattle.sieve_meaning.specs.Program.{Commands}
-use Rattle.sieve_meaning.specs.Meaning.{Library, meaning}
-use Rattle.sieve_meaning.specs.Outcome.{Outcome, outcome, outcome_of, outcome_at}
+use Rattle.sieve_meaning.specs.Meaning.{Library}
+use Rattle.sieve_meaning.specs.TooHeavy.{is_too_heavy}
+use Rattle.sieve_meaning.specs.Outcome.{Outcome, outcome, outcome_at}
+use Rattle.sieve_meaning.proofs.OutcomeLaws.{heavy_outcome, light_outcome}
 use Rattle.filing_image.specs.Program.{Program}
 use Rattle.filing_table.specs.Machine.{State, At, start, after_steps}
 use Rattle.filing_table.specs.Ends.{HasOutcome}
 use Rattle.filing_table.proofs.Once.{one_outcome}
-use Rattle.filing_commands.specs.Pinning.{Stood, IsAlone, GivesOutcome, Pins, PinsChosen, PinsScript, Chosen, nothing, script, image_of, case_in, one_stop, one_fault, kept_alone, is_too_heavy}
+use Rattle.filing_commands.specs.Pinning.{Stood, IsAlone, GivesOutcome, Pins, PinsChosen, PinsScript, Chosen, nothing, script, image_of, case_in, one_stop, one_fault, kept_alone}
 
 -- a run of one step
 first_only : (p : Program) (c : Facts) (k : ℕ) → k < 1 → (t : State) × (after_steps p c k ≡ At t)
@@ -21,21 +23,13 @@ stop_ends c = (None, start, record { over = refl; going = first_only one_stop c 
 pub fault_ends : (c : Facts) → HasOutcome one_fault c 1 (outcome_at (Some 5) [] false false)
 fault_ends c = (Some 5, start, record { over = refl; going = first_only one_fault c }, refl)
 
-pub heavy_outcome : (facts : Facts) (lib : Library) (name : List ℕ) (c : Commands) → is_too_heavy lib name c ≡ true → outcome facts lib (Some name) c ≡ outcome_at (Some 5) [] false false
-unfolding outcome
-heavy_outcome facts lib name c e = rw e refl
-
-pub light_outcome : (facts : Facts) (lib : Library) (name : List ℕ) (c : Commands) → is_too_heavy lib name c ≡ false → outcome facts lib (Some name) c ≡ outcome_of (meaning facts lib (Some name) c)
-unfolding outcome
-light_outcome facts lib name c e = rw e refl
-
-script_gives : (heavy : Bool) (facts : Facts) (lib : Library) (name : List ℕ) (c : Commands) (p : Program) (n : ℕ) (o : Outcome) → is_too_heavy lib name c ≡ heavy → PinsScript heavy lib name c p → HasOutcome p facts n o → o ≡ outcome facts lib (Some name) c
+script_gives : (heavy : Bool) (facts : Facts) (lib : Library) (name : List ℕ) (c : Commands) (p : Program) (n : ℕ) (o : Outcome) → is_too_heavy lib (Some name) c ≡ heavy → PinsScript heavy lib name c p → HasOutcome p facts n o → o ≡ outcome facts lib (Some name) c
 script_gives true facts lib name c p n o e h k =
     let P : Program → Type 0 = λ q. HasOutcome q facts n o in
-    one_outcome one_fault facts n 1 o _ (subst P h k) (fault_ends facts) ∙ sym (heavy_outcome facts lib name c e)
+    one_outcome one_fault facts n 1 o _ (subst P h k) (fault_ends facts) ∙ sym (heavy_outcome facts lib (Some name) c e)
 script_gives false facts lib name c p n o e h k =
     let ends = h.outcomes facts in
-    one_outcome p facts n ends.0 o _ k ends.1 ∙ sym (light_outcome facts lib name c e)
+    one_outcome p facts n ends.0 o _ k ends.1 ∙ sym (light_outcome facts lib (Some name) c e)
 
 chosen_gives : (x : Chosen) (facts : Facts) (lib : Library) (p : Program) (n : ℕ) (o : Outcome) → PinsChosen x lib p → HasOutcome p facts n o → GivesOutcome x lib facts o
 chosen_gives nothing facts lib p n o h k =

@@ -1,10 +1,10 @@
 -- What an officer has set, the state at the beginning of a capture, what is pinned for the capture, and its outcome.
-use Rattle.std.specs.Prelude.{◌≡◌, ℕ, List, [], ◌∷◌, Bool, true, false, if◌then◌else◌, nat_lt, Option, Some, None}
+use Rattle.std.specs.Prelude.{◌≡◌, ℕ, List, [], ◌∷◌, Bool, true, false, if◌then◌else◌, Option, Some, None}
 use Rattle.sieve_meaning.specs.Case.{Facts}
 use Rattle.sieve_meaning.specs.Program.{Commands}
 use Rattle.sieve_meaning.specs.Meaning.{Library}
 use Rattle.sieve_meaning.specs.Outcome as meaning
-use Rattle.sieve_meaning.specs.Weight.{linked_weight}
+use Rattle.sieve_meaning.specs.TooHeavy.{is_too_heavy, script_budget}
 use Rattle.filing_image.specs.Program.{Program}
 use Rattle.filing_image.specs.declared.instruction.Operation.TheVariants.{Stop, Fault}
 use Rattle.filing_table.specs.Ends.{HasOutcome}
@@ -73,18 +73,15 @@ IsAlone s o = GivesOutcome s.program s.library (case_in s) o
 
 -- A program of one instruction.
 abbrev pub one_stop : Program
-one_stop = record { budget = 1; texts = []; numbers = []; slots = 0; code = Stop ∷ [] }
+one_stop = record { budget = 1; texts = []; numbers = []; slots = 0; procedures = None; code = Stop ∷ [] }
 
 abbrev pub one_fault : Program
-one_fault = record { budget = 1; texts = []; numbers = []; slots = 0; code = Fault 5 ∷ [] }
-
-abbrev pub is_too_heavy : Library → (name : List ℕ) → Commands → Bool
-is_too_heavy lib name s = nat_lt meaning.greatest_weight (linked_weight lib (Some name) s)
+one_fault = record { budget = 1; texts = []; numbers = []; slots = 0; procedures = None; code = Fault 5 ∷ [] }
 
 -- The budget of what is pinned, in steps.
 abbrev pub budget_by : Chosen → Library → ℕ
 budget_by nothing lib = 1
-budget_by (script name s) lib = if is_too_heavy lib name s then 1 else linked_weight lib (Some name) s
+budget_by (script name s) lib = if is_too_heavy lib (Some name) s then 1 else script_budget lib (Some name) s
 budget_by (image_of p) lib = p.budget
 
 abbrev pub budget_of : Stood → ℕ
@@ -98,7 +95,7 @@ PinsScript false lib name s p = IsCompiled lib (Some name) s p
 -- any other script it is a program that is compiled correctly for every case, not only for this one.
 abbrev pub PinsChosen : Chosen → Library → Program → Type 0
 PinsChosen nothing lib p = p ≡ one_stop
-PinsChosen (script name s) lib p = PinsScript (is_too_heavy lib name s) lib name s p
+PinsChosen (script name s) lib p = PinsScript (is_too_heavy lib (Some name) s) lib name s p
 PinsChosen (image_of q) lib p = p ≡ q
 
 abbrev pub Pins : Stood → Program → Type 0

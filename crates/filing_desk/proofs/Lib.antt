@@ -5,6 +5,7 @@ pub mod StepLemmas
 pub mod ClassLemmas
 pub mod RecordCommands
 pub mod FaultLemmas
+pub mod ImageLemmas
 pub mod DueLemmas
 pub mod PlanLemmas
 pub mod OfficerLemmas

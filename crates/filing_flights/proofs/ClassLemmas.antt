@@ -6,10 +6,10 @@ use Rattle.sieve_meaning.specs.Case.{Facts}
 use Rattle.sieve_meaning.specs.Paths.{Paths, insert_path, IsIncreasing}
 use Rattle.sieve_meaning.specs.Outcome.{Outcome, outcome_at, unfiled}
 use Rattle.filing_flights.proofs.PathLemmas.{all_in_insert_path, insert_path_increasing, none_increasing}
-use Rattle.filing_image.specs.Program.{Program}
+use Rattle.filing_image.specs.Program.{Program, first_places}
 use Rattle.filing_image.specs.declared.instruction.Operation.{Operation}
-use Rattle.filing_image.specs.declared.instruction.Operation.TheVariants.{PushTrue, PushFalse, Not, Values, Join, Match, Pop, Exists, Size, Number, Less as LessThan, Jump, JumpIf, JumpUnless, Marked, Mark, File, Keep, Discard, Stop, Fault}
-use Rattle.filing_table.specs.Machine.{Entry, T, L, N, State, Run, At, Over, Trap, compared, values_of, with_stack, with_named, only_if, file, on_stack, at_place, step, after_steps}
+use Rattle.filing_image.specs.declared.instruction.Operation.TheVariants.{PushTrue, PushFalse, Not, Values, Join, Match, Pop, Exists, Size, Number, Less as LessThan, Jump, JumpIf, JumpUnless, Marked, Mark, File, Keep, Discard, Stop, Fault, Call, Return}
+use Rattle.filing_table.specs.Machine.{Entry, T, L, N, State, Run, At, Over, Trap, compared, values_of, with_stack, with_named, only_if, file, enter, go_back, on_stack, at_place, step, after_steps}
 use Rattle.sieve_meaning.specs.Truth.{has_field}
 use Rattle.filing_table.specs.Ends.{HasOutcome}
 
@@ -43,6 +43,10 @@ module _ (p : Program) (c : Facts) where
         | false ↦ λ e. h
       ]) refl
 
+  gone_back : (s : State) (places : List ℕ) → IsFiled c s.filed → HasFiled c (go_back s places)
+  gone_back s [] h = h
+  gone_back s (place ∷ places) h = h
+
   acted : (o : Operation) (s : State) (es : List Entry) → IsFiled c s.filed → HasFiled c (on_stack p c o s es)
   acted PushTrue s es h = on s (T true ∷ es) h
   acted PushFalse s es h = on s (T false ∷ es) h
@@ -74,6 +78,10 @@ module _ (p : Program) (c : Facts) where
   acted Discard s es h = h
   acted Stop s es h = h
   acted (Fault a) s es h = only (nat_le 2 a && nat_le a 5) (Over (Some a) s) h
+  acted (Call b) s [] h = named (slice_get (first_places p) b) (enter s) (λ first. h)
+  acted (Call b) s _ h = tt
+  acted Return s [] h = gone_back s s.calls h
+  acted Return s _ h = tt
 
   at_placed : (o : Option Operation) (s : State) → IsFiled c s.filed → HasFiled c (at_place p c o s)
   at_placed None s h = tt

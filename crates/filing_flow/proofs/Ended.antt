@@ -5,8 +5,8 @@ use Rattle.sieve_meaning.specs.Case.{Facts}
 use Rattle.filing_table.specs.Machine.{State, Run, At, step, start, after_steps}
 use Rattle.filing_table.specs.Ends.{HasOutcome}
 use Rattle.filing_table.proofs.Once.{first_end}
-use Rattle.filing_flow.specs.Structure.{size}
-use Rattle.filing_flow.specs.Effect.{Filing, Exit, effect}
+use Rattle.filing_flow.specs.Structure.{size, without_procedures}
+use Rattle.filing_flow.specs.Effect.{Filing, Exit, no_calls, effect}
 use Rattle.filing_flow.specs.Whole.{whole, nothing_done, outcome_from, RunsAsItsCode}
 use Rattle.filing_flow.proofs.Follow.{steps, on, OverAt, Arrives, flow_runs}
 
@@ -20,13 +20,14 @@ unfolding steps
 after_is p c zero = refl
 after_is p c (suc n) = ap (step p c) (after_is p c n) ∙ sym (steps_last p c n (At start))
 
-outcome_at_end : (p : Program) (c : Facts) (fault : Option ℕ) (f : Filing) → OverAt p c (At (on nothing_done 0 [])) fault f → (n : ℕ) × HasOutcome p c n (outcome_from fault f)
+pub outcome_at_end : (p : Program) (c : Facts) (fault : Option ℕ) (f : Filing) → OverAt p c (At (on [] nothing_done 0 [])) fault f → (n : ℕ) × HasOutcome p c n (outcome_from fault f)
 outcome_at_end p c fault f over =
-    let s : State = on f over.pc over.stack in
+    let s : State = on over.calls f over.pc over.stack in
     let (n, ends) = first_end p c over.comes.count fault s (after_is p c over.comes.count ∙ over.comes.leads) in
     (n, (fault, s, ends, refl))
 
 pub program_ends : RunsAsItsCode
 program_ends p c a fault f is ok means =
-    let runs : Arrives p c (effect c (whole a) nothing_done []) (0 + size (whole a)) [] (At (on nothing_done 0 [])) = flow_runs p c (whole a) [] 0 nothing_done [] (ok, tt) is.stands in
-    outcome_at_end p c fault f (subst (λ (x : Exit). Arrives p c x (0 + size (whole a)) [] (At (on nothing_done 0 []))) means runs)
+    let from : Run = At (on [] nothing_done 0 []) in
+    let runs : Arrives p c [] (effect no_calls c (whole a) nothing_done []) (0 + size (whole a)) [] from = flow_runs p c [] no_calls (λ b f pc ends at. tt) (without_procedures p.slots) refl (whole a) [] 0 nothing_done [] (ok, tt) is.stands in
+    outcome_at_end p c fault f (subst (λ (x : Exit). Arrives p c [] x (0 + size (whole a)) [] from) means runs)

@@ -3,7 +3,7 @@ use Rattle.std.proofs.Common.{◌≡◌, ℕ, ◌≤◌, List, [], ◌∷◌, tr
 use Rattle.std.specs.Prelude.{slice_get}
 use Rattle.std.specs.Str.{bytes_eq}
 use Rattle.filing_image.specs.declared.instruction.Operation.{Operation}
-use Rattle.filing_image.specs.declared.instruction.Operation.TheVariants.{PushTrue, PushFalse, Pop, Jump, JumpIf, JumpUnless, Exists, Number, File, Keep, Stop}
+use Rattle.filing_image.specs.declared.instruction.Operation.TheVariants.{PushTrue, PushFalse, Jump, JumpIf, JumpUnless, Exists, Number, File, Keep, Stop}
 use Rattle.filing_image.specs.Program.{Program}
 use Rattle.filing_verify.specs.declared.kind.Kind.TheVariants.{Truth}
 use Rattle.sieve_meaning.specs.Case.{Facts}
@@ -12,7 +12,7 @@ use Rattle.filing_table.specs.Machine.{T, Run, Over, after_steps}
 use Rattle.filing_table.specs.Ends.{outcome_left}
 use Rattle.filing_flow.specs.Structure.{Flow, Push, Drop, HasField, PushNumber, FileInto, SetKept, SetCancelled, End, action, sequence, block, leave, leave_if, size}
 use Rattle.filing_flow.specs.Code.{places_in, Stands}
-use Rattle.filing_flow.specs.Effect.{FallsThrough, Leaves, EndsRun, Stuck, effect}
+use Rattle.filing_flow.specs.Effect.{FallsThrough, Leaves, EndsRun, Stuck, no_calls, effect}
 use Rattle.filing_flow.specs.Types.{HasType}
 use Rattle.filing_flow.specs.Whole.{whole, nothing_done}
 
@@ -76,34 +76,34 @@ facts = record { size = 10; fields = record { name = codes "TO"; value = codes "
 abbrev without_cc : Facts
 without_cc = record facts { fields = record { name = codes "TO"; value = codes "x" } ∷ [] }
 
-both_there_true : effect facts both_there nothing_done [] ≡ FallsThrough nothing_done (T true ∷ [])
+both_there_true : effect no_calls facts both_there nothing_done [] ≡ FallsThrough nothing_done (T true ∷ [])
 both_there_true = refl
 
-both_there_false : effect without_cc both_there nothing_done [] ≡ FallsThrough nothing_done (T false ∷ [])
+both_there_false : effect no_calls without_cc both_there nothing_done [] ≡ FallsThrough nothing_done (T false ∷ [])
 both_there_false = refl
 
 -- the truth value is popped whether the jump is taken or not
-popped : effect facts (sequence (action (Push true)) (leave_if true 3)) nothing_done (T false ∷ []) ≡ Leaves 3 nothing_done (T false ∷ [])
+popped : effect no_calls facts (sequence (action (Push true)) (leave_if true 3)) nothing_done (T false ∷ []) ≡ Leaves 3 nothing_done (T false ∷ [])
 popped = refl
 
-popped_on : effect facts (sequence (action (Push true)) (leave_if false 3)) nothing_done (T false ∷ []) ≡ FallsThrough nothing_done (T false ∷ [])
+popped_on : effect no_calls facts (sequence (action (Push true)) (leave_if false 3)) nothing_done (T false ∷ []) ≡ FallsThrough nothing_done (T false ∷ [])
 popped_on = refl
 
 -- two blocks are left, and what follows the inner one is skipped
-left_two : effect facts (sequence (block (sequence (block (leave 1)) (action SetCancelled))) (action SetKept)) nothing_done [] ≡ FallsThrough (record nothing_done { kept = true }) []
+left_two : effect no_calls facts (sequence (block (sequence (block (leave 1)) (action SetCancelled))) (action SetKept)) nothing_done [] ≡ FallsThrough (record nothing_done { kept = true }) []
 left_two = refl
 
-left_three : effect facts (block (block (leave 2))) nothing_done [] ≡ Leaves 0 nothing_done []
+left_three : effect no_calls facts (block (block (leave 2))) nothing_done [] ≡ Leaves 0 nothing_done []
 left_three = refl
 
 -- the end of the run is no end of a block
-ended : effect facts (sequence (block (action End)) (action SetKept)) nothing_done [] ≡ EndsRun None nothing_done
+ended : effect no_calls facts (sequence (block (action End)) (action SetKept)) nothing_done [] ≡ EndsRun None nothing_done
 ended = refl
 
-not_open : effect facts (sequence (action (FileInto 0 (codes "b"))) (action SetKept)) nothing_done [] ≡ EndsRun (Some 1) nothing_done
+not_open : effect no_calls facts (sequence (action (FileInto 0 (codes "b"))) (action SetKept)) nothing_done [] ≡ EndsRun (Some 1) nothing_done
 not_open = refl
 
-no_operand : effect facts (sequence (action Drop) (action SetKept)) nothing_done [] ≡ Stuck
+no_operand : effect no_calls facts (sequence (action Drop) (action SetKept)) nothing_done [] ≡ Stuck
 no_operand = refl
 
 -- TYPES
@@ -121,7 +121,7 @@ not_twice h = let (m, (first_is, d, e), (second_is, g, k)) = h in absurd (cc (fi
 
 -- RUNS
 
-abbrev captured : Run → Outcome
+abbrev pub captured : Run → Outcome
 captured (Over f s) = outcome_left f s
 captured _ = record { classes = []; fault = Some 99 }
 
@@ -130,7 +130,7 @@ abbrev filed_if_both : Flow
 filed_if_both = block (sequence both_there (sequence (leave_if false 0) (action (FileInto 0 (codes "a")))))
 
 abbrev program : Program
-program = record { budget = 100; texts = codes "to" ∷ codes "cc" ∷ codes "a" ∷ []; numbers = []; slots = 0; code = Exists 0 ∷ JumpUnless 6 ∷ Exists 1 ∷ JumpUnless 6 ∷ PushTrue ∷ Jump 7 ∷ PushFalse ∷ JumpUnless 9 ∷ File 0 2 ∷ Stop ∷ [] }
+program = record { budget = 100; texts = codes "to" ∷ codes "cc" ∷ codes "a" ∷ []; numbers = []; slots = 0; procedures = None; code = Exists 0 ∷ JumpUnless 6 ∷ Exists 1 ∷ JumpUnless 6 ∷ PushTrue ∷ Jump 7 ∷ PushFalse ∷ JumpUnless 9 ∷ File 0 2 ∷ Stop ∷ [] }
 
 program_stands : Stands (places_in program.texts program.numbers) program.code (whole filed_if_both) [] 0
 program_stands = (

@@ -2,7 +2,7 @@
 use Rattle.std.proofs.Common.{◌≡◌, ℕ, ◌+◌, ◌≤◌, List, ◌∷◌, true, false, Some, arith}
 use Rattle.std.specs.Prelude.{slice_get}
 use Rattle.filing_image.specs.declared.instruction.Operation.{Operation}
-use Rattle.filing_flow.specs.Structure.{Action, Push, Negate, ValuesOf, JoinTwo, MatchKey, Drop, HasField, PushSize, PushNumber, IsLess, IsMarked, SetMark, FileInto, SetKept, SetCancelled, End, Fail, Flow, nothing, action, sequence, block, leave, leave_if, size}
+use Rattle.filing_flow.specs.Structure.{Action, Push, Negate, ValuesOf, JoinTwo, MatchKey, Drop, HasField, PushSize, PushNumber, IsLess, IsMarked, SetMark, FileInto, SetKept, SetCancelled, End, Fail, CallTo, Flow, nothing, action, sequence, block, leave, leave_if, size}
 use Rattle.filing_flow.specs.Code.{Operands, IsWritten, Stands}
 
 -- what an operand names, it names there too
@@ -40,6 +40,7 @@ module _ (n m : Operands) (named : Named n m) where
   written_there SetCancelled o w = w
   written_there End o w = w
   written_there (Fail k) o w = w
+  written_there (CallTo b) o w = w
 
   pub stands_there : (os ps : List Operation) (low : ℕ) → SameFrom low os ps → (a : Flow) (ends : List ℕ) (place : ℕ) → low ≤ place → Stands n os a ends place → Stands m ps a ends place
   stands_there os ps low same nothing ends place le h = tt

@@ -1,11 +1,11 @@
 -- What code in blocks does to the state and the stack that it finds, without places.
-use Rattle.std.specs.Prelude.{ℕ, zero, suc, List, ◌∷◌, ◌++◌, length, Bool, true, false, not, ◌||◌, nat_lt, nat_eq, if◌then◌else◌, Option, Some, None, slice_set, slice_index_or}
+use Rattle.std.specs.Prelude.{ℕ, zero, suc, List, [], ◌∷◌, ◌++◌, length, Bool, true, false, not, ◌||◌, nat_lt, nat_eq, if◌then◌else◌, Option, Some, None, slice_set, slice_index_or}
 use Rattle.std.specs.List.{list_any}
 use Rattle.sieve_meaning.specs.Case.{Facts}
 use Rattle.sieve_meaning.specs.Truth.{has_field}
 use Rattle.sieve_meaning.specs.Paths.{Paths, insert_path}
 use Rattle.filing_table.specs.Machine.{Entry, T, L, N, compared, values_of}
-use Rattle.filing_flow.specs.Structure.{Action, Push, Negate, ValuesOf, JoinTwo, MatchKey, Drop, HasField, PushSize, PushNumber, IsLess, IsMarked, SetMark, FileInto, SetKept, SetCancelled, End, Fail, Flow, nothing, action, sequence, block, leave, leave_if}
+use Rattle.filing_flow.specs.Structure.{Action, Push, Negate, ValuesOf, JoinTwo, MatchKey, Drop, HasField, PushSize, PushNumber, IsLess, IsMarked, SetMark, FileInto, SetKept, SetCancelled, End, Fail, CallTo, Flow, nothing, action, sequence, block, leave, leave_if}
 
 -- the state of a run: that of the table machine without its place and its stack
 pub record Filing : Type 0 where
@@ -37,29 +37,45 @@ filing c f es a path = if c.is_open path
     then FallsThrough (record f { filed = insert_path path f.filed; cancelled = f.cancelled || nat_eq a 0 }) es
     else EndsRun (Some 1) f
 
-abbrev pub action_effect : Facts → Action → Filing → List Entry → Exit
-action_effect c (Push b) f es = with_stack f (T b ∷ es)
-action_effect c Negate f (T b ∷ es) = with_stack f (T (not b) ∷ es)
-action_effect c Negate f _ = Stuck
-action_effect c (ValuesOf name) f es = with_stack f (L (values_of c name) ∷ es)
-action_effect c JoinTwo f (L ys ∷ L xs ∷ es) = with_stack f (L (xs ++ ys) ∷ es)
-action_effect c JoinTwo f _ = Stuck
-action_effect c (MatchKey a key) f (L xs ∷ es) = with_stack f (T (list_any (compared a key) xs) ∷ L xs ∷ es)
-action_effect c (MatchKey a key) f _ = Stuck
-action_effect c Drop f (e ∷ es) = with_stack f es
-action_effect c Drop f _ = Stuck
-action_effect c (HasField name) f es = with_stack f (T (has_field c name) ∷ es)
-action_effect c PushSize f es = with_stack f (N c.size ∷ es)
-action_effect c (PushNumber n) f es = with_stack f (N n ∷ es)
-action_effect c IsLess f (N y ∷ N x ∷ es) = with_stack f (T (nat_lt x y) ∷ es)
-action_effect c IsLess f _ = Stuck
-action_effect c (IsMarked b) f es = with_stack f (T (slice_index_or f.marks b false) ∷ es)
-action_effect c (SetMark b) f es = FallsThrough (record f { marks = slice_set f.marks b true }) es
-action_effect c (FileInto a path) f es = filing c f es a path
-action_effect c SetKept f es = FallsThrough (record f { kept = true }) es
-action_effect c SetCancelled f es = FallsThrough (record f { cancelled = true }) es
-action_effect c End f es = EndsRun None f
-action_effect c (Fail n) f es = EndsRun (Some n) f
+-- what a call of the procedure with a number does to a state, on the empty stack
+abbrev pub Called : Type 0
+Called = ℕ → Filing → Exit
+
+-- where there are no procedures
+abbrev pub no_calls : Called
+no_calls b f = Stuck
+
+-- how a call is left: its procedure comes to its end with the empty stack, or ends the run
+abbrev pub returned : Exit → Exit
+returned (FallsThrough f []) = FallsThrough f []
+returned (EndsRun e f) = EndsRun e f
+returned _ = Stuck
+
+abbrev pub action_effect : Called → Facts → Action → Filing → List Entry → Exit
+action_effect called c (Push b) f es = with_stack f (T b ∷ es)
+action_effect called c Negate f (T b ∷ es) = with_stack f (T (not b) ∷ es)
+action_effect called c Negate f _ = Stuck
+action_effect called c (ValuesOf name) f es = with_stack f (L (values_of c name) ∷ es)
+action_effect called c JoinTwo f (L ys ∷ L xs ∷ es) = with_stack f (L (xs ++ ys) ∷ es)
+action_effect called c JoinTwo f _ = Stuck
+action_effect called c (MatchKey a key) f (L xs ∷ es) = with_stack f (T (list_any (compared a key) xs) ∷ L xs ∷ es)
+action_effect called c (MatchKey a key) f _ = Stuck
+action_effect called c Drop f (e ∷ es) = with_stack f es
+action_effect called c Drop f _ = Stuck
+action_effect called c (HasField name) f es = with_stack f (T (has_field c name) ∷ es)
+action_effect called c PushSize f es = with_stack f (N c.size ∷ es)
+action_effect called c (PushNumber n) f es = with_stack f (N n ∷ es)
+action_effect called c IsLess f (N y ∷ N x ∷ es) = with_stack f (T (nat_lt x y) ∷ es)
+action_effect called c IsLess f _ = Stuck
+action_effect called c (IsMarked b) f es = with_stack f (T (slice_index_or f.marks b false) ∷ es)
+action_effect called c (SetMark b) f es = FallsThrough (record f { marks = slice_set f.marks b true }) es
+action_effect called c (FileInto a path) f es = filing c f es a path
+action_effect called c SetKept f es = FallsThrough (record f { kept = true }) es
+action_effect called c SetCancelled f es = FallsThrough (record f { cancelled = true }) es
+action_effect called c End f es = EndsRun None f
+action_effect called c (Fail n) f es = EndsRun (Some n) f
+action_effect called c (CallTo b) f [] = returned (called b f)
+action_effect called c (CallTo b) f _ = Stuck
 
 abbrev pub and_then : Exit → (Filing → List Entry → Exit) → Exit
 and_then (FallsThrough f es) go = go f es
@@ -83,10 +99,10 @@ leaving false n f (T true ∷ es) = FallsThrough f es
 leaving false n f (T false ∷ es) = Leaves n f es
 leaving _ n f _ = Stuck
 
-abbrev pub effect : Facts → Flow → Filing → List Entry → Exit
-effect c nothing f es = FallsThrough f es
-effect c (action o) f es = action_effect c o f es
-effect c (sequence a b) f es = and_then (effect c a f es) (effect c b)
-effect c (block a) f es = caught (effect c a f es)
-effect c (leave n) f es = Leaves n f es
-effect c (leave_if t n) f es = leaving t n f es
+abbrev pub effect : Called → Facts → Flow → Filing → List Entry → Exit
+effect called c nothing f es = FallsThrough f es
+effect called c (action o) f es = action_effect called c o f es
+effect called c (sequence a b) f es = and_then (effect called c a f es) (effect called c b)
+effect called c (block a) f es = caught (effect called c a f es)
+effect called c (leave n) f es = Leaves n f es
+effect called c (leave_if t n) f es = leaving t n f es

@@ -3,3 +3,4 @@ pub mod Code
 pub mod Effect
 pub mod Types
 pub mod Whole
+pub mod Procedures

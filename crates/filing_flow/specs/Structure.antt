@@ -34,6 +34,8 @@ pub data Action : Type 0 where
   End : Action
   -- ends the run with a fault
   Fail : ℕ → Action
+  -- runs the procedure with this number, and goes on after it
+  CallTo : ℕ → Action
 
 pub data Flow : Type 0 where
   nothing : Flow
@@ -56,19 +58,30 @@ size (block a) = size a
 size (leave n) = 1
 size (leave_if t n) = 1
 
--- the operands are in range, in a program with this number of slots
-abbrev pub IsSoundAction : ℕ → Action → Type 0
-IsSoundAction slots (MatchKey a key) = a ≤ 5
-IsSoundAction slots (IsMarked b) = b < slots
-IsSoundAction slots (SetMark b) = b < slots
-IsSoundAction slots (FileInto a path) = a ≤ 1
-IsSoundAction slots (Fail n) = (2 ≤ n) × (n ≤ 5)
-IsSoundAction slots _ = Unit {0}
+-- what operands may name: slots below a number, and procedures after one and below a number
+pub record Bounds : Type 0 where
+  pub slots : ℕ
+  pub own : ℕ
+  pub procedures : ℕ
 
-abbrev pub IsSound : ℕ → Flow → Type 0
-IsSound slots nothing = Unit {0}
-IsSound slots (action o) = IsSoundAction slots o
-IsSound slots (sequence a b) = IsSound slots a × IsSound slots b
-IsSound slots (block a) = IsSound slots a
-IsSound slots (leave n) = Unit {0}
-IsSound slots (leave_if t n) = Unit {0}
+-- of a program with this number of slots and no procedures
+abbrev pub without_procedures : ℕ → Bounds
+without_procedures slots = record { slots = slots; own = 0; procedures = 0 }
+
+-- the operands are within the bounds
+abbrev pub IsSoundAction : Bounds → Action → Type 0
+IsSoundAction bounds (MatchKey a key) = a ≤ 5
+IsSoundAction bounds (IsMarked b) = b < bounds.slots
+IsSoundAction bounds (SetMark b) = b < bounds.slots
+IsSoundAction bounds (FileInto a path) = a ≤ 1
+IsSoundAction bounds (Fail n) = (2 ≤ n) × (n ≤ 5)
+IsSoundAction bounds (CallTo b) = (bounds.own < b) × (b < bounds.procedures)
+IsSoundAction bounds _ = Unit {0}
+
+abbrev pub IsSound : Bounds → Flow → Type 0
+IsSound bounds nothing = Unit {0}
+IsSound bounds (action o) = IsSoundAction bounds o
+IsSound bounds (sequence a b) = IsSound bounds a × IsSound bounds b
+IsSound bounds (block a) = IsSound bounds a
+IsSound bounds (leave n) = Unit {0}
+IsSound bounds (leave_if t n) = Unit {0}

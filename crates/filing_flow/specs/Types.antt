@@ -3,7 +3,7 @@
 use Rattle.std.specs.Prelude.{◌≡◌, ℕ, zero, suc, ◌≤◌, List, [], ◌∷◌, length, Option, Some, None}
 use Rattle.filing_verify.specs.declared.kind.Kind.{Kind}
 use Rattle.filing_verify.specs.declared.kind.Kind.TheVariants.{Truth, Texts, Count}
-use Rattle.filing_flow.specs.Structure.{Action, Push, Negate, ValuesOf, JoinTwo, MatchKey, Drop, HasField, PushSize, PushNumber, IsLess, IsMarked, SetMark, FileInto, SetKept, SetCancelled, End, Fail, Flow, nothing, action, sequence, block, leave, leave_if}
+use Rattle.filing_flow.specs.Structure.{Action, Push, Negate, ValuesOf, JoinTwo, MatchKey, Drop, HasField, PushSize, PushNumber, IsLess, IsMarked, SetMark, FileInto, SetKept, SetCancelled, End, Fail, CallTo, Flow, nothing, action, sequence, block, leave, leave_if}
 
 abbrev pub Shape : Type 0
 Shape = List Kind
@@ -32,6 +32,8 @@ action_after SetKept ks = Some ks
 action_after SetCancelled ks = Some ks
 action_after End ks = Some ks
 action_after (Fail n) ks = Some ks
+action_after (CallTo b) [] = Some []
+action_after (CallTo b) _ = None
 
 -- the shape at the end of the block around that has this number
 abbrev pub shape_at : List Shape → ℕ → Option Shape

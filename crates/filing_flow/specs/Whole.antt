@@ -1,21 +1,22 @@
 -- Programs of code in blocks: the code, and the end of the run.
-use Rattle.std.specs.Prelude.{◌≡◌, ℕ, ◌+◌, ◌<◌, ◌≤◌, ◌^◌, [], Option, replicate, false, length}
+use Rattle.std.specs.Prelude.{◌≡◌, ℕ, ◌+◌, ◌<◌, ◌≤◌, ◌^◌, [], Option, None, replicate, false, length}
 use Rattle.filing_image.specs.Program.{Program}
 use Rattle.filing_verify.specs.Well.{IsWell}
 use Rattle.sieve_meaning.specs.Case.{Facts}
 use Rattle.sieve_meaning.specs.Outcome.{Outcome, outcome_at}
 use Rattle.filing_table.specs.Ends.{HasOutcome}
-use Rattle.filing_flow.specs.Structure.{Flow, sequence, block, action, End, size, IsSound}
+use Rattle.filing_flow.specs.Structure.{Flow, sequence, block, action, End, size, without_procedures, IsSound}
 use Rattle.filing_flow.specs.Code.{places_in, Stands}
-use Rattle.filing_flow.specs.Effect.{Filing, EndsRun, effect}
+use Rattle.filing_flow.specs.Effect.{Filing, EndsRun, no_calls, effect}
 use Rattle.filing_flow.specs.Types.{HasType}
 
 -- the code in one block, and after it the end of the run, to which a jump out of the code goes
 abbrev pub whole : Flow → Flow
 whole a = sequence (block a) (action End)
 
--- The code of the program is this code and the end of the run.
+-- The code of the program is this code and the end of the run, without procedures.
 pub record IsCodeOf (p : Program) (a : Flow) : Type 0 where
+  pub one_piece : p.procedures ≡ None
   pub stands : Stands (places_in p.texts p.numbers) p.code (whole a) [] 0
   pub long : length p.code ≡ size (whole a)
 
@@ -31,10 +32,10 @@ outcome_from fault f = outcome_at fault f.filed f.kept f.cancelled
 -- the program ends, with the same fault and the same outcome.
 abbrev pub RunsAsItsCode : Type 0
 RunsAsItsCode = (p : Program) (c : Facts) (a : Flow) (fault : Option ℕ) (f : Filing) → IsCodeOf p a →
-    IsSound p.slots a → effect c (whole a) nothing_done [] ≡ EndsRun fault f → (n : ℕ) ×
+    IsSound (without_procedures p.slots) a → effect no_calls c (whole a) nothing_done [] ≡ EndsRun fault f → (n : ℕ) ×
     HasOutcome p c n (outcome_from fault f)
 
 -- A program of code that has a type and is sound may run, where its budget has a step for each operation.
 abbrev pub TypedIsWell : Type 0
-TypedIsWell = (p : Program) (a : Flow) → IsCodeOf p a → HasType (block a) [] [] [] → IsSound p.slots a → p.slots ≤ 64 →
-    size a + 1 ≤ p.budget → p.budget < 2 ^ 16 → IsWell p
+TypedIsWell = (p : Program) (a : Flow) → IsCodeOf p a → HasType (block a) [] [] [] →
+    IsSound (without_procedures p.slots) a → p.slots ≤ 64 → size a + 1 ≤ p.budget → p.budget < 2 ^ 16 → IsWell p

@@ -4,8 +4,8 @@ use Rattle.std.proofs.lemmas.List.{length-replicate, get_or-replicate}
 use Rattle.filing_image.specs.Program.{Program}
 use Rattle.filing_verify.specs.Well.{IsWell}
 use Rattle.filing_table.specs.Ends.{HasOutcome}
-use Rattle.filing_flow.specs.Structure.{Flow, action, size, End, IsSound}
-use Rattle.filing_flow.specs.Effect.{Exit, EndsRun, effect, caught}
+use Rattle.filing_flow.specs.Structure.{Flow, action, size, End, without_procedures, IsSound}
+use Rattle.filing_flow.specs.Effect.{Exit, EndsRun, no_calls, effect, caught}
 use Rattle.filing_flow.specs.Effect as code
 use Rattle.filing_flow.specs.Whole.{whole, IsCodeOf, nothing_done, outcome_from}
 use Rattle.filing_flow.proofs.Well.{typed_is_well}
@@ -14,9 +14,11 @@ use Rattle.sieve_meaning.specs.Case.{Facts}
 use Rattle.sieve_meaning.specs.Program.{Commands}
 use Rattle.sieve_meaning.specs.Meaning.{Ending, GoesOn, Returns, Stops, Faults, included, meaning, opening, main_names, Library}
 use Rattle.sieve_meaning.specs.Outcome.{Outcome, outcome_at, outcome_of}
+use Rattle.sieve_meaning.proofs.OutcomeLaws.{budget_by_weight}
 use Rattle.sieve_meaning.specs.Weight.{linked_weight, included_weight}
 use Rattle.filing_gen.specs.Structured.{script_flow}
-use Rattle.filing_gen.specs.Linked.{Slots, linked_flow, HasSlots, Marked}
+use Rattle.script_procedures.specs.Slots.{Slots, HasSlots}
+use Rattle.filing_gen.specs.Linked.{linked_flow, Marked}
 use Rattle.filing_gen.specs.Alike.{Marking, Related, filing_at, exit_of, Alike}
 use Rattle.std.specs.Prelude.{slice_get}
 use Rattle.filing_image.specs.declared.instruction.Operation.{Operation}
@@ -33,13 +35,13 @@ use Rattle.filing_gen.proofs.IncludesTypes.{included_typed, included_small, incl
 use Rattle.filing_gen.proofs.Types.{flow_typed, flow_small, flow_sound}
 
 -- how the run ends after a script's ending
-abbrev fault_of : Ending → Option ℕ
+abbrev pub fault_of : Ending → Option ℕ
 fault_of (GoesOn f) = None
 fault_of (Returns f) = None
 fault_of (Stops f) = None
 fault_of (Faults n f) = Some n
 
-end_means : (c : Facts) (e : Ending) (g : code.Filing) → code.and_then (caught (exit_of 0 e g)) (effect c (action End)) ≡ EndsRun (fault_of e) g
+end_means : (c : Facts) (e : Ending) (g : code.Filing) → code.and_then (caught (exit_of 0 e g)) (effect no_calls c (action End)) ≡ EndsRun (fault_of e) g
 end_means c (GoesOn f) g = refl
 end_means c (Returns f) g = refl
 end_means c (Stops f) g = refl
@@ -51,28 +53,33 @@ outcome_is (Returns f) = refl
 outcome_is (Stops f) = refl
 outcome_is (Faults n f) = refl
 
-same_outcome : (marking : Marking) (e : Ending) (g : code.Filing) → Related marking (filing_at e) g → outcome_from (fault_of e) g ≡ outcome_of e
+pub same_outcome : (marking : Marking) (e : Ending) (g : code.Filing) → Related marking (filing_at e) g → outcome_from (fault_of e) g ≡ outcome_of e
 same_outcome marking e g r = rw (r.filed, r.kept, r.cancelled) (outcome_is e)
 
 abbrev pub main_flow : Library → Slots → Option (List ℕ) → Commands → Flow
 main_flow lib slot known_as main = script_flow (linked_flow lib slot known_as) main
 
-module _ (lib : Library) (slot : Slots) (count : ℕ) (has : HasSlots lib slot count) (known_as : Option (List ℕ)) (main : Commands) where
-  script_means : (c : Facts) → Alike (Marked lib slot (main_names known_as) (main_names known_as)) 0 (meaning c lib known_as main) (effect c (main_flow lib slot known_as main) nothing_done [])
-  script_means c =
-      flow_means c (Marked lib slot (main_names known_as) (main_names known_as)) (linked_flow lib slot known_as) (included c lib 7 (main_names known_as)) (included_agrees c lib slot count has (main_names known_as) 7 (main_names known_as) (λ s h. h)) 0 main (opening known_as) nothing_done
-      (record { filed = refl; kept = refl; cancelled = refl; marks = record { long = length-replicate 64 false; active = λ s h. h; found = λ s x at out. get_or-replicate 64 (slot s) false false (let l = has.inside s x at in omega (arith, l, has.few)) ∙ sym out; missing = λ s none. refl } })
+-- before a run only the main script was entered, and no mark is set
+pub opening_related : (lib : Library) (slot : Slots) (count : ℕ) → HasSlots lib slot count → (known_as : Option (List ℕ)) → Related (Marked lib slot (main_names known_as) (main_names known_as)) (opening known_as) nothing_done
+opening_related lib slot count has known_as =
+    record { filed = refl; kept = refl; cancelled = refl; marks = record { long = length-replicate 64 false; active = λ s h. h; found = λ s x at out. get_or-replicate 64 (slot s) false false (let l = has.inside s x at in omega (arith, l, has.few)) ∙ sym out; missing = λ s none. refl } }
 
-  sound : IsSound count (main_flow lib slot known_as main)
-  sound = flow_sound count (linked_flow lib slot known_as) (included_sound count lib slot has (main_names known_as) 7 (main_names known_as)) 0 main
+module _ (lib : Library) (slot : Slots) (count : ℕ) (has : HasSlots lib slot count) (known_as : Option (List ℕ)) (main : Commands) where
+  script_means : (c : Facts) → Alike (Marked lib slot (main_names known_as) (main_names known_as)) 0 (meaning c lib known_as main) (effect no_calls c (main_flow lib slot known_as main) nothing_done [])
+  script_means c =
+      flow_means no_calls c (Marked lib slot (main_names known_as) (main_names known_as)) (linked_flow lib slot known_as) (included c lib 7 (main_names known_as)) (included_agrees no_calls c lib slot count has (main_names known_as) 7 (main_names known_as) (λ s h. h)) 0 main (opening known_as) nothing_done
+      (opening_related lib slot count has known_as)
+
+  sound : IsSound (without_procedures count) (main_flow lib slot known_as main)
+  sound = flow_sound (without_procedures count) (linked_flow lib slot known_as) (included_sound (without_procedures count) lib slot has (main_names known_as) 7 (main_names known_as)) 0 main
 
   has_outcome : (p : Program) → IsCodeOf p (main_flow lib slot known_as main) → p.slots ≡ count → (c : Facts) → (n : ℕ) × HasOutcome p c n (outcome_of (meaning c lib known_as main))
   has_outcome p is slots c =
       let m = meaning c lib known_as main in
       let a = main_flow lib slot known_as main in
       let h = script_means c in
-      let ends : effect c (whole a) nothing_done [] ≡ EndsRun (fault_of m) h.filing = ap (λ (x : Exit). code.and_then (caught x) (effect c (action End))) h.exit ∙ end_means c m h.filing in
-      let good : IsSound p.slots a = subst (λ (k : ℕ). IsSound k a) (sym slots) sound in
+      let ends : effect no_calls c (whole a) nothing_done [] ≡ EndsRun (fault_of m) h.filing = ap (λ (x : Exit). code.and_then (caught x) (effect no_calls c (action End))) h.exit ∙ end_means c m h.filing in
+      let good : IsSound (without_procedures p.slots) a = subst (λ (k : ℕ). IsSound (without_procedures k) a) (sym slots) sound in
       let found = program_ends p c a (fault_of m) h.filing is good ends in
       (found.0, subst (λ (o : Outcome). HasOutcome p c found.0 o) (same_outcome (Marked lib slot (main_names known_as) (main_names known_as)) m h.filing h.related) found.1)
 
@@ -81,25 +88,31 @@ module _ (lib : Library) (slot : Slots) (count : ℕ) (has : HasSlots lib slot c
 
   well : (p : Program) → IsCodeOf p (main_flow lib slot known_as main) → p.slots ≡ count → p.budget ≡ linked_weight lib known_as main → linked_weight lib known_as main < 2 ^ 16 → IsWell p
   well p is slots budget small =
-      let good : IsSound p.slots (main_flow lib slot known_as main) = subst (λ (k : ℕ). IsSound k (main_flow lib slot known_as main)) (sym slots) sound in
+      let good : IsSound (without_procedures p.slots) (main_flow lib slot known_as main) = subst (λ (k : ℕ). IsSound (without_procedures k) (main_flow lib slot known_as main)) (sym slots) sound in
       typed_is_well p (main_flow lib slot known_as main) is (flow_typed (linked_flow lib slot known_as) (included_typed lib slot (main_names known_as) 7 (main_names known_as)) 0 main ([] ∷ []) refl)
       good (omega (arith, slots, has.few)) (omega (arith, budget, script_small)) (omega (arith, budget, small))
 
   -- what was written is the program
-  code_of : (o : Output) (p : Program) (a : Flow) (b : ℕ) → IsCode o a → IsImageOf b count o p → IsCodeOf p a
+  code_of : (o : Output) (p : Program) (a : Flow) (b : ℕ) → IsCode o a → IsImageOf b count None o p → IsCodeOf p a
   code_of o p a b is made =
       let named : Named (operands_of o) (places_in p.texts p.numbers) = record { text = made.text; number = made.number } in
       record {
+        one_piece = made.procedures_are;
         stands = stands_there (operands_of o) (places_in p.texts p.numbers) named o.code.items p.code 0 (λ i x low at. subst (λ (l : List Operation). slice_get l i ≡ Some x) (sym made.code) at) (whole a) [] 0 (omega arith) is.stands;
         long = ap length made.code ∙ is.long;
       }
 
-  pub built_well : (o : Output) (p : Program) (b : ℕ) → IsCode o (main_flow lib slot known_as main) → IsImageOf b count o p → b ≡ linked_weight lib known_as main → b ≤ 60000 → IsWell p
+  pub built_well : (o : Output) (p : Program) (b : ℕ) → IsCode o (main_flow lib slot known_as main) → IsImageOf b count None o p → b ≡ linked_weight lib known_as main → b ≤ 60000 → IsWell p
   built_well o p b is made weight small =
       well p (code_of o p (main_flow lib slot known_as main) b is made) made.slots (made.budget_is ∙ weight) (omega (arith, weight, small))
 
-  pub built : (o : Output) (p : Program) (b : ℕ) → IsCode o (main_flow lib slot known_as main) → IsImageOf b count o p → IsWell p → b ≡ linked_weight lib known_as main → IsCompiled lib known_as main p
-  built o p b is made good weight = record { budget = made.budget_is ∙ weight; well = good; outcomes = has_outcome p (code_of o p (main_flow lib slot known_as main) b is made) made.slots }
+  pub built : (o : Output) (p : Program) (b : ℕ) → IsCode o (main_flow lib slot known_as main) → IsImageOf b count None o p → IsWell p → b ≡ linked_weight lib known_as main → b ≤ 60000 → IsCompiled lib known_as main p
+  built o p b is made good weight small =
+      record {
+        budget = made.budget_is ∙ weight ∙ sym (budget_by_weight lib known_as main (omega (arith, weight, small)));
+        well = good;
+        outcomes = has_outcome p (code_of o p (main_flow lib slot known_as main) b is made) made.slots;
+      }
 
   pub room : linked_weight lib known_as main ≤ 60000 → commands_long (λ i. size (linked_flow lib slot known_as i)) main + 1 < 2 ^ 16
   room small = omega (arith, small, script_small, flow_long (linked_flow lib slot known_as) 0 main)

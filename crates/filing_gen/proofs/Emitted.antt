@@ -15,7 +15,7 @@ use Rattle.filing_gen.specs.Adds.{operands_of, Puts, Keeps, Brings, Emits}
 
 -- WHAT STAYS
 
-get_front : {A : Type 0} (xs ys : List A) (i : ℕ) (x : A) → slice_get xs i ≡ Some x → slice_get (xs ++ ys) i ≡ Some x
+pub get_front : {A : Type 0} (xs ys : List A) (i : ℕ) (x : A) → slice_get xs i ≡ Some x → slice_get (xs ++ ys) i ≡ Some x
 get_front [] ys i x at = absurd (cc at)
 get_front (y ∷ xs) ys zero x at = at
 get_front (y ∷ xs) ys (suc i) x at = get_front xs ys i x at
@@ -24,16 +24,16 @@ get_seam : {A : Type 0} (xs : List A) (x : A) (ys : List A) → slice_get (xs ++
 get_seam [] x ys = refl
 get_seam (y ∷ xs) x ys = get_seam xs x ys
 
-same_front : (os more ps : List Operation) → ps ≡ os ++ more → SameFrom 0 os ps
+pub same_front : (os more ps : List Operation) → ps ≡ os ++ more → SameFrom 0 os ps
 same_front os more ps is i o low at = subst (λ (qs : List Operation). slice_get qs i ≡ Some o) (sym is) (get_front os more i o at)
 
 pub named_by : (x y : Output) (n : ℕ) → Keeps x y n → Named (operands_of x) (operands_of y)
 named_by x y n k = record { text = k.text; number = k.number }
 
-keeps_same : (x : Output) (n : ℕ) → Keeps x x n
+pub keeps_same : (x : Output) (n : ℕ) → Keeps x x n
 keeps_same x n = record { text = λ b t h. h; number = λ b k h. h; texts = omega arith; numbers = omega arith }
 
-keeps_then : (x y z : Output) (n m k : ℕ) → k ≡ n + m → Keeps x y n → Keeps y z m → Keeps x z k
+pub keeps_then : (x y z : Output) (n m k : ℕ) → k ≡ n + m → Keeps x y n → Keeps y z m → Keeps x z k
 keeps_then x y z n m k is a b = record {
   text = λ p t h. b.text p t (a.text p t h);
   number = λ p t h. b.number p t (a.number p t h);
@@ -55,7 +55,7 @@ keeps_put x y o h = record {
 one_put : (x y : Output) (o : Operation) (a : Flow) (ends : List ℕ) → Puts x y o → size a ≡ 1 → Stands (operands_of y) y.code.items a ends (length x.code.items) → Emits x y a ends
 one_put x y o a ends h one stands = record { keeps = keeps_then x x y 1 0 (size a) (omega (arith, one)) (keeps_same x 1) (keeps_put x y o h); added = o ∷ []; code = h.code; long = sym one; stands = stands }
 
-put_at_end : (x y : Output) (o : Operation) → Puts x y o → slice_get y.code.items (length x.code.items) ≡ Some o
+pub put_at_end : (x y : Output) (o : Operation) → Puts x y o → slice_get y.code.items (length x.code.items) ≡ Some o
 put_at_end x y o h = subst (λ (qs : List Operation). slice_get qs (length x.code.items) ≡ Some o) (sym h.code) (get_seam x.code.items o [])
 
 pub action_emitted : (x y : Output) (o : Operation) (k : Action) → Puts x y o → IsWritten (operands_of y) k o → (ends : List ℕ) → Emits x y (action k) ends
@@ -120,7 +120,7 @@ pub put_grows : (x y : Output) (o : Operation) → Puts x y o → Grows x y 1
 put_grows x y o h = record { code = ap length h.code ∙ length-append x.code.items (o ∷ []); texts = rw h.texts (omega arith); numbers = rw h.numbers (omega arith) }
 
 -- what was emitted is still there after more was added
-still_stands : (x y z : Output) (n : ℕ) (more : List Operation) (a : Flow) (ends : List ℕ) (place : ℕ) → Keeps y z n → z.code.items ≡ y.code.items ++ more → Stands (operands_of y) y.code.items a ends place → Stands (operands_of z) z.code.items a ends place
+pub still_stands : (x y z : Output) (n : ℕ) (more : List Operation) (a : Flow) (ends : List ℕ) (place : ℕ) → Keeps y z n → z.code.items ≡ y.code.items ++ more → Stands (operands_of y) y.code.items a ends place → Stands (operands_of z) z.code.items a ends place
 still_stands x y z n more a ends place k is h = stands_there (operands_of y) (operands_of z) (named_by y z n k) y.code.items z.code.items 0 (same_front y.code.items more z.code.items is) a ends place (omega arith) h
 
 pub emits_sequence : (x y z : Output) (a b : Flow) (ends : List ℕ) → Emits x y a ends → Emits y z b ends → Emits x z (sequence a b) ends

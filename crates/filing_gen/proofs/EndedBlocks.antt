@@ -7,7 +7,7 @@ use Rattle.std.proofs.lemmas.Option.{slice_get-map}
 use Rattle.std.specs.Prelude.{slice_get, option_map}
 use Rattle.filing_image.specs.declared.instruction.Operation.{Operation}
 use Rattle.filing_image.specs.declared.instruction.Operation.TheVariants.{Jump, JumpIf, JumpUnless}
-use Rattle.filing_flow.specs.Structure.{Action, Push, Negate, ValuesOf, JoinTwo, MatchKey, Drop, HasField, PushSize, PushNumber, IsLess, IsMarked, SetMark, FileInto, SetKept, SetCancelled, End, Fail, Flow, nothing, action, sequence, block, leave, leave_if, size}
+use Rattle.filing_flow.specs.Structure.{Action, Push, Negate, ValuesOf, JoinTwo, MatchKey, Drop, HasField, PushSize, PushNumber, IsLess, IsMarked, SetMark, FileInto, SetKept, SetCancelled, End, Fail, CallTo, Flow, nothing, action, sequence, block, leave, leave_if, size}
 use Rattle.filing_flow.specs.Code.{Operands, IsWritten, Stands, end_at, jump_when}
 use Rattle.filing_flow.specs.Types.{Shape, shape_at, HasType}
 use Rattle.filing_flow.proofs.Stands.{Named, stands_there}
@@ -54,6 +54,7 @@ written_known n e SetKept o w = rw w refl
 written_known n e SetCancelled o w = rw w refl
 written_known n e End o w = rw w refl
 written_known n e (Fail k) o w = rw w refl
+written_known n e (CallTo b) o w = rw w refl
 
 -- a place that is known, since it is not after the end
 place_known : (e b : ℕ) → b ≤ e → e ≤ no_place → place_or e b ≡ b

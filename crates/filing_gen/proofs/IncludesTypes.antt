@@ -1,14 +1,15 @@
 -- The code of includes has a type and sound operands, and no more operations than its weight.
 use Rattle.std.proofs.Common.{◌≡◌, ℕ, zero, suc, ◌+◌, ◌≤◌, ◌<◌, List, [], ◌∷◌, Bool, true, false, Option, Some, None, refl, arith}
 use Rattle.filing_verify.specs.declared.kind.Kind.TheVariants.{Truth}
-use Rattle.filing_flow.specs.Structure.{SetMark, Fail, Flow, action, sequence, block, size, IsSound}
+use Rattle.filing_flow.specs.Structure.{SetMark, Fail, Flow, action, sequence, block, size, Bounds, IsSound}
 use Rattle.filing_flow.specs.Types.{Shape, HasType}
 use Rattle.sieve_meaning.specs.Program.{Include, Commands}
 use Rattle.sieve_meaning.specs.Meaning.{ScriptName, script_named, is_among, Library}
 use Rattle.sieve_meaning.specs.Weight.{weight, included_weight, unless_missing, unless_active}
 use Rattle.filing_gen.specs.Structured.{flow}
 use Rattle.filing_gen.specs.Levels.{entered_flow}
-use Rattle.filing_gen.specs.Linked.{Slots, once_flow, active_flow, found_flow, including_flow, included_flow, HasSlots, is_passed}
+use Rattle.script_procedures.specs.Slots.{Slots, HasSlots}
+use Rattle.filing_gen.specs.Linked.{once_flow, active_flow, found_flow, including_flow, included_flow, is_passed}
 use Rattle.filing_gen.proofs.Types.{flow_typed, flow_small, flow_sound, IncludesTyped, IncludesSmall, IncludesSound}
 
 -- TYPES
@@ -27,7 +28,7 @@ found_typed None true go es h = refl
 found_typed None false go es h = (refl, omega arith, omega arith)
 found_typed (Some x) passed go es h = h x
 
-including_typed : (lib : Library) (slot : Slots) (main chain : List ScriptName) (a : Commands → Flow) (i : Include) → ((x : Commands) (es : List Shape) → HasType (a x) es [] []) → (es : List Shape) → HasType (including_flow lib slot main chain a i) es [] []
+pub including_typed : (lib : Library) (slot : Slots) (main chain : List ScriptName) (a : Commands → Flow) (i : Include) → ((x : Commands) (es : List Shape) → HasType (a x) es [] []) → (es : List Shape) → HasType (including_flow lib slot main chain a i) es [] []
 including_typed lib slot main chain a i h es =
     found_typed (lib.find (script_named i)) (is_passed main i) _ es
     (λ x. active_typed (is_among chain (script_named i)) i.once _ es (once_typed i.once (slot (script_named i)) (a x) es (h x)))
@@ -59,14 +60,14 @@ found_small None false go w h = omega arith
 found_small (Some x) passed go w h = h x
 
 -- where an entry takes at most two operations and what it adds to the weight
-including_small : (lib : Library) (slot : Slots) (main chain : List ScriptName) (a : Commands → Flow) (w : Commands → ℕ) (i : Include) → ((x : Commands) → size (a x) ≤ 2 + w x)
+pub including_small : (lib : Library) (slot : Slots) (main chain : List ScriptName) (a : Commands → Flow) (w : Commands → ℕ) (i : Include) → ((x : Commands) → size (a x) ≤ 2 + w x)
     → size (including_flow lib slot main chain a i) ≤ 4 + unless_missing (lib.find (script_named i)) (λ script. unless_active (is_among chain (script_named i)) (w script))
 including_small lib slot main chain a w i h =
     found_small (lib.find (script_named i)) (is_passed main i) (λ script. active_flow (is_among chain (script_named i)) i.once (once_flow i.once (slot (script_named i)) (a script)))
     (λ script. unless_active (is_among chain (script_named i)) (w script))
     (λ x. active_small (is_among chain (script_named i)) i.once (once_flow i.once (slot (script_named i)) (a x)) (w x) (omega (arith, once_small i.once (slot (script_named i)) (2 + w x) (a x) (h x))))
 
-nothing_there : (o : Option Commands) (b : Bool) → unless_missing o (λ script. unless_active b 0) ≡ 0
+pub nothing_there : (o : Option Commands) (b : Bool) → unless_missing o (λ script. unless_active b 0) ≡ 0
 nothing_there None b = refl
 nothing_there (Some x) true = refl
 nothing_there (Some x) false = refl
@@ -80,27 +81,27 @@ included_small lib slot main (suc left) chain i =
 
 -- OPERANDS
 
-once_sound : (count : ℕ) (once : Bool) (slot : ℕ) (a : Flow) → slot < count → IsSound count a → IsSound count (once_flow once slot a)
-once_sound count true slot a lt h = (lt, (tt, h))
-once_sound count false slot a lt h = h
+once_sound : (bounds : Bounds) (once : Bool) (slot : ℕ) (a : Flow) → slot < bounds.slots → IsSound bounds a → IsSound bounds (once_flow once slot a)
+once_sound bounds true slot a lt h = (lt, (tt, h))
+once_sound bounds false slot a lt h = h
 
-active_sound : (count : ℕ) (active once : Bool) (a : Flow) → IsSound count a → IsSound count (active_flow active once a)
-active_sound count true true a h = tt
-active_sound count true false a h = (omega arith, omega arith)
-active_sound count false once a h = h
+active_sound : (bounds : Bounds) (active once : Bool) (a : Flow) → IsSound bounds a → IsSound bounds (active_flow active once a)
+active_sound bounds true true a h = tt
+active_sound bounds true false a h = (omega arith, omega arith)
+active_sound bounds false once a h = h
 
-found_sound : (count : ℕ) (lib : Library) (s : ScriptName) (o : Option Commands) → lib.find s ≡ o → (passed : Bool) (go : Commands → Flow) → ((x : Commands) → lib.find s ≡ Some x → IsSound count (go x)) → IsSound count (found_flow o passed go)
-found_sound count lib s None at true go h = tt
-found_sound count lib s None at false go h = (omega arith, omega arith)
-found_sound count lib s (Some x) at passed go h = h x at
+found_sound : (bounds : Bounds) (lib : Library) (s : ScriptName) (o : Option Commands) → lib.find s ≡ o → (passed : Bool) (go : Commands → Flow) → ((x : Commands) → lib.find s ≡ Some x → IsSound bounds (go x)) → IsSound bounds (found_flow o passed go)
+found_sound bounds lib s None at true go h = tt
+found_sound bounds lib s None at false go h = (omega arith, omega arith)
+found_sound bounds lib s (Some x) at passed go h = h x at
 
-including_sound : (count : ℕ) (lib : Library) (slot : Slots) → HasSlots lib slot count → (main chain : List ScriptName) (a : Commands → Flow) (i : Include) → ((x : Commands) → slot (script_named i) < count → IsSound count (a x)) → IsSound count (including_flow lib slot main chain a i)
-including_sound count lib slot has main chain a i h =
-    found_sound count lib (script_named i) (lib.find (script_named i)) refl (is_passed main i) (λ script. active_flow (is_among chain (script_named i)) i.once (once_flow i.once (slot (script_named i)) (a script)))
-    (λ x at. active_sound count (is_among chain (script_named i)) i.once (once_flow i.once (slot (script_named i)) (a x)) (once_sound count i.once (slot (script_named i)) (a x) (has.inside (script_named i) x at) (h x (has.inside (script_named i) x at))))
+pub including_sound : (bounds : Bounds) (lib : Library) (slot : Slots) → HasSlots lib slot bounds.slots → (main chain : List ScriptName) (a : Commands → Flow) (i : Include) → ((x : Commands) → slot (script_named i) < bounds.slots → IsSound bounds (a x)) → IsSound bounds (including_flow lib slot main chain a i)
+including_sound bounds lib slot has main chain a i h =
+    found_sound bounds lib (script_named i) (lib.find (script_named i)) refl (is_passed main i) (λ script. active_flow (is_among chain (script_named i)) i.once (once_flow i.once (slot (script_named i)) (a script)))
+    (λ x at. active_sound bounds (is_among chain (script_named i)) i.once (once_flow i.once (slot (script_named i)) (a x)) (once_sound bounds i.once (slot (script_named i)) (a x) (has.inside (script_named i) x at) (h x (has.inside (script_named i) x at))))
 
-pub included_sound : (count : ℕ) (lib : Library) (slot : Slots) → HasSlots lib slot count → (main : List ScriptName) (left : ℕ) (chain : List ScriptName) → IncludesSound count (included_flow lib slot main left chain)
-included_sound count lib slot has main zero chain i = including_sound count lib slot has main chain (λ script. action (Fail 4)) i (λ x lt. (omega arith, omega arith))
-included_sound count lib slot has main (suc left) chain i =
-    including_sound count lib slot has main chain (λ script. block (sequence (action (SetMark (slot (script_named i)))) (flow (included_flow lib slot main left (script_named i ∷ chain)) 0 script))) i
-    (λ x lt. (lt, flow_sound count (included_flow lib slot main left (script_named i ∷ chain)) (included_sound count lib slot has main left (script_named i ∷ chain)) 0 x))
+pub included_sound : (bounds : Bounds) (lib : Library) (slot : Slots) → HasSlots lib slot bounds.slots → (main : List ScriptName) (left : ℕ) (chain : List ScriptName) → IncludesSound bounds (included_flow lib slot main left chain)
+included_sound bounds lib slot has main zero chain i = including_sound bounds lib slot has main chain (λ script. action (Fail 4)) i (λ x lt. (omega arith, omega arith))
+included_sound bounds lib slot has main (suc left) chain i =
+    including_sound bounds lib slot has main chain (λ script. block (sequence (action (SetMark (slot (script_named i)))) (flow (included_flow lib slot main left (script_named i ∷ chain)) 0 script))) i
+    (λ x lt. (lt, flow_sound bounds (included_flow lib slot main left (script_named i ∷ chain)) (included_sound bounds lib slot has main left (script_named i ∷ chain)) 0 x))

@@ -13,7 +13,8 @@ use Rattle.filing_gen.specs.Adds.{Puts, Emits}
 use Rattle.filing_gen.specs.declared.finding.Finding.{Finding}
 use Rattle.filing_gen.specs.declared.finding.Finding.TheVariants.{Pass, Fault}
 use Rattle.filing_gen.specs.Scopes.{told}
-use Rattle.filing_gen.specs.Linked.{Slots, is_passed, once_flow, active_flow, found_flow, included_flow}
+use Rattle.script_procedures.specs.Slots.{Slots}
+use Rattle.filing_gen.specs.Linked.{is_passed, once_flow, active_flow, found_flow, included_flow}
 use Rattle.filing_gen.specs.Levels.{Judgement, Passes, Fails, Enters, judged, judgement, judged_flow, judged_weight, entered_flow, entered_weight}
 use Rattle.filing_gen.specs.Ends.{no_place, IsEnded}
 use Rattle.filing_gen.proofs.Emitted.{emits_sequence, action_emitted, leave_if_emitted}
@@ -23,7 +24,7 @@ use Rattle.filing_gen.proofs.IncludesTypes.{once_typed}
 
 -- CODE
 
-flow_cases : (o : Option Commands) (passed active once : Bool) (slot : ℕ) (enter : Commands → Flow)
+pub flow_cases : (o : Option Commands) (passed active once : Bool) (slot : ℕ) (enter : Commands → Flow)
     → found_flow o passed (λ script. active_flow active once (once_flow once slot (enter script))) ≡ judged_flow (judged o passed active once) once slot enter
 flow_cases None true active once slot enter = refl
 flow_cases None false active once slot enter = refl
@@ -45,7 +46,7 @@ no_weight Passes = refl
 no_weight (Fails n) = refl
 no_weight (Enters script) = refl
 
-weight_cases : (o : Option Commands) (passed active once : Bool) (enter : Commands → ℕ) → unless_missing o (λ script. unless_active active (enter script)) ≡ judged_weight (judged o passed active once) enter
+pub weight_cases : (o : Option Commands) (passed active once : Bool) (enter : Commands → ℕ) → unless_missing o (λ script. unless_active active (enter script)) ≡ judged_weight (judged o passed active once) enter
 weight_cases None true active once enter = refl
 weight_cases None false active once enter = refl
 weight_cases (Some x) passed true true enter = refl

@@ -12,7 +12,22 @@ mod Turns
 mod Chains
 mod WeightLemmas
 mod Includes
+pub mod CallLemmas
+pub mod PathLemmas
+pub mod ProcedureSizes
+pub mod ProcedureTypes
+mod ProcedureRows
 mod IncludesTypes
-mod SlotLemmas
 mod Rows
 mod LevelLemmas
+mod NumberLemmas
+mod PathTables
+mod CallsEmitted
+pub mod InclusionLemmas
+mod SharedMeaning
+mod SharedSteps
+mod WrittenProcedures
+mod ProceduresEmitted
+mod SharedTypes
+mod SharedCompiled
+mod SharedBuilt

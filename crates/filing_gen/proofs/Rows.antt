@@ -3,7 +3,7 @@ use Rattle.std.proofs.Common.{◌≡◌, ℕ, List, [], ◌∷◌, true, false, 
 use Rattle.sieve_syntax.specs.declared.tree.Script.{Script}
 use Rattle.script_library.specs.Libraries.{NamedScript, Scripts}
 use Rattle.filing_gen.specs.Names.{each_once}
-use Rattle.filing_gen.specs.Slots.{slots_of}
+use Rattle.script_procedures.specs.Slots.{slots_of}
 
 abbrev entry : List ℕ → Script → NamedScript
 entry name s = record { name = name; script = s }

@@ -1,7 +1,7 @@
 -- The code of a script has a type and sound operands, and no more operations than its weight.
 use Rattle.std.proofs.Common.{◌≡◌, ℕ, suc, ◌+◌, ◌*◌, ◌≤◌, List, [], ◌∷◌, length, Bool, true, false, Some, refl, arith}
 use Rattle.filing_verify.specs.declared.kind.Kind.TheVariants.{Truth, Texts, Count}
-use Rattle.filing_flow.specs.Structure.{Push, ValuesOf, Drop, Flow, action, sequence, block, leave, size, IsSound}
+use Rattle.filing_flow.specs.Structure.{Push, ValuesOf, Drop, Flow, action, sequence, block, leave, size, Bounds, IsSound}
 use Rattle.filing_flow.specs.Types.{Shape, HasType, shape_at}
 use Rattle.sieve_meaning.specs.declared.matching.Comparator.{Comparator}
 use Rattle.sieve_meaning.specs.declared.matching.Comparator.TheVariants as comparators
@@ -153,21 +153,21 @@ copy_sound : (b : Bool) → copy_number b ≤ 1
 copy_sound true = omega arith
 copy_sound false = omega arith
 
-module _ (slots : ℕ) where
-  values_sound : (ns : List (List ℕ)) → IsSound slots (values_flow ns)
+module _ (bounds : Bounds) where
+  values_sound : (ns : List (List ℕ)) → IsSound bounds (values_flow ns)
   values_sound [] = tt
   values_sound (n ∷ ns) = (tt, (tt, values_sound ns))
 
-  keys_sound : (a : ℕ) → a ≤ 5 → (ks : List (List ℕ)) → IsSound slots (keys_flow a ks)
+  keys_sound : (a : ℕ) → a ≤ 5 → (ks : List (List ℕ)) → IsSound bounds (keys_flow a ks)
   keys_sound a h [] = tt
   keys_sound a h (k ∷ ks) = (h, (tt, keys_sound a h ks))
 
-  names_sound : (ns : List (List ℕ)) → IsSound slots (names_flow ns)
+  names_sound : (ns : List (List ℕ)) → IsSound bounds (names_flow ns)
   names_sound [] = tt
   names_sound (n ∷ ns) = (tt, (tt, names_sound ns))
 
   mutual
-    test_sound : (t : Test) → IsSound slots (test_flow t)
+    test_sound : (t : Test) → IsSound bounds (test_flow t)
     test_sound (always b) = tt
     test_sound (negated t) = (test_sound t, tt)
     test_sound (all_of ts) = ((tests_sound false ts, (tt, tt)), tt)
@@ -177,20 +177,20 @@ module _ (slots : ℕ) where
     test_sound (under n) = (tt, (tt, tt))
     test_sound (header m c n ns k ks) = (((tt, values_sound (others_once n ns)), (keys_sound (comparison m c) (comparison_sound m c) (k ∷ ks), (tt, (tt, tt)))), (tt, tt))
 
-    tests_sound : (b : Bool) (ts : Tests) → IsSound slots (tests_flow b ts)
+    tests_sound : (b : Bool) (ts : Tests) → IsSound bounds (tests_flow b ts)
     tests_sound b no_test = tt
     tests_sound b (test_then t ts) = (test_sound t, (tt, tests_sound b ts))
 
   abbrev pub IncludesSound : (Include → Flow) → Type 0
-  IncludesSound g = (i : Include) → IsSound slots (g i)
+  IncludesSound g = (i : Include) → IsSound bounds (g i)
 
   module _ (g : Include → Flow) (sound : IncludesSound g) where
     mutual
-      pub flow_sound : (n : ℕ) (xs : Commands) → IsSound slots (flow g n xs)
+      pub flow_sound : (n : ℕ) (xs : Commands) → IsSound bounds (flow g n xs)
       flow_sound n no_command = tt
       flow_sound n (command_then x xs) = (one_sound n x, flow_sound n xs)
 
-      one_sound : (n : ℕ) (x : Command) → IsSound slots (flow_one g n x)
+      one_sound : (n : ℕ) (x : Command) → IsSound bounds (flow_one g n x)
       one_sound n require = tt
       one_sound n keep = tt
       one_sound n discard = tt
@@ -200,7 +200,7 @@ module _ (slots : ℕ) where
       one_sound n (branch bs) = branches_sound (suc n) bs
       one_sound n (include i) = sound i
 
-      branches_sound : (n : ℕ) (bs : Branches) → IsSound slots (branches_flow g n bs)
+      branches_sound : (n : ℕ) (bs : Branches) → IsSound bounds (branches_flow g n bs)
       branches_sound n no_branch = tt
       branches_sound n (otherwise xs) = flow_sound n xs
       branches_sound n (if_then t xs bs) = ((test_sound t, (tt, (flow_sound (suc n) xs, tt))), branches_sound n bs)

@@ -1,5 +1,5 @@
 -- The output so far, and what a piece of code adds to it.
-use Rattle.std.specs.Prelude.{◌≡◌, ℕ, ◌+◌, ◌<◌, ◌≤◌, ◌^◌, List, [], ◌∷◌, ◌++◌, length, Some, slice_get}
+use Rattle.std.specs.Prelude.{◌≡◌, ℕ, ◌+◌, ◌<◌, ◌≤◌, ◌^◌, List, [], ◌∷◌, ◌++◌, length, Option, Some, slice_get}
 use Rattle.filing_image.specs.declared.instruction.Operation.{Operation}
 use Rattle.filing_flow.specs.Structure.{Flow, size}
 use Rattle.filing_flow.specs.Code.{Operands, Stands}
@@ -47,10 +47,11 @@ pub record IsCode (o : Output) (a : Flow) : Type 0 where
   pub stands : Stands (operands_of o) o.code.items (whole a) [] 0
   pub long : length o.code.items ≡ size (whole a)
 
--- The program is what was written, with this budget and number of slots.
-pub record IsImageOf (budget count : ℕ) (o : Output) (p : Program) : Type 0 where
+-- The program is the output, with this budget, number of slots and first places of its procedures.
+pub record IsImageOf (budget count : ℕ) (first_places : Option (List ℕ)) (o : Output) (p : Program) : Type 0 where
   pub budget_is : p.budget ≡ budget
   pub slots : p.slots ≡ count
+  pub procedures_are : p.procedures ≡ first_places
   pub text : (b : ℕ) (t : List ℕ) → IsAmong (t, b) o.texts → slice_get p.texts b ≡ Some t
   pub number : (b k : ℕ) → IsAmong (k, b) o.numbers → slice_get p.numbers b ≡ Some k
   pub code : p.code ≡ o.code.items

@@ -5,7 +5,7 @@ use Rattle.sieve_meaning.specs.Case.{Facts}
 use Rattle.sieve_meaning.specs.Program.{Include}
 use Rattle.sieve_meaning.specs.Meaning.{ScriptName, Filing, Ending, GoesOn, Returns, Stops, Faults, Included}
 use Rattle.filing_flow.specs.Structure.{Flow}
-use Rattle.filing_flow.specs.Effect.{Exit, FallsThrough, Leaves, EndsRun, effect}
+use Rattle.filing_flow.specs.Effect.{Exit, FallsThrough, Leaves, EndsRun, Called, effect}
 use Rattle.filing_flow.specs.Effect as code
 
 -- how marks relate to the scripts that were entered
@@ -39,7 +39,7 @@ pub record Alike (marking : Marking) (n : ℕ) (e : Ending) (x : Exit) : Type 0 
   pub related : Related marking (filing_at e) filing
   pub exit : x ≡ exit_of n e filing
 
--- The code of each include does what the include does.
-abbrev pub Agrees : Facts → Marking → (Include → Flow) → Included → Type 0
-Agrees c marking g h = (i : Include) (n : ℕ) (f : Filing) (s : code.Filing) → Related marking f s →
-    Alike marking n (h i f) (effect c (g i) s [])
+-- The code of each include does what the include does, where calls do this.
+abbrev pub Agrees : Called → Facts → Marking → (Include → Flow) → Included → Type 0
+Agrees called c marking g h = (i : Include) (n : ℕ) (f : Filing) (s : code.Filing) → Related marking f s →
+    Alike marking n (h i f) (effect called c (g i) s [])

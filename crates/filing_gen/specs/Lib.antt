@@ -7,7 +7,11 @@ pub mod Emission
 pub mod Correct
 pub mod Weights
 pub mod Linked
-pub mod Slots
+pub mod Procedures
+pub mod Numbers
+pub mod Inclusions
+pub mod Paths
+pub mod SharedCode
 pub mod Levels
 pub mod Scopes
 pub mod Ends

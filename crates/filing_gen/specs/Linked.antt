@@ -5,11 +5,8 @@ use Rattle.std.specs.Prelude.{◌≡◌, ℕ, zero, suc, ◌<◌, ◌≤◌, Lis
 use Rattle.sieve_meaning.specs.Program.{Include, Commands}
 use Rattle.sieve_meaning.specs.Meaning.{ScriptName, script_named, is_among, Library, main_names}
 use Rattle.filing_flow.specs.Structure.{IsMarked, SetMark, Fail, Flow, nothing, action, sequence, block, leave_if}
+use Rattle.script_procedures.specs.Slots.{Slots}
 use Rattle.filing_gen.specs.Structured.{flow}
-
--- the slot in which each script is marked as entered
-abbrev pub Slots : Type 0
-Slots = ScriptName → ℕ
 
 -- under `:once`, no code is run where the script was entered
 abbrev pub once_flow : Bool → ℕ → Flow → Flow
@@ -48,12 +45,6 @@ included_flow lib slot main (suc left) chain i =
 -- the includes of a main script, which may have a name; eight scripts may be active, the main one among them
 abbrev pub linked_flow : Library → Slots → (known_as : Option (List ℕ)) → Include → Flow
 linked_flow lib slot known_as i = included_flow lib slot (main_names known_as) 7 (main_names known_as) i
-
--- Each script has its own slot, below the count, which is at most 64.
-pub record HasSlots (lib : Library) (slot : Slots) (count : ℕ) : Type 0 where
-  pub few : count ≤ 64
-  pub inside : (s : ScriptName) (x : Commands) → lib.find s ≡ Some x → slot s < count
-  pub own : (s t : ScriptName) (x y : Commands) → lib.find s ≡ Some x → lib.find t ≡ Some y → slot s ≡ slot t → s ≡ t
 
 -- The marks say which scripts of the library were entered. The main script, which has no mark, and all active ones
 -- were.

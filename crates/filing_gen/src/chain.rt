@@ -5,6 +5,7 @@ ghost use Rattle.sieve_meaning.specs.Meaning as meaning;
 ghost use Rattle.sieve_meaning.specs.Meaning.{is_among};
 ghost use Rattle.sieve_meaning.specs.Scripts.{script_of};
 
+use script_procedures::Procedure;
 use sieve_meaning::{Location, ScriptName};
 
 /// The scripts that are active.
@@ -51,5 +52,15 @@ impl<C: Chain> Chain for Link<'_, C> {
 
     fn contains(&self, script: &ScriptName<'_>) -> bool {
         script.is_same(&self.script) || self.before.contains(script)
+    }
+}
+
+impl Chain for Procedure<'_> {
+    ghost use Rattle.script_procedures.specs.Made.{names_of};
+
+    ghost names = { names_of };
+
+    fn contains(&self, script: &ScriptName<'_>) -> bool {
+        self.contains(script)
     }
 }

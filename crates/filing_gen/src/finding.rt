@@ -6,14 +6,14 @@ ghost use Rattle.sieve_meaning.specs.Reading.{program_of};
 ghost use Rattle.sieve_meaning.specs.Scripts.{asked, script_of};
 ghost use Rattle.script_library.specs.Lent.{scripts_of};
 ghost use Rattle.script_library.specs.Libraries.{library_of};
-ghost use Rattle.filing_gen.specs.Slots.{slots_of};
+ghost use Rattle.script_procedures.specs.Slots.{slots_of};
 ghost use Rattle.filing_gen.specs.Linked.{is_passed as is_passed_of};
 ghost use Rattle.filing_gen.specs.Levels.{judged, judgement};
 ghost use Rattle.filing_gen.specs.Scopes.{names_of, told, EntersAt};
 
 use crate::chain::{Chain, MainScript};
-use crate::slots::find_script;
 use script_library::Shelves;
+use script_procedures::find_script;
 use sieve_check::Checked;
 use sieve_meaning::Include;
 use sieve_syntax::Script;

@@ -12,14 +12,14 @@ ghost use Rattle.filing_gen.specs.Adds.{Emits, HasRoom};
 ghost use Rattle.filing_gen.specs.Levels.{entered_flow, entered_weight};
 ghost use Rattle.filing_gen.specs.Linked.{included_flow};
 ghost use Rattle.filing_gen.specs.Scopes.{names_of};
-ghost use Rattle.filing_gen.specs.Slots.{slots_of};
+ghost use Rattle.script_procedures.specs.Slots.{slots_of};
 ghost use Rattle.filing_gen.specs.Weights.{IsLeft};
 
 use crate::chain::{Chain, Link};
 use crate::emit_commands::emit_commands;
 use crate::ends::{NO_PLACE, end_block};
 use crate::finding::{Finding, Scope, find};
-use crate::linker::Linker;
+use crate::linker::{Linker, Weights};
 use crate::output::{Output, put};
 use crate::weight::weigh_commands;
 use filing_image::Operation;
@@ -126,9 +126,7 @@ pub struct Includes<'a, C, L> {
     pub below: PhantomData<L>,
 }
 
-impl<C: Chain, L: Level> Linker for Includes<'_, C, L> {
-    ghost flow_of = { λ s. included_flow (library_of (scripts_of s.scope.shelves)) (slots_of (scripts_of s.scope.shelves)) (names_of s.scope.main) L.depth (C.names s.chain.now) };
-
+impl<C: Chain, L: Level> Weights for Includes<'_, C, L> {
     ghost weight_of = { λ s. included_weight (library_of (scripts_of s.scope.shelves)) L.depth (C.names s.chain.now) };
 
     fn weigh(&self, include: &Include<'_>, left: u32) -> Option<u32> {
@@ -143,6 +141,10 @@ impl<C: Chain, L: Level> Linker for Includes<'_, C, L> {
             }
         }
     }
+}
+
+impl<C: Chain, L: Level> Linker for Includes<'_, C, L> {
+    ghost flow_of = { λ s. included_flow (library_of (scripts_of s.scope.shelves)) (slots_of (scripts_of s.scope.shelves)) (names_of s.scope.main) L.depth (C.names s.chain.now) };
 
     /// Writes nothing, a fault, or the entry of a script; under `:once` a jump before the entry skips it where the
     /// script is marked.

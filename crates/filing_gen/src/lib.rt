@@ -16,8 +16,11 @@
 //! instead. `program` makes the image, which is proved to be one that may run.
 #![tactic(auto)]
 
+mod callees;
+mod calls;
 mod chain;
 mod emit_commands;
+mod emit_procedures;
 mod emit_tests;
 mod ends;
 mod fault;
@@ -27,8 +30,9 @@ mod levels;
 mod linker;
 mod number_pool;
 mod output;
+mod paths;
 mod program;
-mod slots;
+mod shared;
 mod text_pool;
 mod weight;
 

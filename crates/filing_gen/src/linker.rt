@@ -11,17 +11,20 @@ use crate::output::Output;
 use sieve_meaning::Include;
 use std::alloc::{AllocError, Global};
 
-/// The code and the weight of each include of a script, by what it asks for.
-pub trait Linker {
-    /// The code of each include.
-    ghost flow_of: { Self → program.Include → Flow };
-
+/// The weight of each include of a script, by what it asks for.
+pub trait Weights {
     /// What each include adds to the weight.
     ghost weight_of: { Self → program.Include → ℕ };
 
     /// Subtracts what an include adds to the weight from `left`; none where it is more.
     fn weigh(&self, include: &Include<'_>, left: u32) -> Option<u32>
         ensures { IsLeft left (weight_of self.now (asked include.now)) result };
+}
+
+/// The code of each include of a script, by what it asks for.
+pub trait Linker {
+    /// The code of each include.
+    ghost flow_of: { Self → program.Include → Flow };
 
     /// Writes the code of an include. The only error is a refused allocation.
     fn emit(&self, alloc: Global, out: &mut Output, include: &Include<'_>) -> Result<(), AllocError>

@@ -1,13 +1,14 @@
 //! From a checked script to an image that may run.
 
-ghost use Rattle.std.specs.Prelude.{◌≡◌, ◌↔◌, ◌+◌, ◌<◌, ◌≤◌, ◌^◌, [], ◌∷◌, map, Err, IfOk, IfErr, MatchOption};
+ghost use Rattle.std.specs.Prelude.{◌≡◌, ◌≢◌, ◌↔◌, ◌+◌, ◌<◌, ◌≤◌, ◌^◌, [], ◌∷◌, map, Err, IfOk, IfErr, MatchOption};
 ghost use Rattle.std.specs.Option.{option_map};
 ghost use Rattle.sieve_syntax.specs.View.{command_of, commands_of, tree_of};
-ghost use Rattle.sieve_meaning.specs.Outcome.{greatest_weight};
 ghost use Rattle.sieve_meaning.specs.Reading.{program_of};
-ghost use Rattle.sieve_meaning.specs.Weight.{linked_weight};
+ghost use Rattle.sieve_meaning.specs.TooHeavy.{IsTooHeavy};
+ghost use Rattle.sieve_meaning.specs.Weight.{greatest_weight, linked_weight};
 ghost use Rattle.script_library.specs.Lent.{scripts_of};
 ghost use Rattle.script_library.specs.Libraries.{library_of};
+ghost use Rattle.filing_image.specs.Program.{held};
 ghost use Rattle.filing_flow.specs.Structure.{size};
 ghost use Rattle.filing_flow.specs.Types.{HasType};
 ghost use Rattle.filing_gen.specs.Structured.{script_flow};
@@ -24,18 +25,16 @@ use crate::finding::Scope;
 use crate::levels::{Above, Deepest, Includes};
 use crate::linker::Linker;
 use crate::output::{Output, put};
-use crate::slots::slot_count;
-use crate::weight::script_weight;
+use crate::shared::build_shared;
+use crate::weight::{MAX_WEIGHT, script_weight};
 use filing_image::{Image, Operation};
 use filing_verify::Verified;
 use script_library::{Library, Shelves};
+use script_procedures::slot_count;
 use sieve_check::Checked;
 use sieve_syntax::{Command, Script};
 use std::alloc::{AllocError, Global};
 use std::marker::PhantomData;
-
-/// The greatest weight of a script that is run.
-const MAX_WEIGHT: u32 = 60_000;
 
 /// Writes a script, and after it the end of the run, to which a `return` of the script jumps. Room for `operations`
 /// operations is taken at once.
@@ -60,17 +59,22 @@ fn emit_program<L: Linker>(
     Ok(out)
 }
 
-/// The image of what was written, with this budget and number of slots. `NoMemory` also where a string has more than
-/// 65,535 octets.
-fn image_of(budget: u32, slots: u16, mut out: Output) -> Result<Image, GenFault>
-    ensures made { IfOk result (λ i. IsImageOf budget slots out i) }
+/// The image of what was written, with this budget, number of slots and first places of its procedures. `NoMemory` also
+/// where a string has more than 65,535 octets.
+pub fn image_of(
+    budget: u32,
+    slots: u16,
+    mut out: Output,
+    first_places: Option<Vec<u16>>,
+) -> Result<Image, GenFault>
+    ensures made { IfOk result (λ i. IsImageOf budget slots (held first_places) out i) }
     ensures once { IfOk result (λ i. NamesOnce i) }
     ensures refused { IfErr result (λ f. f ≡ NoMemory) }
 {
     let texts = out.texts.into_texts()?;
     let numbers = out.numbers.into_numbers()?;
     out.code.shrink_to_fit();
-    match Image::from_code(budget, texts, numbers, slots, out.code) {
+    match Image::from_code(budget, texts, numbers, slots, first_places, out.code) {
         Ok(image) => Ok(image),
         Err(_) => Err(GenFault::NoMemory),
     }
@@ -104,7 +108,7 @@ fn build(
     };
     let slots = slot_count(scope.shelves);
     let out = emit_program(alloc, &includes, &script.commands, weight)?;
-    let image = image_of(weight, slots, out)?;
+    let image = image_of(weight, slots, out, None)?;
     Ok(Verified::known(image))
 }
 
@@ -125,14 +129,19 @@ fn weigh(script: &Script, scope: Scope<'_>) -> Option<u32>
 }
 
 /// Compiles a checked script, which may be known by a personal name, and the scripts that it includes, to an image that
-/// may run. The image's budget in steps is the script's weight, and in every case its run ends with the outcome of what
-/// the script means. No text and no number stands in it twice. `TooLarge` (5) exactly where the weight is above 60,000.
-/// `NoMemory` (99) where an allocation was refused, or a string has more than 65,535 octets.
+/// may run. In every case its run ends with the outcome of what the script means. No text and no number stands in it
+/// twice. Where the script's weight is at most 60,000, the image has version 1 and the weight as its budget in steps.
+/// Otherwise it has version 2: each included script is a procedure, and the budget is the path weight.
+///
+/// `TooLarge` (5) where the weight is above 60,000 and there are more than 256 procedures, their shared weight is above
+/// 60,000, or the path weight is above 1,000,000. `NoMemory` (99) where an allocation was refused, or a string has more
+/// than 65,535 octets.
 ///
 /// However often a script is included, its strings are stored once. Memory is linear in the octets of the strings of
-/// the scripts, and in the weight; the image takes 4 octets for each instruction. Time is that of one look-up of each
-/// string each time that its script is included, and linear in the weight times the depth of nested tests. A script
-/// that is too heavy takes time linear in 60,000.
+/// the scripts, and in the weight of the code; the image takes 4 octets for each instruction. Time is that of one
+/// look-up of each string each time that the code of its script is written, and linear in the weight of the code times
+/// the depth of nested tests. Procedures take time linear in their includes, each of which is compared with at most 256
+/// procedures.
 pub fn compile(
     alloc: Global,
     main: &Checked,
@@ -143,8 +152,8 @@ pub fn compile(
         (λ v. IsCompiled (library_of library.now) (option_map (λ s. s.now) known_as.entry)
         (program_of (tree_of main.now.script)) v) }
     ensures once { IfOk result (λ v. NamesOnce v) }
-    ensures too_large { result ≡ Err TooLarge ↔
-        greatest_weight < linked_weight (library_of library.now) (option_map (λ s. s.now) known_as.entry)
+    ensures too_large { result ≢ Err NoMemory → result ≡ Err TooLarge ↔
+        IsTooHeavy (library_of library.now) (option_map (λ s. s.now) known_as.entry)
         (program_of (tree_of main.now.script)) }
 {
     compile_with(alloc, main, known_as, library.shelves())
@@ -162,9 +171,9 @@ pub fn compile_with(
         (λ v. IsCompiled (library_of (scripts_of shelves.entry)) (option_map (λ s. s.now) known_as.entry)
         (program_of (tree_of main.now.script)) v) }
     ensures once { IfOk result (λ v. NamesOnce v) }
-    ensures too_large { result ≡ Err TooLarge ↔
-        greatest_weight < linked_weight (library_of (scripts_of shelves.entry))
-        (option_map (λ s. s.now) known_as.entry) (program_of (tree_of main.now.script)) }
+    ensures too_large { result ≢ Err NoMemory → result ≡ Err TooLarge ↔
+        IsTooHeavy (library_of (scripts_of shelves.entry)) (option_map (λ s. s.now) known_as.entry)
+        (program_of (tree_of main.now.script)) }
 {
     let script = main.script();
     let scope = Scope {
@@ -172,7 +181,7 @@ pub fn compile_with(
         main: MainScript { known_as },
     };
     match weigh(script, scope) {
-        None => Err(GenFault::TooLarge),
+        None => build_shared(alloc, script, scope),
         Some(weight) => build(alloc, script, scope, weight),
     }
 }

@@ -8,11 +8,14 @@ ghost use Rattle.sieve_meaning.specs.Reading.{test_in, only_in, tests_in, string
 ghost use Rattle.sieve_meaning.specs.Weight.{test_weight, tests_weight, weight};
 ghost use Rattle.filing_gen.specs.Weights.{IsLeft, plain_weight, part_weight};
 
-use crate::linker::Linker;
+use crate::linker::Weights;
 use sieve_meaning::branches::{Part, is_branch, part_in};
 use sieve_meaning::reading::{include, next_string_list};
 use sieve_meaning::{CommandWord, TestWord, command_word, test_word};
 use sieve_syntax::{Argument, Command, Ending, Script, StringList, Test, Tests};
+
+/// The greatest weight of code.
+pub const MAX_WEIGHT: u32 = 60_000;
 
 /// Subtracts `each` for each string of a list.
 fn weigh_strings(list: &StringList, each: u32, left: u32) -> Option<u32>
@@ -102,7 +105,7 @@ fn weigh_tests(tests: &Tests, left: u32) -> Option<u32>
 
 /// Subtracts the weight of a command that has no block: 4, and for an `include` also what it includes. An `elsif` or
 /// `else` that continues no `if` weighs nothing, nor does a command of another name.
-fn weigh_plain<L: Linker>(
+fn weigh_plain<L: Weights>(
     linker: &L,
     word: CommandWord,
     arguments: &[Argument],
@@ -124,7 +127,7 @@ fn weigh_plain<L: Linker>(
 
 /// Subtracts the weight of a block.
 #[cycle(weights)]
-fn weigh_block<L: Linker>(linker: &L, ending: &Ending, left: u32) -> Option<u32>
+fn weigh_block<L: Weights>(linker: &L, ending: &Ending, left: u32) -> Option<u32>
     ensures { IsLeft left (weight (L.weight_of linker.now) (block_in (ending_of ending.now))) result }
 {
     match ending {
@@ -136,7 +139,7 @@ fn weigh_block<L: Linker>(linker: &L, ending: &Ending, left: u32) -> Option<u32>
 /// Subtracts the weight of a command by its part. A `Branch` (`if`, `elsif`) weighs 4, its test and its block;
 /// `Otherwise` (`else`) weighs 4 and its block. `weigh_plain` says what any other command weighs.
 #[cycle(weights)]
-fn weigh_part<L: Linker>(linker: &L, command: &Command, part: Part, left: u32) -> Option<u32>
+fn weigh_part<L: Weights>(linker: &L, command: &Command, part: Part, left: u32) -> Option<u32>
     ensures { IsLeft left (part_weight (L.weight_of linker.now) part (command_of command.now)) result }
 {
     match part {
@@ -156,7 +159,7 @@ fn weigh_part<L: Linker>(linker: &L, command: &Command, part: Part, left: u32) -
 
 /// Subtracts the weight of commands; none where it is more than `left`.
 #[cycle(weights)]
-pub fn weigh_commands<L: Linker>(linker: &L, commands: &Vec<Command>, left: u32) -> Option<u32>
+pub fn weigh_commands<L: Weights>(linker: &L, commands: &Vec<Command>, left: u32) -> Option<u32>
     ensures { IsLeft left (weight (L.weight_of linker.now)
         (program_of (commands_of (map command_of commands.now.items)))) result }
 {
@@ -173,7 +176,7 @@ pub fn weigh_commands<L: Linker>(linker: &L, commands: &Vec<Command>, left: u32)
 
 /// The weight of a script and all that it includes, and 1; none where that is above `greatest`. For a checked script,
 /// time is linear in the weight, or in `greatest` where that is less.
-pub fn script_weight<L: Linker>(linker: &L, script: &Script, greatest: u32) -> Option<u32>
+pub fn script_weight<L: Weights>(linker: &L, script: &Script, greatest: u32) -> Option<u32>
     ensures { MatchOption result (greatest < weight (L.weight_of linker.now) (program_of (tree_of script.now)) + 1)
         (λ w. (w ≡ weight (L.weight_of linker.now) (program_of (tree_of script.now)) + 1) × (w ≤ greatest)) }
 {

@@ -5,6 +5,8 @@ use Rattle.std.specs.Int.{Width, w8, w16, w32, w64, byte_len, from_be_bytes}
 use Rattle.filing_image.specs.declared.fault.FormFault.{FormFault}
 use Rattle.filing_image.specs.declared.fault.FormFault.TheVariants.{NoMemory, BadForm}
 use Rattle.filing_image.specs.declared.instruction.Instruction.{Instruction}
+use Rattle.filing_image.specs.declared.version.Version.{Version}
+use Rattle.filing_image.specs.declared.version.Version.TheVariants.{One, Two}
 use Rattle.filing_image.specs.Program.{Parts}
 
 infixl 10 ◌>>=◌
@@ -42,36 +44,53 @@ many_at read (suc n) octets = do
   others ← many_at read n first.1
   Some (first.0 ∷ others.0, others.1)
 
--- the octets after the mark
-unfoldable pub marked : List ℕ → Option (List ℕ)
-marked (b0 ∷ b1 ∷ b2 ∷ b3 ∷ rest) = if (b0 == 0x53) && ((b1 == 0x46) && ((b2 == 0x49) && (b3 == 0x31))) then Some rest
-    else None
+-- the version that the last octet of a mark tells
+abbrev pub version_told : ℕ → Option Version
+version_told b = if b == 0x31 then Some One else (if b == 0x32 then Some Two else None)
+
+-- the version that the mark tells, and the octets after the mark
+unfoldable pub marked : List ℕ → Option (Version × List ℕ)
+marked (b0 ∷ b1 ∷ b2 ∷ b3 ∷ rest) = if (b0 == 0x53) && ((b1 == 0x46) && (b2 == 0x49))
+    then version_told b3 >>= (λ v. Some (v, rest)) else None
 marked _ = None
 
--- the four counts of an image
+-- the count of procedures, which version 2 alone has
+unfoldable pub procedure_count_at : Version → List ℕ → Option (Option ℕ × List ℕ)
+procedure_count_at One octets = Some (None, octets)
+procedure_count_at Two octets = number_at w16 octets >>= λ n. Some (Some n.0, n.1)
+
+-- the first places of the procedures, where they are counted
+unfoldable pub procedures_at : Option ℕ → List ℕ → Option (Option (List ℕ) × List ℕ)
+procedures_at None octets = Some (None, octets)
+procedures_at (Some count) octets = many_at (number_at w16) count octets >>= λ x. Some (Some x.0, x.1)
+
+-- the counts of an image
 pub record Counts : Type 0 where
   pub texts : ℕ
   pub numbers : ℕ
   pub slots : ℕ
+  pub procedures : Option ℕ
   pub instructions : ℕ
 
-unfoldable pub counts_at : List ℕ → Option (Counts × List ℕ)
-counts_at octets = do
+unfoldable pub counts_at : Version → List ℕ → Option (Counts × List ℕ)
+counts_at version octets = do
   texts ← number_at w16 octets
   numbers ← number_at w16 texts.1
   slots ← number_at w16 numbers.1
-  instructions ← number_at w16 slots.1
-  Some (record { texts = texts.0; numbers = numbers.0; slots = slots.0; instructions = instructions.0 }, instructions.1)
+  procedures ← procedure_count_at version slots.1
+  instructions ← number_at w16 procedures.1
+  Some (record { texts = texts.0; numbers = numbers.0; slots = slots.0; procedures = procedures.0; instructions = instructions.0 }, instructions.1)
 
 unfoldable pub parts_at : List ℕ → Option (Parts × List ℕ)
 parts_at octets = do
-  rest ← marked octets
-  budget ← number_at w32 rest
-  counts ← counts_at budget.1
+  version ← marked octets
+  budget ← number_at w32 version.1
+  counts ← counts_at version.0 budget.1
   texts ← many_at text_at counts.0.texts counts.1
   numbers ← many_at (number_at w64) counts.0.numbers texts.1
-  instructions ← many_at instruction_at counts.0.instructions numbers.1
-  Some (record { budget = budget.0; texts = texts.0; numbers = numbers.0; slots = counts.0.slots; instructions = instructions.0 }, instructions.1)
+  procedures ← procedures_at counts.0.procedures numbers.1
+  instructions ← many_at instruction_at counts.0.instructions procedures.1
+  Some (record { budget = budget.0; texts = texts.0; numbers = numbers.0; slots = counts.0.slots; procedures = procedures.0; instructions = instructions.0 }, instructions.1)
 
 -- the parts that all of the octets spell, or None where octets are left over
 unfoldable pub all_of : List ℕ → Option Parts

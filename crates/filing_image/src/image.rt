@@ -1,42 +1,47 @@
 //! An image: the parts of a filing program that the image format can encode.
 
-ghost use Rattle.std.specs.Prelude.{◌≡◌, ◌<◌, ◌^◌, length, map, All, slice_get, IfOk, IfErr, Err, true, false, Some, IsTrue, ◌↔◌};
-ghost use Rattle.filing_image.specs.Program.{Program, parts, parts_from, program_from, instruction_of};
-ghost use Rattle.filing_image.specs.Spelling.{IsShort, IsProgram, FitsInstruction, Fits};
+ghost use Rattle.std.specs.Prelude.{◌≡◌, ◌<◌, ◌≤◌, ◌^◌, length, map, All, slice_get, IfOk, IfErr, Err, true, false, Some, None, IsTrue, ◌↔◌};
+ghost use Rattle.filing_image.specs.Program.{Program, parts, parts_from, program_from, instruction_of, version_of, firsts_of, first_places, held};
+ghost use Rattle.filing_image.specs.Spelling.{IsShort, IsProgram, IsOfVersion, FitsInstruction, Fits, last_operation};
 
 use crate::fault::FormFault;
 use crate::instruction::{Instruction, Operation};
+use crate::version::Version;
 use std::alloc::Global;
 use std::marker::Model;
 
-/// The image of a filing program. Contracts see the program: its budget in steps, its texts, numbers and slots, and its
-/// code.
+/// The image of a filing program. Contracts see the program: its budget in steps, its texts, numbers and slots, in
+/// version 2 the first place of each of its procedures, and its code.
 #[derive(Debug, Drop)]
 pub struct Image {
     budget: u32,
     texts: Vec<Vec<u8>>,
     numbers: Vec<u64>,
     slots: u16,
+    /// The first place of each procedure; some in version 2 alone.
+    first_places: Option<Vec<u16>>,
     code: Vec<Operation>,
 }
 
 impl Model for Image {
     ghost Value = { Program };
 
-    ghost view = { λ i. record { budget = i.budget; texts = map (λ t. t.items) i.texts.items; numbers = i.numbers.items; slots = i.slots; code = i.code.items } };
+    ghost view = { λ i. record { budget = i.budget; texts = map (λ t. t.items) i.texts.items; numbers = i.numbers.items; slots = i.slots; procedures = held i.first_places; code = i.code.items } };
 
     ghost invariant = { λ i. (length i.texts.items < 2 ^ 16) × (length i.numbers.items < 2 ^ 16) ×
         (length i.code.items < 2 ^ 16) × All (λ t. length t.items < 2 ^ 16) i.texts.items ×
         All (λ n. n < 2 ^ 64) i.numbers.items × All FitsInstruction (map instruction_of i.code.items) ×
-        (i.budget < 2 ^ 32) × (i.slots < 2 ^ 16) };
+        (i.budget < 2 ^ 32) × (i.slots < 2 ^ 16) × (length (firsts_of (held i.first_places)) < 2 ^ 16) ×
+        All (λ f. f < 2 ^ 16) (firsts_of (held i.first_places)) ×
+        All (λ x. x.op ≤ last_operation (version_of (held i.first_places))) (map instruction_of i.code.items) };
 }
 
 impl Image {
-    /// The image of these parts; `budget` is in steps. `BadForm` (60) only where the format has no spelling of them. It
-    /// has none for more than 65,535 texts, numbers or instructions, a text of more than 65,535 octets, an instruction
-    /// number outside 1 to 21, or a non-zero operand that the operation does not have. `NoMemory` (99) where an
-    /// allocation was refused before such a fault was found. Counts and lengths that are too great are always 60, since
-    /// they are checked before memory is taken.
+    /// The version 1 image of these parts; `budget` is in steps. `BadForm` (60) only where version 1 has no spelling of
+    /// them. It has none for more than 65,535 texts, numbers or instructions, a text of more than 65,535 octets, an
+    /// instruction number outside 1 to 21, or a non-zero operand that the operation does not have. `NoMemory` (99) where
+    /// an allocation was refused before such a fault was found. Counts and lengths that are too great are always 60,
+    /// since they are checked before memory is taken.
     pub fn new(
         alloc: Global,
         budget: u32,
@@ -46,17 +51,79 @@ impl Image {
         instructions: Vec<Instruction>,
     ) -> Result<Image, FormFault>
         ensures made { IfOk result (λ i. parts i ≡
-            parts_from budget texts.items numbers.items slots instructions.items) }
+            parts_from budget texts.items numbers.items slots None instructions.items) }
         ensures fits { IfOk result (λ i. Fits (parts i)) }
-        ensures refused { let given = parts_from budget texts.items numbers.items slots instructions.items in
+        ensures refused { let given = parts_from budget texts.items numbers.items slots None instructions.items in
             result ≡ Err FormFault.BadForm → IsShort given → IsProgram given → ⊥ }
         ensures short { result ≡ Err FormFault.NoMemory →
-            IsShort (parts_from budget texts.items numbers.items slots instructions.items) }
+            IsShort (parts_from budget texts.items numbers.items slots None instructions.items) }
+    {
+        Image::of_instructions(alloc, budget, texts, numbers, slots, None, instructions)
+    }
+
+    /// The version 2 image of these parts, where `first_places` has the first place of each procedure. It is refused as
+    /// in `new`, except that instruction numbers go up to 23. More than 65,535 procedures are `BadForm` (60), too.
+    pub fn new_with_procedures(
+        alloc: Global,
+        budget: u32,
+        texts: Vec<Vec<u8>>,
+        numbers: Vec<u64>,
+        slots: u16,
+        first_places: Vec<u16>,
+        instructions: Vec<Instruction>,
+    ) -> Result<Image, FormFault>
+        ensures made { IfOk result (λ i. parts i ≡
+            parts_from budget texts.items numbers.items slots (Some first_places.items) instructions.items) }
+        ensures fits { IfOk result (λ i. Fits (parts i)) }
+        ensures refused { let given =
+            parts_from budget texts.items numbers.items slots (Some first_places.items) instructions.items in
+            result ≡ Err FormFault.BadForm → IsShort given → IsProgram given → ⊥ }
+        ensures short { result ≡ Err FormFault.NoMemory →
+            IsShort (parts_from budget texts.items numbers.items slots (Some first_places.items) instructions.items) }
+    {
+        let first_places = Some(first_places);
+        Image::of_instructions(
+            alloc,
+            budget,
+            texts,
+            numbers,
+            slots,
+            first_places,
+            instructions,
+        )
+    }
+
+    /// The image of these parts, of version 2 where there are first places of procedures.
+    pub(crate) fn of_instructions(
+        alloc: Global,
+        budget: u32,
+        texts: Vec<Vec<u8>>,
+        numbers: Vec<u64>,
+        slots: u16,
+        first_places: Option<Vec<u16>>,
+        instructions: Vec<Instruction>,
+    ) -> Result<Image, FormFault>
+        ensures made { IfOk result (λ i. parts i ≡
+            parts_from budget texts.items numbers.items slots (held first_places) instructions.items) }
+        ensures fits { IfOk result (λ i. Fits (parts i)) }
+        ensures refused { let given =
+            parts_from budget texts.items numbers.items slots (held first_places) instructions.items in
+            result ≡ Err FormFault.BadForm → IsShort given → IsProgram given → ⊥ }
+        ensures short { result ≡ Err FormFault.NoMemory →
+            IsShort (parts_from budget texts.items numbers.items slots (held first_places) instructions.items) }
     {
         if texts.len() > 65_535 || numbers.len() > 65_535 || instructions.len() > 65_535 {
             return Err(FormFault::BadForm);
         }
+        let firsts = listed(&first_places);
+        if firsts.len() > 65_535 {
+            return Err(FormFault::BadForm);
+        }
+        places_fit(firsts);
         if !are_short(&texts) {
+            return Err(FormFault::BadForm);
+        }
+        if !are_of(version_of(&first_places), &instructions) {
             return Err(FormFault::BadForm);
         }
         let code = operations(alloc, &instructions)?;
@@ -65,30 +132,43 @@ impl Image {
             texts,
             numbers,
             slots,
+            first_places,
             code,
         };
         image.fits();
         Ok(image)
     }
 
-    /// The image of these parts, with the code given as operations; `budget` is in steps. It takes no memory. `BadForm`
-    /// (60) exactly where the format has no spelling of the parts: more than 65,535 texts, numbers or operations, or a
-    /// text of more than 65,535 octets. There is no other refusal.
+    /// The image of these parts, with the code given as operations; `budget` is in steps. It is of version 2 where there
+    /// are first places of procedures, and else of version 1. It takes no memory. `BadForm` (60) exactly where the
+    /// version has no spelling of the parts: more than 65,535 texts, numbers, procedures or operations, a text of more
+    /// than 65,535 octets, or in version 1 a call or a return. There is no other refusal.
     pub fn from_code(
         budget: u32,
         texts: Vec<Vec<u8>>,
         numbers: Vec<u64>,
         slots: u16,
+        first_places: Option<Vec<u16>>,
         code: Vec<Operation>,
     ) -> Result<Image, FormFault>
-        ensures made { IfOk result (λ i. i ≡ program_from budget texts.items numbers.items slots code.items) }
-        ensures refused { IfErr result (λ f. (f ≡ FormFault.BadForm) ×
-            (IsShort (parts (program_from budget texts.items numbers.items slots code.items)) → ⊥)) }
+        ensures made { IfOk result (λ i. i ≡
+            program_from budget texts.items numbers.items slots (held first_places) code.items) }
+        ensures refused { let given =
+            parts (program_from budget texts.items numbers.items slots (held first_places) code.items) in
+            IfErr result (λ f. (f ≡ FormFault.BadForm) × (IsShort given → IsOfVersion given → ⊥)) }
     {
         if texts.len() > 65_535 || numbers.len() > 65_535 || code.len() > 65_535 {
             return Err(FormFault::BadForm);
         }
+        let firsts = listed(&first_places);
+        if firsts.len() > 65_535 {
+            return Err(FormFault::BadForm);
+        }
+        places_fit(firsts);
         if has_long(&texts) {
+            return Err(FormFault::BadForm);
+        }
+        if !has(version_of(&first_places), &code) {
             return Err(FormFault::BadForm);
         }
         all_fit(&code);
@@ -97,8 +177,24 @@ impl Image {
             texts,
             numbers,
             slots,
+            first_places,
             code,
         })
+    }
+
+    /// The version of the format that the image has.
+    pub fn version(&self) -> Version
+        ensures { result ≡ version_of self.now.procedures }
+    {
+        version_of(&self.first_places)
+    }
+
+    /// The first place of each procedure, procedure 0 first; none in version 1.
+    pub fn first_places(&self) -> &[u16]
+        ensures value { result.now ≡ first_places self.now }
+        ensures short { length result.now < 2 ^ 16 }
+    {
+        listed(&self.first_places)
     }
 
     /// The budget that the image declares, in steps.
@@ -177,6 +273,52 @@ fn has_long(texts: &[Vec<u8>]) -> bool
     ensures short { result ≡ false → All (λ t. length t.items < 2 ^ 16) texts.now }
 {
     !are_short(texts)
+}
+
+/// The version of an image with these first places of procedures.
+fn version_of(first_places: &Option<Vec<u16>>) -> Version
+    ensures { result ≡ version_of (held first_places.now) }
+{
+    match first_places {
+        Some(_) => Version::Two,
+        None => Version::One,
+    }
+}
+
+/// The first places of the procedures, none in version 1.
+fn listed(first_places: &Option<Vec<u16>>) -> &[u16]
+    ensures { result.now ≡ firsts_of (held first_places.now) }
+{
+    match first_places {
+        Some(firsts) => firsts,
+        None => &[],
+    }
+}
+
+/// Proves that each place fits its octets; it has no effect.
+fn places_fit(places: &[u16])
+    ensures { All (λ f. f < 2 ^ 16) places.now }
+{
+    let _count = places.len();
+}
+
+/// Whether a version has the operations that the instructions encode.
+fn are_of(version: Version, instructions: &[Instruction]) -> bool
+    ensures { IsTrue result ↔ All (λ i. i.op ≤ last_operation version) instructions.now }
+{
+    let last = version.last_operation();
+    instructions
+        .iter()
+        .all(|instruction| instruction.op <= last)
+}
+
+/// Whether a version has the operations.
+fn has(version: Version, code: &[Operation]) -> bool
+    ensures { IsTrue result ↔ All (λ o. (instruction_of o).op ≤ last_operation version) code.now }
+{
+    let last = version.last_operation();
+    code.iter()
+        .all(|operation| operation.instruction().op <= last)
 }
 
 /// Proves that each operation fits its octets; it has no effect.

@@ -4,7 +4,7 @@ ghost use Rattle.std.specs.Prelude.{◌≡◌, ◌≢◌, IfSome, IfNone};
 ghost use Rattle.filing_image.specs.Program.{instruction_of};
 ghost use Rattle.filing_image.specs.Spelling.{FitsInstruction};
 
-/// An instruction, which takes four octets: the operation's number `op`, 1 to 21, in one octet, the operand `a` in one,
+/// An instruction, which takes four octets: the operation's number `op`, 1 to 23, in one octet, the operand `a` in one,
 /// and the operand `b` in two. An operand that the operation does not have is 0.
 #[derive(Clone, Copy, Debug, PartialEq, Eq)]
 pub struct Instruction {
@@ -63,10 +63,15 @@ pub enum Operation {
     Stop,
     /// 21: ends the run with a fault, 2 to 5.
     Fault(u8),
+    /// 22, in version 2 alone: enters a procedure, on an empty stack.
+    Call(u16),
+    /// 23, in version 2 alone: goes on after the last call that was not returned from yet, on an empty stack, and ends
+    /// the run where there is none.
+    Return,
 }
 
 impl Operation {
-    /// The operation that an instruction encodes; none where its number is not 1 to 21, or an operand that the
+    /// The operation that an instruction encodes; none where its number is not 1 to 23, or an operand that the
     /// operation does not have is not 0.
     pub fn of(instruction: Instruction) -> Option<Operation>
         ensures found { IfSome result (λ o. instruction_of o ≡ instruction) }
@@ -96,6 +101,8 @@ impl Operation {
             (19, 0, 0) => Operation::Discard,
             (20, 0, 0) => Operation::Stop,
             (21, a, 0) => Operation::Fault(a),
+            (22, 0, b) => Operation::Call(b),
+            (23, 0, 0) => Operation::Return,
             _ => return None,
         };
         Some(found)
@@ -127,6 +134,8 @@ impl Operation {
             Operation::Discard => (19, 0, 0),
             Operation::Stop => (20, 0, 0),
             Operation::Fault(a) => (21, a, 0),
+            Operation::Call(b) => (22, 0, b),
+            Operation::Return => (23, 0, 0),
         };
         Instruction { op, a, b }
     }

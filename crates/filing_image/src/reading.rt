@@ -1,20 +1,21 @@
 //! Decodes images from octets.
 
-ghost use Rattle.std.specs.Prelude.{◌≡◌, List, map, IfOk, Err};
+ghost use Rattle.std.specs.Prelude.{◌≡◌, List, map, option_map, IfOk, Err, Some, None};
 ghost use Rattle.std.specs.Int.{w8, w16, w32, w64};
-ghost use Rattle.filing_image.specs.Program.{Program, Parts, parts};
+ghost use Rattle.filing_image.specs.Program.{Program, Parts, parts, held};
 ghost use Rattle.filing_image.specs.Spelling.{spelling, Fits};
-ghost use Rattle.filing_image.specs.Reading.{Gives, number_at, text_at, instruction_at, many_at, marked, counts_at, Counts, parts_at, all_of};
+ghost use Rattle.filing_image.specs.Reading.{Gives, number_at, text_at, instruction_at, many_at, version_told, marked, procedure_count_at, procedures_at, counts_at, Counts, parts_at, all_of};
 
 use crate::fault::FormFault;
 use crate::image::Image;
 use crate::instruction::Instruction;
+use crate::version::Version;
 use std::alloc::Global;
 
 /// Decodes the image that the octets spell, all of them. `BadForm` (60) only where they spell no image. That is another
-/// mark, fewer or more octets than the counts and lengths say, an instruction number outside 1 to 21, or a non-zero
-/// operand that the operation does not have. `NoMemory` (99) where an allocation was refused before such a fault was
-/// found. Time and memory are linear in the number of octets.
+/// mark, fewer or more octets than the counts and lengths say, an instruction number outside 1 to 21 in version 1 and
+/// outside 1 to 23 in version 2, or a non-zero operand that the operation does not have. `NoMemory` (99) where an
+/// allocation was refused before such a fault was found. Time and memory are linear in the number of octets.
 pub fn decode(alloc: Global, octets: &[u8]) -> Result<Image, FormFault>
     // The octets are the image's spelling.
     ensures found { IfOk result (λ i. octets.now ≡ spelling (parts i)) }
@@ -27,12 +28,13 @@ pub fn decode(alloc: Global, octets: &[u8]) -> Result<Image, FormFault>
         octets.now ≡ spelling (parts p) → ⊥ }
 {
     let written = all(alloc, octets)?;
-    Image::new(
+    Image::of_instructions(
         alloc,
         written.budget,
         written.texts,
         written.numbers,
         written.slots,
+        written.first_places,
         written.instructions,
     )
 }
@@ -44,13 +46,14 @@ struct Written {
     texts: Vec<Vec<u8>>,
     numbers: Vec<u64>,
     slots: u16,
+    first_places: Option<Vec<u16>>,
     instructions: Vec<Instruction>,
 }
 
 /// The parts that the octets spell, with no octet left over.
 #[tactic(auto, unfolding(crate::specs::Reading::all_of))]
 fn all(alloc: Global, octets: &[u8]) -> Result<Written, FormFault>
-    ensures { Gives (λ w. record { budget = w.budget; texts = map (λ t. t.items) w.texts.items; numbers = w.numbers.items; slots = w.slots; instructions = w.instructions.items }) result (all_of octets.now) }
+    ensures { Gives (λ w. record { budget = w.budget; texts = map (λ t. t.items) w.texts.items; numbers = w.numbers.items; slots = w.slots; procedures = held w.first_places; instructions = w.instructions.items }) result (all_of octets.now) }
 {
     let (written, rest) = written_at(alloc, octets)?;
     if !rest.is_empty() {
@@ -62,60 +65,91 @@ fn all(alloc: Global, octets: &[u8]) -> Result<Written, FormFault>
 /// Reads the parts of an image from the front; answers them and the rest.
 #[tactic(auto, unfolding(crate::specs::Reading::parts_at))]
 fn written_at(alloc: Global, octets: &[u8]) -> Result<(Written, &[u8]), FormFault>
-    ensures { Gives (λ x. (record { budget = x.0.budget; texts = map (λ t. t.items) x.0.texts.items; numbers = x.0.numbers.items; slots = x.0.slots; instructions = x.0.instructions.items }, x.1.now)) result (parts_at octets.now) }
+    ensures { Gives (λ x. (record { budget = x.0.budget; texts = map (λ t. t.items) x.0.texts.items; numbers = x.0.numbers.items; slots = x.0.slots; procedures = held x.0.first_places; instructions = x.0.instructions.items }, x.1.now)) result (parts_at octets.now) }
 {
-    let rest = after_mark(octets)?;
+    let (version, rest) = after_mark(octets)?;
     let (budget, rest) = u32_at(rest)?;
-    let (heading, rest) = heading_of(rest)?;
+    let (heading, rest) = heading_of(version, rest)?;
     let (texts, rest) = texts_of(alloc, heading.texts, rest)?;
     let (numbers, rest) = numbers_of(alloc, heading.numbers, rest)?;
+    let (first_places, rest) = first_places_of(alloc, heading.procedures, rest)?;
     let (instructions, rest) = instructions_of(alloc, heading.instructions, rest)?;
     let written = Written {
         budget,
         texts,
         numbers,
         slots: heading.slots,
+        first_places,
         instructions,
     };
     Ok((written, rest))
 }
 
-/// The octets after the mark `SFI1`.
+/// Reads the mark `SFI1` or `SFI2`; answers the version that it tells and the rest.
 #[tactic(auto, unfolding(crate::specs::Reading::marked))]
-fn after_mark(octets: &[u8]) -> Result<&[u8], FormFault>
-    ensures { Gives (λ x. x.now) result (marked octets.now) }
+fn after_mark(octets: &[u8]) -> Result<(Version, &[u8]), FormFault>
+    ensures { Gives (λ x. (x.0, x.1.now)) result (marked octets.now) }
 {
     match octets {
-        [0x53, 0x46, 0x49, 0x31, rest @ ..] => Ok(rest),
+        [0x53, 0x46, 0x49, told, rest @ ..] => Ok((version_told(*told)?, rest)),
         _ => Err(FormFault::BadForm),
     }
 }
 
-/// The counts of texts, numbers, slots and instructions.
+/// The version that the last octet of a mark tells.
+fn version_told(told: u8) -> Result<Version, FormFault>
+    ensures { Gives (λ v. v) result (version_told told) }
+{
+    match told {
+        0x31 => Ok(Version::One),
+        0x32 => Ok(Version::Two),
+        _ => Err(FormFault::BadForm),
+    }
+}
+
+/// The counts of an image.
 #[derive(Clone, Copy)]
 struct Heading {
     texts: u16,
     numbers: u16,
     slots: u16,
+    /// Some in version 2 alone.
+    procedures: Option<u16>,
     instructions: u16,
 }
 
-/// Reads the four counts; answers them and the rest.
+/// Reads the counts; answers them and the rest.
 #[tactic(auto, unfolding(crate::specs::Reading::counts_at))]
-fn heading_of(octets: &[u8]) -> Result<(Heading, &[u8]), FormFault>
-    ensures { Gives (λ x. (record { texts = x.0.texts; numbers = x.0.numbers; slots = x.0.slots; instructions = x.0.instructions }, x.1.now)) result (counts_at octets.now) }
+fn heading_of(version: Version, octets: &[u8]) -> Result<(Heading, &[u8]), FormFault>
+    ensures { Gives (λ x. (record { texts = x.0.texts; numbers = x.0.numbers; slots = x.0.slots; procedures = x.0.procedures; instructions = x.0.instructions }, x.1.now)) result (counts_at version octets.now) }
 {
     let (texts, rest) = u16_at(octets)?;
     let (numbers, rest) = u16_at(rest)?;
     let (slots, rest) = u16_at(rest)?;
+    let (procedures, rest) = procedure_count_of(version, rest)?;
     let (instructions, rest) = u16_at(rest)?;
     let heading = Heading {
         texts,
         numbers,
         slots,
+        procedures,
         instructions,
     };
     Ok((heading, rest))
+}
+
+/// Reads the count of procedures, which version 2 alone has; answers it and the rest.
+#[tactic(auto, unfolding(crate::specs::Reading::procedure_count_at))]
+fn procedure_count_of(version: Version, octets: &[u8]) -> Result<(Option<u16>, &[u8]), FormFault>
+    ensures { Gives (λ x. (x.0, x.1.now)) result (procedure_count_at version octets.now) }
+{
+    match version {
+        Version::One => Ok((None, octets)),
+        Version::Two => {
+            let (count, rest) = u16_at(octets)?;
+            Ok((Some(count), rest))
+        }
+    }
 }
 
 /// Reads `count` texts; answers them and the rest.
@@ -144,6 +178,38 @@ fn numbers_of(alloc: Global, count: u16, octets: &[u8]) -> Result<(Vec<u64>, &[u
         rest = after;
     }
     Ok((numbers, rest))
+}
+
+/// Reads the first places of `count` procedures, none where there is no count; answers them and the rest.
+#[tactic(auto, unfolding(crate::specs::Reading::procedures_at))]
+fn first_places_of(
+    alloc: Global,
+    count: Option<u16>,
+    octets: &[u8],
+) -> Result<(Option<Vec<u16>>, &[u8]), FormFault>
+    ensures { Gives (λ x. (held x.0, x.1.now)) result (procedures_at count octets.now) }
+{
+    match count {
+        None => Ok((None, octets)),
+        Some(count) => {
+            let (places, rest) = places_of(alloc, count, octets)?;
+            Ok((Some(places), rest))
+        }
+    }
+}
+
+/// Reads `count` places; answers them and the rest.
+fn places_of(alloc: Global, count: u16, octets: &[u8]) -> Result<(Vec<u16>, &[u8]), FormFault>
+    ensures { Gives (λ x. (x.0.items, x.1.now)) result (many_at (number_at w16) count octets.now) }
+{
+    let mut places = Vec::new(alloc);
+    let mut rest = octets;
+    for _ in 0..count {
+        let (place, after) = u16_at(rest)?;
+        places.push(place)?;
+        rest = after;
+    }
+    Ok((places, rest))
 }
 
 /// Reads `count` instructions; answers them and the rest.

@@ -7,9 +7,11 @@ use std::fmt;
 impl fmt::Display for Image {
     /// One line for each instruction: its place, its name and its operands, as in `0 VALUES "subject"`. An operand that
     /// names a text or a number is shown as the text, in quotes and with ASCII escapes, or as the number. Where the
-    /// image has none there, the operand is shown after `text` or `number`.
+    /// image has none there, the operand is shown after `text` or `number`. In version 2 a line such as `procedure 1`
+    /// stands before the first instruction of each procedure.
     fn fmt<W: fmt::Write>(&self, f: &mut fmt::Formatter<W>) -> fmt::Result {
         for (place, operation) in self.code().iter().enumerate() {
+            show_start(self, place, f)?;
             write!(f, "{place} ")?;
             f.write_str(name(*operation))?;
             show_operands(self, *operation, f)?;
@@ -17,6 +19,20 @@ impl fmt::Display for Image {
         }
         Ok(())
     }
+}
+
+/// Shows the numbers of the procedures that begin at a place.
+fn show_start<W: fmt::Write>(
+    image: &Image,
+    place: usize,
+    f: &mut fmt::Formatter<W>,
+) -> fmt::Result {
+    for (number, first) in image.first_places().iter().enumerate() {
+        if *first as usize == place {
+            write!(f, "procedure {number}\n")?;
+        }
+    }
+    Ok(())
 }
 
 fn name(operation: Operation) -> &'static str {
@@ -42,6 +58,8 @@ fn name(operation: Operation) -> &'static str {
         Operation::Discard => "DISCARD",
         Operation::Stop => "STOP",
         Operation::Fault(_) => "FAULT",
+        Operation::Call(_) => "CALL",
+        Operation::Return => "RETURN",
     }
 }
 
@@ -62,7 +80,8 @@ fn show_operands<W: fmt::Write>(
         | Operation::JumpIf(b)
         | Operation::JumpUnless(b)
         | Operation::Marked(b)
-        | Operation::Mark(b) => write!(f, " {b}"),
+        | Operation::Mark(b)
+        | Operation::Call(b) => write!(f, " {b}"),
         Operation::Fault(a) => write!(f, " {a}"),
         _ => Ok(()),
     }

@@ -3,15 +3,13 @@
 ghost use Rattle.std.specs.Prelude.{◌≡◌, ◌<◌, ◌^◌, ◌++◌, length, map, All, OnOk, IfOk};
 ghost use Rattle.std.specs.List.{flat_map};
 ghost use Rattle.std.specs.Int.{w16, w32, w64, to_be_bytes};
-ghost use Rattle.filing_image.specs.Program.{parts, instruction_of};
-ghost use Rattle.filing_image.specs.Spelling.{spelling, mark, text, instruction, Fits};
+ghost use Rattle.filing_image.specs.Program.{parts, instruction_of, version_of};
+ghost use Rattle.filing_image.specs.Spelling.{spelling, mark, text, instruction, procedure_count, procedures, Fits};
 
 use crate::image::Image;
 use crate::instruction::{Instruction, Operation};
+use crate::version::Version;
 use std::alloc::{AllocError, Global};
-
-/// The mark `SFI1`, with which each image begins.
-const MARK: [u8; 4] = [0x53, 0x46, 0x49, 0x31];
 
 /// The octets that spell an image. Each image has one spelling, and `decode` of it answers the same image. The only
 /// error is a refused allocation. Time and memory are linear in the number of octets.
@@ -22,26 +20,68 @@ pub fn encode(alloc: Global, image: &Image) -> Result<Vec<u8>, AllocError>
 {
     image.fits();
     let mut out = Vec::new(alloc);
-    out.extend_from_slice(&MARK)?;
+    put_mark(&mut out, image.version())?;
     out.extend_from_slice(&image.budget().to_be_bytes())?;
     put_counts(&mut out, image)?;
     put_texts(&mut out, image.texts())?;
     put_numbers(&mut out, image.numbers())?;
+    put_first_places(&mut out, image)?;
     put_code(&mut out, image.code())?;
     Ok(out)
 }
 
-/// Writes the counts of texts, numbers, slots and instructions, in two octets each.
+/// Writes the mark with which each image of a version begins: `SFI1` or `SFI2`.
+fn put_mark(out: &mut Vec<u8>, version: Version) -> Result<(), AllocError>
+    ensures { OnOk result (out.new.items ≡ out.old.items ++ mark version) }
+{
+    let last = match version {
+        Version::One => 0x31,
+        Version::Two => 0x32,
+    };
+    out.extend_from_slice(&[0x53, 0x46, 0x49, last])?;
+    Ok(())
+}
+
+/// Writes the counts of texts, numbers, slots, in version 2 procedures, and instructions, in two octets each.
 fn put_counts(out: &mut Vec<u8>, image: &Image) -> Result<(), AllocError>
     ensures { OnOk result (out.new.items ≡ out.old.items ++
         (to_be_bytes w16 (length image.now.texts) ++
         (to_be_bytes w16 (length image.now.numbers) ++
-        (to_be_bytes w16 image.now.slots ++ to_be_bytes w16 (length image.now.code))))) }
+        (to_be_bytes w16 image.now.slots ++
+        (procedure_count image.now.procedures ++ to_be_bytes w16 (length image.now.code)))))) }
 {
     put_u16(out, image.text_count() as u16)?;
     put_u16(out, image.numbers().len() as u16)?;
     put_u16(out, image.slots())?;
+    put_procedure_count(out, image)?;
     put_u16(out, image.code().len() as u16)?;
+    Ok(())
+}
+
+/// Writes the count of procedures, which version 2 alone has, in two octets.
+fn put_procedure_count(out: &mut Vec<u8>, image: &Image) -> Result<(), AllocError>
+    ensures { OnOk result (out.new.items ≡ out.old.items ++ procedure_count image.now.procedures) }
+{
+    match image.version() {
+        Version::One => Ok(()),
+        Version::Two => put_u16(out, image.first_places().len() as u16),
+    }
+}
+
+/// Writes the first place of each procedure; nothing in version 1.
+fn put_first_places(out: &mut Vec<u8>, image: &Image) -> Result<(), AllocError>
+    ensures { OnOk result (out.new.items ≡ out.old.items ++ procedures image.now.procedures) }
+{
+    put_places(out, image.first_places())
+}
+
+/// Writes places in two octets each, big-endian.
+fn put_places(out: &mut Vec<u8>, places: &[u16]) -> Result<(), AllocError>
+    ensures { OnOk result (out.new.items ≡ out.old.items ++ flat_map (to_be_bytes w16) places.now) }
+{
+    for place in places {
+        put_u16(out, *place)?;
+    }
     Ok(())
 }
 

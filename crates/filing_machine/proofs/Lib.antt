@@ -4,3 +4,4 @@ pub mod Ends
 pub mod PlaceLemmas
 pub mod FindLemmas
 pub mod TopLemmas
+pub mod CallLemmas

@@ -1,16 +1,16 @@
 -- A machine in its run may make a step.
-use Rattle.std.proofs.Common.{◌≡◌, ◌≢◌, ℕ, ◌+◌, ◌<◌, ◌≤◌, length, Option, None, sym, ap, ◌∙◌, arith, get_or, inl, inr}
+use Rattle.std.proofs.Common.{◌≡◌, ◌≢◌, ℕ, ◌+◌, ◌<◌, ◌≤◌, length, List, Option, Some, None, sym, ap, ◌∙◌, arith, get_or, inl, inr}
 use Rattle.std.proofs.lemmas.Bool.{cases_lt}
 use Rattle.std.proofs.lemmas.List.{length-map}
 use Rattle.std.proofs.lemmas.Option.{slice_get-get_or}
 use Rattle.filing_image.specs.Program.{Program}
 use Rattle.filing_image.specs.declared.instruction.Operation.TheVariants.{PushTrue}
-use Rattle.filing_verify.specs.Well.{InRange, IsWell}
+use Rattle.filing_verify.specs.Well.{InRange, greatest_budget, IsWell}
 use Rattle.sieve_meaning.specs.Case.{Facts}
 use Rattle.filing_table.specs.Machine.{State, At, Trap, act, step, after_steps}
 use Rattle.filing_machine.specs.Seen.{state, entry, run_at, IsModest}
 use Rattle.filing_machine.specs.Runs.{Stored, seen, Stands, IsModestAt}
-use Rattle.filing_machine.proofs.Sound.{keeps, sound, ranges, depth, in_budget, steps_to}
+use Rattle.filing_machine.proofs.Sound.{keeps, sound, ranges, depth, room, in_budget, steps_to}
 
 -- what a step relies on
 pub record Ready (p : Program) (c : Facts) (m : Stored) : Type 0 where
@@ -19,10 +19,15 @@ pub record Ready (p : Program) (c : Facts) (m : Stored) : Type 0 where
   pub range : InRange p (get_or p.code m.at.place PushTrue)
   pub slots : p.slots ≤ 64
   pub deep : length m.at.stack ≤ 32
+  pub room : length m.at.calls < 256
   pub budget : m.steps + 1 ≤ p.budget
-  pub small : p.budget < 65536
+  pub small : p.budget ≤ 1000000
   pub here : At (state c m.at) ≡ after_steps p c m.steps
   pub to : step p c (seen c m) ≡ act p c (get_or p.code m.at.place PushTrue) (state c m.at)
+
+budget_small : (x : Option (List ℕ)) (budget : ℕ) → budget ≤ greatest_budget x → budget ≤ 1000000
+budget_small None budget le = omega arith
+budget_small (Some firsts) budget le = le
 
 pub ready : (p : Program) (c : Facts) (m : Stored) → IsWell p → m.end ≡ None → Stands p c m → Ready p c m
 ready p c m well running stands =
@@ -36,7 +41,8 @@ ready p c m well running stands =
       slots = well.in_range.slots;
       deep = omega (arith, deep, length-map m.at.stack (entry c));
       budget = in_budget p c well m.steps (state c m.at) k;
-      small = well.within.most;
+      room = room p c well m.steps (state c m.at) k;
+      small = budget_small p.procedures p.budget well.within.most;
       here = e ∙ stands.on_run;
       to = ap (step p c) (sym e) ∙ steps_to p c well m.steps (state c m.at) k;
     }

@@ -1,22 +1,22 @@
 -- The run of a verified program never traps, and ends within its budget.
-use Rattle.std.proofs.Common.{◌≡◌, ◌≢◌, ℕ, zero, suc, ◌+◌, ◌<◌, ◌≤◌, List, [], ◌∷◌, ◌++◌, length, Bool, true, false, not, ◌||◌, cond, Some, refl, sym, ap, ◌∙◌, subst, arith, inl, inr, get_or}
+use Rattle.std.proofs.Common.{◌≡◌, ◌≢◌, ℕ, zero, suc, ◌+◌, ◌<◌, ◌≤◌, List, [], ◌∷◌, ◌++◌, length, Bool, true, false, not, ◌||◌, cond, max, Option, Some, None, refl, sym, ap, ◌∙◌, subst, arith, inl, inr, ◌⊎◌, get_or}
 use Rattle.std.specs.Prelude.{slice_get, nat_lt, nat_eq}
-use Rattle.std.proofs.lemmas.Bool.{cases_lt, le-ltb, lt-ltb, le-leb, and_from}
+use Rattle.std.proofs.lemmas.Bool.{le-ltb, lt-ltb, le-leb, and_from}
 use Rattle.std.proofs.lemmas.Option.{slice_get-get_or, same_Some}
 use Rattle.std.proofs.lemmas.List.Elements.{All-get_or}
 use Rattle.filing_image.specs.declared.instruction.Operation.{Operation}
-use Rattle.filing_image.specs.declared.instruction.Operation.TheVariants.{PushTrue, PushFalse, Not, Values, Join, Match, Pop, Exists, Size, Number, Less, Jump, JumpIf, JumpUnless, Marked, Mark, File, Keep, Discard, Stop, Fault}
-use Rattle.filing_image.specs.Program.{Program}
+use Rattle.filing_image.specs.declared.instruction.Operation.TheVariants.{PushTrue, PushFalse, Not, Values, Join, Match, Pop, Exists, Size, Number, Less, Jump, JumpIf, JumpUnless, Marked, Mark, File, Keep, Discard, Stop, Fault, Call, Return}
+use Rattle.filing_image.specs.Program.{Program, first_places, firsts_of}
 use Rattle.filing_verify.specs.declared.kind.Kind.{Kind}
 use Rattle.filing_verify.specs.declared.kind.Kind.TheVariants.{Truth, Texts, Count}
-use Rattle.filing_verify.specs.Flow.{target, goes_on, Follows, Path}
+use Rattle.filing_verify.specs.Flow.{first_place, target, goes_on, Follows, Continues, Path, Reached, procedure_of}
 use Rattle.filing_verify.specs.Shapes.{after, IsFine, IsAssignment}
-use Rattle.filing_verify.specs.Well.{InRange, IsWell}
-use Rattle.filing_verify.specs.Passes.{FollowsBy}
+use Rattle.filing_verify.specs.Well.{InRange, is_call, together, next_cost, target_cost, cost_by, Suffices, IsWell}
+use Rattle.filing_verify.proofs.Procedures.{by_kind, enters, leads_inside, number_small}
 use Rattle.sieve_meaning.specs.Case.{Facts}
 use Rattle.sieve_meaning.specs.Truth.{has_field}
 use Rattle.sieve_meaning.specs.Paths.{insert_path}
-use Rattle.filing_table.specs.Machine.{Entry, T, L, N, State, values_of, Run, At, Over, Trap, with_stack, with_named, only_if, jump, file, on_stack, act, at_place, step, after_steps}
+use Rattle.filing_table.specs.Machine.{Entry, T, L, N, State, values_of, Run, At, Over, Trap, with_stack, with_named, only_if, jump, file, enter, go_back, on_stack, act, at_place, start, step, after_steps}
 
 pub kind : Entry → Kind
 kind (T b) = Truth
@@ -32,94 +32,148 @@ unfolding kinds
 length-kinds [] = refl
 length-kinds (e ∷ es) = ap suc (length-kinds es)
 
--- what an operation does where its operands are there
-Does : Operation → State → List Kind → Run → Type 0
-Does o s r (At s') = FollowsBy o s.place s'.place × (kinds s'.stack ≡ r)
-Does o s r (Over f s') = Unit {0}
-Does o s r Trap = ⊥
+-- on to a successor, with no call
+record Moves (p : Program) (o : Operation) (s : State) (r : List Kind) (s' : State) : Type 0 where
+  pub follows : Follows p o s.place s'.place
+  pub kinds : kinds s'.stack ≡ r
+  pub calls : s'.calls ≡ s.calls
+  pub plain : is_call o ≡ false
 
-stacked : (o : Operation) (s : State) (es : List Entry) (r : List Kind) → goes_on o ≡ true → Some (kinds es) ≡ Some r → length r ≤ 32 → Does o s r (with_stack s es)
+-- into a procedure
+record Enters (p : Program) (o : Operation) (s s' : State) : Type 0 where
+  pub number : ℕ
+  pub is : o ≡ Call number
+  pub first : first_place p number ≡ Some s'.place
+  pub kinds : kinds s'.stack ≡ []
+  pub calls : s'.calls ≡ (s.place + 1) ∷ s.calls
+
+-- on after the last call
+record GoesBack (o : Operation) (s s' : State) : Type 0 where
+  pub is : o ≡ Return
+  pub kinds : kinds s'.stack ≡ []
+  pub calls : s.calls ≡ s'.place ∷ s'.calls
+
+-- what an operation does where its operands are there
+Does : Program → Operation → State → List Kind → Run → Type 0
+Does p o s r (At s') = Moves p o s r s' ⊎ (Enters p o s s' ⊎ GoesBack o s s')
+Does p o s r (Over f s') = Unit {0}
+Does p o s r Trap = ⊥
+
+stacked : (p : Program) (o : Operation) (s : State) (es : List Entry) (r : List Kind) → goes_on o ≡ true → is_call o ≡ false → Some (kinds es) ≡ Some r → length r ≤ 32 → Does p o s r (with_stack s es)
 unfolding Does
-stacked o s es r g e fits =
+stacked p o s es r g plain e fits =
     let same : kinds es ≡ r = cc in
     let small : nat_lt 32 (length es) ≡ false = le-ltb _ _ (omega (arith, length-kinds es, ap length same)) in
-    rw small (inl (g, refl), same)
+    rw small (inl (record { follows = inl (g, refl); kinds = same; calls = refl; plain = plain }))
 
-named : {A : Type 0} (o : Operation) (s : State) (r : List Kind) (xs : List A) (b : ℕ) (go : A → Run) → b < length xs → ((x : A) → Does o s r (go x)) → Does o s r (with_named (slice_get xs b) go)
-named o s r [] b go lt h = absurd (omega arith)
-named o s r (x ∷ xs) zero go lt h = h x
-named o s r (x ∷ xs) (suc b) go lt h = named o s r xs b go (omega arith) h
+named : {A : Type 0} (p : Program) (o : Operation) (s : State) (r : List Kind) (xs : List A) (b : ℕ) (go : A → Run) → b < length xs → ((x : A) → Does p o s r (go x)) → Does p o s r (with_named (slice_get xs b) go)
+named p o s r [] b go lt h = absurd (omega arith)
+named p o s r (x ∷ xs) zero go lt h = h x
+named p o s r (x ∷ xs) (suc b) go lt h = named p o s r xs b go (omega arith) h
 
-only : (o : Operation) (s : State) (r : List Kind) (b : Bool) (x : Run) → b ≡ true → Does o s r x → Does o s r (only_if b x)
-only o s r true x e h = h
-only o s r false x e h = absurd cc
+only : (p : Program) (o : Operation) (s : State) (r : List Kind) (b : Bool) (x : Run) → b ≡ true → Does p o s r x → Does p o s r (only_if b x)
+only p o s r true x e h = h
+only p o s r false x e h = absurd cc
 
-jumped : (o : Operation) (s : State) (es : List Entry) (r : List Kind) (b : ℕ) (t : Bool) → goes_on o ≡ true → target o ≡ Some b → Some (kinds es) ≡ Some r → Does o s r (jump s es t b)
+jumped : (p : Program) (o : Operation) (s : State) (es : List Entry) (r : List Kind) (b : ℕ) (t : Bool) → goes_on o ≡ true → is_call o ≡ false → target p o ≡ Some b → Some (kinds es) ≡ Some r → Does p o s r (jump s es t b)
 unfolding Does
-jumped o s es r b true g to e = (inr to, cc)
-jumped o s es r b false g to e = (inl (g, refl), cc)
+jumped p o s es r b true g plain to e = inl (record { follows = inr to; kinds = cc; calls = refl; plain = plain })
+jumped p o s es r b false g plain to e = inl (record { follows = inl (g, refl); kinds = cc; calls = refl; plain = plain })
 
-filed : (o : Operation) (s : State) (r : List Kind) (c : Facts) (a : ℕ) (path : List ℕ) → goes_on o ≡ true → Some (kinds s.stack) ≡ Some r → Does o s r (file c s a path)
+filed : (p : Program) (o : Operation) (s : State) (r : List Kind) (c : Facts) (a : ℕ) (path : List ℕ) → goes_on o ≡ true → is_call o ≡ false → Some (kinds s.stack) ≡ Some r → Does p o s r (file c s a path)
 unfolding Does
-filed o s r c a path g e = elim (c.is_open path) as (λ b. Does o s r (cond b (At (record s { place = s.place + 1; filed = insert_path path s.filed; cancelled = s.cancelled || nat_eq a 0 })) (Over (Some 1) s))) [
-  | true ↦ (inl (g, refl), cc)
+filed p o s r c a path g plain e = elim (c.is_open path) as (λ b. Does p o s r (cond b (At (record s { place = s.place + 1; filed = insert_path path s.filed; cancelled = s.cancelled || nat_eq a 0 })) (Over (Some 1) s))) [
+  | true ↦ inl (record { follows = inl (g, refl); kinds = cc; calls = refl; plain = plain })
   | false ↦ tt
 ]
 
-acts : (p : Program) (c : Facts) (o : Operation) (s : State) (es : List Entry) (r : List Kind) → s.stack ≡ es → after o (kinds es) ≡ Some r → length r ≤ 32 → InRange p o → Does o s r (on_stack p c o s es)
+entered : (p : Program) (b : ℕ) (s : State) (r : List Kind) (x : Option ℕ) → first_place p b ≡ x → b < length (first_places p) → s.stack ≡ [] → Does p (Call b) s r (with_named x (enter s))
+unfolding Does kinds
+entered p b s r None e lt bare = let there = slice_get-get_or (first_places p) b 0 lt in absurd (cc (there, e))
+entered p b s r (Some f) e lt bare = inr (inl (record { number = b; is = refl; first = e; kinds = ap kinds bare; calls = refl }))
+
+came_back : (p : Program) (s : State) (r : List Kind) (calls : List ℕ) → s.calls ≡ calls → s.stack ≡ [] → Does p Return s r (go_back s calls)
+unfolding Does kinds
+came_back p s r [] e bare = tt
+came_back p s r (place ∷ others) e bare = inr (inr (record { is = refl; kinds = ap kinds bare; calls = e }))
+
+acts : (p : Program) (c : Facts) (o : Operation) (s : State) (es : List Entry) (r : List Kind) → s.stack ≡ es → after o (kinds es) ≡ Some r → length r ≤ 32 → InRange p o → Does p o s r (on_stack p c o s es)
 unfolding Does kinds kind
-acts p c PushTrue s es r same e fits range = stacked PushTrue s (T true ∷ es) r refl e fits
-acts p c PushFalse s es r same e fits range = stacked PushFalse s (T false ∷ es) r refl e fits
+acts p c PushTrue s es r same e fits range = stacked p PushTrue s (T true ∷ es) r refl refl e fits
+acts p c PushFalse s es r same e fits range = stacked p PushFalse s (T false ∷ es) r refl refl e fits
 acts p c Not s [] r same e fits range = absurd cc
-acts p c Not s (T b ∷ es) r same e fits range = stacked Not s (T (not b) ∷ es) r refl e fits
+acts p c Not s (T b ∷ es) r same e fits range = stacked p Not s (T (not b) ∷ es) r refl refl e fits
 acts p c Not s (L b ∷ es) r same e fits range = absurd cc
 acts p c Not s (N b ∷ es) r same e fits range = absurd cc
-acts p c (Values b) s es r same e fits range = named (Values b) s r p.texts b _ range (λ name. stacked (Values b) s (L (values_of c name) ∷ es) r refl e fits)
-acts p c Join s (L ys ∷ L xs ∷ es) r same e fits range = stacked Join s (L (xs ++ ys) ∷ es) r refl e fits
+acts p c (Values b) s es r same e fits range = named p (Values b) s r p.texts b _ range (λ name. stacked p (Values b) s (L (values_of c name) ∷ es) r refl refl e fits)
+acts p c Join s (L ys ∷ L xs ∷ es) r same e fits range = stacked p Join s (L (xs ++ ys) ∷ es) r refl refl e fits
 acts p c Join s [] r same e fits range = absurd cc
 acts p c Join s (T b ∷ es) r same e fits range = absurd cc
 acts p c Join s (N b ∷ es) r same e fits range = absurd cc
 acts p c Join s (L b ∷ []) r same e fits range = absurd cc
 acts p c Join s (L b ∷ T d ∷ es) r same e fits range = absurd cc
 acts p c Join s (L b ∷ N d ∷ es) r same e fits range = absurd cc
-acts p c (Match a b) s (L xs ∷ es) r same e fits range = only (Match a b) s r _ _ (le-leb _ _ range.0) (named (Match a b) s r p.texts b _ range.1 (λ key. stacked (Match a b) s (T _ ∷ L xs ∷ es) r refl e fits))
+acts p c (Match a b) s (L xs ∷ es) r same e fits range = only p (Match a b) s r _ _ (le-leb _ _ range.0) (named p (Match a b) s r p.texts b _ range.1 (λ key. stacked p (Match a b) s (T _ ∷ L xs ∷ es) r refl refl e fits))
 acts p c (Match a b) s [] r same e fits range = absurd cc
 acts p c (Match a b) s (T d ∷ es) r same e fits range = absurd cc
 acts p c (Match a b) s (N d ∷ es) r same e fits range = absurd cc
-acts p c Pop s (d ∷ es) r same e fits range = stacked Pop s es r refl e fits
+acts p c Pop s (d ∷ es) r same e fits range = stacked p Pop s es r refl refl e fits
 acts p c Pop s [] r same e fits range = absurd cc
-acts p c (Exists b) s es r same e fits range = named (Exists b) s r p.texts b _ range (λ name. stacked (Exists b) s (T (has_field c name) ∷ es) r refl e fits)
-acts p c Size s es r same e fits range = stacked Size s (N c.size ∷ es) r refl e fits
-acts p c (Number b) s es r same e fits range = named (Number b) s r p.numbers b _ range (λ n. stacked (Number b) s (N n ∷ es) r refl e fits)
-acts p c Less s (N y ∷ N x ∷ es) r same e fits range = stacked Less s (T (nat_lt x y) ∷ es) r refl e fits
+acts p c (Exists b) s es r same e fits range = named p (Exists b) s r p.texts b _ range (λ name. stacked p (Exists b) s (T (has_field c name) ∷ es) r refl refl e fits)
+acts p c Size s es r same e fits range = stacked p Size s (N c.size ∷ es) r refl refl e fits
+acts p c (Number b) s es r same e fits range = named p (Number b) s r p.numbers b _ range (λ n. stacked p (Number b) s (N n ∷ es) r refl refl e fits)
+acts p c Less s (N y ∷ N x ∷ es) r same e fits range = stacked p Less s (T (nat_lt x y) ∷ es) r refl refl e fits
 acts p c Less s [] r same e fits range = absurd cc
 acts p c Less s (T b ∷ es) r same e fits range = absurd cc
 acts p c Less s (L b ∷ es) r same e fits range = absurd cc
 acts p c Less s (N b ∷ []) r same e fits range = absurd cc
 acts p c Less s (N b ∷ T d ∷ es) r same e fits range = absurd cc
 acts p c Less s (N b ∷ L d ∷ es) r same e fits range = absurd cc
-acts p c (Jump b) s es r same e fits range = (inr refl, cc)
-acts p c (JumpIf b) s (T t ∷ es) r same e fits range = jumped (JumpIf b) s es r b t refl refl e
+acts p c (Jump b) s es r same e fits range = inl (record { follows = inr refl; kinds = same_Some _ _ e; calls = refl; plain = refl })
+acts p c (JumpIf b) s (T t ∷ es) r same e fits range = jumped p (JumpIf b) s es r b t refl refl refl e
 acts p c (JumpIf b) s [] r same e fits range = absurd cc
 acts p c (JumpIf b) s (L d ∷ es) r same e fits range = absurd cc
 acts p c (JumpIf b) s (N d ∷ es) r same e fits range = absurd cc
-acts p c (JumpUnless b) s (T t ∷ es) r same e fits range = jumped (JumpUnless b) s es r b (not t) refl refl e
+acts p c (JumpUnless b) s (T t ∷ es) r same e fits range = jumped p (JumpUnless b) s es r b (not t) refl refl refl e
 acts p c (JumpUnless b) s [] r same e fits range = absurd cc
 acts p c (JumpUnless b) s (L d ∷ es) r same e fits range = absurd cc
 acts p c (JumpUnless b) s (N d ∷ es) r same e fits range = absurd cc
-acts p c (Marked b) s es r same e fits range = only (Marked b) s r _ _ (lt-ltb _ _ range) (stacked (Marked b) s (T _ ∷ es) r refl e fits)
-acts p c (Mark b) s es r same e fits range = only (Mark b) s r _ _ (lt-ltb _ _ range) (inl (refl, refl), ap kinds same ∙ same_Some _ _ e)
-acts p c (File a b) s es r same e fits range = only (File a b) s r _ _ (le-leb _ _ range.0) (named (File a b) s r p.texts b _ range.1 (λ path. filed (File a b) s r c a path refl (ap Some (ap kinds same) ∙ e)))
-acts p c Keep s es r same e fits range = (inl (refl, refl), ap kinds same ∙ same_Some _ _ e)
-acts p c Discard s es r same e fits range = (inl (refl, refl), ap kinds same ∙ same_Some _ _ e)
+acts p c (Marked b) s es r same e fits range = only p (Marked b) s r _ _ (lt-ltb _ _ range) (stacked p (Marked b) s (T _ ∷ es) r refl refl e fits)
+acts p c (Mark b) s es r same e fits range = only p (Mark b) s r _ _ (lt-ltb _ _ range) (inl (record { follows = inl (refl, refl); kinds = ap kinds same ∙ same_Some _ _ e; calls = refl; plain = refl }))
+acts p c (File a b) s es r same e fits range = only p (File a b) s r _ _ (le-leb _ _ range.0) (named p (File a b) s r p.texts b _ range.1 (λ path. filed p (File a b) s r c a path refl refl (ap Some (ap kinds same) ∙ e)))
+acts p c Keep s es r same e fits range = (inl (record { follows = inl (refl, refl); kinds = ap kinds same ∙ same_Some _ _ e; calls = refl; plain = refl }))
+acts p c Discard s es r same e fits range = (inl (record { follows = inl (refl, refl); kinds = ap kinds same ∙ same_Some _ _ e; calls = refl; plain = refl }))
 acts p c Stop s es r same e fits range = tt
-acts p c (Fault a) s es r same e fits range = only (Fault a) s r _ _ (and_from _ _ (le-leb _ _ range.0) (le-leb _ _ range.1)) tt
+acts p c (Fault a) s es r same e fits range = only p (Fault a) s r _ _ (and_from _ _ (le-leb _ _ range.0) (le-leb _ _ range.1)) tt
+acts p c (Call b) s [] r same e fits range = entered p b s r (first_place p b) refl range same
+acts p c (Call b) s (d ∷ es) r same e fits range = absurd cc
+acts p c Return s [] r same e fits range = came_back p s r s.calls refl same
+acts p c Return s (d ∷ es) r same e fits range = absurd cc
 
-in_target : (p : Program) (o : Operation) (q : ℕ) → InRange p o → target o ≡ Some q → q < length p.code
-in_target p (Jump b) q h e = let same : b ≡ q = cc in rw (← same) h
-in_target p (JumpIf b) q h e = let same : b ≡ q = cc in rw (← same) h
-in_target p (JumpUnless b) q h e = let same : b ≡ q = cc in rw (← same) h
-in_target p _ q h e = absurd cc
+-- ---- what a place costs
+
+-- a step and a successor
+step_cost : (p : Program) (cost : ℕ → ℕ) (o : Operation) (i q : ℕ) → is_call o ≡ false → Follows p o i q → 1 + cost q ≤ cost_by p cost i o
+step_cost p cost o i q plain (inl (g, e)) =
+    let n : next_cost (goes_on o) i cost ≡ cost q = rw (g, e) refl in
+    let t : together (is_call o) (next_cost (goes_on o) i cost) (target_cost (target p o) cost) ≡ max (next_cost (goes_on o) i cost) (target_cost (target p o) cost) = rw plain refl in
+    omega arith
+step_cost p cost o i q plain (inr to) =
+    let n : target_cost (target p o) cost ≡ cost q = rw to refl in
+    let t : together (is_call o) (next_cost (goes_on o) i cost) (target_cost (target p o) cost) ≡ max (next_cost (goes_on o) i cost) (target_cost (target p o) cost) = rw plain refl in
+    omega arith
+
+call_cost : (p : Program) (cost : ℕ → ℕ) (b i f : ℕ) → first_place p b ≡ Some f → cost_by p cost i (Call b) ≡ 1 + (cost (i + 1) + cost f)
+call_cost p cost b i f first = rw first refl
+
+-- of places to return to, together
+total : (ℕ → ℕ) → List ℕ → ℕ
+total cost [] = 0
+total cost (q ∷ qs) = cost q + total cost qs
+
+after_call : (b : ℕ) (ks r : List Kind) → after (Call b) ks ≡ Some r → r ≡ []
+after_call b [] r e = cc
+after_call b (k ∷ ks) r e = absurd cc
 
 module _ (p : Program) (c : Facts) (well : IsWell p) where
   pub shape : ℕ → List Kind
@@ -129,11 +183,25 @@ module _ (p : Program) (c : Facts) (well : IsWell p) where
   unfolding shape
   good = well.shaped.1
 
+  -- each place to return to is reached, with the empty shape, and was put there by a procedure whose number is not below
+  -- the number of the calls before it
+  pub Waits : List ℕ → Type 0
+  Waits [] = Unit {0}
+  Waits (q ∷ qs) = Reached p q × (q < length p.code) × (shape q ≡ []) × (length qs ≤ procedure_of p q) × Waits qs
+
+  -- in version 1 the run is a path; in version 2 the budget covers the steps so far and the costs of what is left
+  pub Spent : (x : Option (List ℕ)) → Suffices p x → ℕ → State → Type 0
+  Spent None paths n s = Path p n s.place
+  Spent (Some firsts) (cost, are, enough) n s = n + cost s.place + total cost s.calls ≤ p.budget
+
   -- a run that has not ended is at a reached place, and its stack has the shape of that place
   pub record Keeps (n : ℕ) (s : State) : Type 0 where
-    pub path : Path p n s.place
+    pub reached : Reached p s.place
     pub within : s.place < length p.code
     pub kinds : kinds s.stack ≡ shape s.place
+    pub waits : Waits s.calls
+    pub nested : length s.calls ≤ procedure_of p s.place
+    pub spent : Spent p.procedures well.within.enough n s
 
   Ok : ℕ → Run → Type 0
   Ok n (At s) = Keeps n s
@@ -153,32 +221,133 @@ module _ (p : Program) (c : Facts) (well : IsWell p) where
     in_range = All-get_or (InRange p) p.code s.place PushTrue k.within well.in_range.each
 
     fine : IsFine p shape s.place operation
-    fine = good.each s.place operation (n, k.path) here
+    fine = good.each s.place operation k.reached here
 
-    does : Does operation s fine.result (act p c operation s)
+    does : Does p operation s fine.result (act p c operation s)
     does = acts p c operation s s.stack fine.result refl (ap (after operation) k.kinds ∙ fine.finds) fine.shallow_after in_range
 
-    goes_on_inside : (q : ℕ) → Follows p operation s.place q → q < length p.code
-    goes_on_inside q (inl (g, e)) = elim (cases_lt q (length p.code)) [
-      | inl a ↦ a
-      | inr b ↦
-          let end : length p.code ≡ s.place + 1 = omega (arith, k.within) in
-          absurd (well.inside.inside s.place (n, k.path) (operation, here, inl (g, end)))
-    ]
-    goes_on_inside q (inr to) = in_target p operation q in_range to
+    reaches : (q : ℕ) → Follows p operation s.place q → Reached p q
+    reaches q f = (suc k.reached.0, (s.place, k.reached.1, (operation, here, f)))
 
-    keeps_on : (x : Run) → Does operation s fine.result x → Ok (suc n) x
+    inside : (q : ℕ) → Follows p operation s.place q → q < length p.code
+    inside q f = leads_inside p well.in_range well.inside s.place q k.reached (operation, here, f)
+
+    -- without a call the run stays in its procedure
+    continues : (q : ℕ) → is_call operation ≡ false → Follows p operation s.place q → Continues p s.place q
+    continues q plain (inl next) = (operation, here, inl next)
+    continues q plain (inr to) = elim (by_kind p well.in_range operation q to) [
+      | inl jumps ↦ (operation, here, inr jumps)
+      | inr (b, is, first) ↦ absurd (cc (ap is_call is, plain))
+    ]
+
+    same_procedure : (q : ℕ) → Continues p s.place q → procedure_of p q ≡ procedure_of p s.place
+    same_procedure q f = (well.inside.inside s.place q k.reached f).1
+
+    spent_moves : (s' : State) → Moves p operation s fine.result s' → (x : Option (List ℕ)) (e : Suffices p x) → Spent x e n s → Spent x e (suc n) s'
+    unfolding Spent
+    spent_moves s' d None paths path = (s.place, path, (operation, here, d.follows))
+    spent_moves s' d (Some firsts) (cost, are, enough) spent =
+        let paid : cost s.place ≡ cost_by p cost s.place operation = are s.place operation k.reached here in
+        let step = step_cost p cost operation s.place s'.place d.plain d.follows in
+        let same : total cost s'.calls ≡ total cost s.calls = ap (total cost) d.calls in
+        omega arith
+
+    moves : (s' : State) → Moves p operation s fine.result s' → Keeps (suc n) s'
+    moves s' d =
+        let lt = inside s'.place d.follows in
+        let same = same_procedure s'.place (continues s'.place d.plain d.follows) in
+        record {
+          reached = reaches s'.place d.follows;
+          within = lt;
+          kinds = d.kinds ∙ sym (fine.passed_on s'.place d.follows lt);
+          waits = subst Waits (sym d.calls) k.waits;
+          nested = omega (arith, k.nested, ap length d.calls, same);
+          spent = spent_moves s' d p.procedures well.within.enough k.spent;
+        }
+
+    module _ (s' : State) (d : Enters p operation s s') where
+      to_first : Follows p operation s.place s'.place
+      to_first = inr (ap (target p) d.is ∙ d.first)
+
+      to_next : Follows p operation s.place (s.place + 1)
+      to_next = inl (ap goes_on d.is, refl)
+
+      on_next : Continues p s.place (s.place + 1)
+      on_next = (operation, here, inl (ap goes_on d.is, refl))
+
+      bare : fine.result ≡ []
+      bare = after_call d.number (shape s.place) fine.result (ap (λ (o : Operation). after o (shape s.place)) (sym d.is) ∙ fine.finds)
+
+      later : procedure_of p s.place < d.number
+      later = well.forward.calls s.place d.number k.reached (here ∙ ap Some d.is)
+
+      spent_enters : (x : Option (List ℕ)) (e : Suffices p x) → Spent x e n s → Spent x e (suc n) s'
+      unfolding Spent total
+      spent_enters None paths path = (s.place, path, (operation, here, to_first))
+      spent_enters (Some firsts) (cost, are, enough) spent =
+          let paid : cost s.place ≡ cost_by p cost s.place operation = are s.place operation k.reached here in
+          let call : cost_by p cost s.place operation ≡ 1 + (cost (s.place + 1) + cost s'.place) = ap (λ (o : Operation). cost_by p cost s.place o) d.is ∙ call_cost p cost d.number s.place s'.place d.first in
+          let more : total cost s'.calls ≡ cost (s.place + 1) + total cost s.calls = ap (total cost) d.calls in
+          omega arith
+
+      waits_more : Waits ((s.place + 1) ∷ s.calls)
+      unfolding Waits
+      waits_more =
+          let lt = inside (s.place + 1) to_next in
+          let same = same_procedure (s.place + 1) on_next in
+          (reaches (s.place + 1) to_next, lt, fine.passed_on (s.place + 1) to_next lt ∙ bare, omega (arith, k.nested, same), k.waits)
+
+      goes_in : Keeps (suc n) s'
+      goes_in =
+          let lt = inside s'.place to_first in
+          record {
+            reached = reaches s'.place to_first;
+            within = lt;
+            kinds = d.kinds ∙ sym bare ∙ sym (fine.passed_on s'.place to_first lt);
+            waits = subst Waits (sym d.calls) waits_more;
+            nested = omega (arith, k.nested, later, ap length d.calls, enters p well.in_range d.number s'.place d.first);
+            spent = spent_enters p.procedures well.within.enough k.spent;
+          }
+
+    module _ (s' : State) (d : GoesBack operation s s') where
+      waited : Waits (s'.place ∷ s'.calls)
+      waited = subst Waits d.calls k.waits
+
+      some_calls : 0 < length (first_places p)
+      some_calls = subst (InRange p) d.is in_range
+
+      spent_back : (x : Option (List ℕ)) (e : Suffices p x) → p.procedures ≡ x → Spent x e n s → Spent x e (suc n) s'
+      unfolding Spent total
+      spent_back None paths none path = let no : length (first_places p) ≡ 0 = ap (λ (y : Option (List ℕ)). length (firsts_of y)) none in absurd (omega (arith, some_calls, no))
+      spent_back (Some firsts) (cost, are, enough) some spent =
+          let paid : cost s.place ≡ cost_by p cost s.place operation = are s.place operation k.reached here in
+          let one : cost_by p cost s.place operation ≡ 1 = ap (λ (o : Operation). cost_by p cost s.place o) d.is in
+          let less : total cost s.calls ≡ cost s'.place + total cost s'.calls = ap (total cost) d.calls in
+          omega arith
+
+      goes_out : Keeps (suc n) s'
+      unfolding Waits
+      goes_out = record {
+        reached = waited.0;
+        within = waited.1;
+        kinds = d.kinds ∙ sym waited.2;
+        waits = waited.4;
+        nested = waited.3;
+        spent = spent_back p.procedures well.within.enough refl k.spent;
+      }
+
+    keeps_on : (x : Run) → Does p operation s fine.result x → Ok (suc n) x
     unfolding Does Ok
-    keeps_on (At s') d =
-        let lt = goes_on_inside s'.place d.0 in
-        record { path = (s.place, k.path, (operation, here, d.0)); within = lt; kinds = d.1 ∙ sym (fine.passed_on s'.place d.0 lt) }
+    keeps_on (At s') (inl d) = moves s' d
+    keeps_on (At s') (inr (inl d)) = goes_in s' d
+    keeps_on (At s') (inr (inr d)) = goes_out s' d
     keeps_on (Over f s') d = tt
     keeps_on Trap d = d
 
     next_ok : Ok (suc n) (step p c (At s))
     next_ok = rw here (keeps_on (act p c operation s) does)
 
-    not_trap : (x : Run) → Does operation s fine.result x → x ≢ Trap
+    not_trap : (x : Run) → Does p operation s fine.result x → x ≢ Trap
     unfolding Does
     not_trap (At s') d e = cc
     not_trap (Over f s') d e = cc
@@ -195,8 +364,18 @@ module _ (p : Program) (c : Facts) (well : IsWell p) where
     pub depth : length s.stack ≤ 32
     depth = omega (arith, length-kinds s.stack, ap length k.kinds, fine.shallow)
 
+    pub room : length s.calls < 256
+    room = omega (arith, k.nested, number_small p well.in_range s.place)
+
+    budget_by : (x : Option (List ℕ)) (e : Suffices p x) → Spent x e n s → n + 1 ≤ p.budget
+    unfolding Spent
+    budget_by None paths path = paths n s.place path k.within
+    budget_by (Some firsts) (cost, are, enough) spent =
+        let paid : cost s.place ≡ cost_by p cost s.place operation = are s.place operation k.reached here in
+        omega arith
+
     pub in_budget : n + 1 ≤ p.budget
-    in_budget = well.within.paths n s.place k.path k.within
+    in_budget = budget_by p.procedures well.within.enough k.spent
 
     pub steps_to : step p c (At s) ≡ act p c (get_or p.code s.place PushTrue) s
     unfolding operation
@@ -208,9 +387,21 @@ module _ (p : Program) (c : Facts) (well : IsWell p) where
   next n (Over f s) k = tt
   next n Trap k = k
 
+  spent_start : (x : Option (List ℕ)) (e : Suffices p x) → Spent x e 0 start
+  unfolding Spent total
+  spent_start None paths = refl
+  spent_start (Some firsts) (cost, are, enough) = omega (arith, enough)
+
   ok : (n : ℕ) → Ok n (after_steps p c n)
-  unfolding Ok kinds
-  ok zero = record { path = refl; within = well.inside.some; kinds = sym good.start }
+  unfolding Ok kinds Waits
+  ok zero = record {
+    reached = (0, refl);
+    within = well.inside.some;
+    kinds = sym good.start;
+    waits = tt;
+    nested = omega arith;
+    spent = spent_start p.procedures well.within.enough;
+  }
   ok (suc n) = next n (after_steps p c n) (ok n)
 
   pub keeps : (n : ℕ) (s : State) → At s ≡ after_steps p c n → Keeps n s

@@ -1,5 +1,5 @@
 -- The topmost items of a machine's stack.
-use Rattle.std.specs.Prelude.{List, ◌∷◌}
+use Rattle.std.specs.Prelude.{List, [], ◌∷◌}
 use Rattle.filing_machine.specs.declared.state.Item.{Item}
 use Rattle.filing_machine.specs.declared.state.Item.TheVariants.{Truth, Fields, Count}
 
@@ -22,3 +22,8 @@ HasCount _ = ⊥
 abbrev pub HasTwo : List Item → Type 0
 HasTwo (Fields ys ∷ Fields xs ∷ items) = Unit {0}
 HasTwo _ = ⊥
+
+-- no item
+abbrev pub IsBare : List Item → Type 0
+IsBare [] = Unit {0}
+IsBare _ = ⊥

@@ -23,6 +23,7 @@ state c s = record {
   kept = s.kept;
   cancelled = s.cancelled;
   marks = s.marks;
+  calls = s.calls;
 }
 
 -- before an instruction, or at the end with or without a fault

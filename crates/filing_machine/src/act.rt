@@ -1,11 +1,12 @@
 //! One instruction of a run. What it asks of its case is answered in `whole` of `filing_case`.
 
-ghost use Rattle.std.specs.Prelude.{◌≡◌, ◌≢◌, ◌<◌, ◌≤◌, ◌+◌, ◌^◌, ◌∷◌, length, map, if◌then◌else◌, slice_set, true, IfOk, IsOk, OnErr, OnOk, Ok, None};
+ghost use Rattle.std.specs.Prelude.{◌≡◌, ◌≢◌, ◌<◌, ◌≤◌, ◌+◌, ◌^◌, [], ◌∷◌, length, map, if◌then◌else◌, slice_set, true, IfOk, IsOk, OnErr, OnOk, Ok, None};
 ghost use Rattle.std.specs.List.{AllByRecursion};
 ghost use Rattle.filing_verify.specs.Well.{InRange};
-ghost use Rattle.filing_table.specs.Machine.{act, file, Trap};
+ghost use Rattle.sieve_meaning.specs.Case.{Facts};
+ghost use Rattle.filing_table.specs.Machine.{act, file, go_back, Trap};
 ghost use Rattle.filing_machine.specs.Seen.{state, entry, run_at, InCase, IsModest, joined};
-ghost use Rattle.filing_machine.specs.Items.{HasTwo};
+ghost use Rattle.filing_machine.specs.Items.{HasTwo, IsBare};
 
 use crate::fields::{any_matches, fields_named, has_field};
 use crate::state::{Item, Standing};
@@ -25,12 +26,13 @@ pub fn act<C: Case>(
     case: &C,
     at: &mut Standing,
 ) -> Result<Option<End>, AllocError>
-    requires place { at.old.place < 2 ^ 62 }
+    requires place { at.old.place + 1 < 2 ^ 16 }
     requires sound { act image.now (C.facts case.now) operation (state (C.facts case.now) at.old) ≢ Trap }
     requires in_case { AllByRecursion (InCase (C.facts case.now)) at.old.stack }
     requires in_range { InRange image.now operation }
     requires slots { image.now.slots ≤ 64 }
     requires deep { length at.old.stack ≤ 32 }
+    requires room { length at.old.calls < 256 }
     ensures does { IfOk result (λ end. act image.now (C.facts case.now) operation (state (C.facts case.now) at.old) ≡
         run_at end (state (C.facts case.now) at.new)) }
     ensures in_case { AllByRecursion (InCase (C.facts case.now)) at.new.stack }
@@ -76,6 +78,8 @@ pub fn act<C: Case>(
         // The run ends, without a fault.
         Operation::Stop => Ok(Some(None)),
         Operation::Fault(a) => Ok(Some(Some(a))),
+        Operation::Call(b) => enter(image.first_places()[b as usize], at),
+        Operation::Return => go_back(at),
     }
 }
 
@@ -111,6 +115,38 @@ fn push_on(item: Item, at: &mut Standing) -> Result<Option<End>, AllocError>
 {
     at.stack.push(item);
     go_on(at)
+}
+
+/// Enters the procedure with this first place, to return to the next place.
+fn enter(first: u16, at: &mut Standing) -> Result<Option<End>, AllocError>
+    requires place { at.old.place + 1 < 2 ^ 16 }
+    requires bare { IsBare at.old.stack }
+    requires room { length at.old.calls < 256 }
+    ensures to { result ≡ Ok None }
+    ensures bare { at.old.stack ≡ [] }
+    ensures at { at.new ≡ record at.old { place = first; calls = (at.old.place + 1) ∷ at.old.calls } }
+{
+    at.calls.push(at.place as u16 + 1);
+    at.place = first as usize;
+    Ok(None)
+}
+
+/// Returns from the last call; ends the run where there is none.
+fn go_back(at: &mut Standing) -> Result<Option<End>, AllocError>
+    requires bare { IsBare at.old.stack }
+    ensures ok { IsOk result }
+    ensures bare { at.old.stack ≡ [] }
+    ensures stack { at.new.stack ≡ at.old.stack }
+    ensures does { (c : Facts) →
+        IfOk result (λ end. go_back (state c at.old) at.old.calls ≡ run_at end (state c at.new)) }
+{
+    match at.calls.pop() {
+        Some(place) => {
+            at.place = place as usize;
+            Ok(None)
+        }
+        None => Ok(Some(None)),
+    }
 }
 
 /// Sets a slot.

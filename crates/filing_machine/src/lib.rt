@@ -6,6 +6,7 @@
 #![tactic(auto)]
 
 mod act;
+mod calls;
 mod fields;
 mod laws;
 mod machine;

@@ -11,6 +11,7 @@ ghost use Rattle.filing_machine.specs.Seen.{state, InCase};
 ghost use Rattle.filing_machine.specs.Tops.{top_of_stack, any_on_top, value_matches};
 
 use crate::act::act;
+use crate::calls::Calls;
 use crate::fields::first_match;
 use crate::outcome::Outcome;
 use crate::stack::Stack;
@@ -41,8 +42,8 @@ impl Model for Machine {
 }
 
 impl Machine {
-    /// A machine before the first instruction of a program, with nothing done. It reserves the whole stack. The program
-    /// is only for the contract (`stands`). The only error is a refused allocation.
+    /// A machine before the first instruction of a program, with nothing done. It reserves the whole stack, and room for
+    /// 256 places to return to. The program is only for the contract (`stands`). The only error is a refused allocation.
     pub fn start(alloc: Global, _program: &Verified) -> Result<Machine, AllocError>
         ensures start { IfOk result (λ m. (c : Facts) → seen c m ≡ At start) }
         ensures fresh { IfOk result (λ m. m.steps ≡ 0) }
@@ -57,6 +58,7 @@ impl Machine {
             kept: false,
             cancelled: false,
             marks: [false; 64],
+            calls: Calls::new(),
         };
         Ok(Machine {
             alloc,

@@ -1,5 +1,6 @@
 //! The state of a machine.
 
+use crate::calls::Calls;
 use crate::places::FieldPlaces;
 use crate::stack::Stack;
 use sieve_meaning::Paths;
@@ -25,4 +26,6 @@ pub struct Standing {
     pub cancelled: bool,
     /// Which slots are set.
     pub marks: [bool; 64],
+    /// The places to return to.
+    pub calls: Calls,
 }

@@ -1,5 +1,5 @@
 -- Programs of one instruction.
-use Rattle.std.specs.Prelude.{◌≡◌, ◌⊎◌, [], ◌∷◌}
+use Rattle.std.specs.Prelude.{◌≡◌, ◌⊎◌, [], ◌∷◌, None}
 use Rattle.filing_image.specs.Program.{Program}
 use Rattle.filing_image.specs.declared.instruction.Operation.{Operation}
 use Rattle.filing_image.specs.declared.instruction.Operation.TheVariants.{Stop, Fault}
@@ -9,4 +9,4 @@ abbrev pub IsEnd : Operation → Type 0
 IsEnd o = (o ≡ Stop) ⊎ (o ≡ Fault 5)
 
 abbrev pub alone : Operation → Program
-alone o = record { budget = 1; texts = []; numbers = []; slots = 0; code = o ∷ [] }
+alone o = record { budget = 1; texts = []; numbers = []; slots = 0; procedures = None; code = o ∷ [] }

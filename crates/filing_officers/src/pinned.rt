@@ -20,7 +20,7 @@ fn single(alloc: Global, operation: Operation) -> Result<Verified, AllocError>
     ensures { IfOk result (λ v. v ≡ alone operation) }
 {
     let code = vec![in alloc; operation]?;
-    match Image::from_code(1, Vec::new(alloc), Vec::new(alloc), 0, code) {
+    match Image::from_code(1, Vec::new(alloc), Vec::new(alloc), 0, None, code) {
         Ok(image) => Ok(Verified::known(image)),
         Err(_) => unreachable!(),
     }

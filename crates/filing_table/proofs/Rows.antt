@@ -3,7 +3,7 @@ use Rattle.std.proofs.Common.{◌≡◌, ℕ, List, [], ◌∷◌, ◌++◌, len
 use Rattle.std.specs.Prelude.{replicate}
 use Rattle.std.specs.Str.{bytes_eq}
 use Rattle.filing_image.specs.declared.instruction.Operation.{Operation}
-use Rattle.filing_image.specs.declared.instruction.Operation.TheVariants.{PushTrue, PushFalse, Not, Values, Join, Match, Pop, Exists, Size, Number, Less, Jump, JumpIf, JumpUnless, Marked, Mark, File, Keep, Discard, Stop, Fault}
+use Rattle.filing_image.specs.declared.instruction.Operation.TheVariants.{PushTrue, PushFalse, Not, Values, Join, Match, Pop, Exists, Size, Number, Less, Jump, JumpIf, JumpUnless, Marked, Mark, File, Keep, Discard, Stop, Fault, Call, Return}
 use Rattle.filing_image.specs.Program.{Program}
 use Rattle.sieve_meaning.specs.Case.{Facts, Field}
 use Rattle.sieve_meaning.specs.Matching.{items_from, suffixes, equals, contains, covers}
@@ -19,7 +19,7 @@ abbrev facts : Facts
 facts = record { size = 10; fields = field (codes "To") (codes "x") ∷ field (codes "From") (codes "yb") ∷ field (codes "TO") (codes "z") ∷ []; is_open = bytes_eq (codes "a") }
 
 abbrev program : List Operation → Program
-program code = record { budget = 100; texts = codes "to" ∷ codes "Z" ∷ codes "a" ∷ codes "b" ∷ codes "from" ∷ []; numbers = 10 ∷ 9 ∷ []; slots = 2; code = code }
+program code = record { budget = 100; texts = codes "to" ∷ codes "Z" ∷ codes "a" ∷ codes "b" ∷ codes "from" ∷ []; numbers = 10 ∷ 9 ∷ []; slots = 2; procedures = None; code = code }
 
 -- the topmost entries first
 abbrev stack_of : Run → List Entry
@@ -243,3 +243,47 @@ jump_past_the_end = refl
 -- a trap stays one
 stays_a_trap : after_steps (program (Not ∷ [])) facts 5 ≡ Trap
 stays_a_trap = refl
+
+-- procedures
+
+-- procedure 0 begins at place 0, and procedure 1 at place 2
+abbrev with_procedures : List Operation → Program
+with_procedures code = record { budget = 4; texts = []; numbers = []; slots = 0; procedures = Some (0 ∷ 2 ∷ []); code = code }
+
+abbrev worked : Program
+worked = with_procedures (Call 1 ∷ Stop ∷ Discard ∷ Return ∷ [])
+
+called : place_of (after_steps worked facts 1) ≡ 2
+called = refl
+
+returned : place_of (after_steps worked facts 3) ≡ 1
+returned = refl
+
+ended_after_the_call : captured (after_steps worked facts 4) ≡ record { classes = []; fault = None }
+ended_after_the_call = refl
+
+-- a return from procedure 0 ends the run as a stop does
+returned_at_last : captured (after_steps (with_procedures (Return ∷ Stop ∷ Return ∷ [])) facts 1) ≡ record { classes = unfiled ∷ []; fault = None }
+returned_at_last = refl
+
+-- the innermost call is returned from first
+abbrev nested : Program
+nested = record worked { procedures = Some (0 ∷ 2 ∷ 4 ∷ []); code = Call 1 ∷ Stop ∷ Call 2 ∷ Return ∷ Keep ∷ Return ∷ [] }
+
+returned_from_the_inner : place_of (after_steps nested facts 4) ≡ 3
+returned_from_the_inner = refl
+
+returned_from_the_outer : place_of (after_steps nested facts 5) ≡ 1
+returned_from_the_outer = refl
+
+entry_at_a_call : after_steps (with_procedures (PushTrue ∷ Call 1 ∷ Return ∷ [])) facts 2 ≡ Trap
+entry_at_a_call = refl
+
+entry_at_a_return : after_steps (with_procedures (PushTrue ∷ Return ∷ Return ∷ [])) facts 2 ≡ Trap
+entry_at_a_return = refl
+
+no_procedure : after_steps (with_procedures (Call 2 ∷ Stop ∷ Return ∷ [])) facts 1 ≡ Trap
+no_procedure = refl
+
+no_procedure_in_version_one : after_steps (program (Call 0 ∷ Stop ∷ [])) facts 1 ≡ Trap
+no_procedure_in_version_one = refl

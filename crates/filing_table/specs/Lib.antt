@@ -1,2 +1,3 @@
 pub mod Machine
 pub mod Ends
+pub mod VersionOne

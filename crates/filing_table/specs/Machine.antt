@@ -2,8 +2,8 @@
 use Rattle.std.specs.Prelude.{ℕ, zero, suc, ◌+◌, List, [], ◌∷◌, ◌++◌, map, length, Bool, true, false, not, ◌&&◌, ◌||◌, nat_lt, nat_le, nat_eq, if◌then◌else◌, Option, Some, None, slice_get, slice_set, slice_index_or, replicate}
 use Rattle.std.specs.List.{list_any, filter}
 use Rattle.filing_image.specs.declared.instruction.Operation.{Operation}
-use Rattle.filing_image.specs.declared.instruction.Operation.TheVariants.{PushTrue, PushFalse, Not, Values, Join, Match, Pop, Exists, Size, Number, Less, Jump, JumpIf, JumpUnless, Marked, Mark, File, Keep, Discard, Stop, Fault}
-use Rattle.filing_image.specs.Program.{Program}
+use Rattle.filing_image.specs.declared.instruction.Operation.TheVariants.{PushTrue, PushFalse, Not, Values, Join, Match, Pop, Exists, Size, Number, Less, Jump, JumpIf, JumpUnless, Marked, Mark, File, Keep, Discard, Stop, Fault, Call, Return}
+use Rattle.filing_image.specs.Program.{Program, first_places}
 use Rattle.sieve_meaning.specs.declared.matching.Comparator.TheVariants as comparators
 use Rattle.sieve_meaning.specs.declared.matching.MatchType.TheVariants as match_types
 use Rattle.sieve_meaning.specs.Matching.{key_matches}
@@ -27,6 +27,8 @@ pub record State : Type 0 where
   pub cancelled : Bool
   -- whether each slot is set
   pub marks : List Bool
+  -- the places to return to, that of the last call first
+  pub calls : List ℕ
 
 -- where a run is: before an instruction, at its end with or without a fault, or trapped
 pub data Run : Type 0 where
@@ -36,7 +38,7 @@ pub data Run : Type 0 where
 
 -- at place 0, with nothing done
 abbrev pub start : State
-start = record { place = 0; stack = []; filed = []; kept = false; cancelled = false; marks = replicate 64 false }
+start = record { place = 0; stack = []; filed = []; kept = false; cancelled = false; marks = replicate 64 false; calls = [] }
 
 -- the values of the fields of this name, in the order of the message
 abbrev pub values_of : Facts → List ℕ → List (List ℕ)
@@ -46,7 +48,7 @@ values_of c name = map (λ f. f.value) (filter (is_named name) c.fields)
 abbrev pub with_stack : State → List Entry → Run
 with_stack s stack = if nat_lt 32 (length stack) then Trap else At (record s { place = s.place + 1; stack = stack })
 
--- goes on with the text or number that an operand names; a trap where there is none
+-- goes on with the text, number or first place that an operand names; a trap where there is none
 abbrev pub with_named : {A : Type 0} → Option A → (A → Run) → Run
 with_named None go = Trap
 with_named (Some x) go = go x
@@ -75,6 +77,15 @@ file c s a path =
     if c.is_open path
     then At (record s { place = s.place + 1; filed = insert_path path s.filed; cancelled = s.cancelled || nat_eq a 0 })
     else Over (Some 1) s
+
+-- into a procedure, and after it on to the next place
+abbrev pub enter : State → ℕ → Run
+enter s first = At (record s { place = first; calls = (s.place + 1) ∷ s.calls })
+
+-- on after the last call that was not returned from yet, and the end where there is none
+abbrev pub go_back : State → List ℕ → Run
+go_back s [] = Over None s
+go_back s (place ∷ others) = At (record s { place = place; calls = others })
 
 -- what an instruction does, by its operands and the stack
 abbrev pub on_stack : Program → Facts → Operation → State → List Entry → Run
@@ -109,6 +120,10 @@ on_stack p c Keep s es = At (record s { place = s.place + 1; kept = true })
 on_stack p c Discard s es = At (record s { place = s.place + 1; cancelled = true })
 on_stack p c Stop s es = Over None s
 on_stack p c (Fault a) s es = only_if (nat_le 2 a && nat_le a 5) (Over (Some a) s)
+on_stack p c (Call b) s [] = with_named (slice_get (first_places p) b) (enter s)
+on_stack p c (Call b) s _ = Trap
+on_stack p c Return s [] = go_back s s.calls
+on_stack p c Return s _ = Trap
 
 abbrev pub act : Program → Facts → Operation → State → Run
 act p c o s = on_stack p c o s s.stack

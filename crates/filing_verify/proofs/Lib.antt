@@ -2,3 +2,8 @@ pub mod Marking
 pub mod Tables
 pub mod Longest
 pub mod Leading
+pub mod Procedures
+pub mod Spending
+pub mod Budgets
+pub mod Kept
+pub mod Rows

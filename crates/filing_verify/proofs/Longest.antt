@@ -8,38 +8,37 @@ use Rattle.std.proofs.lemmas.Bool.{cases_lt}
 use Rattle.filing_image.specs.Program.{Program}
 use Rattle.filing_image.specs.declared.instruction.Operation.{Operation}
 use Rattle.filing_verify.specs.Flow.{target, goes_on, Follows, Leads, Path, Reached}
-use Rattle.filing_verify.specs.Well.{GoesForward}
-use Rattle.filing_verify.specs.Passes.{by_target, by_next, cost_at, Costs}
+use Rattle.filing_verify.specs.Passes.{GoesOnward, by_target, by_next, cost_at, Costs}
 
 abbrev at : List ℕ → ℕ → ℕ
 at costs p = slice_index_or costs p 0
 
 module _ (program : Program) (o : Operation) (p : ℕ) (costs : List ℕ) where
-  follower : (q : ℕ) → Follows program o p q → at costs q + 1 ≤ cost_at o p costs
+  follower : (q : ℕ) → Follows program o p q → at costs q + 1 ≤ cost_at program o p costs
   follower q (inl (g, e)) =
       let n : by_next (goes_on o) p costs ≡ at costs q = rw (g, e) refl in
       omega arith
   follower q (inr to) =
-      let n : by_target (target o) costs ≡ at costs q = rw to refl in
+      let n : by_target (target program o) costs ≡ at costs q = rw to refl in
       omega arith
 
   next_is : (g : Bool) → goes_on o ≡ g → (by_next (goes_on o) p costs ≡ 0) ⊎ (Follows program o p (p + 1) × (by_next (goes_on o) p costs ≡ at costs (p + 1)))
   next_is true e = inr (inl (e, refl), rw e refl)
   next_is false e = inl (rw e refl)
 
-  target_is : (t : Option ℕ) → target o ≡ t → (by_target (target o) costs ≡ 0) ⊎ ((q : ℕ) × Follows program o p q × (by_target (target o) costs ≡ at costs q))
+  target_is : (t : Option ℕ) → target program o ≡ t → (by_target (target program o) costs ≡ 0) ⊎ ((q : ℕ) × Follows program o p q × (by_target (target program o) costs ≡ at costs q))
   target_is None e = inl (rw e refl)
   target_is (Some q) e = inr (q, inr e, rw e refl)
 
   -- it is that of a successor and one more, or one
-  is_of_one : (cost_at o p costs ≡ 1) ⊎ ((q : ℕ) × Follows program o p q × (at costs q + 1 ≡ cost_at o p costs))
+  is_of_one : (cost_at program o p costs ≡ 1) ⊎ ((q : ℕ) × Follows program o p q × (at costs q + 1 ≡ cost_at program o p costs))
   is_of_one =
       elim (next_is (goes_on o) refl) [
-        | inl a ↦ elim (target_is (target o) refl) [
+        | inl a ↦ elim (target_is (target program o) refl) [
           | inl b ↦ inl (omega arith)
           | inr (q, f, b) ↦ inr (q, f, omega arith)
         ]
-        | inr (f, a) ↦ elim (target_is (target o) refl) [
+        | inr (f, a) ↦ elim (target_is (target program o) refl) [
           | inl b ↦ inr (p + 1, f, omega arith)
           | inr (q, g, b) ↦ elim (cases_lt (at costs (p + 1)) (at costs q)) [
             | inl less ↦ inr (q, g, omega arith)
@@ -48,7 +47,7 @@ module _ (program : Program) (o : Operation) (p : ℕ) (costs : List ℕ) where
         ]
       ]
 
-module _ (program : Program) (i : ℕ) (costs : List ℕ) (forward : GoesForward program) (so_far : Costs program (i + 1) costs) where
+module _ (program : Program) (i : ℕ) (costs : List ℕ) (forward : GoesOnward program) (so_far : Costs program (i + 1) costs) where
   onto : (p : ℕ) → i ≤ p → (i + 1 ≤ p) ⊎ (p ≡ i)
   onto p le = elim (cases_lt i p) [ inl a ↦ inl (omega arith) | inr b ↦ inr (omega arith) ]
 
@@ -63,7 +62,7 @@ module _ (program : Program) (i : ℕ) (costs : List ℕ) (forward : GoesForward
 
   module _ (o : Operation) (here : slice_get program.code i ≡ Some o) (reached : Reached program i) where
     v : ℕ
-    v = cost_at o i costs
+    v = cost_at program o i costs
 
     later : (p q : ℕ) → i ≤ p → Reached program p → Leads program p q → i < q
     later p q le r (o', at', inl (g, e)) = omega arith
@@ -150,7 +149,7 @@ module _ (program : Program) (i : ℕ) (costs : List ℕ) (forward : GoesForward
       ];
     }
 
-    pub set_cost : Costs program i (set costs i (cost_at o i costs))
+    pub set_cost : Costs program i (set costs i (cost_at program o i costs))
     unfolding v
     set_cost = set_v
 

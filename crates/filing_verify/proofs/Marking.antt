@@ -7,8 +7,7 @@ use Rattle.std.proofs.lemmas.Bool.{cases_lt}
 use Rattle.filing_image.specs.Program.{Program}
 use Rattle.filing_image.specs.declared.instruction.Operation.{Operation}
 use Rattle.filing_verify.specs.Flow.{target, goes_on, Follows, Path}
-use Rattle.filing_verify.specs.Well.{GoesForward}
-use Rattle.filing_verify.specs.Passes.{IsMarked, with_target, with_next, Marks}
+use Rattle.filing_verify.specs.Passes.{GoesOnward, IsMarked, with_target, with_next, Marks}
 
 -- ---- one mark
 
@@ -91,36 +90,36 @@ module _ (program : Program) (i : ℕ) (ms : List Bool) (so_far : Marks program 
   }
 
   module _ (o : Operation) (at : slice_get program.code i ≡ Some o) (marked : IsMarked ms i) where
-    module _ (ahead : (q : ℕ) → target o ≡ Some q → i < q) where
+    module _ (ahead : (q : ℕ) → target program o ≡ Some q → i < q) where
       -- a mark at or before i was there
-      old_mark : (p : ℕ) → p < i + 1 → IsMarked (with_next (goes_on o) i (with_target (target o) ms)) p → IsMarked ms p
+      old_mark : (p : ℕ) → p < i + 1 → IsMarked (with_next (goes_on o) i (with_target (target program o) ms)) p → IsMarked ms p
       old_mark p lt h =
-          elim (only_these (goes_on o) (target o) i ms p h) [
+          elim (only_these (goes_on o) (target program o) i ms p h) [
             | inl a ↦ a
             | inr (inl (g, e)) ↦ absurd (omega arith)
             | inr (inr to) ↦ let less : i < p = ahead p to in absurd (omega arith)
           ]
 
-      pub passed_on : Marks program (i + 1) (with_next (goes_on o) i (with_target (target o) ms))
+      pub passed_on : Marks program (i + 1) (with_next (goes_on o) i (with_target (target program o) ms))
       passed_on = record {
-        long = length_kept (goes_on o) (target o) i ms ∙ so_far.long;
-        first = λ some. all_kept (goes_on o) (target o) i ms 0 (so_far.first some);
-        sound = λ p h. elim (only_these (goes_on o) (target o) i ms p h) [
+        long = length_kept (goes_on o) (target program o) i ms ∙ so_far.long;
+        first = λ some. all_kept (goes_on o) (target program o) i ms 0 (so_far.first some);
+        sound = λ p h. elim (only_these (goes_on o) (target program o) i ms p h) [
           | inl a ↦ so_far.sound p a
           | inr f ↦ let r = so_far.sound i marked in (suc r.0, (i, r.1, (o, at, f)))
         ];
         closed = λ p q lt h leads within. elim (upto p lt) [
-          | inl a ↦ all_kept (goes_on o) (target o) i ms q (so_far.closed p q a (old_mark p lt h) leads within)
+          | inl a ↦ all_kept (goes_on o) (target program o) i ms q (so_far.closed p q a (old_mark p lt h) leads within)
           | inr e ↦
               let same : leads.0 ≡ o = cc (leads.1, at, ap (slice_get program.code) e) in
               let f : Follows program o i q = subst (λ (x : Operation × ℕ). Follows program x.0 x.1 q) (cc) leads.2 in
-              follows_made (goes_on o) (target o) i ms q (omega (arith, so_far.long)) f
+              follows_made (goes_on o) (target program o) i ms q (omega (arith, so_far.long)) f
         ];
         forward = λ p q o' lt h at' to. elim (upto p lt) [
           | inl a ↦ so_far.forward p q o' a (old_mark p lt h) at' to
           | inr e ↦
               let same : o' ≡ o = cc (at', at, ap (slice_get program.code) e) in
-              let to' : target o ≡ Some q = subst (λ (x : Operation). target x ≡ Some q) same to in
+              let to' : target program o ≡ Some q = subst (λ (x : Operation). target program x ≡ Some q) same to in
               rw e (ahead q to')
         ];
       }
@@ -132,7 +131,7 @@ module _ (program : Program) (ms : List Bool) (all : Marks program (length progr
       let within : p < length program.code = slice_get_within program.code p leads.0 leads.1 in
       all.closed p q within (complete n p path within) leads lt
 
-  pub goes_forward : GoesForward program
+  pub goes_forward : GoesOnward program
   goes_forward p q o reached at to =
       let within : p < length program.code = slice_get_within program.code p o at in
       all.forward p q o within (complete reached.0 p reached.1 within) at to

@@ -9,8 +9,7 @@ use Rattle.filing_image.specs.declared.instruction.Operation.{Operation}
 use Rattle.filing_verify.specs.declared.kind.Kind.{Kind}
 use Rattle.filing_verify.specs.Flow.{target, goes_on, Follows, Path}
 use Rattle.filing_verify.specs.Shapes.{after, IsFine, IsAssignment, HasShapes}
-use Rattle.filing_verify.specs.Well.{GoesForward}
-use Rattle.filing_verify.specs.Passes.{Has, FollowsBy, Takes, Clashes, Shaping}
+use Rattle.filing_verify.specs.Passes.{GoesOnward, Has, Takes, Clashes, Shaping}
 
 pub reverse_same : {A : Type 0} {xs ys : List A} → reverse xs ≡ reverse ys → xs ≡ ys
 reverse_same {xs} {ys} e = sym (reverse-reverse xs) ∙ ap reverse e ∙ reverse-reverse ys
@@ -20,8 +19,8 @@ Table = List (Option (List Kind))
 
 -- ---- one place after another
 
-module _ (o : Operation) (p b : ℕ) (r : List Kind) (to : target o ≡ Some b) (old mid : Table) (first : Takes old (λ q. q ≡ b) r mid) where
-  pub takes_both : (new : Table) → Takes mid (λ q. (goes_on o ≡ true) × (q ≡ p + 1)) r new → Takes old (FollowsBy o p) r new
+module _ (program : Program) (o : Operation) (p b : ℕ) (r : List Kind) (to : target program o ≡ Some b) (old mid : Table) (first : Takes old (λ q. q ≡ b) r mid) where
+  pub takes_both : (new : Table) → Takes mid (λ q. (goes_on o ≡ true) × (q ≡ p + 1)) r new → Takes old (Follows program o p) r new
   takes_both new second = record {
     long = second.long ∙ first.long;
     offered = λ q f lt. elim f [
@@ -37,7 +36,7 @@ module _ (o : Operation) (p b : ℕ) (r : List Kind) (to : target o ≡ Some b) 
 
 -- ---- the pass
 
-module _ (program : Program) (i : ℕ) (table : Table) (forward : GoesForward program) (so_far : Shaping program i table) where
+module _ (program : Program) (i : ℕ) (table : Table) (forward : GoesOnward program) (so_far : Shaping program i table) where
   upto : (p : ℕ) → p < i + 1 → (p < i) ⊎ (p ≡ i)
   upto p lt = elim (cases_lt p i) [ inl a ↦ inl a | inr b ↦ inr (omega arith) ]
 

@@ -1,10 +1,27 @@
 -- Invariants of the passes over the code, which the contract of the verifier does not use.
-use Rattle.std.specs.Prelude.{◌≡◌, ◌≢◌, ℕ, ◌+◌, ◌<◌, ◌≤◌, ◌⊎◌, List, [], length, Bool, true, false, Option, Some, None, slice_get, slice_set, slice_index_or, max, ◌↔◌}
+use Rattle.std.specs.Prelude.{◌≡◌, ◌≢◌, ℕ, ◌+◌, ◌<◌, ◌≤◌, ◌⊎◌, List, [], length, Bool, true, false, Option, Some, None, slice_get, slice_set, slice_index_or, min, max, ◌↔◌}
 use Rattle.filing_image.specs.Program.{Program}
 use Rattle.filing_image.specs.declared.instruction.Operation.{Operation}
 use Rattle.filing_verify.specs.declared.kind.Kind.{Kind}
-use Rattle.filing_verify.specs.Flow.{target, goes_on, Follows, Leads, Reached}
+use Rattle.filing_verify.specs.Flow.{jump_target, target, goes_on, Follows, Leads, Reached, procedure_of}
 use Rattle.filing_verify.specs.Shapes.{after, IsAssignment}
+use Rattle.filing_verify.specs.Well.{cost_by}
+
+-- each reached jump and each reached call goes to a greater place
+abbrev pub GoesOnward : Program → Type 0
+GoesOnward program = (p q : ℕ) (o : Operation) → Reached program p → slice_get program.code p ≡ Some o →
+    target program o ≡ Some q → p < q
+
+-- each successor of a reached place is a place of the code
+abbrev pub LeadsInside : Program → Type 0
+LeadsInside program = (p q : ℕ) → Reached program p → Leads program p q → q < length program.code
+
+-- The run goes on from place p to the next one, which is no place of its procedure.
+pub record RunsOn (program : Program) (p : ℕ) : Type 0 where
+  pub operation : Operation
+  pub here : slice_get program.code p ≡ Some operation
+  pub goes : goes_on operation ≡ true
+  pub out : (p + 1 < length program.code) × (procedure_of program (p + 1) ≡ procedure_of program p) → ⊥
 
 abbrev pub IsMarked : List Bool → ℕ → Type 0
 IsMarked ms p = slice_get ms p ≡ Some true
@@ -30,15 +47,11 @@ pub record Marks (program : Program) (i : ℕ) (ms : List Bool) : Type 0 where
   pub sound : (p : ℕ) → IsMarked ms p → Reached program p
   pub closed : (p q : ℕ) → p < i → IsMarked ms p → Leads program p q → q < length program.code → IsMarked ms q
   pub forward : (p q : ℕ) (o : Operation) → p < i → IsMarked ms p → slice_get program.code p ≡ Some o →
-      target o ≡ Some q → p < q
+      target program o ≡ Some q → p < q
 
 -- the shape that a table has at a place
 abbrev pub Has : List (Option (List Kind)) → ℕ → List Kind → Type 0
 Has table p ks = slice_get table p ≡ Some (Some ks)
-
--- the successors that the operation at place p has in any program
-abbrev pub FollowsBy : Operation → ℕ → ℕ → Type 0
-FollowsBy o p q = ((goes_on o ≡ true) × (q ≡ p + 1)) ⊎ (target o ≡ Some q)
 
 -- The places At that the table has were given this shape, and no other place was changed.
 pub record Takes (old : List (Option (List Kind))) (At : ℕ → Type 0) (r : List Kind)
@@ -78,8 +91,8 @@ by_next true p costs = slice_index_or costs (p + 1) 0
 by_next false p costs = 0
 
 -- the places on the longest path from a place on, by the costs of its successors; places past the end cost 0
-abbrev pub cost_at : Operation → ℕ → List ℕ → ℕ
-cost_at o p costs = 1 + max (by_next (goes_on o) p costs) (by_target (target o) costs)
+abbrev pub cost_at : Program → Operation → ℕ → List ℕ → ℕ
+cost_at program o p costs = 1 + max (by_next (goes_on o) p costs) (by_target (target program o) costs)
 
 -- the cost of each reached place from i on is the number of places on the longest path from it
 pub record Costs (program : Program) (i : ℕ) (costs : List ℕ) : Type 0 where
@@ -91,3 +104,32 @@ pub record Costs (program : Program) (i : ℕ) (costs : List ℕ) : Type 0 where
   pub attained : (p : ℕ) → i ≤ p → p < length program.code → Reached program p → (slice_index_or costs p 0 ≡ 1) ⊎
       ((q : ℕ) × (q < length program.code) × Leads program p q ×
       (slice_index_or costs q 0 + 1 ≡ slice_index_or costs p 0))
+
+-- the costs in steps of the reached places from i on
+abbrev pub AreCostsFrom : Program → ℕ → (ℕ → ℕ) → Type 0
+AreCostsFrom program i cost = (p : ℕ) (o : Operation) → i ≤ p → Reached program p → slice_get program.code p ≡ Some o →
+    cost p ≡ cost_by program cost p o
+
+-- the cost of each place by a table; places past the end cost 0
+abbrev pub listed : List ℕ → ℕ → ℕ
+listed costs p = slice_index_or costs p 0
+
+-- more than any budget: the table has it for this cost and all greater ones
+abbrev pub too_much : ℕ
+too_much = 1000001
+
+-- the table has the cost of each reached place from i on, or too_much where that is less
+pub record Costing (program : Program) (i : ℕ) (costs : List ℕ) : Type 0 where
+  pub long : length costs ≡ length program.code
+  pub small : (p : ℕ) → listed costs p ≤ too_much
+  pub there : (cost : ℕ → ℕ) × AreCostsFrom program i cost
+  pub are : (cost : ℕ → ℕ) → AreCostsFrom program i cost → (p : ℕ) → i ≤ p → p < length program.code →
+      Reached program p → listed costs p ≡ min (cost p) too_much
+
+-- The jump at this place goes to a place of another procedure.
+pub record JumpsOut (program : Program) (p : ℕ) : Type 0 where
+  pub operation : Operation
+  pub here : slice_get program.code p ≡ Some operation
+  pub to : ℕ
+  pub jumps : jump_target operation ≡ Some to
+  pub out : procedure_of program to ≡ procedure_of program p → ⊥

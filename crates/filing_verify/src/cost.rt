@@ -1,9 +1,8 @@
-//! The longest path.
+//! The longest path, which the budget of version 1 must cover.
 
 ghost use Rattle.std.specs.Prelude.{◌≡◌, ◌<◌, ◌≤◌, ◌+◌, ℕ, IfOk, length, slice_index_or};
 ghost use Rattle.filing_verify.specs.Flow.{Path, target, goes_on};
-ghost use Rattle.filing_verify.specs.Well.{GoesForward};
-ghost use Rattle.filing_verify.specs.Passes.{MarksReached, Costs, cost_at, by_next, by_target};
+ghost use Rattle.filing_verify.specs.Passes.{GoesOnward, MarksReached, Costs, cost_at, by_next, by_target};
 
 use crate::flow::{goes_on, operation_at, place_count, target};
 use filing_image::{Image, Operation};
@@ -12,7 +11,7 @@ use std::alloc::{AllocError, Global};
 /// The number of places on the longest path of successors from place 0. There must be a place, each reached jump must
 /// go forward, and `marks` must say which places are reached. The only error is a refused allocation.
 pub fn longest(alloc: Global, image: &Image, marks: &[bool]) -> Result<usize, AllocError>
-    requires forward { GoesForward image.now }
+    requires forward { GoesOnward image.now }
     requires marks { MarksReached image.now marks.now }
     requires some { 0 < length image.now.code }
     ensures most { IfOk result (λ c. (n q : ℕ) → Path image.now n q → q < length image.now.code → n + 1 ≤ c) }
@@ -29,28 +28,28 @@ pub fn longest(alloc: Global, image: &Image, marks: &[bool]) -> Result<usize, Al
 /// Sets the cost of a reached place from the costs of the places after it.
 fn set_cost(image: &Image, marks: &[bool], costs: &mut [usize], place: usize)
     requires within { place < length image.now.code }
-    requires forward { GoesForward image.now }
+    requires forward { GoesOnward image.now }
     requires marks { MarksReached image.now marks.now }
     requires so_far { Costs image.now (place + 1) costs.old }
     ensures { Costs image.now place costs.new }
 {
     if marks[place] {
-        costs[place] = cost(operation_at(image, place), place, costs);
+        costs[place] = cost(image, operation_at(image, place), place, costs);
     }
 }
 
 /// The number of places on the longest path from a place on, from the costs of the places after it.
-fn cost(operation: Operation, place: usize, costs: &[usize]) -> usize
+fn cost(image: &Image, operation: Operation, place: usize, costs: &[usize]) -> usize
     requires small { (p : ℕ) → p < length costs.now → slice_index_or costs.now p 0 + p ≤ length costs.now }
     requires within { place < length costs.now }
-    ensures { result ≡ cost_at operation place costs.now }
+    ensures { result ≡ cost_at image.now operation place costs.now }
 {
     let next = if goes_on(operation) {
         at(costs, place + 1)
     } else {
         0
     };
-    let jump = match target(operation) {
+    let jump = match target(image, operation) {
         Some(to) => at(costs, to),
         None => 0,
     };

@@ -53,6 +53,7 @@ pub fn apply(operation: Operation, shape: &mut Shape) -> bool
             && takes(Kind::Count, shape)
             && puts(Kind::Truth, shape),
         Operation::JumpIf(_) | Operation::JumpUnless(_) => takes(Kind::Truth, shape),
+        Operation::Call(_) | Operation::Return => shape.is_empty(),
         Operation::Jump(_)
         | Operation::Mark(_)
         | Operation::File(_, _)

@@ -10,21 +10,25 @@ use thiserror::Error;
 /// Why an image may not run. Where it breaks several rules, the smallest number is reported.
 #[derive(Clone, Copy, Debug, PartialEq, Eq, Error)]
 pub enum VerifyFault {
-    /// 62: there are more than 64 slots, or an operation, reached or not, names a text, number, slot or place that does
-    /// not exist, or has an operand outside its values.
+    /// 62: there are more than 64 slots, or an operation, reached or not, names a text, number, slot, place or procedure
+    /// that does not exist, or has an operand outside its values. In version 2 also: there is no procedure or more than
+    /// 256, procedure 0 does not begin at place 0, another begins past the end or not after the one before it, or a
+    /// jump, reached or not, leaves its procedure.
     #[error("an operand is out of range")]
     Operand,
-    /// 63: a reached jump does not go to a greater place.
+    /// 63: a reached jump does not go to a greater place, or a reached call not to a procedure with a greater number.
     #[error("a jump does not go forward")]
     Backward,
     /// 64: no shapes of the stack fit the reached places: an operand is missing or of another kind, two paths leave
-    /// different shapes at one place, or the stack is deeper than 32.
+    /// different shapes at one place, the stack is deeper than 32, or it is not empty at a call or a return.
     #[error("the stack has no one shape at each place")]
     Stack,
-    /// 65: there is no instruction, or the run may go on past the last one.
+    /// 65: there is no instruction, or a reached one goes on past the end of the code or of its procedure.
     #[error("the code runs off its end")]
     RunsOff,
-    /// 66: the budget is 0, above 65,535, or below the number of places on some path.
+    /// 66: the budget is 0, or in version 1 above 65,535 or below the number of places on some path, or in version 2
+    /// above 1,000,000 or below the cost of place 0. A call costs one step, and what its procedure and the next place
+    /// cost; any other place one step, and what its costliest successor costs.
     #[error("the budget does not suffice")]
     Budget,
     /// 99: an allocation was refused.

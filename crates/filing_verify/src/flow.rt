@@ -1,8 +1,8 @@
-//! The successors of an operation, and the range of its operands.
+//! The successors of an operation, and the procedures that places are in.
 
-ghost use Rattle.std.specs.Prelude.{◌≡◌, IsTrue, ◌↔◌, ◌<◌, ◌^◌, length, slice_get, Some};
-ghost use Rattle.filing_verify.specs.Flow.{target, goes_on};
-ghost use Rattle.filing_verify.specs.Well.{InRange, AreInRange};
+ghost use Rattle.std.specs.Prelude.{◌≡◌, ◌<◌, ◌^◌, length, slice_get, Some};
+ghost use Rattle.filing_verify.specs.Flow.{jump_target, first_place, target, goes_on, procedure_of};
+ghost use Rattle.filing_verify.specs.Well.{HasProcedures};
 
 use filing_image::{Image, Operation};
 
@@ -23,8 +23,8 @@ pub fn operation_at(image: &Image, place: usize) -> Operation
 }
 
 /// The place that a jump names; none for any other operation.
-pub fn target(operation: Operation) -> Option<usize>
-    ensures { result ≡ target operation }
+pub fn jump_target(operation: Operation) -> Option<usize>
+    ensures { result ≡ jump_target operation }
 {
     match operation {
         Operation::Jump(b) | Operation::JumpIf(b) | Operation::JumpUnless(b) => Some(b as usize),
@@ -32,37 +32,42 @@ pub fn target(operation: Operation) -> Option<usize>
     }
 }
 
-/// Whether the run may go on to the next place, which it may not after `Jump`, `Stop` and `Fault`.
+/// The place that a jump names, or the first place of the procedure that a call enters; none for any other operation.
+pub fn target(image: &Image, operation: Operation) -> Option<usize>
+    ensures { result ≡ target image.now operation }
+{
+    match operation {
+        Operation::Call(b) => first_place(image, b),
+        _ => jump_target(operation),
+    }
+}
+
+/// The first place of the procedure with this number, where there is one.
+fn first_place(image: &Image, procedure: u16) -> Option<usize>
+    ensures { result ≡ first_place image.now procedure }
+{
+    let first = image.first_places().get(procedure as usize).copied()?;
+    Some(first as usize)
+}
+
+/// The number of the procedure that a place is in; 0 in version 1. In version 2 the first places must ascend.
+pub fn procedure_of(image: &Image, place: usize) -> usize
+    requires { HasProcedures image.now image.now.procedures }
+    ensures { result ≡ procedure_of image.now place }
+{
+    let begun = image
+        .first_places()
+        .partition_point(|first| *first as usize <= place);
+    begun.saturating_sub(1)
+}
+
+/// Whether the run may go on to the next place, which it may not after `Jump`, `Stop`, `Fault` and `Return`. After
+/// `Call` it may, once the procedure has returned.
 pub fn goes_on(operation: Operation) -> bool
     ensures { result ≡ goes_on operation }
 {
     !matches!(
         operation,
-        Operation::Jump(_) | Operation::Stop | Operation::Fault(_)
+        Operation::Jump(_) | Operation::Stop | Operation::Fault(_) | Operation::Return
     )
-}
-
-/// Whether each operand names something that exists, or has one of its values.
-fn is_in_range(image: &Image, operation: Operation) -> bool
-    ensures { IsTrue result ↔ InRange image.now operation }
-{
-    match operation {
-        Operation::Values(b) | Operation::Exists(b) => (b as usize) < image.text_count(),
-        Operation::Match(a, b) => a <= 5 && (b as usize) < image.text_count(),
-        Operation::Number(b) => (b as usize) < image.numbers().len(),
-        Operation::Jump(b) | Operation::JumpIf(b) | Operation::JumpUnless(b) => {
-            (b as usize) < image.code().len()
-        }
-        Operation::Marked(b) | Operation::Mark(b) => b < image.slots(),
-        Operation::File(a, b) => a <= 1 && (b as usize) < image.text_count(),
-        Operation::Fault(a) => 2 <= a && a <= 5,
-        _ => true,
-    }
-}
-
-/// Whether there are at most 64 slots, and each operation, reached or not, has its operands in range.
-pub fn are_in_range(image: &Image) -> bool
-    ensures { IsTrue result ↔ AreInRange image.now }
-{
-    image.slots() <= 64 && image.code().iter().all(|o| is_in_range(image, *o))
 }

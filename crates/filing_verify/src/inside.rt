@@ -1,17 +1,18 @@
-//! Whether the code runs off its end.
+//! Whether the code runs off its end, or from one procedure into the next.
 
-ghost use Rattle.std.specs.Prelude.{◌≡◌, ◌<◌, ◌+◌, ◌⊎◌, IsTrue, ◌↔◌, true, false, Some, length};
-ghost use Rattle.filing_verify.specs.Flow.{Reached, Leads, target, goes_on};
-ghost use Rattle.filing_verify.specs.Passes.{MarksReached};
-ghost use Rattle.filing_verify.specs.Well.{StaysInside};
+ghost use Rattle.std.specs.Prelude.{◌≡◌, ◌<◌, ◌+◌, true, false, length};
+ghost use Rattle.filing_verify.specs.Flow.{Reached, procedure_of};
+ghost use Rattle.filing_verify.specs.Passes.{MarksReached, RunsOn};
+ghost use Rattle.filing_verify.specs.Well.{AreInRange, StaysInside};
 
-use crate::flow::{goes_on, operation_at, place_count, target};
-use filing_image::{Image, Operation};
+use crate::flow::{goes_on, operation_at, place_count, procedure_of};
+use filing_image::Image;
 
-/// Whether the code has a place, and no reached place leads to the one past the end. `marks` must say which places are
-/// reached.
+/// Whether the code has a place, and no reached place leads out of its procedure or past the end, except that a call
+/// enters another procedure. `marks` must say which places are reached.
 pub fn stays_inside(image: &Image, marks: &[bool]) -> bool
-    requires { MarksReached image.now marks.now }
+    requires in_range { AreInRange image.now }
+    requires marks { MarksReached image.now marks.now }
     ensures inside { result ≡ true → StaysInside image.now }
     ensures outside { result ≡ false → StaysInside image.now → ⊥ }
 {
@@ -19,40 +20,39 @@ pub fn stays_inside(image: &Image, marks: &[bool]) -> bool
         return false;
     }
     for place in 0..place_count(image) {
-        if runs_off(image, marks, place) {
+        if runs_on(image, marks, place) {
             return false;
         }
     }
     true
 }
 
-/// Whether a place is reached and leads to the one past the end.
-fn runs_off(image: &Image, marks: &[bool], place: usize) -> bool
+/// Whether a place is reached and goes on to the next one, which is no place of its procedure.
+fn runs_on(image: &Image, marks: &[bool], place: usize) -> bool
     requires within { place < length image.now.code }
+    requires in_range { AreInRange image.now }
     requires marks { MarksReached image.now marks.now }
-    ensures off { result ≡ true → Reached image.now place × Leads image.now place (length image.now.code) }
-    ensures on { result ≡ false → Reached image.now place → Leads image.now place (length image.now.code) → ⊥ }
+    ensures off { result ≡ true → Reached image.now place × RunsOn image.now place }
+    ensures on { result ≡ false → Reached image.now place → RunsOn image.now place → ⊥ }
 {
     if !marks[place] {
         return false;
     }
-    leads_to(operation_at(image, place), place, place_count(image))
-}
-
-/// Whether the operation at one place leads to another.
-fn leads_to(operation: Operation, from: usize, to: usize) -> bool
-    requires { from < to }
-    ensures { IsTrue result ↔ ((goes_on operation ≡ true) × (to ≡ from + 1)) ⊎ (target operation ≡ Some to) }
-{
-    jumps_to(operation, to) || (goes_on(operation) && to == from + 1)
-}
-
-/// Whether an operation may jump to a place.
-fn jumps_to(operation: Operation, to: usize) -> bool
-    ensures { IsTrue result ↔ target operation ≡ Some to }
-{
-    match target(operation) {
-        Some(place) => place == to,
-        None => false,
+    if !goes_on(operation_at(image, place)) {
+        return false;
     }
+    is_last(image, place)
+}
+
+/// Whether a place is the last of its procedure, or of the code.
+fn is_last(image: &Image, place: usize) -> bool
+    requires within { place < length image.now.code }
+    requires in_range { AreInRange image.now }
+    ensures yes { result ≡ true → (place + 1 < length image.now.code) ×
+        (procedure_of image.now (place + 1) ≡ procedure_of image.now place) → ⊥ }
+    ensures no { result ≡ false → (place + 1 < length image.now.code) ×
+        (procedure_of image.now (place + 1) ≡ procedure_of image.now place) }
+{
+    let count = place_count(image);
+    place + 1 >= count || procedure_of(image, place + 1) != procedure_of(image, place)
 }

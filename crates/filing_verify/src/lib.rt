@@ -7,11 +7,14 @@
 #![tactic(auto)]
 
 mod cost;
+mod cost_with_calls;
 mod effect;
 mod fault;
 mod flow;
 mod inside;
 mod kind;
+mod laws;
+mod range;
 mod reach;
 mod shape;
 mod shaping;
@@ -19,4 +22,5 @@ mod verifier;
 
 pub use fault::VerifyFault;
 pub use kind::Kind;
+pub use laws::version_one_is_kept;
 pub use verifier::{Verified, verify};

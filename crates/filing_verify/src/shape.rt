@@ -1,6 +1,6 @@
 //! The kinds of a stack's entries.
 
-ghost use Rattle.std.specs.Prelude.{◌≡◌, ◌<◌, ◌≤◌, List, [], ◌∷◌, length, reverse, take, MatchOption, IsTrue, ◌↔◌};
+ghost use Rattle.std.specs.Prelude.{◌≡◌, ◌<◌, ◌≤◌, List, [], ◌∷◌, length, reverse, take, MatchOption, IsTrue, ◌↔◌, true, false};
 ghost use Rattle.filing_verify.specs.declared.kind.Kind.{Kind as KindType};
 
 use crate::kind::Kind;
@@ -55,6 +55,14 @@ impl Shape {
         ensures { result ≡ length self.now }
     {
         self.entries().len()
+    }
+
+    /// Whether there is no entry.
+    pub fn is_empty(&self) -> bool
+        ensures none { result ≡ true → self.now ≡ [] }
+        ensures some { result ≡ false → (top : KindType) × (rest : List KindType) × (self.now ≡ top ∷ rest) }
+    {
+        self.depth() == 0
     }
 
     /// The kinds of the entries that there are.

@@ -1,10 +1,9 @@
 //! Which shape the stack has at each place.
 
 ghost use Rattle.std.specs.Prelude.{◌≡◌, ◌<◌, ◌+◌, IfOk, true, false, Some, length};
-ghost use Rattle.filing_verify.specs.Flow.{target, goes_on};
+ghost use Rattle.filing_verify.specs.Flow.{Follows, target, goes_on};
 ghost use Rattle.filing_verify.specs.Shapes.{HasShapes};
-ghost use Rattle.filing_verify.specs.Well.{GoesForward};
-ghost use Rattle.filing_verify.specs.Passes.{FollowsBy, Takes, Clashes, Shaping};
+ghost use Rattle.filing_verify.specs.Passes.{GoesOnward, Takes, Clashes, Shaping};
 
 use crate::effect::apply;
 use crate::flow::{goes_on, operation_at, place_count, target};
@@ -15,7 +14,7 @@ use std::alloc::{AllocError, Global};
 /// Whether shapes of the stack, at most 32 deep, can be assigned to the places that are reached. Each reached jump must
 /// go forward. The only error is a refused allocation.
 pub fn has_shapes(alloc: Global, image: &Image) -> Result<bool, AllocError>
-    requires { GoesForward image.now }
+    requires { GoesOnward image.now }
     ensures yes { IfOk result (λ yes. yes ≡ true → HasShapes image.now) }
     ensures no { IfOk result (λ yes. yes ≡ false → HasShapes image.now → ⊥) }
 {
@@ -35,7 +34,7 @@ pub fn has_shapes(alloc: Global, image: &Image) -> Result<bool, AllocError>
 /// Passes the shape after a place's operation on to its successors; false where there can be no assignment.
 fn pass_on(image: &Image, table: &mut [Option<Shape>], place: usize) -> bool
     requires within { place < length image.now.code }
-    requires forward { GoesForward image.now }
+    requires forward { GoesOnward image.now }
     requires so_far { Shaping image.now place table.old }
     ensures passed { result ≡ true → Shaping image.now (place + 1) table.new }
     ensures refused { result ≡ false → HasShapes image.now → ⊥ }
@@ -51,21 +50,22 @@ fn pass_on(image: &Image, table: &mut [Option<Shape>], place: usize) -> bool
     if shape.depth() > 32 {
         return false;
     }
-    offer_successors(operation, table, place, &shape)
+    offer_successors(image, operation, table, place, &shape)
 }
 
 /// Gives a shape to the places that an operation leads to, unless one has another.
 fn offer_successors(
+    image: &Image,
     operation: Operation,
     table: &mut [Option<Shape>],
     place: usize,
     shape: &Shape,
 ) -> bool
     requires { place < length table.old }
-    ensures taken { result ≡ true → Takes table.old (FollowsBy operation place) shape.now table.new }
-    ensures refused { result ≡ false → Clashes table.old (FollowsBy operation place) shape.now }
+    ensures taken { result ≡ true → Takes table.old (Follows image.now operation place) shape.now table.new }
+    ensures refused { result ≡ false → Clashes table.old (Follows image.now operation place) shape.now }
 {
-    match target(operation) {
+    match target(image, operation) {
         None => offer_next(operation, table, place, shape),
         Some(to) => {
             if !offer(table, to, shape) {

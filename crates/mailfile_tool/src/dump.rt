@@ -6,7 +6,7 @@ use crate::failure::Failure;
 use crate::files::{read_file, write, write_line};
 use crate::halving::Search;
 use clap::ArgMatches;
-use filing_image::{Image, Operation, decode};
+use filing_image::{Image, Operation, Version, decode};
 use filing_verify::{VerifyFault, verify};
 use std::alloc::{AllocError, Global};
 use tool_texts::Payload;
@@ -35,21 +35,47 @@ fn show_numbers(rt: &HostRuntime, image: &Image) -> Result<(), Failure> {
     Ok(())
 }
 
-/// Writes the parts of an image.
-fn show(rt: &HostRuntime, image: &Image) -> Result<(), Failure> {
+/// Writes the first places of the procedures of an image, a line each, with their numbers.
+fn show_first_places(rt: &HostRuntime, image: &Image) -> Result<(), Failure> {
+    for (number, place) in image.first_places().iter().enumerate() {
+        write_line(
+            rt,
+            format!(in rt.alloc(); "procedure {number} at place {place}")?,
+        )?;
+    }
+    Ok(())
+}
+
+/// Writes the version of an image and its numbers of parts. Version 1 has no procedures.
+fn show_counts(rt: &HostRuntime, image: &Image) -> Result<(), Failure> {
     let alloc = rt.alloc();
     let (budget, slots) = (image.budget(), image.slots());
     let (texts, numbers) = (image.text_count(), image.numbers().len());
-    let code = image.code().len();
+    let version = match image.version() {
+        Version::One => 1,
+        Version::Two => 2,
+    };
     write_line(
         rt,
         format!(in alloc;
-            "version 1\nbudget {budget}\nslots {slots}\ntexts {texts}\nnumbers {numbers}\ninstructions {code}"
+            "version {version}\nbudget {budget}\nslots {slots}\ntexts {texts}\nnumbers {numbers}"
         )?,
     )?;
+    if image.version() == Version::Two {
+        let procedures = image.first_places().len();
+        write_line(rt, format!(in alloc; "procedures {procedures}")?)?;
+    }
+    let code = image.code().len();
+    write_line(rt, format!(in alloc; "instructions {code}")?)
+}
+
+/// Writes the parts of an image.
+fn show(rt: &HostRuntime, image: &Image) -> Result<(), Failure> {
+    show_counts(rt, image)?;
     show_texts(rt, image)?;
     show_numbers(rt, image)?;
-    let instructions = format!(in alloc; "{image}")?;
+    show_first_places(rt, image)?;
+    let instructions = format!(in rt.alloc(); "{image}")?;
     write(rt, instructions.as_bytes())
 }
 
@@ -59,6 +85,14 @@ fn texts_of(alloc: Global, image: &Image) -> Result<Vec<Vec<u8>>, AllocError> {
         texts.push(Vec::from_slice(alloc, image.text(place))?)?;
     }
     Ok(texts)
+}
+
+/// The first places of the procedures of an image; none in version 1, which has no procedures.
+fn first_places_of(alloc: Global, image: &Image) -> Result<Option<Vec<u16>>, AllocError> {
+    match image.version() {
+        Version::One => Ok(None),
+        Version::Two => Ok(Some(Vec::from_slice(alloc, image.first_places())?)),
+    }
 }
 
 /// The image with its first `count` instructions, and STOP in place of each other one; none where the format has no
@@ -74,7 +108,9 @@ fn cut(alloc: Global, image: &Image, count: usize) -> Result<Option<Image>, Allo
     }
     let texts = texts_of(alloc, image)?;
     let numbers = Vec::from_slice(alloc, image.numbers())?;
-    Ok(Image::from_code(image.budget(), texts, numbers, image.slots(), code).ok())
+    let first_places = first_places_of(alloc, image)?;
+    let (budget, slots) = (image.budget(), image.slots());
+    Ok(Image::from_code(budget, texts, numbers, slots, first_places, code).ok())
 }
 
 /// Whether the image that is cut after `count` instructions is refused by the same number.

@@ -104,7 +104,10 @@ pub fn show_steps<C: Case>(
 ) -> Result<(), Failure> {
     let alloc = rt.alloc();
     let shown = format!(in alloc; "{image}")?;
-    let lines: Vec<&str> = shown.lines().collect(alloc)?;
+    let lines: Vec<&str> = shown
+        .lines()
+        .filter(|line| !line.starts_with("procedure "))
+        .collect(alloc)?;
     for (index, step) in run.steps.iter().enumerate() {
         let number = index.saturating_add(1);
         let Some(operation) = image.code().get(step.place).copied() else {

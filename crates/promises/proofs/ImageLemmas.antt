@@ -11,8 +11,10 @@ use Rattle.filing_table.proofs.Once.{one_outcome}
 use Rattle.filing_machine.proofs.Ends.{ends_within}
 use Rattle.filing_machine.proofs.Sound as sound
 use Rattle.filing_commands.specs.Parts.{IsGoodImage, RefusesImage}
-use Rattle.filing_commands.specs.Pinning.{PinsScript, is_too_heavy, one_fault}
-use Rattle.filing_commands.proofs.Alone.{fault_ends, heavy_outcome, light_outcome}
+use Rattle.sieve_meaning.specs.TooHeavy.{is_too_heavy}
+use Rattle.sieve_meaning.proofs.OutcomeLaws.{heavy_outcome, light_outcome}
+use Rattle.filing_commands.specs.Pinning.{PinsScript, one_fault}
+use Rattle.filing_commands.proofs.Alone.{fault_ends}
 use Rattle.promises.specs.Images.{Compiles}
 use Rattle.promises.specs.Records.{EndsWithinBudget, IsFaultAlone}
 use Rattle.promises.proofs.Pinned.{budget_holds}
@@ -42,15 +44,15 @@ refused_for_memory octets p n h k =
           ]
     ]
 
-script_ends : (heavy : Bool) (lib : Library) (name : List ℕ) (s : Commands) (p : Program) (c : Facts) → is_too_heavy lib name s ≡ heavy → PinsScript heavy lib name s p → EndsWithinBudget p c (outcome c lib (Some name) s)
+script_ends : (heavy : Bool) (lib : Library) (name : List ℕ) (s : Commands) (p : Program) (c : Facts) → is_too_heavy lib (Some name) s ≡ heavy → PinsScript heavy lib name s p → EndsWithinBudget p c (outcome c lib (Some name) s)
 script_ends true lib name s p c e h =
     let heavy : Outcome = outcome_at (Some 5) [] false false in
     let one : EndsWithinBudget one_fault c heavy = record { steps = 1; within = omega arith; outcome = fault_ends c } in
     let here : EndsWithinBudget p c heavy = subst (λ (q : Program). EndsWithinBudget q c heavy) (sym h) one in
-    subst (λ (o : Outcome). EndsWithinBudget p c o) (sym (heavy_outcome c lib name s e)) here
+    subst (λ (o : Outcome). EndsWithinBudget p c o) (sym (heavy_outcome c lib (Some name) s e)) here
 script_ends false lib name s p c e h =
     let end = h.outcomes c in
-    subst (λ (o : Outcome). EndsWithinBudget p c o) (sym (light_outcome c lib name s e)) (budget_holds p c end.0 _ h.well end.1)
+    subst (λ (o : Outcome). EndsWithinBudget p c o) (sym (light_outcome c lib (Some name) s e)) (budget_holds p c end.0 _ h.well end.1)
 
 pub means : (lib : Library) (name : List ℕ) (script : Commands) (p : Program) (c : Facts) → Compiles lib name script p → EndsWithinBudget p c (outcome c lib (Some name) script)
 means lib name script p c h = script_ends _ lib name script p c refl h

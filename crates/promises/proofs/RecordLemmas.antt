@@ -1,6 +1,6 @@
 -- What captures and due lists say about records.
 use Rattle.std.proofs.Common.{◌≡◌, ◌+◌, ◌<◌, ◌≤◌, [], ◌∷◌, ℕ, List, map, filter, refl, arith, ap, ◌∙◌, sym, subst, inl, inr, Bool, true, false, not, ◌&&◌, Option, Some, None, Result, Ok, Err, Ordering, is_gt}
-use Rattle.std.specs.Prelude.{if◌then◌else◌, max, nat_lt, All, Contains}
+use Rattle.std.specs.Prelude.{if◌then◌else◌, max, All, Contains}
 use Rattle.std.specs.List.{AllByRecursion, AllZip}
 use Rattle.std.proofs.lemmas.Bool.Decides.{nat_tests}
 use Rattle.std.proofs.lemmas.List.{append-nil}
@@ -11,8 +11,8 @@ use Rattle.sieve_meaning.specs.Case.{Facts}
 use Rattle.sieve_meaning.specs.Program.{Commands}
 use Rattle.sieve_meaning.specs.Paths.{Paths}
 use Rattle.sieve_meaning.specs.Meaning.{Ending, GoesOn, Returns, Stops, Faults, Library, meaning}
-use Rattle.sieve_meaning.specs.Outcome.{Outcome, outcome, outcome_at, outcome_of, greatest_weight}
-use Rattle.sieve_meaning.specs.Weight.{linked_weight}
+use Rattle.sieve_meaning.specs.Outcome.{Outcome, outcome, outcome_at, outcome_of}
+use Rattle.sieve_meaning.specs.TooHeavy.{is_too_heavy}
 use Rattle.filing_case.specs.Message.{case_of}
 use Rattle.filing_image.specs.Program.{Program}
 use Rattle.filing_table.specs.Ends.{HasOutcome}
@@ -47,7 +47,7 @@ fault_alone_of (Faults m f) = fault_alone_at (Some m) f.filed f.kept f.cancelled
 
 pub meaning_fault_alone : (facts : Facts) (lib : Library) (known_as : Option (List ℕ)) (main : Commands) → IsFaultAlone (outcome facts lib known_as main)
 unfolding outcome
-meaning_fault_alone facts lib known_as main = go (nat_lt greatest_weight (linked_weight lib known_as main))
+meaning_fault_alone facts lib known_as main = go (is_too_heavy lib known_as main)
   where
     go : (heavy : Bool) → IsFaultAlone (if heavy then outcome_at (Some 5) [] false false else outcome_of (meaning facts lib known_as main))
     go true = fault_alone_at (Some 5) [] false false

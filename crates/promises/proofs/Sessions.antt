@@ -6,7 +6,7 @@ use Rattle.std.proofs.lemmas.Bool.Decides.{nat_tests}
 use Rattle.std.proofs.lemmas.List.{map-append, length-map}
 use Rattle.sieve_meaning.specs.Program.{Commands}
 use Rattle.sieve_meaning.specs.Meaning.{Library}
-use Rattle.sieve_meaning.specs.Weight.{linked_weight}
+use Rattle.sieve_meaning.specs.TooHeavy.{script_budget}
 use Rattle.filing_image.specs.Program.{Program}
 use Rattle.record_store.specs.Archive.{Archive}
 use Rattle.filing_commands.specs.Answers.{Answer, done, captured, begun, running, ended, filed, listed, refused}
@@ -30,13 +30,13 @@ stood_shows t (f ∷ fs) = let rest = stood_shows t fs in grind (arith, nat_test
 
 -- ---- what is pinned declares the budget that is answered
 
-script_budget : (heavy : Bool) (lib : Library) (name : List ℕ) (c : Commands) (p : Program) → PinsScript heavy lib name c p → p.budget ≡ (if heavy then 1 else linked_weight lib (Some name) c)
-script_budget true lib name c p h = ap (λ (q : Program). q.budget) h
-script_budget false lib name c p h = h.budget
+pinned_budget : (too_heavy : Bool) (lib : Library) (name : List ℕ) (c : Commands) (p : Program) → PinsScript too_heavy lib name c p → p.budget ≡ (if too_heavy then 1 else script_budget lib (Some name) c)
+pinned_budget true lib name c p h = ap (λ (q : Program). q.budget) h
+pinned_budget false lib name c p h = h.budget
 
 chosen_budget : (c : Chosen) (lib : Library) (p : Program) → PinsChosen c lib p → p.budget ≡ budget_by c lib
 chosen_budget nothing lib p h = ap (λ (q : Program). q.budget) h
-chosen_budget (script name c) lib p h = script_budget _ lib name c p h
+chosen_budget (script name c) lib p h = pinned_budget _ lib name c p h
 chosen_budget (image_of q) lib p h = ap (λ (q : Program). q.budget) h
 
 pub pins_budget : (s : Stood) (p : Program) → Pins s p → p.budget ≡ budget_of s

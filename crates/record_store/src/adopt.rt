@@ -184,18 +184,6 @@ fn settle_first<S: Alter>(alloc: Global, conn: &mut Connection<S>) -> Result<Ove
     Ok(contents.overview)
 }
 
-/// The store's refusal for a fault of a read.
-fn refusal_of(fault: Fault) -> StoreFault
-    ensures no_archive { result ≡ StoreFault.NoArchive → fault ≡ Fault.NoArchive }
-    ensures trouble { is_trouble result ≡ false → result ≡ StoreFault.NoArchive }
-{
-    match fault {
-        Fault::NoMemory => StoreFault::NoMemory,
-        Fault::Sqlite(error) => StoreFault::Sqlite(error),
-        Fault::NoArchive => StoreFault::NoArchive,
-    }
-}
-
 fn store_over<S: Alter>(alloc: Global, conn: Connection<S>, overview: Overview) -> Store<S>
     ensures conn { result.conn ≡ conn }
     ensures plan { result.plan ≡ overview.plan }
@@ -248,7 +236,7 @@ impl<S: Alter> Store<S> {
             Ok(overview) => Ok(store_over(alloc, conn, overview)),
             Err(fault) => {
                 let _still = conn.is_autocommit();
-                Err((refusal_of(fault), conn))
+                Err((StoreFault::from(fault), conn))
             }
         }
     }
@@ -280,7 +268,7 @@ impl<S: Alter> Store<S> {
             Ok(overview) => Ok(store_over(alloc, conn, overview)),
             Err(fault) => {
                 let _still = conn.is_autocommit();
-                Err((refusal_of(fault), conn))
+                Err((StoreFault::from(fault), conn))
             }
         }
     }

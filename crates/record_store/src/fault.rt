@@ -1,7 +1,7 @@
 //! Why a call of the store is refused.
 
 ghost use Rattle.std.specs.Prelude.{◌≡◌};
-ghost use Rattle.record_store.specs.Faults.{fault_of};
+ghost use Rattle.record_store.specs.Faults.{fault_of, fault_of_read};
 
 use class_plan::PlanFault;
 use record_tables::fault::Fault;
@@ -61,6 +61,8 @@ impl From<Error> for StoreFault {
 }
 
 impl From<Fault> for StoreFault {
+    ghost from_gives = { λ e f. f ≡ fault_of_read e };
+
     fn from(fault: Fault) -> StoreFault {
         match fault {
             Fault::NoMemory => StoreFault::NoMemory,

@@ -1,6 +1,6 @@
 //! The scripts of one location, by name.
 
-ghost use Rattle.std.specs.Prelude.{◌≡◌, ◌↔◌, ◌<◌, [], Err, IsOk, IsSome, IfSome, OnOk, OnErr, length, option_map, position};
+ghost use Rattle.std.specs.Prelude.{◌≡◌, ◌↔◌, ◌<◌, [], Err, IsOk, IsSome, IfSome, OnOk, OnErr, length, option_map, position, slice_get};
 ghost use Rattle.script_library.specs.Entries.{entry_of};
 ghost use Rattle.script_library.specs.Libraries.{named, place_of, put, is_named, IsLocation, HasNoRoom, IsFoundIn};
 ghost use Rattle.script_library.specs.declared.fault.LibraryFault.TheVariants.{Full};
@@ -85,6 +85,17 @@ impl Shelf {
     {
         match self.place(name) {
             Some(place) => Some((place, &*self.entries[place].script)),
+            None => None,
+        }
+    }
+
+    /// The script at a place, counted from 0; none from the number of scripts on.
+    pub fn at(&self, place: usize) -> Option<&Checked>
+        ensures script { option_map (λ c. c.now.script) result ≡ option_map (λ e. e.script) (slice_get self.now place) }
+        ensures location { IsLocation self.now }
+    {
+        match self.entries.get(place) {
+            Some(entry) => Some(&*entry.script),
             None => None,
         }
     }

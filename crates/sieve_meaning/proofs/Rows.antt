@@ -11,6 +11,7 @@ use Rattle.sieve_meaning.specs.Case.{Facts}
 use Rattle.sieve_meaning.specs.Reading.{string_lists, comparator_from, program_of}
 use Rattle.sieve_meaning.specs.Meaning.{no_library}
 use Rattle.sieve_meaning.specs.Weight.{linked_weight}
+use Rattle.sieve_meaning.specs.TooHeavy.{is_too_heavy}
 use Rattle.sieve_meaning.specs.Outcome.{Outcome, outcome, unfiled}
 
 -- `*ab*ab` matches `abab` and not `ab`
@@ -56,7 +57,7 @@ result facts tree = outcome facts no_library None (program_of tree)
 
 -- a message whose subject contains the key is filed in the class
 files : result (message (codes "Subject") (codes "Your INVOICE")) (contains_script (codes "subject") (codes "invoice") (file_tree (codes "finance"))) ≡ record { classes = (codes "finance") ∷ []; fault = None }
-unfolding command_word test_word string_lists comparator_from suffixes contains outcome
+unfolding command_word test_word string_lists comparator_from suffixes contains outcome is_too_heavy
 files = refl
 
 -- its weight
@@ -66,14 +67,14 @@ weighs = refl
 
 -- an absent header field contains no key, not even the empty one; a present one does
 absent : result (message (codes "Subject") (codes "a")) (contains_script (codes "x-none") [] discard_tree) ≡ record { classes = unfiled ∷ []; fault = None }
-unfolding command_word test_word string_lists comparator_from suffixes contains outcome
+unfolding command_word test_word string_lists comparator_from suffixes contains outcome is_too_heavy
 absent = refl
 
 present : result (message (codes "X-None") []) (contains_script (codes "x-none") [] discard_tree) ≡ record { classes = []; fault = None }
-unfolding command_word test_word string_lists comparator_from suffixes contains outcome
+unfolding command_word test_word string_lists comparator_from suffixes contains outcome is_too_heavy
 present = refl
 
 -- a path that is not open is fault 1, and what was filed before is dropped
 closed : result (message [] []) (tree_then (file_tree (codes "finance")) (tree_then (file_tree (codes "nowhere")) no_commands)) ≡ record { classes = unfiled ∷ []; fault = Some 1 }
-unfolding command_word string_lists outcome
+unfolding command_word string_lists outcome is_too_heavy
 closed = refl

@@ -8,6 +8,9 @@ pub mod Branching
 pub mod Truth
 pub mod Meaning
 pub mod Scripts
+pub mod TooHeavy
 pub mod Outcome
 pub mod Parts
 pub mod Weight
+pub mod Procedures
+pub mod Sharing

@@ -1,10 +1,10 @@
 -- The classes that a run captures a message in.
-use Rattle.std.specs.Prelude.{ℕ, List, [], ◌∷◌, Bool, false, not, ◌||◌, Option, Some, None, codes, nat_lt, if◌then◌else◌}
+use Rattle.std.specs.Prelude.{ℕ, List, [], ◌∷◌, Bool, false, not, ◌||◌, Option, Some, None, codes, if◌then◌else◌}
 use Rattle.sieve_meaning.specs.Case.{Facts}
 use Rattle.sieve_meaning.specs.Paths.{Paths, insert_path}
 use Rattle.sieve_meaning.specs.Program.{Commands}
 use Rattle.sieve_meaning.specs.Meaning.{Filing, Ending, GoesOn, Returns, Stops, Faults, Library, meaning}
-use Rattle.sieve_meaning.specs.Weight.{linked_weight}
+use Rattle.sieve_meaning.specs.TooHeavy.{is_too_heavy}
 
 pub record Outcome : Type 0 where
   pub classes : Paths
@@ -29,12 +29,8 @@ outcome_of (Returns f) = outcome_with None f
 outcome_of (Stops f) = outcome_with None f
 outcome_of (Faults n f) = outcome_with (Some n) f
 
--- the greatest weight of a script that runs
-abbrev pub greatest_weight : ℕ
-greatest_weight = 60000
-
--- a main script above the greatest weight is fault 5
+-- a main script that is too heavy is fault 5
 unfoldable pub outcome : Facts → Library → (known_as : Option (List ℕ)) → Commands → Outcome
 outcome facts lib known_as main =
-    if nat_lt greatest_weight (linked_weight lib known_as main) then outcome_at (Some 5) [] false false
+    if is_too_heavy lib known_as main then outcome_at (Some 5) [] false false
     else outcome_of (meaning facts lib known_as main)

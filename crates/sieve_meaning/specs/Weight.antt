@@ -59,3 +59,7 @@ included_weight lib (suc left) chain n = unless_missing (lib.find (script_named 
 -- the weight of a main script and all that it includes
 abbrev pub linked_weight : Library → (known_as : Option (List ℕ)) → Commands → ℕ
 linked_weight lib known_as main = weight (included_weight lib 7 (main_names known_as)) main + 1
+
+-- the greatest weight of code
+abbrev pub greatest_weight : ℕ
+greatest_weight = 60000

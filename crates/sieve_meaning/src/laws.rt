@@ -3,6 +3,7 @@
 ghost use Rattle.std.specs.Prelude.{ℕ, List, IsTrue, ◌↔◌};
 ghost use Rattle.sieve_meaning.specs.Matching.{equals, IsEqualUnder, contains, Contains, covers, Matches};
 ghost use Rattle.sieve_meaning.specs.Parts.{PartLaw};
+ghost use Rattle.sieve_meaning.specs.Sharing.{ReachLaw, SharingLaw};
 ghost use Rattle.sieve_meaning.specs.declared.matching.Comparator.{Comparator};
 ghost use Rattle.sieve_meaning.specs.declared.matching.Item.{Item};
 
@@ -26,4 +27,14 @@ pub fn pattern_is_decided()
 /// them, ends them or is passed over.
 pub fn parts_are_read()
     ensures { PartLaw }
+{}
+
+/// The test whether a script reaches another says what the relation says, where at most sixty-four scripts are there.
+pub fn reaching_is_decided()
+    ensures { ReachLaw }
+{}
+
+/// Scripts that includes share run alike in every case, and weigh the same on every path.
+pub fn shared_scripts_are_alike()
+    ensures { SharingLaw }
 {}

@@ -11,7 +11,10 @@
 //! - `Branching`, `Parts`: how a command of the tree relates to the branches before it, and its place in the program;
 //! - `Truth`, `Meaning`, `Outcome`: tests, runs, and the classes that a run captures;
 //! - `Scripts`: what the code's script names and includes mean;
-//! - `Weight`: a bound on the size of a script's code.
+//! - `Weight`: a bound on the size of a script's code;
+//! - `Procedures`: how included scripts can share their code, and what that weighs;
+//! - `Sharing`: why sharing is right;
+//! - `TooHeavy`: which scripts are too heavy to be run, and the budgets of all others.
 //!
 //! `laws` states what is proved of these definitions.
 #![tactic(auto)]
@@ -25,7 +28,10 @@ pub mod reading;
 mod scripts;
 mod words;
 
-pub use laws::{contains_is_decided, equality_is_decided, parts_are_read, pattern_is_decided};
+pub use laws::{
+    contains_is_decided, equality_is_decided, parts_are_read, pattern_is_decided,
+    reaching_is_decided, shared_scripts_are_alike,
+};
 pub use matching::{Comparator, Item, MatchType};
 pub use outcome::{captured_classes, default_class_alone};
 pub use paths::Paths;

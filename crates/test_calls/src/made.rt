@@ -4,6 +4,7 @@
 //! was met.
 
 pub mod chance;
+mod heavy;
 pub mod libraries;
 pub mod messages;
 mod outcomes;
@@ -13,7 +14,7 @@ mod sides;
 use crate::compiled::{checked, keep};
 use anyhow::Result;
 use chance::Chance;
-use libraries::{Included, included_scripts};
+use libraries::{DENSE, Included, SPARSE, included_scripts};
 use messages::{message, open_classes};
 use outcomes::{Kind, Tally};
 use plain_evaluator::BorrowedCase;
@@ -55,7 +56,7 @@ fn library_of(alloc: Global, scripts: &[Included]) -> Result<Library> {
 
 /// A library that is made by chance.
 pub fn library_by_chance(alloc: Global, chance: &mut Chance) -> Result<Library> {
-    let scripts = included_scripts(alloc, chance)?;
+    let scripts = included_scripts(alloc, chance, SPARSE)?;
     library_of(alloc, scripts.as_slice())
 }
 
@@ -74,7 +75,7 @@ struct Made {
 fn make(alloc: Global, chance: &mut Chance) -> Result<Made> {
     Ok(Made {
         text: script(alloc, chance)?,
-        scripts: included_scripts(alloc, chance)?,
+        scripts: included_scripts(alloc, chance, SPARSE)?,
         is_named: chance.one_in(2),
         message: message(alloc, chance)?,
         classes: open_classes(alloc, chance)?,
@@ -196,5 +197,5 @@ pub fn compare_all(rt: &(impl Print + AllocGlobal)) -> Result<()> {
     }
     println!(rt; "another outcome than for a message without a field: {by_message}")?;
     println!(rt; "another outcome than where nothing can be included: {by_library}")?;
-    Ok(())
+    heavy::compare_all(rt)
 }

@@ -138,14 +138,15 @@ fn image_text(number: u8) -> Option<&'static str>
             "these octets are not the form of an image; see that the file is whole and that it is one",
         61 => "the image has more than 16,777,216 octets",
         62 =>
-            "an instruction names a text, number, slot or place that is not there or has an operand outside its values, or there are more than 64 slots",
-        63 => "a jump goes back or to itself; a jump may only go forward",
+            "an instruction names a text, number, slot, place or procedure that is not there or has an operand outside its values, or a jump leaves its procedure, or procedures overlap, or there are more than 64 slots or 256 procedures",
+        63 =>
+            "a jump goes back or to itself, or a call does not go to a later procedure; jumps and calls may only go forward",
         64 =>
-            "an instruction does not find its operands on the stack, two ways to a place leave different stacks, or the stack is deeper than 32",
+            "an instruction does not find its operands on the stack, two ways to a place leave different stacks, the stack is deeper than 32, or it is not empty at a CALL or RETURN",
         65 =>
-            "there is no instruction, or a run may go past the last one; end each way with STOP or FAULT",
+            "there is no instruction, or a run may go past the last one, or on into the next procedure; end each way with STOP, FAULT or in version 2 RETURN",
         66 =>
-            "the budget is 0 or above 65,535, or a way through the code is longer than it; declare a greater one",
+            "the budget is 0 or above 65,535, in version 2 above 1,000,000, or a way through the code is longer than it; declare a greater one",
         _ => return None,
     };
     Some(text)

@@ -5,7 +5,7 @@ use Rattle.sieve_syntax.specs.View.{tree_of}
 use Rattle.sieve_meaning.specs.Meaning.{main_names}
 use Rattle.sieve_meaning.specs.Reading.{program_of}
 use Rattle.filing_gen.specs.Correct.{IsCompiled}
-use Rattle.filing_gen.specs.Slots.{slots_of}
+use Rattle.script_procedures.specs.Slots.{slots_of}
 use Rattle.script_library.specs.Lent.{scripts_of}
 use Rattle.script_library.specs.Libraries.{library_of}
 use Rattle.filing_gen.specs.Linked.{linked_flow}
@@ -34,4 +34,4 @@ pub returns-clause-compiled : goal.returns-clause-compiled
 returns-clause-compiled c =
     let l = scripts_of c.args.scope.shelves in
     subst (λ (p : Program). IsCompiled (library_of l) (option_map (λ (s : Bor (List ℕ)). s.now) c.args.scope.main.known_as) (program_of (tree_of c.args.script.now)) p) (sym c.known.ensures)
-    (built (library_of l) (slots_of l) c.slot_count-slots.result c.slot_count-slots.ensures.enough (option_map (λ (s : Bor (List ℕ)). s.now) c.args.scope.main.known_as) (program_of (tree_of c.args.script.now)) c.in_ok-out.out c.in_ok-image.image c.args.weight c.in_ok-out.ensures c.in_ok-image.ensures.made (known-requires c.before) c.requires.weight)
+    (built (library_of l) (slots_of l) c.slot_count-slots.result c.slot_count-slots.ensures.enough (option_map (λ (s : Bor (List ℕ)). s.now) c.args.scope.main.known_as) (program_of (tree_of c.args.script.now)) c.in_ok-out.out c.in_ok-image.image c.args.weight c.in_ok-out.ensures c.in_ok-image.ensures.made (known-requires c.before) c.requires.weight c.requires.small)

@@ -12,6 +12,7 @@ returns-in-Ok-clause-made c =
     record {
       budget_is = ap (λ (q : Program). q.budget) e;
       slots = ap (λ (q : Program). q.slots) e;
+      procedures_are = ap (λ (q : Program). q.procedures) e;
       text = λ b t at. subst (λ (l : List (List ℕ)). slice_get l b ≡ Some t) (sym texts) (c.in_ok-texts.ensures.places t b at);
       number = λ b k at. subst (λ (l : List ℕ). slice_get l b ≡ Some k) (sym numbers) (c.in_ok-numbers.ensures.places k b at);
       code = ap (λ (q : Program). q.code) e ∙ c.shrink_to_fit.ensures.items;

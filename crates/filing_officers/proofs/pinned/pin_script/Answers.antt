@@ -22,13 +22,14 @@ returns-in-Ok c =
     let main = program_of (tree_of c.args.script.now.script) in
     let lib = scripts_of c.args.shelves in
     let P : Library → Type 0 = λ l. PinsChosen (script c.args.name.now main) l c.in-Ok.program in
-    subst P (library_meant lib) (compiled_pins (library_of lib) c.args.name.now main c.in-Ok.program c.in-Ok.ensures.compiled (λ heavy. ok_not_err c.in-Ok.is (c.compile_with.ensures.too_large.1 heavy)))
+    subst P (library_meant lib) (compiled_pins (library_of lib) c.args.name.now main c.in-Ok.program c.in-Ok.ensures.compiled (λ heavy. ok_not_err c.in-Ok.is ((c.compile_with.ensures.too_large (ok_not_err c.in-Ok.is)).1 heavy)))
 
 pub returns-in-Err-TooLarge : goal.returns-in-Err-TooLarge
 returns-in-Err-TooLarge c =
     let main = program_of (tree_of c.args.script.now.script) in
     let lib = scripts_of c.args.shelves in
-    let heavy = c.compile_with.ensures.too_large.0 (c.in-Err-TooLarge.is ∙ ap Err c.in-Err-TooLarge.field-0-is) in
+    let refused = c.in-Err-TooLarge.is ∙ ap Err c.in-Err-TooLarge.field-0-is in
+    let heavy = (c.compile_with.ensures.too_large (λ none. cc (refused, none))).0 refused in
     all_ok c.single.result c.single.ensures (λ v e.
     let P : Library → Type 0 = λ l. PinsChosen (script c.args.name.now main) l v in
     subst P (library_meant lib) (heavy_pins (library_of lib) c.args.name.now main v e heavy))

@@ -5,7 +5,7 @@ use Rattle.script_library.specs.Lent.{scripts_of}
 use Rattle.script_library.specs.Libraries.{library_of}
 use Rattle.filing_gen.specs.Ends.{no_place, IsEnded}
 use Rattle.filing_image.specs.declared.instruction.Operation.TheVariants.{Mark}
-use Rattle.filing_gen.specs.Slots.{slots_of}
+use Rattle.script_procedures.specs.Slots.{slots_of}
 use Rattle.filing_gen.specs.Linked.{included_flow}
 use Rattle.filing_gen.specs.Scopes.{names_of}
 use Rattle.filing_gen.specs.Structured.{flow}

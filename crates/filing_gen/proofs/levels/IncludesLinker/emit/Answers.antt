@@ -10,7 +10,7 @@ use Rattle.script_library.specs.Libraries.{library_of}
 use Rattle.filing_gen.specs.Ends.{no_place, IsEnded}
 use Rattle.filing_image.specs.declared.instruction.Operation.TheVariants.{Marked, JumpIf, Fault}
 use Rattle.filing_gen.specs.Levels.{Passes, Fails, entered_flow}
-use Rattle.filing_gen.specs.Slots.{slots_of}
+use Rattle.script_procedures.specs.Slots.{slots_of}
 use Rattle.filing_gen.specs.Scopes.{names_of, told}
 use Rattle.filing_gen.proofs.Emitted.{grows, put_grows, emits_nothing, action_emitted}
 use Rattle.filing_gen.proofs.IncludesTypes.{entered_typed}

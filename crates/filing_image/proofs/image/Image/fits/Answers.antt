@@ -10,14 +10,19 @@ returns c =
     let i = c.self.inside in
     let v = c.self.invariant in
     subst (λ (p : Program). Fits (parts p)) c.self.view_is (record {
-      short = record {
-        text_count = rw (length-map i.texts.items (λ t. t.items)) v.0;
-        number_count = v.1;
-        instruction_count = rw (length-map i.code.items instruction_of) v.2;
-        texts = All-map (λ t. length t < 2 ^ 16) (λ t. t.items) i.texts.items v.3;
+      octets = record {
+        short = record {
+          text_count = rw (length-map i.texts.items (λ t. t.items)) v.0;
+          number_count = v.1;
+          procedure_count = v.8;
+          instruction_count = rw (length-map i.code.items instruction_of) v.2;
+          texts = All-map (λ t. length t < 2 ^ 16) (λ t. t.items) i.texts.items v.3;
+        };
+        budget = v.6;
+        slots = v.7;
+        numbers = v.4;
+        firsts = v.9;
+        instructions = v.5;
       };
-      budget = v.6;
-      slots = v.7;
-      numbers = v.4;
-      instructions = v.5;
+      operations = v.10;
     })

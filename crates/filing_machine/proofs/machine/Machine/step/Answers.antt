@@ -52,6 +52,15 @@ act-requires-clause-deep g c =
     let code-is : c.code.result.now ≡ p.code = c.code.ensures.value ∙ ap (λ q. q.code) c.image-image.ensures.is in
     r.deep
 
+pub act-requires-clause-room : goal.act-requires-clause-room
+act-requires-clause-room g c =
+    let p = c.args.program.now in
+    let f = g.C.Case.facts c.args.case.now in
+    let stands : Stands p f (record { at = c.self.inside.at; end = c.self.inside.end; steps = c.self.inside.steps }) = subst (Stands p f) (sym c.self.view_is) c.requires.stands in
+    let r = ready p f _ c.image-image.ensures.well (rw (← c.self.view_is) at c.requires.running) stands in
+    let code-is : c.code.result.now ≡ p.code = c.code.ensures.value ∙ ap (λ q. q.code) c.image-image.ensures.is in
+    r.room
+
 pub overflow_add-self : goal.overflow_add-self
 overflow_add-self g c =
     let p = c.args.program.now in

@@ -1,0 +1,114 @@
+//! Writes the code of procedures, one after the other.
+
+ghost use Rattle.std.specs.Prelude.{◌≡◌, ◌+◌, ◌<◌, ◌≤◌, ◌^◌, [], ◌∷◌, length, map, IfOk, OnOk};
+ghost use Rattle.std.specs.List.{All};
+ghost use Rattle.sieve_syntax.specs.View.{tree_of};
+ghost use Rattle.sieve_meaning.specs.Reading.{program_of};
+ghost use Rattle.sieve_meaning.specs.Procedures.{shared_weight, most_procedures};
+ghost use Rattle.sieve_meaning.specs.Weight.{greatest_weight};
+ghost use Rattle.script_library.specs.Lent.{scripts_of};
+ghost use Rattle.script_library.specs.Libraries.{library_of};
+ghost use Rattle.script_procedures.specs.Keys.{IsKeyOf};
+ghost use Rattle.script_procedures.specs.Made.{procedure_of, IsEntered, HaveKeys};
+ghost use Rattle.script_procedures.specs.Slots.{slots_of};
+ghost use Rattle.filing_flow.specs.Structure.{size};
+ghost use Rattle.filing_flow.specs.Types.{HasType};
+ghost use Rattle.filing_gen.specs.Adds.{HasRoom};
+ghost use Rattle.filing_gen.specs.Procedures.{calling_flow, procedure_flows};
+ghost use Rattle.filing_gen.specs.Scopes.{names_of};
+ghost use Rattle.filing_gen.specs.SharedCode.{EmitsProcedure, IsSharedCode};
+ghost use Rattle.filing_gen.specs.Structured.{script_flow};
+
+use crate::callees::{Callees, numbers_by_slot};
+use crate::calls::Calls;
+use crate::chain::MainScript;
+use crate::emit_commands::emit_commands;
+use crate::ends::{NO_PLACE, end_block};
+use crate::finding::Scope;
+use crate::linker::Linker;
+use crate::output::{Output, put};
+use filing_image::Operation;
+use script_procedures::{Procedure, Reach};
+use sieve_syntax::Script;
+use std::alloc::{AllocError, Global};
+
+/// Writes the code of a script, and after it the end of its procedure, to which a `return` of the script jumps.
+fn emit_script<L: Linker>(
+    alloc: Global,
+    linker: &L,
+    out: &mut Output,
+    script: &Script,
+) -> Result<(), AllocError>
+    requires room { HasRoom out.old (size (script_flow (L.flow_of linker.now) (program_of (tree_of script.now))) + 1) }
+    requires typed { HasType (script_flow (L.flow_of linker.now) (program_of (tree_of script.now))) ([] ∷ []) [] [] }
+    ensures { OnOk result
+        (EmitsProcedure out.old out.new (script_flow (L.flow_of linker.now) (program_of (tree_of script.now)))) }
+{
+    let start = out.code.len();
+    emit_commands(alloc, linker, out, &script.commands, NO_PLACE)?;
+    end_block(out, start);
+    put(out, Operation::Return)
+}
+
+/// Writes the code of the procedure with the number `own`.
+fn emit_procedure<'a>(
+    alloc: Global,
+    reach: &Reach<'a>,
+    main: MainScript<'a>,
+    procedure: &'a Procedure<'a>,
+    later: &'a [Procedure<'a>],
+    own: usize,
+    out: &mut Output,
+) -> Result<(), AllocError>
+    requires key { IsKeyOf (scripts_of reach.now.shelves) procedure.now.key (procedure_of procedure.now) }
+    requires entered { All (IsEntered (scripts_of reach.now.shelves)) later.now }
+    requires few { own + length later.now < 2 ^ 16 }
+    requires room { HasRoom out.old (size
+        (script_flow
+        (calling_flow (library_of (scripts_of reach.now.shelves)) (slots_of (scripts_of reach.now.shelves))
+        (names_of main) own (map procedure_of later.now) (procedure_of procedure.now))
+        (procedure_of procedure.now).script) + 1) }
+    ensures { OnOk result (EmitsProcedure out.old out.new
+        (script_flow
+        (calling_flow (library_of (scripts_of reach.now.shelves)) (slots_of (scripts_of reach.now.shelves))
+        (names_of main.entry) own (map procedure_of later.now) (procedure_of procedure.now))
+        (procedure_of procedure.now).script)) }
+{
+    let numbers = numbers_by_slot(alloc, reach, procedure, later)?;
+    let callees = Callees {
+        scope: Scope {
+            shelves: reach.shelves,
+            main,
+        },
+        procedure,
+        later,
+        numbers: numbers.as_slice(),
+    };
+    emit_script(alloc, &Calls { callees, own }, out, procedure.script)
+}
+
+/// The code of all procedures, and the first place of each. Room for `operations` operations is taken at once. The only
+/// error is a refused allocation.
+pub fn emit_procedures<'a>(
+    alloc: Global,
+    reach: &Reach<'a>,
+    main: MainScript<'a>,
+    procedures: &'a [Procedure<'a>],
+    operations: u32,
+) -> Result<(Output, Vec<u16>), AllocError>
+    requires keys { HaveKeys (scripts_of reach.now.shelves) procedures.now }
+    requires few { length procedures.now ≤ most_procedures }
+    requires light { shared_weight (map procedure_of procedures.now) ≤ greatest_weight }
+    ensures { IfOk result (λ r. IsSharedCode r.0 r.1.items
+        (procedure_flows (library_of (scripts_of reach.now.shelves)) (slots_of (scripts_of reach.now.shelves))
+        (names_of main.entry) 0 (map procedure_of procedures.now))) }
+{
+    let mut out = Output::with_room(alloc, operations)?;
+    let mut first_places = Vec::with_capacity(alloc, procedures.len())?;
+    for (own, procedure) in procedures.iter().enumerate() {
+        first_places.push(out.code.len() as u16)?;
+        let later = &procedures[own + 1..];
+        emit_procedure(alloc, reach, main, procedure, later, own, &mut out)?;
+    }
+    Ok((out, first_places))
+}

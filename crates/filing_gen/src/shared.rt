@@ -1,0 +1,110 @@
+//! Images of scripts that are too heavy for code in which each include has a copy of its script: each included script is
+//! a procedure.
+
+ghost use Rattle.std.specs.Prelude.{◌≡◌, ◌≢◌, ◌↔◌, ◌<◌, ◌≤◌, length, Err, IfOk};
+ghost use Rattle.std.specs.Option.{option_map};
+ghost use Rattle.sieve_syntax.specs.View.{tree_of};
+ghost use Rattle.sieve_meaning.specs.Procedures.{most_procedures};
+ghost use Rattle.sieve_meaning.specs.Program.{Commands};
+ghost use Rattle.sieve_meaning.specs.Reading.{program_of};
+ghost use Rattle.sieve_meaning.specs.TooHeavy.{IsTooHeavy};
+ghost use Rattle.sieve_meaning.specs.Weight.{greatest_weight, linked_weight};
+ghost use Rattle.script_library.specs.Lent.{scripts_of};
+ghost use Rattle.script_library.specs.Libraries.{library_of};
+ghost use Rattle.script_procedures.specs.Made.{AreProcedures};
+ghost use Rattle.filing_gen.specs.Correct.{IsCompiled, NamesOnce};
+ghost use Rattle.filing_gen.specs.declared.fault.GenFault.TheVariants.{NoMemory, TooLarge};
+
+use crate::chain::MainScript;
+use crate::emit_procedures::emit_procedures;
+use crate::fault::GenFault;
+use crate::finding::Scope;
+use crate::paths::{main_path, shared_weight};
+use crate::program::image_of;
+use filing_verify::Verified;
+use script_procedures::{Procedure, Reach, procedures, slot_count};
+use sieve_syntax::Script;
+use std::alloc::Global;
+
+/// The image of a script that has these procedures. `TooLarge` where their code weighs more than 60,000, or a path
+/// through it more than 1,000,000.
+fn build_procedures<'a>(
+    alloc: Global,
+    reach: &Reach<'a>,
+    main: MainScript<'a>,
+    procedures: Vec<Procedure<'a>>,
+) -> Result<Verified, GenFault>
+    requires are { (x : Commands) × AreProcedures (scripts_of reach.now.shelves) (option_map (λ s. s.now) main.known_as)
+        x procedures.items }
+    requires few { length procedures.items ≤ most_procedures }
+    ensures compiled { (x : Commands) →
+        AreProcedures (scripts_of reach.now.shelves) (option_map (λ s. s.now) main.entry.known_as) x
+        procedures.entry.items → greatest_weight <
+        linked_weight (library_of (scripts_of reach.now.shelves)) (option_map (λ s. s.now) main.entry.known_as) x →
+        IfOk result
+        (λ v. IsCompiled (library_of (scripts_of reach.now.shelves)) (option_map (λ s. s.now) main.entry.known_as) x v) }
+    ensures once { IfOk result (λ v. NamesOnce v) }
+    ensures too_large { (x : Commands) →
+        AreProcedures (scripts_of reach.now.shelves) (option_map (λ s. s.now) main.entry.known_as) x
+        procedures.entry.items → greatest_weight <
+        linked_weight (library_of (scripts_of reach.now.shelves)) (option_map (λ s. s.now) main.entry.known_as) x →
+        result ≢ Err NoMemory → result ≡ Err TooLarge ↔
+        IsTooHeavy (library_of (scripts_of reach.now.shelves)) (option_map (λ s. s.now) main.entry.known_as) x }
+{
+    let Some(weight) = shared_weight(procedures.as_slice()) else {
+        return Err(GenFault::TooLarge);
+    };
+    let Some(path) = main_path(alloc, &*reach, main, procedures.as_slice())? else {
+        return Err(GenFault::TooLarge);
+    };
+    let (out, first_places) = emit_procedures(alloc, &*reach, main, procedures.as_slice(), weight)?;
+    let slots = slot_count(reach.shelves);
+    let image = image_of(path, slots, out, Some(first_places))?;
+    Ok(Verified::known(image))
+}
+
+/// The image of a script whose weight is above 60,000, by what each script that it can include reaches.
+fn build_reached<'a>(
+    alloc: Global,
+    reach: &Reach<'a>,
+    script: &'a Script,
+    main: MainScript<'a>,
+) -> Result<Verified, GenFault>
+    requires { greatest_weight <
+        linked_weight (library_of (scripts_of reach.now.shelves)) (option_map (λ s. s.now) main.known_as)
+        (program_of (tree_of script.now)) }
+    ensures compiled { IfOk result
+        (λ v. IsCompiled (library_of (scripts_of reach.now.shelves)) (option_map (λ s. s.now) main.entry.known_as)
+        (program_of (tree_of script.now)) v) }
+    ensures once { IfOk result (λ v. NamesOnce v) }
+    ensures too_large { result ≢ Err NoMemory → result ≡ Err TooLarge ↔
+        IsTooHeavy (library_of (scripts_of reach.now.shelves)) (option_map (λ s. s.now) main.entry.known_as)
+        (program_of (tree_of script.now)) }
+{
+    match procedures(alloc, reach, script, main.known_as)? {
+        None => Err(GenFault::TooLarge),
+        Some(procedures) => build_procedures(alloc, reach, main, procedures),
+    }
+}
+
+/// The image of a script whose weight is above 60,000. `TooLarge` where there are more than 256 procedures, where their
+/// code weighs more than 60,000, or a path through it more than 1,000,000.
+pub fn build_shared<'a>(
+    alloc: Global,
+    script: &'a Script,
+    scope: Scope<'a>,
+) -> Result<Verified, GenFault>
+    requires { greatest_weight <
+        linked_weight (library_of (scripts_of scope.shelves)) (option_map (λ s. s.now) scope.main.known_as)
+        (program_of (tree_of script.now)) }
+    ensures compiled { IfOk result
+        (λ v. IsCompiled (library_of (scripts_of scope.entry.shelves))
+        (option_map (λ s. s.now) scope.entry.main.known_as) (program_of (tree_of script.now)) v) }
+    ensures once { IfOk result (λ v. NamesOnce v) }
+    ensures too_large { result ≢ Err NoMemory → result ≡ Err TooLarge ↔
+        IsTooHeavy (library_of (scripts_of scope.entry.shelves)) (option_map (λ s. s.now) scope.entry.main.known_as)
+        (program_of (tree_of script.now)) }
+{
+    let reach = Reach::of(alloc, scope.shelves)?;
+    build_reached(alloc, &reach, script, scope.main)
+}

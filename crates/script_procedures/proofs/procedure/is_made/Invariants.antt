@@ -1,0 +1,11 @@
+use Rattle.std.proofs.Common.{◌≡◌, take, false}
+use Rattle.std.specs.List.{list_any}
+use Rattle.sieve_meaning.specs.Procedures.{Procedure, is_shared}
+use Rattle.script_library.specs.Lent.{scripts_of}
+use Rattle.script_library.specs.Libraries.{library_of}
+use Rattle.script_procedures.specs.Keys.{IsEnteredKey}
+use Rattle.script_procedures.specs.Made.{procedure_of}
+use Rattle.script_procedures.proofs.procedure.is_made.Given as goal
+
+abbrev pub invariant-loop-procedure : goal.invariant-loop-procedure
+invariant-loop-procedure l = (e : Procedure) → IsEnteredKey (scripts_of l.reach.shelves) l.key e → list_any (λ p. is_shared (library_of (scripts_of l.reach.shelves)) (procedure_of p) e) (take l.procedure-index l.procedures) ≡ false

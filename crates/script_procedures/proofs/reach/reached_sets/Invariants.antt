@@ -1,0 +1,6 @@
+use Rattle.script_library.specs.Lent.{scripts_of}
+use Rattle.script_procedures.specs.Reached.{AreReached}
+use Rattle.script_procedures.proofs.reach.reached_sets.Given as goal
+
+abbrev pub invariant-loop-round : goal.invariant-loop-round
+invariant-loop-round l = AreReached (scripts_of l.shelves) l.count l._round l.sets.items

@@ -1,0 +1,7 @@
+use Rattle.std.proofs.Common.{map}
+use Rattle.script_library.specs.Lent.{scripts_of}
+use Rattle.script_procedures.specs.Reached.{AreRows}
+use Rattle.script_procedures.proofs.reach.rows.Given as goal
+
+abbrev pub invariant-loop-slot : goal.invariant-loop-slot
+invariant-loop-slot l = AreRows (scripts_of l.shelves) l.slot (map (λ r. r.items) l.rows.items)

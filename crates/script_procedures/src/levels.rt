@@ -1,0 +1,142 @@
+//! The procedures of a main script, level by level: those of a level call those of the next.
+
+ghost use Rattle.std.specs.Prelude.{◌≡◌, ◌<◌, ◌≤◌, ◌-◌, ℕ, suc, map, length, option_map, IfOk, OnOk, MatchBool, MatchOption, IfSome};
+ghost use Rattle.std.specs.List.{All};
+ghost use Rattle.sieve_syntax.specs.View.{tree_of};
+ghost use Rattle.sieve_meaning.specs.Reading.{program_of};
+ghost use Rattle.sieve_meaning.specs.Procedures.{entered, called_by, procedures, most_procedures};
+ghost use Rattle.sieve_meaning.specs.Scripts.{script_of};
+ghost use Rattle.script_library.specs.Lent.{scripts_of};
+ghost use Rattle.script_library.specs.Libraries.{library_of};
+ghost use Rattle.script_procedures.specs.Made.{names_of, procedure_of, HasKey, IsEntered, with_procedure, with_procedures, entered_by, AreProcedures};
+
+use crate::included::included_scripts;
+use crate::procedure::{MAX_FURTHER, Procedure, is_made, main_procedure};
+use crate::reach::Reach;
+use crate::slots::find_script;
+use sieve_meaning::ScriptName;
+use sieve_syntax::Script;
+use std::alloc::{AllocError, Global};
+
+/// The most procedures.
+pub const MAX_PROCEDURES: usize = 256;
+
+/// Adds what the include of a name enters that a procedure runs, unless it is made. False where it is more than there is
+/// room for.
+fn enter<'a>(
+    alloc: Global,
+    reach: &Reach<'a>,
+    caller: &Procedure<'a>,
+    name: &ScriptName<'a>,
+    room: usize,
+    next: &mut Vec<Procedure<'a>>,
+) -> Result<bool, AllocError>
+    requires left { 0 < caller.now.key.left }
+    requires key { HasKey (scripts_of reach.now.shelves) caller.now }
+    requires each { All (IsEntered (scripts_of reach.now.shelves)) next.old.items }
+    requires few { length next.old.items ≤ room }
+    ensures each { OnOk result (All (IsEntered (scripts_of reach.now.shelves)) next.new.items) }
+    ensures few { OnOk result (length next.new.items ≤ room) }
+    ensures made { let lib = library_of (scripts_of reach.now.shelves) in
+        let all = with_procedure lib (map procedure_of next.old.items)
+        (entered lib (caller.now.key.left - 1) (names_of caller.now) (script_of name.now)) in
+        IfOk result (λ b. MatchBool b (map procedure_of next.new.items ≡ all) (room < length all)) }
+{
+    if caller.contains(name) {
+        return Ok(true);
+    }
+    let Some((slot, checked)) = find_script(reach.shelves, name) else {
+        return Ok(true);
+    };
+    let key = caller.key_of_entry(slot);
+    if is_made(reach, next, key) {
+        return Ok(true);
+    }
+    if next.len() >= room {
+        return Ok(false);
+    }
+    let procedure = caller.entered(alloc, *name, key, checked.script())?;
+    next.push(procedure)?;
+    Ok(true)
+}
+
+/// Adds what the includes of a procedure enter, each unless it is made. False where that is more than there is room for.
+fn enter_included<'a>(
+    alloc: Global,
+    reach: &Reach<'a>,
+    caller: &Procedure<'a>,
+    room: usize,
+    next: &mut Vec<Procedure<'a>>,
+) -> Result<bool, AllocError>
+    requires left { 0 < caller.now.key.left }
+    requires key { HasKey (scripts_of reach.now.shelves) caller.now }
+    requires each { All (IsEntered (scripts_of reach.now.shelves)) next.old.items }
+    requires few { length next.old.items ≤ room }
+    ensures each { OnOk result (All (IsEntered (scripts_of reach.now.shelves)) next.new.items) }
+    ensures few { OnOk result (length next.new.items ≤ room) }
+    ensures made { let lib = library_of (scripts_of reach.now.shelves) in
+        let all = with_procedures lib (map procedure_of next.old.items) (entered_by lib (procedure_of caller.now)) in
+        IfOk result (λ b. MatchBool b (map procedure_of next.new.items ≡ all) (room < length all)) }
+{
+    let names = included_scripts(alloc, reach.shelves, caller.script)?;
+    for name in &names {
+        if !enter(alloc, reach, caller, name, room, next)? {
+            return Ok(false);
+        }
+    }
+    Ok(true)
+}
+
+/// The procedures that those of a level call. None where they are more than there is room for.
+fn called<'a>(
+    alloc: Global,
+    reach: &Reach<'a>,
+    level: &[Procedure<'a>],
+    room: usize,
+) -> Result<Option<Vec<Procedure<'a>>>, AllocError>
+    requires left { All (λ p. 0 < p.key.left) level.now }
+    requires keys { All (HasKey (scripts_of reach.now.shelves)) level.now }
+    ensures each { IfOk result (λ o. IfSome o (λ next. All (IsEntered (scripts_of reach.now.shelves)) next.items)) }
+    ensures few { IfOk result (λ o. IfSome o (λ next. length next.items ≤ room)) }
+    ensures made { (left : ℕ) → All (λ p. p.key.left ≡ suc left) level.now →
+        let all = called_by (library_of (scripts_of reach.now.shelves)) left (map procedure_of level.now) in
+        IfOk result (λ o. MatchOption o (room < length all) (λ next. map procedure_of next.items ≡ all)) }
+{
+    let mut next = Vec::new(alloc);
+    for caller in level {
+        if !enter_included(alloc, reach, caller, room, &mut next)? {
+            return Ok(None);
+        }
+    }
+    Ok(Some(next))
+}
+
+/// The procedures of a main script, which may be known by a personal name. None where they are more than 256. Time is
+/// linear in their includes, each of which is compared with at most 256 procedures; memory is linear in the procedures.
+/// The only error is a refused allocation.
+pub fn procedures<'a>(
+    alloc: Global,
+    reach: &Reach<'a>,
+    main: &'a Script,
+    known_as: Option<&'a [u8]>,
+) -> Result<Option<Vec<Procedure<'a>>>, AllocError>
+    ensures few { IfOk result (λ o. IfSome o (λ ps. length ps.items ≤ most_procedures)) }
+    ensures are { let l = scripts_of reach.now.shelves in
+        let name = option_map (λ s. s.now) known_as.entry in
+        IfOk result (λ o. MatchOption o
+        (most_procedures < length (procedures (library_of l) name (program_of (tree_of main.now))))
+        (λ ps. AreProcedures l name (program_of (tree_of main.now)) ps.items)) }
+{
+    let mut procedures = Vec::new(alloc);
+    procedures.push(main_procedure(alloc, reach.shelves, main, known_as)?)?;
+    let mut first = 0;
+    for _level in 0..MAX_FURTHER {
+        let room = MAX_PROCEDURES - procedures.len();
+        let Some(mut next) = called(alloc, reach, &procedures[first..], room)? else {
+            return Ok(None);
+        };
+        first = procedures.len();
+        procedures.append(&mut next)?;
+    }
+    Ok(Some(procedures))
+}
