@@ -74,7 +74,7 @@ pub trait Registry {
 
     /// What a script captures a message in: a dry run that stores nothing. Refused in this order: by the script's text
     /// (10 to 16, 20, 21), by the check (30 to 41), and for a message of more than 8,388,608 octets (95). The script
-    /// can include the global scripts, and no others. A script of weight above 60,000 has the outcome fault 5.
+    /// can include the global scripts, and no others. A script that is too heavy has the outcome fault 5.
     fn file(&self, script: &Payload, message: &Payload) -> Result<Outcome, DeskFault>
         ensures { CallsWithTwo clean stands self.now (greatest_script, greatest_message) script.now message.now
             (λ s m. commands.plain (office.file s m)) (told_outcome result) self.now };

@@ -91,7 +91,7 @@ impl<S: Alter> Desk<S> {
 
     /// The outcome of a script for a message, as `Registry` says; nothing is stored. The script can include the global
     /// scripts alone. Refused with 10 to 16, 20 and 21 (text) or 30 to 41 (check) for the script, then 95 for a message
-    /// of more than 8,388,608 octets. A script of weight above 60,000 has the outcome fault 5.
+    /// of more than 8,388,608 octets. A script that is too heavy has the outcome fault 5.
     pub fn file(&self, script: &Payload, message: &Payload) -> Result<Outcome, DeskFault>
         ensures { CallsWithTwo (IsClean S.Store) (StandsFor S.Store) self.now (greatest_script, greatest_message) script.now message.now
             (λ s m. commands.plain (office.file s m)) (told_outcome result) self.now }

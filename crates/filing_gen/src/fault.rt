@@ -10,7 +10,7 @@ use thiserror::Error;
 /// Why there is no image of a script.
 #[derive(Clone, Copy, Debug, PartialEq, Eq, Error)]
 pub enum GenFault {
-    /// 5: the script is too heavy. With what it includes it weighs more than 60,000.
+    /// 5: the script is too heavy, also where the scripts that it includes share their code. `compile` says the limits.
     #[error("the script is too heavy")]
     TooLarge,
     /// 99: an allocation was refused, or a string of the script has more than 65,535 octets, for which an image has no

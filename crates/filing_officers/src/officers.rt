@@ -154,7 +154,7 @@ impl Officers {
     }
 
     /// What is pinned for a capture that begins now: the officer's image; the image of the officer's script with what
-    /// it includes, or one `Fault 5` where that weighs more than 60,000; or one `Stop` where no program is set. The
+    /// it includes, or one `Fault 5` where that is too heavy; or one `Stop` where no program is set. The
     /// only error is out of memory.
     ///
     /// A script is compiled once, and again only after the officer's program or a script that it can include was set.

@@ -4,7 +4,6 @@
 //! was met.
 
 pub mod chance;
-mod heavy;
 pub mod libraries;
 pub mod messages;
 mod outcomes;
@@ -14,7 +13,7 @@ mod sides;
 use crate::compiled::{checked, keep};
 use anyhow::Result;
 use chance::Chance;
-use libraries::{DENSE, Included, SPARSE, included_scripts};
+use libraries::{Included, included_scripts};
 use messages::{message, open_classes};
 use outcomes::{Kind, Tally};
 use plain_evaluator::BorrowedCase;
@@ -56,7 +55,7 @@ fn library_of(alloc: Global, scripts: &[Included]) -> Result<Library> {
 
 /// A library that is made by chance.
 pub fn library_by_chance(alloc: Global, chance: &mut Chance) -> Result<Library> {
-    let scripts = included_scripts(alloc, chance, SPARSE)?;
+    let scripts = included_scripts(alloc, chance)?;
     library_of(alloc, scripts.as_slice())
 }
 
@@ -75,7 +74,7 @@ struct Made {
 fn make(alloc: Global, chance: &mut Chance) -> Result<Made> {
     Ok(Made {
         text: script(alloc, chance)?,
-        scripts: included_scripts(alloc, chance, SPARSE)?,
+        scripts: included_scripts(alloc, chance)?,
         is_named: chance.one_in(2),
         message: message(alloc, chance)?,
         classes: open_classes(alloc, chance)?,
@@ -197,5 +196,5 @@ pub fn compare_all(rt: &(impl Print + AllocGlobal)) -> Result<()> {
     }
     println!(rt; "another outcome than for a message without a field: {by_message}")?;
     println!(rt; "another outcome than where nothing can be included: {by_library}")?;
-    heavy::compare_all(rt)
+    Ok(())
 }

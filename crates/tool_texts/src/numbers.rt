@@ -32,7 +32,7 @@ pub fn fault_text(number: u8) -> Option<&'static str>
         4 =>
             "an include would have made nine scripts run inside one another, and eight may; include fewer of them",
         5 =>
-            "the script and all that it includes weigh more than 60,000; shorten the lists of keys, or include fewer scripts",
+            "the script and all that it includes are too heavy; shorten the lists of keys, or include fewer scripts",
         _ => return None,
     };
     Some(text)
@@ -45,7 +45,7 @@ fn size_text(number: u8) -> Option<&'static str>
     let text = match number {
         1 => "the message has more than 8,388,608 octets; a longer one cannot be read",
         5 =>
-            "the script and all that it includes weigh more than 60,000; shorten the lists of keys, or include fewer scripts",
+            "the script and all that it includes are too heavy; shorten the lists of keys, or include fewer scripts",
         _ => return None,
     };
     Some(text)
