@@ -8,7 +8,7 @@ impl fmt::Display for Image {
     /// One line for each instruction: its place, its name and its operands, as in `0 VALUES "subject"`. An operand that
     /// names a text or a number is shown as the text, in quotes and with ASCII escapes, or as the number. Where the
     /// image has none there, the operand is shown after `text` or `number`. In version 2 a line such as `procedure 1`
-    /// stands before the first instruction of each procedure.
+    /// stands before the first instruction of each of the first 256 procedures.
     fn fmt<W: fmt::Write>(&self, f: &mut fmt::Formatter<W>) -> fmt::Result {
         for (place, operation) in self.code().iter().enumerate() {
             show_start(self, place, f)?;
@@ -21,13 +21,19 @@ impl fmt::Display for Image {
     }
 }
 
-/// Shows the numbers of the procedures that begin at a place.
+/// How many procedures are looked for at a place: the most that an image that may run has. So the time is linear in the
+/// instructions, also for images with more.
+const MAX_SHOWN: usize = 256;
+
+/// Shows the numbers of the first procedures that begin at a place.
 fn show_start<W: fmt::Write>(
     image: &Image,
     place: usize,
     f: &mut fmt::Formatter<W>,
 ) -> fmt::Result {
-    for (number, first) in image.first_places().iter().enumerate() {
+    let firsts = image.first_places();
+    let shown = firsts.len().min(MAX_SHOWN);
+    for (number, first) in firsts[..shown].iter().enumerate() {
         if *first as usize == place {
             write!(f, "procedure {number}\n")?;
         }
