@@ -1,8 +1,7 @@
 -- A test of some of a list, item by item.
-use Rattle.std.proofs.Common.{◌≡◌, ℕ, zero, suc, ◌+◌, ◌<◌, ◌≤◌, List, [], ◌∷◌, take, length, map, get_or, Bool, true, false, cond, ◌||◌, Some, None, option_map, refl, sym, ap, ◌∙◌, arith}
+use Rattle.std.proofs.Common.{◌≡◌, ℕ, zero, suc, ◌+◌, ◌<◌, ◌≤◌, List, [], ◌∷◌, take, length, map, get_or, Bool, true, false, cond, ◌||◌, Option, Some, None, option_map, is_some, refl, sym, ap, ◌∙◌, arith}
 use Rattle.std.specs.List.{list_any}
 use Rattle.std.proofs.lemmas.List.Folds.{list_any-append}
-use Rattle.std.proofs.lemmas.List.Recursion.{or_at}
 use Rattle.std.proofs.lemmas.Grind.{common_steps}
 use Rattle.sieve_meaning.specs.Meaning.{Library}
 use Rattle.sieve_meaning.specs.Procedures.{Procedure, is_shared}
@@ -11,9 +10,6 @@ use Rattle.script_procedures.specs.declared.procedure.Procedure as code
 use Rattle.script_procedures.proofs.ReachTables.{item_more}
 
 module _ {A : Type 0} (t : A → Bool) (xs : List A) (i : ℕ) where
-  pub found_at : (x : A) → i < length xs → x ≡ get_or xs i x → t x ≡ true → true ≡ list_any t xs
-  found_at x below is h = sym (or_at (list_any t) t refl (λ _ _. refl) xs i x below (ap t (sym is) ∙ h))
-
   neither : (a b : Bool) → a ≡ false → b ≡ false → (a || (b || false)) ≡ false
   neither false false h k = refl
   neither true b h k = absurd (cc h)
@@ -53,3 +49,15 @@ module _ (lib : Library) (e : Procedure) where
   no_number (q ∷ ps) none =
       let parts = neither_before (shares q) (list_any shares ps) none in
       ap (option_map suc) (no_number ps parts.1) ∙ ap (λ (b : Bool). cond b (Some 0) (option_map suc (number_of lib (map procedure_of ps) e))) (sym parts.0)
+
+  is_some_next : (o : Option ℕ) → is_some (option_map suc o) ≡ is_some o
+  is_some_next None = refl
+  is_some_next (Some n) = refl
+
+  -- one of them has a number where it is shared
+  pub number_there : (ps : List code.Procedure) → is_some (number_of lib (map procedure_of ps) e) ≡ list_any shares ps
+  number_there [] = refl
+  number_there (q ∷ ps) = elim (shares q) as (λ b. is_some (cond b (Some 0) (option_map suc (number_of lib (map procedure_of ps) e))) ≡ (b || list_any shares ps)) [
+    | true ↦ refl
+    | false ↦ is_some_next (number_of lib (map procedure_of ps) e) ∙ number_there ps
+  ]

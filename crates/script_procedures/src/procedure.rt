@@ -126,12 +126,7 @@ pub fn is_made(reach: &Reach<'_>, procedures: &[Procedure<'_>], key: Key) -> boo
     ensures { (e : sharing.Procedure) → IsEnteredKey (scripts_of reach.now.shelves) key e →
         result ≡ list_any (λ p. is_shared (library_of (scripts_of reach.now.shelves)) (procedure_of p) e) procedures.now }
 {
-    for procedure in procedures {
-        if are_shared(reach, procedure.key, key) {
-            return true;
-        }
-    }
-    false
+    number_of(reach, procedures, key).is_some()
 }
 
 /// The number of the first of these procedures that includes share with those that have this key. None where there is no
