@@ -1,5 +1,5 @@
 -- Capture days are the dates with the day numbers 0 to 84005.
-use Rattle.std.proofs.Common.{◌≡◌, ℕ, ◌≤◌, pos, ◌+ℤ◌, ◌≤ℤ◌, ◌<ℤ◌, arith, refl}
+use Rattle.std.proofs.Common.{◌≡◌, ◌≤◌, pos, ◌+ℤ◌, ◌≤ℤ◌, ◌<ℤ◌, arith, refl}
 use Rattle.std.proofs.lemmas.Int.{by_lt_z}
 use Rattle.jiff.specs.Words.{epoch_day, IsBetween}
 use Rattle.jiff_core.specs.Calendar.{IsCivilDate}

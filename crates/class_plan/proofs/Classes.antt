@@ -6,11 +6,11 @@ use Rattle.toml.specs.Data.{Data, Members, get_member, as_str, as_bool, as_table
 use Rattle.toml.specs.View.{view, items_view}
 use Rattle.toml.specs.declared.value.Value.{Value}
 use Rattle.toml.proofs.Views.{items_view-drop}
+use Rattle.class_paths.specs.Path.{unfiled}
 use Rattle.class_plan.specs.declared.entries.Stated.{Stated}
-use Rattle.class_plan.specs.Paths.{unfiled}
 use Rattle.class_plan.specs.Texts.{schedule_of_bytes}
 use Rattle.class_plan.specs.Entries.{Entry, stated_if}
-use Rattle.class_plan.specs.Document.{has_only, is_class_key, is_file_key, optional, class_of, entry_of, entries_of, listed_of, contents_of, checked}
+use Rattle.class_plan.specs.Document.{has_only, is_class_key, is_file_key, optional, class_of, entry_of, entries_of, listed_of, contents_of, if_listable}
 
 pub no_class-keys : (ms : Members) → false ≡ has_only is_class_key ms → None ≡ class_of ms
 unfolding class_of
@@ -30,7 +30,7 @@ unfolding class_of
 no_class-schedule ms p o a b d e = rw (← a, ← b, ← d, ← e)
 
 pub class-made : (ms : Members) (p : List ℕ) (o : Option Bool) (t : Option (List ℕ)) → true ≡ has_only is_class_key ms → Some p ≡ option_and_then as_str (get_member (codes "path") ms) → Some o ≡ optional as_bool (get_member (codes "open") ms)
-    → Some t ≡ optional as_str (get_member (codes "schedule") ms) → checked (record { path = p; is_open = unwrap_or o true; stated = stated_if (option_map schedule_of_bytes t) }) ≡ class_of ms
+    → Some t ≡ optional as_str (get_member (codes "schedule") ms) → if_listable (record { path = p; is_open = unwrap_or o true; stated = stated_if (option_map schedule_of_bytes t) }) ≡ class_of ms
 unfolding class_of
 class-made ms p o t a b d e = rw (← a, ← b, ← d, ← e)
 
@@ -68,17 +68,17 @@ entries-all vs i out h so = sym (so ∙ rw (drop_all i vs h) (ap (λ xs. Some xs
 abbrev pub entry : List ℕ → Bool → Stated → Entry
 entry p o t = record { path = p; is_open = o; stated = t }
 
-pub checked-closed : (p : List ℕ) (o : Bool) (t : Stated) → bytes_eq p unfiled ≡ true → o ≡ false → None ≡ checked (entry p o t)
+pub checked-closed : (p : List ℕ) (o : Bool) (t : Stated) → bytes_eq p unfiled ≡ true → o ≡ false → None ≡ if_listable (entry p o t)
 checked-closed p o t a b = rw (a, b)
 
 open_anyway : (b : Bool) (e : Entry) → Some e ≡ cond (b && not true) None (Some e)
 open_anyway true e = refl
 open_anyway false e = refl
 
-pub checked-open : (p : List ℕ) (o : Bool) (t : Stated) → o ≡ true → Some (entry p o t) ≡ checked (entry p o t)
+pub checked-open : (p : List ℕ) (o : Bool) (t : Stated) → o ≡ true → Some (entry p o t) ≡ if_listable (entry p o t)
 checked-open p o t a = rw a (open_anyway (bytes_eq p unfiled) (entry p true t))
 
-pub checked-other : (p : List ℕ) (o : Bool) (t : Stated) → bytes_eq p unfiled ≡ false → Some (entry p o t) ≡ checked (entry p o t)
+pub checked-other : (p : List ℕ) (o : Bool) (t : Stated) → bytes_eq p unfiled ≡ false → Some (entry p o t) ≡ if_listable (entry p o t)
 checked-other p o t a = rw a
 
 pub no_file-keys : (ms : Members) → false ≡ has_only is_file_key ms → None ≡ contents_of ms

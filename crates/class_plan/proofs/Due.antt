@@ -14,7 +14,7 @@ use Rattle.class_plan.specs.declared.schedules.Unit.TheVariants.{Days, Months, Y
 use Rattle.class_plan.specs.declared.schedules.Action.{Action}
 use Rattle.class_plan.specs.declared.schedules.Schedule.{Schedule}
 use Rattle.class_plan.specs.declared.schedules.Schedule.TheVariants.{Permanent, After}
-use Rattle.class_plan.specs.Schedules.{most, IsInRange}
+use Rattle.class_plan.specs.Schedules.{IsInRange}
 use Rattle.class_plan.specs.Dates.{IsCaptureDay, IsDue, IsEarlier, IsLater, IsSameDay, IsMonthsAfter, IsYearsAfter, IsPeriodAfter, IsYearEnd, IsYearEndAfter, months_of}
 use Rattle.class_plan.proofs.Days.{days_from_civil-zero, year_pos}
 

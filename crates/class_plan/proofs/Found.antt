@@ -8,7 +8,7 @@ use Rattle.std.specs.BTreeMap.{is_at, insert_entry}
 use Rattle.std.specs.Ordering.{match_ordering}
 use Rattle.class_plan.specs.declared.plans.Class.{Class}
 use Rattle.class_plan.specs.declared.schedules.Schedule.{Schedule}
-use Rattle.class_plan.specs.Plans.{Row, found, has, put}
+use Rattle.class_plan.specs.Plans.{Row, row_at, has, with_row}
 use Rattle.class_plan.specs.Fields.{Held, row, rows}
 
 abbrev pub row_with : List ℕ → Bool → Option Schedule → Row
@@ -19,7 +19,7 @@ found_or : {A : Type 0} (f : Class → A) (g : Row → A) (b : Bool) (e : Held) 
 found_or f g true e rest d same ih = ap (λ x. Some x) same
 found_or f g false e rest d same ih = ih
 
-pub found-lookup : {A : Type 0} (f : Class → A) (g : Row → A) → ((e : Held) → f e.1 ≡ g (row e)) → (q : List ℕ) (es : List Held) → option_map f (lookup (is_at (λ (k : Vec ℕ Global). slice_cmp nat_cmp q k.items)) es) ≡ option_map g (found q (rows es))
+pub found-lookup : {A : Type 0} (f : Class → A) (g : Row → A) → ((e : Held) → f e.1 ≡ g (row e)) → (q : List ℕ) (es : List Held) → option_map f (lookup (is_at (λ (k : Vec ℕ Global). slice_cmp nat_cmp q k.items)) es) ≡ option_map g (row_at q (rows es))
 found-lookup f g same q [] = refl
 found-lookup f g same q (e ∷ es) = rw (is_eq-slice_cmp q e.0.items) (found_or f g (bytes_eq q e.0.items) e _ _ (same e) (found-lookup f g same q es))
 
@@ -29,7 +29,7 @@ match_rows Equal a b c = refl
 match_rows Greater a b c = refl
 
 -- what an insert into the map shows
-pub rows-insert : (es : List Held) (k : Vec ℕ Global) (v : Class) → rows (insert_entry (λ (x y : Vec ℕ Global). slice_cmp nat_cmp x.items y.items) es k v) ≡ put (row (k, v)) (rows es)
+pub rows-insert : (es : List Held) (k : Vec ℕ Global) (v : Class) → rows (insert_entry (λ (x y : Vec ℕ Global). slice_cmp nat_cmp x.items y.items) es k v) ≡ with_row (row (k, v)) (rows es)
 rows-insert [] k v = refl
 rows-insert (e ∷ es) k v = match_rows (slice_cmp nat_cmp k.items e.0.items) _ _ _ ∙ rw (rows-insert es k v)
 

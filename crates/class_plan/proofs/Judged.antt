@@ -3,7 +3,7 @@ use Rattle.std.proofs.Common.{◌≡◌, ℕ, zero, suc, ◌+◌, ◌<◌, Bool,
 use borrow.Author.Count.{below_none}
 use Rattle.class_plan.specs.declared.faults.PlanFault.{PlanFault}
 use Rattle.class_plan.specs.declared.faults.PlanFault.TheVariants.{NotToml, BadShape, BadPath, ParentMissing, PathTwice, BadSchedule, TooManyClasses, PathDropped, NoMemory}
-use Rattle.class_plan.specs.Faults.{number_of, first_fault, answer, judged, IsSmallest, HoldsNone}
+use Rattle.class_plan.specs.Faults.{number_of, first_fault, answer, verdict, IsSmallest, HoldsNone}
 
 -- the faults in the order of their numbers
 abbrev at : ℕ → PlanFault
@@ -102,10 +102,10 @@ fault_of : {A : Type 0} (o : Option PlanFault) (a : A) (f : PlanFault) → Err f
 fault_of None a f e = absurd (cc)
 fault_of (Some g) a f e = let s : f ≡ g = cc in ap (λ x. Some x) s
 
-pub judged-made : {A : Type 0} (h : PlanFault → Bool) (a b : A) → Ok b ≡ judged h a → (b ≡ a) × HoldsNone h
+pub judged-made : {A : Type 0} (h : PlanFault → Bool) (a b : A) → Ok b ≡ verdict h a → (b ≡ a) × HoldsNone h
 judged-made h a b e =
     let m = made_of (first_fault h) a b e in
     (m.0, subst (Says h) (sym m.1) (first-says h))
 
-pub judged-smallest : {A : Type 0} (h : PlanFault → Bool) (a : A) (f : PlanFault) → Err f ≡ judged h a → IsSmallest h f
+pub judged-smallest : {A : Type 0} (h : PlanFault → Bool) (a : A) (f : PlanFault) → Err f ≡ verdict h a → IsSmallest h f
 judged-smallest h a f e = subst (Says h) (sym (fault_of (first_fault h) a f e)) (first-says h)

@@ -2,19 +2,19 @@
 use Rattle.std.proofs.Common.{◌≡◌, ℕ, nat_lt, Bool, true, false, not, ◌||◌, List, [], ◌∷◌, map, length, Ok, Err, refl, ap, ◌∙◌, arith, ◌<◌, ◌≤◌}
 use Rattle.std.proofs.lemmas.Bool.Decides.{nat_tests}
 use Rattle.std.specs.List.{list_any}
+use Rattle.class_paths.specs.Path.{is_path, has_parent_in, first_passes, ancestors}
 use Rattle.class_plan.specs.declared.faults.PlanFault.{PlanFault}
 use Rattle.class_plan.specs.declared.faults.PlanFault.TheVariants.{NotToml, BadShape, BadPath, ParentMissing, PathTwice, BadSchedule, TooManyClasses, PathDropped}
 use Rattle.class_plan.specs.declared.entries.Listed.{Listed}
-use Rattle.class_plan.specs.Faults.{judged}
-use Rattle.class_plan.specs.Paths.{is_path, has_parent_in, first_passes, ancestors}
+use Rattle.class_plan.specs.Faults.{verdict}
 use Rattle.class_plan.specs.Plans.{Row, has}
-use Rattle.class_plan.specs.Entries.{Entry, shown, is_faulty, rows_from, with_unfiled, is_known, comes_again, class_count_of}
+use Rattle.class_plan.specs.Entries.{Entry, entry_view, is_faulty, rows_from, with_unfiled, is_known, comes_again, class_count_of}
 use Rattle.class_plan.proofs.Twice.{has-listing, length-listing}
 
 -- a test of the entries of listed classes
-list_any-shown : (p : Entry → Bool) (xs : List Listed) → list_any (λ c. p (shown c)) xs ≡ list_any p (map shown xs)
+list_any-shown : (p : Entry → Bool) (xs : List Listed) → list_any (λ c. p (entry_view c)) xs ≡ list_any p (map entry_view xs)
 list_any-shown p [] = refl
-list_any-shown p (x ∷ xs) = ap (λ b. p (shown x) || b) (list_any-shown p xs)
+list_any-shown p (x ∷ xs) = ap (λ b. p (entry_view x) || b) (list_any-shown p xs)
 
 list_any-same : (p q : Entry → Bool) → ((e : Entry) → p e ≡ q e) → (xs : List Entry) → list_any p xs ≡ list_any q xs
 list_any-same p q h [] = refl
@@ -24,17 +24,17 @@ pub first-same : (f g : List ℕ → Bool) → ((q : List ℕ) → f q ≡ g q) 
 first-same f g h [] = refl
 first-same f g h (q ∷ qs) = h q
 
-pub test-path : (xs : List Listed) → list_any (λ c. not (is_path c.path.now)) xs ≡ list_any (λ e. not (is_path e.path)) (map shown xs)
+pub test-path : (xs : List Listed) → list_any (λ c. not (is_path c.path.now)) xs ≡ list_any (λ e. not (is_path e.path)) (map entry_view xs)
 test-path xs = list_any-shown (λ e. not (is_path e.path)) xs
 
-pub test-schedule : (xs : List Listed) → list_any (λ c. is_faulty c.stated) xs ≡ list_any (λ e. is_faulty e.stated) (map shown xs)
+pub test-schedule : (xs : List Listed) → list_any (λ c. is_faulty c.stated) xs ≡ list_any (λ e. is_faulty e.stated) (map entry_view xs)
 test-schedule xs = list_any-shown (λ e. is_faulty e.stated) xs
 
-pub test-parent : (xs : List Listed) (rs : List Row) → rs ≡ with_unfiled (rows_from [] (map shown xs))
-    → list_any (λ c. not (has_parent_in (has rs) c.path.now)) xs ≡ list_any (λ e. not (has_parent_in (is_known (map shown xs)) e.path)) (map shown xs)
+pub test-parent : (xs : List Listed) (rs : List Row) → rs ≡ with_unfiled (rows_from [] (map entry_view xs))
+    → list_any (λ c. not (has_parent_in (has rs) c.path.now)) xs ≡ list_any (λ e. not (has_parent_in (is_known (map entry_view xs)) e.path)) (map entry_view xs)
 test-parent xs rs is =
     list_any-shown (λ e. not (has_parent_in (has rs) e.path)) xs
-    ∙ list_any-same _ _ (λ e. ap not (first-same (has rs) (is_known (map shown xs)) (λ q. ap (λ r. has r q) is ∙ has-listing (map shown xs) q) (ancestors e.path))) (map shown xs)
+    ∙ list_any-same _ _ (λ e. ap not (first-same (has rs) (is_known (map entry_view xs)) (λ q. ap (λ r. has r q) is ∙ has-listing (map entry_view xs) q) (ancestors e.path))) (map entry_view xs)
 
 above : (n : ℕ) → 4096 < n → nat_lt 4096 n ≡ true
 above n h = grind (arith, nat_tests)
@@ -50,20 +50,20 @@ test-few es rs twice is h = let e = ap length is ∙ length-listing es twice in 
 
 -- the ends of a judgement after the text and its shape passed
 module _ {A : Type 0} (h : PlanFault → Bool) (a : A) (toml : h NotToml ≡ false) (shape : h BadShape ≡ false) where
-  pub end-path : h BadPath ≡ true → judged h a ≡ Err BadPath
+  pub end-path : h BadPath ≡ true → verdict h a ≡ Err BadPath
   end-path p = rw (toml, shape, p)
 
-  pub end-parent : h BadPath ≡ false → h ParentMissing ≡ true → judged h a ≡ Err ParentMissing
+  pub end-parent : h BadPath ≡ false → h ParentMissing ≡ true → verdict h a ≡ Err ParentMissing
   end-parent p q = rw (toml, shape, p, q)
 
-  pub end-twice : h BadPath ≡ false → h ParentMissing ≡ false → h PathTwice ≡ true → judged h a ≡ Err PathTwice
+  pub end-twice : h BadPath ≡ false → h ParentMissing ≡ false → h PathTwice ≡ true → verdict h a ≡ Err PathTwice
   end-twice p q t = rw (toml, shape, p, q, t)
 
-  pub end-schedule : h BadPath ≡ false → h ParentMissing ≡ false → h PathTwice ≡ false → h BadSchedule ≡ true → judged h a ≡ Err BadSchedule
+  pub end-schedule : h BadPath ≡ false → h ParentMissing ≡ false → h PathTwice ≡ false → h BadSchedule ≡ true → verdict h a ≡ Err BadSchedule
   end-schedule p q t s = rw (toml, shape, p, q, t, s)
 
-  pub end-many : h BadPath ≡ false → h ParentMissing ≡ false → h PathTwice ≡ false → h BadSchedule ≡ false → h TooManyClasses ≡ true → judged h a ≡ Err TooManyClasses
+  pub end-many : h BadPath ≡ false → h ParentMissing ≡ false → h PathTwice ≡ false → h BadSchedule ≡ false → h TooManyClasses ≡ true → verdict h a ≡ Err TooManyClasses
   end-many p q t s m = rw (toml, shape, p, q, t, s, m)
 
-  pub end-well : h BadPath ≡ false → h ParentMissing ≡ false → h PathTwice ≡ false → h BadSchedule ≡ false → h TooManyClasses ≡ false → h PathDropped ≡ false → judged h a ≡ Ok a
+  pub end-well : h BadPath ≡ false → h ParentMissing ≡ false → h PathTwice ≡ false → h BadSchedule ≡ false → h TooManyClasses ≡ false → h PathDropped ≡ false → verdict h a ≡ Ok a
   end-well p q t s m d = rw (toml, shape, p, q, t, s, m, d)

@@ -1,4 +1,3 @@
-pub mod Segments
 pub mod Found
 pub mod Put
 pub mod Keeping

@@ -8,13 +8,13 @@ use Rattle.std.specs.Str.{bytes_eq}
 use Rattle.std.specs.List.{AllByRecursion, list_any}
 use Rattle.std.specs.List.Sorted.{IsStrictlySortedBy}
 use Rattle.std.specs.Cmp.Lexicographic.{slice_cmp}
+use Rattle.class_paths.specs.Path.{is_path, has_parent_in, ancestors, unfiled}
 use Rattle.class_plan.specs.declared.faults.PlanFault.TheVariants.{BadPath, ParentMissing, PathTwice, TooManyClasses}
 use Rattle.class_plan.specs.declared.schedules.Schedule.{Schedule}
 use Rattle.class_plan.specs.declared.schedules.Schedule.TheVariants.{Permanent}
 use Rattle.class_plan.specs.Faults.{HoldsNone}
-use Rattle.class_plan.specs.Paths.{is_path, has_parent_in, ancestors, unfiled}
 use Rattle.class_plan.specs.Schedules.{IsInRange, IsInRangeIfAny}
-use Rattle.class_plan.specs.Plans.{Row, has, put, open_at, open_row, paths_of, IsClass, IsPlan}
+use Rattle.class_plan.specs.Plans.{Row, has, with_row, open_at, open_row, paths_of, IsClass, IsPlan}
 use Rattle.class_plan.specs.Entries.{Entry, Contents, row_of, rows_from, with_unfiled, is_known, class_count_of, contents_faults, listing_of, IsListable, IsListableEntry}
 use Rattle.class_plan.proofs.Put.{has-put, open-put, all-put}
 use Rattle.class_plan.proofs.Twice.{has-listing, length-listing}
@@ -28,9 +28,9 @@ none_pass p (e ∷ es) h = let parts = or_parts (p e) (list_any p es) h in (part
 -- what is true of each entry's row is true of the rows
 all-rows_from : (P : Row → Type 0) (rs : List Row) (es : List Entry) → AllByRecursion P rs → AllByRecursion (λ e. P (row_of e)) es → AllByRecursion P (rows_from rs es)
 all-rows_from P rs [] h k = h
-all-rows_from P rs (e ∷ es) h k = all-rows_from P (put (row_of e) rs) es (all-put P (row_of e) rs k.0 h) k.1
+all-rows_from P rs (e ∷ es) h k = all-rows_from P (with_row (row_of e) rs) es (all-put P (row_of e) rs k.0 h) k.1
 
-all_unfiled : (P : Row → Type 0) (rs : List Row) (b : Bool) → P (open_row unfiled) → AllByRecursion P rs → AllByRecursion P (if b then rs else put (open_row unfiled) rs)
+all_unfiled : (P : Row → Type 0) (rs : List Row) (b : Bool) → P (open_row unfiled) → AllByRecursion P rs → AllByRecursion P (if b then rs else with_row (open_row unfiled) rs)
 all_unfiled P rs true here h = h
 all_unfiled P rs false here h = all-put P (open_row unfiled) rs here h
 
@@ -56,16 +56,16 @@ open_step : (b o h x : Bool) → (b ≡ true → o ≡ true) → (h ≡ true →
 open_step true o h x f g e = f refl
 open_step false o h x f g e = g e
 
-open_put : (e : Entry) (rs : List Row) → IsListableEntry e → IsOpenIf rs → IsOpenIf (put (row_of e) rs)
+open_put : (e : Entry) (rs : List Row) → IsListableEntry e → IsOpenIf rs → IsOpenIf (with_row (row_of e) rs)
 open_put e rs listable is h =
     open-put unfiled (row_of e) rs
     ∙ open_step (bytes_eq unfiled e.path) e.is_open (has rs unfiled) (open_at rs unfiled) (λ t. listable.unfiled_open ((bytes_eq-Decides e.path unfiled).1 (sym ((bytes_eq-Decides unfiled e.path).0 t)))) is (sym (has-put unfiled (row_of e) rs) ∙ h)
 
 open_rows : (rs : List Row) (es : List Entry) → AllByRecursion IsListableEntry es → IsOpenIf rs → IsOpenIf (rows_from rs es)
 open_rows rs [] k is = is
-open_rows rs (e ∷ es) k is = open_rows (put (row_of e) rs) es k.1 (open_put e rs k.0 is)
+open_rows rs (e ∷ es) k is = open_rows (with_row (row_of e) rs) es k.1 (open_put e rs k.0 is)
 
-open_unfiled : (rs : List Row) (b : Bool) → b ≡ has rs unfiled → IsOpenIf rs → open_at (if b then rs else put (open_row unfiled) rs) unfiled ≡ true
+open_unfiled : (rs : List Row) (b : Bool) → b ≡ has rs unfiled → IsOpenIf rs → open_at (if b then rs else with_row (open_row unfiled) rs) unfiled ≡ true
 open_unfiled rs true e is = is (sym e)
 open_unfiled rs false e is = open-put unfiled (open_row unfiled) rs ∙ ap (λ b. cond b true (open_at rs unfiled)) ((bytes_eq-Decides unfiled unfiled).1 refl)
 

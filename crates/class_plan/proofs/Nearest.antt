@@ -2,8 +2,8 @@
 use Rattle.std.proofs.Common.{◌≡◌, ◌≢◌, ℕ, zero, suc, ◌≤◌, ◌==◌, true, false, inl, inr, List, take, length, get_or, Option, Some, None, unwrap_or, refl, sym, subst, arith}
 use Rattle.std.proofs.lemmas.Bool.{cases_Bool, cases_order}
 use Rattle.std.proofs.lemmas.Bool.Decides.{nat_tests}
+use Rattle.class_paths.specs.Path.{ancestors, ancestors_below}
 use Rattle.class_plan.specs.declared.schedules.Schedule.{Schedule}
-use Rattle.class_plan.specs.Paths.{ancestors, ancestors_below}
 use Rattle.class_plan.specs.Plans.{Listing, own_at, first_own, HasNoneFrom, IsFromAbove}
 
 is_slash : (c : ℕ) → (c == 47) ≡ true → c ≡ 47

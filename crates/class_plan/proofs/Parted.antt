@@ -5,17 +5,17 @@ use Rattle.std.proofs.lemmas.List.Elements.{All-from_recursion}
 use Rattle.std.proofs.lemmas.Bool.{or_parts}
 use Rattle.std.specs.Str.{bytes_eq}
 use Rattle.std.specs.List.{AllByRecursion, list_any}
+use Rattle.class_paths.specs.Path.{unfiled}
 use Rattle.class_plan.specs.declared.faults.PlanFault.{PlanFault}
 use Rattle.class_plan.specs.declared.faults.PlanFault.TheVariants.{NotToml, BadShape, BadPath, ParentMissing, PathTwice, BadSchedule, TooManyClasses, PathDropped, NoMemory}
 use Rattle.class_plan.specs.declared.schedules.Schedule.{Schedule}
 use Rattle.class_plan.specs.declared.schedules.Schedule.TheVariants.{Permanent, After}
 use Rattle.class_plan.specs.declared.entries.Listed.{Listed}
 use Rattle.class_plan.specs.Faults.{IsSmallest, HoldsNone}
-use Rattle.class_plan.specs.Paths.{unfiled}
 use Rattle.class_plan.specs.Schedules.{most, IsInRange, IsInRangeIfAny}
 use Rattle.class_plan.specs.Plans.{Listing}
-use Rattle.class_plan.specs.Entries.{Contents, shown, stated_if, own_of, plan_of, IsListable, IsListableEntry}
-use Rattle.class_plan.specs.Parts.{Part, in_range, ranged, part_entry, parts_contents, is_closed_unfiled, parts_faults, plan_of_parts}
+use Rattle.class_plan.specs.Entries.{Contents, entry_view, stated_if, own_of, plan_of, IsListable, IsListableEntry}
+use Rattle.class_plan.specs.Parts.{Part, in_range, if_in_range, part_entry, parts_contents, is_closed_unfiled, parts_faults, plan_of_parts}
 use Rattle.class_plan.proofs.Judged.{judged-made, judged-smallest}
 
 pub parts-closed : (f : Contents) → list_any is_closed_unfiled f.entries ≡ true → plan_of_parts f ≡ Err BadShape
@@ -30,9 +30,9 @@ parts-smallest f g e = judged-smallest (parts_faults f) _ g (sym e)
 pub parts-made : (f : Contents) (p : Listing) → plan_of_parts f ≡ Ok p → HoldsNone (parts_faults f)
 parts-made f p e = (judged-made (parts_faults f) _ p (sym e)).1
 
-pub closed-shown : (xs : List Listed) → list_any (λ c. is_closed_unfiled (shown c)) xs ≡ list_any is_closed_unfiled (map shown xs)
+pub closed-shown : (xs : List Listed) → list_any (λ c. is_closed_unfiled (entry_view c)) xs ≡ list_any is_closed_unfiled (map entry_view xs)
 closed-shown [] = refl
-closed-shown (x ∷ xs) = ap (λ b. is_closed_unfiled (shown x) || b) (closed-shown xs)
+closed-shown (x ∷ xs) = ap (λ b. is_closed_unfiled (entry_view x) || b) (closed-shown xs)
 
 low_of : (n m : ℕ) → (nat_le 1 n && nat_le n m) ≡ true → 1 ≤ n
 low_of n m e = grind (arith, nat_tests)
@@ -52,7 +52,7 @@ own_if : (s : Schedule) (b : Bool) → b ≡ in_range s → IsInRangeIfAny (own_
 own_if s true e = in-range s (sym e)
 own_if s false e = tt
 
-own_range : (o : Option Schedule) → IsInRangeIfAny (own_of (stated_if (option_map ranged o)))
+own_range : (o : Option Schedule) → IsInRangeIfAny (own_of (stated_if (option_map if_in_range o)))
 own_range None = tt
 own_range (Some s) = own_if s (in_range s) refl
 

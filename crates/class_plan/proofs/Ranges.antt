@@ -3,10 +3,10 @@ use Rattle.std.proofs.Common.{◌≡◌, ℕ, Bool, true, false, cond, List, [],
 use Rattle.std.proofs.lemmas.List.Elements.{recursion_from_All}
 use Rattle.std.specs.Str.{bytes_eq}
 use Rattle.std.specs.List.{AllByRecursion}
+use Rattle.class_paths.specs.Path.{ancestors}
 use Rattle.class_plan.specs.declared.schedules.Schedule.{Schedule}
 use Rattle.class_plan.specs.Schedules.{IsInRange, IsInRangeIfAny}
-use Rattle.class_plan.specs.Paths.{ancestors}
-use Rattle.class_plan.specs.Plans.{Row, Listing, found, has, own_at, first_own, schedule_at, IsClass, IsPlan}
+use Rattle.class_plan.specs.Plans.{Row, Listing, row_at, has, own_at, first_own, schedule_at, IsClass, IsPlan}
 
 own_head : (b : Bool) (x : Row) (o : Option Row) → IsInRangeIfAny x.schedule → IsInRangeIfAny (option_and_then (λ r. r.schedule) o) → IsInRangeIfAny (option_and_then (λ r. r.schedule) (cond b (Some x) o))
 own_head true x o h k = h
@@ -14,7 +14,7 @@ own_head false x o h k = k
 
 own_of_rows : (R : List Row) (q : List ℕ) (rs : List Row) → AllByRecursion (IsClass R) rs → IsInRangeIfAny (own_at rs q)
 own_of_rows R q [] h = tt
-own_of_rows R q (x ∷ xs) h = own_head (bytes_eq q x.path) x (found q xs) h.0.range (own_of_rows R q xs h.1)
+own_of_rows R q (x ∷ xs) h = own_head (bytes_eq q x.path) x (row_at q xs) h.0.range (own_of_rows R q xs h.1)
 
 pub own-range : (p : Listing) → IsPlan p → (q : List ℕ) → IsInRangeIfAny (own_at p.rows q)
 own-range p h q = own_of_rows p.rows q p.rows (recursion_from_All (IsClass p.rows) p.rows h.classes)

@@ -12,13 +12,13 @@ use Rattle.std.specs.Str.{bytes_eq}
 use Rattle.std.specs.List.{AllByRecursion, list_any}
 use Rattle.std.specs.List.Sorted.{IsStrictlySortedBy}
 use Rattle.std.specs.Ordering.{ordering_reverse}
+use Rattle.class_paths.specs.Path.{is_path, has_parent_in, ancestors, unfiled}
 use Rattle.class_plan.specs.declared.schedules.Schedule.{Schedule}
 use Rattle.class_plan.specs.declared.schedules.Schedule.TheVariants.{Permanent, After}
-use Rattle.class_plan.specs.Paths.{is_path, has_parent_in, ancestors, unfiled}
 use Rattle.class_plan.specs.Schedules.{most, IsInRange, IsInRangeIfAny}
-use Rattle.class_plan.specs.Plans.{Row, Listing, found, has, put, open_at, paths_of, IsClass, IsPlan}
+use Rattle.class_plan.specs.Plans.{Row, Listing, row_at, has, with_row, open_at, paths_of, IsClass, IsPlan}
 use Rattle.class_plan.specs.Entries.{Entry, row_of, rows_from, with_unfiled, is_known, is_faulty, own_of, stated_if, comes_again, class_count_of, contents_faults, listing_of}
-use Rattle.class_plan.specs.Parts.{Part, in_range, ranged, part_entry, part_row, parts_contents, is_closed_unfiled, plan_of_parts}
+use Rattle.class_plan.specs.Parts.{Part, in_range, if_in_range, part_entry, part_row, parts_contents, is_closed_unfiled, plan_of_parts}
 use Rattle.class_plan.proofs.Opened.{path_cmp}
 use Rattle.class_plan.proofs.Twice.{again, again-none, has-listing, length-listing}
 use Rattle.class_plan.proofs.Judging.{first-same, end-well}
@@ -29,7 +29,7 @@ use Rattle.class_plan.proofs.Parted.{parts-open}
 abbrev IsAbove : List Row → List ℕ → Type 0
 IsAbove rs q = AllByRecursion (λ r. path_cmp q r.path ≡ Greater) rs
 
-put_last : (rs : List Row) (r : Row) → IsAbove rs r.path → put r rs ≡ rs ++ r ∷ []
+put_last : (rs : List Row) (r : Row) → IsAbove rs r.path → with_row r rs ≡ rs ++ r ∷ []
 put_last [] r h = refl
 put_last (x ∷ xs) r h = rw h.0 (ap (λ ys. x ∷ ys) (put_last xs r h.1))
 
@@ -112,14 +112,14 @@ pub range-in : (s : Schedule) → IsInRange s → in_range s ≡ true
 range-in Permanent h = refl
 range-in (After n u a y) h = range_test n (most u) h.0 h.1
 
-ranged_in : (s : Schedule) → IsInRange s → ranged s ≡ Some s
+ranged_in : (s : Schedule) → IsInRange s → if_in_range s ≡ Some s
 ranged_in s h = rw (range-in s h)
 
-own_in : (o : Option Schedule) → IsInRangeIfAny o → own_of (stated_if (option_map ranged o)) ≡ o
+own_in : (o : Option Schedule) → IsInRangeIfAny o → own_of (stated_if (option_map if_in_range o)) ≡ o
 own_in None h = refl
 own_in (Some s) h = ap (λ x. own_of (stated_if (Some x))) (ranged_in s h)
 
-faulty_in : (o : Option Schedule) → IsInRangeIfAny o → is_faulty (stated_if (option_map ranged o)) ≡ false
+faulty_in : (o : Option Schedule) → IsInRangeIfAny o → is_faulty (stated_if (option_map if_in_range o)) ≡ false
 faulty_in None h = refl
 faulty_in (Some s) h = ap (λ x. is_faulty (stated_if (Some x))) (ranged_in s h)
 
@@ -156,9 +156,9 @@ has_if None h = h
 has_if (Some r) h = refl
 
 has_open : (rs : List Row) → open_at rs unfiled ≡ true → has rs unfiled ≡ true
-has_open rs h = has_if (found unfiled rs) h
+has_open rs h = has_if (row_at unfiled rs) h
 
-unfiled_there : (rs : List Row) (b : Bool) → b ≡ has rs unfiled → open_at rs unfiled ≡ true → (if b then rs else put (record { path = unfiled; is_open = true; schedule = None }) rs) ≡ rs
+unfiled_there : (rs : List Row) (b : Bool) → b ≡ has rs unfiled → open_at rs unfiled ≡ true → (if b then rs else with_row (record { path = unfiled; is_open = true; schedule = None }) rs) ≡ rs
 unfiled_there rs true e h = refl
 unfiled_there rs false e h = let k : false ≡ true = e ∙ has_open rs h in absurd (cc)
 
@@ -178,10 +178,10 @@ parts-same p root ps plan same_root shows =
     let paths = none_any (λ e. not (is_path e.path)) es (entries_paths p.rows ps classes) in
     let parents = none_any (λ e. not (has_parent_in (is_known es) e.path)) es (entries_parents p.rows (is_known es) ps known classes) in
     let twice : comes_again [] es ≡ false = again-none es ∙ again_sorted [] es (none_above (paths_listed es)) sorted in
-    let ranged_root : ranged root ≡ Some root = ranged_in root (rw same_root plan.root) in
+    let ranged_root : if_in_range root ≡ Some root = ranged_in root (rw same_root plan.root) in
     let stated = none_any (λ e. is_faulty e.stated) es (entries_stated p.rows ps classes) in
-    let schedules : (not (is_some (ranged root)) || list_any (λ e. is_faulty e.stated) es) ≡ false = rw (ranged_root, stated) in
+    let schedules : (not (is_some (if_in_range root)) || list_any (λ e. is_faulty e.stated) es) ≡ false = rw (ranged_root, stated) in
     let count : length p.rows ≡ class_count_of es = ap length (sym listed) ∙ length-listing es twice in
     let few : nat_lt 4096 (class_count_of es) ≡ false = rw (← count) (few_count (length p.rows) plan.few) in
-    let made : listing_of f ≡ p = made_listing p root (ranged root) (with_unfiled (rows_from [] es)) ranged_root same_root listed in
+    let made : listing_of f ≡ p = made_listing p root (if_in_range root) (with_unfiled (rows_from [] es)) ranged_root same_root listed in
     parts-open f closed ∙ end-well (contents_faults f) (listing_of f) refl refl paths parents twice schedules few refl ∙ ap (λ x. Ok x) made

@@ -1,5 +1,6 @@
 -- The definitions on worked rows.
 use Rattle.std.proofs.Common.{◌≡◌, true, false, [], ◌∷◌, codes, Some, None, Ok, Err, refl}
+use Rattle.class_paths.specs.Path.{is_path, ancestors, unfiled}
 use Rattle.class_plan.specs.declared.faults.PlanFault.TheVariants.{BadPath, ParentMissing, PathTwice}
 use Rattle.class_plan.specs.declared.schedules.Unit.TheVariants.{Days, Months, Years}
 use Rattle.class_plan.specs.declared.schedules.Action.TheVariants.{Review, Destroy}
@@ -7,10 +8,9 @@ use Rattle.class_plan.specs.declared.schedules.Schedule.TheVariants.{Permanent, 
 use Rattle.class_plan.specs.declared.entries.Stated.TheVariants.{Nothing, Faulty}
 use Rattle.jiff_core.specs.Calendar.{days_from_civil, day_count, days_of_years, days_of_months}
 use Rattle.class_plan.specs.Calendar.{civil, due_by}
-use Rattle.class_plan.specs.Paths.{is_path, ancestors, unfiled}
 use Rattle.class_plan.specs.Texts.{period_of, schedule_of_bytes}
 use Rattle.class_plan.specs.Plans.{Listing, open_row, first_plan, schedule_at, open_paths_of, keeps}
-use Rattle.class_plan.specs.Changes.{added}
+use Rattle.class_plan.specs.Changes.{addition}
 use Rattle.class_plan.specs.Entries.{Contents, plan_of}
 
 -- paths
@@ -114,15 +114,15 @@ unfolding worked
 dropped = refl
 
 -- the smallest of two faults is answered
-add_orphan : added worked (codes "x/Y") ≡ Err BadPath
+add_orphan : addition worked (codes "x/Y") ≡ Err BadPath
 unfolding worked is_path
 add_orphan = refl
 
-add_again : added worked (codes "a/b") ≡ Err PathTwice
+add_again : addition worked (codes "a/b") ≡ Err PathTwice
 unfolding worked is_path
 add_again = refl
 
-add_below_missing : added worked (codes "x/y") ≡ Err ParentMissing
+add_below_missing : addition worked (codes "x/y") ≡ Err ParentMissing
 unfolding worked is_path
 add_below_missing = refl
 

@@ -1,6 +1,6 @@
 -- Due days as day numbers (days since 1970-01-01), counted from the number of the capture day, in
 -- the years 1970 to 9999.
-use Rattle.std.specs.Prelude.{ℕ, zero, suc, ◌+◌, ◌-◌, ◌*◌, ◌/◌, ◌%◌, min, nat_lt, Bool, true, false, if◌then◌else◌, pos, unsigned_abs, List, Option, Some, None, option_and_then}
+use Rattle.std.specs.Prelude.{ℕ, zero, suc, ◌+◌, ◌-◌, ◌*◌, ◌/◌, ◌%◌, min, nat_lt, true, false, if◌then◌else◌, pos, unsigned_abs, List, Option, Some, None, option_and_then}
 use Rattle.jiff.specs.Words.{days_in_month, days_in_year, epoch_day}
 use Rattle.jiff_core.specs.Calendar.{days_from_civil}
 use Rattle.jiff_core.specs.declared.civil.date.Date.{Date}
@@ -41,14 +41,14 @@ abbrev pub number_of : Civil → ℕ
 number_of c = unsigned_abs (days_from_civil (pos c.year) c.month c.day)
 
 -- the day, cut to the month's last
-abbrev pub cut : ℕ → ℕ → ℕ → Civil
-cut y m d = record { year = y; month = m; day = min d (days_in_month (pos y) m) }
+abbrev pub day_within_month : ℕ → ℕ → ℕ → Civil
+day_within_month y m d = record { year = y; month = m; day = min d (days_in_month (pos y) m) }
 
 abbrev pub months_after : Civil → ℕ → Civil
-months_after c n = cut ((c.year * 12 + (c.month - 1) + n) / 12) ((c.year * 12 + (c.month - 1) + n) % 12 + 1) c.day
+months_after c n = day_within_month ((c.year * 12 + (c.month - 1) + n) / 12) ((c.year * 12 + (c.month - 1) + n) % 12 + 1) c.day
 
 abbrev pub years_after : Civil → ℕ → Civil
-years_after c n = cut (c.year + n) c.month c.day
+years_after c n = day_within_month (c.year + n) c.month c.day
 
 -- the number of the day a period later
 abbrev pub period_after : ℕ → ℕ → TimeUnit → ℕ

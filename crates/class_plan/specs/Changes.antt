@@ -1,11 +1,11 @@
 -- Changes of a plan.
 use Rattle.std.specs.Prelude.{ℕ, nat_le, Bool, false, not, List, length, filter, Result}
 use Rattle.std.specs.Str.{bytes_eq}
+use Rattle.class_paths.specs.Path.{is_path, has_parent_in}
 use Rattle.class_plan.specs.declared.faults.PlanFault.{PlanFault}
 use Rattle.class_plan.specs.declared.faults.PlanFault.TheVariants.{BadPath, ParentMissing, PathTwice, TooManyClasses}
-use Rattle.class_plan.specs.Faults.{judged}
-use Rattle.class_plan.specs.Paths.{is_path, has_parent_in}
-use Rattle.class_plan.specs.Plans.{Listing, has, put, open_row}
+use Rattle.class_plan.specs.Faults.{verdict}
+use Rattle.class_plan.specs.Plans.{Listing, has, with_row, open_row}
 
 -- the faults of adding an open class at a path
 abbrev pub speaks_against : Listing → List ℕ → PlanFault → Bool
@@ -17,11 +17,11 @@ speaks_against p q _ = false
 
 -- the plan with one more open class
 abbrev pub with_class : Listing → List ℕ → Listing
-with_class p q = record { root = p.root; rows = put (open_row q) p.rows }
+with_class p q = record { root = p.root; rows = with_row (open_row q) p.rows }
 
 -- the plan with one more open class, or the fault with the smallest number
-abbrev pub added : Listing → List ℕ → Result Listing PlanFault
-added p q = judged (speaks_against p q) (with_class p q)
+abbrev pub addition : Listing → List ℕ → Result Listing PlanFault
+addition p q = verdict (speaks_against p q) (with_class p q)
 
 -- the plan without the class at a path
 abbrev pub without_class : Listing → List ℕ → Listing

@@ -5,14 +5,14 @@ use Rattle.std.specs.Prelude.{ℕ, Bool, true, false, not, ◌&&◌, ◌||◌, i
 use Rattle.std.specs.Str.{bytes_eq, is_utf8}
 use Rattle.toml.specs.Data.{Data, Items, no_items, item, Members, no_members, member, get_member, as_str, as_bool, as_array, as_table}
 use Rattle.toml.specs.Parse.{parse_document}
+use Rattle.class_paths.specs.Path.{unfiled}
 use Rattle.class_plan.specs.declared.faults.PlanFault.{PlanFault}
 use Rattle.class_plan.specs.declared.faults.PlanFault.TheVariants.{NotToml, BadShape}
 use Rattle.class_plan.specs.declared.entries.Lists.{Lists}
-use Rattle.class_plan.specs.Faults.{judged}
-use Rattle.class_plan.specs.Paths.{unfiled}
+use Rattle.class_plan.specs.Faults.{verdict}
 use Rattle.class_plan.specs.Plans.{Listing, first_plan}
 use Rattle.class_plan.specs.Texts.{◌>>=◌, schedule_of_bytes}
-use Rattle.class_plan.specs.Entries.{Entry, Contents, shown, stated_if, contents_faults, listing_of}
+use Rattle.class_plan.specs.Entries.{Entry, Contents, entry_view, stated_if, contents_faults, listing_of}
 
 -- each key is a known one
 abbrev pub has_only : (List ℕ → Bool) → Members → Bool
@@ -31,12 +31,12 @@ optional f None = Some None
 optional f (Some d) = option_map (λ a. Some a) (f d)
 
 -- a class that may be listed: `unfiled` is open
-abbrev pub checked : Entry → Option Entry
-checked e = if bytes_eq e.path unfiled && not e.is_open then None else Some e
+abbrev pub if_listable : Entry → Option Entry
+if_listable e = if bytes_eq e.path unfiled && not e.is_open then None else Some e
 
 -- a class from its parts, each of the right kind
 abbrev pub class_of_parts : Bool → Option (List ℕ) → Option (Option Bool) → Option (Option (List ℕ)) → Option Entry
-class_of_parts true (Some path) (Some is_open) (Some text) = checked (record { path = path; is_open = unwrap_or is_open true; stated = stated_if (option_map schedule_of_bytes text) })
+class_of_parts true (Some path) (Some is_open) (Some text) = if_listable (record { path = path; is_open = unwrap_or is_open true; stated = stated_if (option_map schedule_of_bytes text) })
 class_of_parts _ _ _ _ = None
 
 -- a class from its table
@@ -72,7 +72,7 @@ contents_of ms = contents_of_parts (has_only is_file_key ms) (option_and_then as
 
 -- what the lists of a file show
 abbrev pub shown_lists : Lists → Contents
-shown_lists f = record { root = f.root; entries = map shown f.classes.items }
+shown_lists f = record { root = f.root; entries = map entry_view f.classes.items }
 
 -- the faults of a table, by its contents
 abbrev pub table_faults : Option Contents → PlanFault → Bool
@@ -100,4 +100,4 @@ listing_if (Some f) = listing_of f
 
 -- the plan of a text, or the fault with the smallest number
 unfoldable pub plan_of_text : List ℕ → Result Listing PlanFault
-plan_of_text t = judged (text_faults t) (listing_if (document_of t >>= contents_of))
+plan_of_text t = verdict (text_faults t) (listing_if (document_of t >>= contents_of))

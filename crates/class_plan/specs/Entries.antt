@@ -2,6 +2,7 @@
 use Rattle.std.specs.Prelude.{◌≡◌, ℕ, ◌+◌, nat_lt, Bool, true, false, not, ◌||◌, if◌then◌else◌, List, [], ◌∷◌, map, length, Option, Some, None, is_some, unwrap_or, Result}
 use Rattle.std.specs.Str.{bytes_eq}
 use Rattle.std.specs.List.{All, list_any}
+use Rattle.class_paths.specs.Path.{is_path, has_parent_in, unfiled}
 use Rattle.class_plan.specs.declared.faults.PlanFault.{PlanFault}
 use Rattle.class_plan.specs.declared.faults.PlanFault.TheVariants.{BadPath, ParentMissing, PathTwice, BadSchedule, TooManyClasses}
 use Rattle.class_plan.specs.declared.schedules.Schedule.{Schedule}
@@ -9,10 +10,9 @@ use Rattle.class_plan.specs.declared.schedules.Schedule.TheVariants.{Permanent}
 use Rattle.class_plan.specs.declared.entries.Stated.{Stated}
 use Rattle.class_plan.specs.declared.entries.Stated.TheVariants.{Nothing, Faulty, Own}
 use Rattle.class_plan.specs.declared.entries.Listed.{Listed}
-use Rattle.class_plan.specs.Faults.{judged}
-use Rattle.class_plan.specs.Paths.{is_path, has_parent_in, unfiled}
+use Rattle.class_plan.specs.Faults.{verdict}
 use Rattle.class_plan.specs.Schedules.{IsInRangeIfAny}
-use Rattle.class_plan.specs.Plans.{Row, Listing, has, put, open_row}
+use Rattle.class_plan.specs.Plans.{Row, Listing, has, with_row, open_row}
 
 -- a class as it is listed
 pub record Entry : Type 0 where
@@ -21,8 +21,8 @@ pub record Entry : Type 0 where
   pub stated : Stated
 
 -- the entry of a listed class
-abbrev pub shown : Listed → Entry
-shown l = record { path = l.path.now; is_open = l.is_open; stated = l.stated }
+abbrev pub entry_view : Listed → Entry
+entry_view l = record { path = l.path.now; is_open = l.is_open; stated = l.stated }
 
 -- what is listed: the root's schedule, None where it is not well made, and the classes in their
 -- order
@@ -32,7 +32,7 @@ pub record Contents : Type 0 where
 
 -- the contents of a root's schedule and listed classes
 abbrev pub contents : Option Schedule → List Listed → Contents
-contents root listed = record { root = root; entries = map shown listed }
+contents root listed = record { root = root; entries = map entry_view listed }
 
 abbrev pub is_faulty : Stated → Bool
 is_faulty Faulty = true
@@ -63,7 +63,7 @@ pub record IsListable (f : Contents) : Type 0 where
 -- the classes that are listed, each put at its place
 abbrev pub rows_from : List Row → List Entry → List Row
 rows_from rs [] = rs
-rows_from rs (e ∷ es) = rows_from (put (row_of e) rs) es
+rows_from rs (e ∷ es) = rows_from (with_row (row_of e) rs) es
 
 -- some entry has that path
 abbrev pub is_listed : List ℕ → List Entry → Bool
@@ -76,7 +76,7 @@ comes_again seen (e ∷ es) = is_listed e.path seen || comes_again (e ∷ seen) 
 
 -- the classes, with `unfiled` added where it is not listed, open and without a schedule of its own
 abbrev pub with_unfiled : List Row → List Row
-with_unfiled rs = if has rs unfiled then rs else put (open_row unfiled) rs
+with_unfiled rs = if has rs unfiled then rs else with_row (open_row unfiled) rs
 
 -- the number of classes, `unfiled` among them
 abbrev pub class_count_of : List Entry → ℕ
@@ -101,4 +101,4 @@ listing_of f = record { root = unwrap_or f.root Permanent; rows = with_unfiled (
 
 -- the plan that the contents make, or the fault with the smallest number
 abbrev pub plan_of : Contents → Result Listing PlanFault
-plan_of f = judged (contents_faults f) (listing_of f)
+plan_of f = verdict (contents_faults f) (listing_of f)

@@ -42,5 +42,5 @@ abbrev pub answer : {A : Type 0} → Option PlanFault → A → Result A PlanFau
 answer None a = Ok a
 answer (Some f) a = Err f
 
-abbrev pub judged : {A : Type 0} → (PlanFault → Bool) → A → Result A PlanFault
-judged holds a = answer (first_fault holds) a
+abbrev pub verdict : {A : Type 0} → (PlanFault → Bool) → A → Result A PlanFault
+verdict holds a = answer (first_fault holds) a

@@ -1,5 +1,4 @@
 pub mod Faults
-pub mod Paths
 pub mod Schedules
 pub mod Texts
 pub mod Plans

@@ -5,9 +5,9 @@ use Rattle.std.specs.List.{All, list_all, list_any}
 use Rattle.std.specs.List.Sorted.{IsStrictlySortedBy}
 use Rattle.std.specs.Ordering.{nat_cmp, match_ordering}
 use Rattle.std.specs.Cmp.Lexicographic.{slice_cmp}
+use Rattle.class_paths.specs.Path.{is_path, ancestors, has_parent_in, unfiled}
 use Rattle.class_plan.specs.declared.schedules.Schedule.{Schedule}
 use Rattle.class_plan.specs.declared.schedules.Schedule.TheVariants.{Permanent}
-use Rattle.class_plan.specs.Paths.{is_path, ancestors, has_parent_in, unfiled}
 use Rattle.class_plan.specs.Schedules.{IsInRange, IsInRangeIfAny}
 
 -- a class: its path, whether it is open, and its own schedule, if it has one
@@ -30,29 +30,29 @@ abbrev pub first_plan : Listing
 first_plan = record { root = Permanent; rows = open_row unfiled ∷ [] }
 
 -- the class with that path
-abbrev pub found : List ℕ → List Row → Option Row
-found q [] = None
-found q (x ∷ xs) = if bytes_eq q x.path then Some x else found q xs
+abbrev pub row_at : List ℕ → List Row → Option Row
+row_at q [] = None
+row_at q (x ∷ xs) = if bytes_eq q x.path then Some x else row_at q xs
 
 -- whether there is a class with that path
 abbrev pub has : List Row → List ℕ → Bool
-has rows q = is_some (found q rows)
+has rows q = is_some (row_at q rows)
 
 -- a class put at its place in byte order, instead of one with that path
-abbrev pub put : Row → List Row → List Row
-put r [] = r ∷ []
-put r (x ∷ xs) = match_ordering (slice_cmp nat_cmp r.path x.path) (r ∷ x ∷ xs) (record { path = x.path; is_open = r.is_open; schedule = r.schedule } ∷ xs) (x ∷ put r xs)
+abbrev pub with_row : Row → List Row → List Row
+with_row r [] = r ∷ []
+with_row r (x ∷ xs) = match_ordering (slice_cmp nat_cmp r.path x.path) (r ∷ x ∷ xs) (record { path = x.path; is_open = r.is_open; schedule = r.schedule } ∷ xs) (x ∷ with_row r xs)
 
 -- whether a path is, octet for octet, an open class
 abbrev pub open_at : List Row → List ℕ → Bool
-open_at rows q = unwrap_or (option_map (λ r. r.is_open) (found q rows)) false
+open_at rows q = unwrap_or (option_map (λ r. r.is_open) (row_at q rows)) false
 
 abbrev pub is_open_in : Listing → List ℕ → Bool
 is_open_in p q = open_at p.rows q
 
 -- the own schedule of the class with that path
 abbrev pub own_at : List Row → List ℕ → Option Schedule
-own_at rows q = option_and_then (λ r. r.schedule) (found q rows)
+own_at rows q = option_and_then (λ r. r.schedule) (row_at q rows)
 
 -- the first own schedule of the classes at some paths, or else the root's
 abbrev pub first_own : Listing → List (List ℕ) → Schedule

@@ -3,7 +3,7 @@ ghost use Rattle.std.specs.Prelude.{◌≡◌, Some, None, option_map, option_an
 ghost use Rattle.toml.specs.Data.{get_member, as_str, as_bool};
 ghost use Rattle.toml.specs.View.{view, table_view, array_view};
 ghost use Rattle.class_plan.specs.Texts.{schedule_of_bytes};
-ghost use Rattle.class_plan.specs.Entries.{shown, stated_if};
+ghost use Rattle.class_plan.specs.Entries.{entry_view, stated_if};
 ghost use Rattle.class_plan.specs.Document.{has_only, is_class_key, is_file_key, optional, class_of, entry_of, entries_of, listed_of, contents_of, shown_lists};
 
 use crate::entries::{Listed, Lists, Stated};
@@ -99,7 +99,7 @@ fn stated_by(text: Option<&str>) -> Stated
 
 /// The class of a table; `None` for a table of another shape, or one that closes `unfiled`.
 fn class_from(table: &Table) -> Option<Listed<'_>>
-    ensures { option_map shown result ≡ class_of (table_view table.now) }
+    ensures { option_map entry_view result ≡ class_of (table_view table.now) }
 {
     if !has_only_class_keys(table) {
         return None;
@@ -126,7 +126,7 @@ fn class_from(table: &Table) -> Option<Listed<'_>>
 
 /// The class of a value, which must be a table.
 fn class_in(value: &Value) -> Option<Listed<'_>>
-    ensures { option_map shown result ≡ entry_of (view value.now) }
+    ensures { option_map entry_view result ≡ entry_of (view value.now) }
 {
     match value.as_table() {
         Some(table) => class_from(table),
@@ -136,7 +136,7 @@ fn class_in(value: &Value) -> Option<Listed<'_>>
 
 /// The classes of an array, or `None` where one is no class.
 fn all_listed(alloc: Global, values: &Vec<Value>) -> Result<Option<Vec<Listed<'_>>>, AllocError>
-    ensures { IfOk result (λ o. option_map (λ v. map shown v.items) o ≡ entries_of (array_view values.now)) }
+    ensures { IfOk result (λ o. option_map (λ v. map entry_view v.items) o ≡ entries_of (array_view values.now)) }
 {
     let mut out = Vec::with_capacity(alloc, values.len())?;
     for value in values {
@@ -150,7 +150,7 @@ fn all_listed(alloc: Global, values: &Vec<Value>) -> Result<Option<Vec<Listed<'_
 
 /// The classes that the file lists: none where it has no key `class`.
 fn classes_at<'a>(alloc: Global, table: &'a Table) -> Result<Option<Vec<Listed<'a>>>, AllocError>
-    ensures { IfOk result (λ o. option_map (λ v. map shown v.items) o ≡
+    ensures { IfOk result (λ o. option_map (λ v. map entry_view v.items) o ≡
         listed_of (get_member (codes "class") (table_view table.now))) }
 {
     match table.get("class") {

@@ -9,7 +9,6 @@ mod entries;
 mod faults;
 mod files;
 mod parts;
-mod paths;
 mod plan_rules;
 mod plans;
 mod readers;

@@ -3,16 +3,17 @@ ghost use Rattle.std.specs.Prelude.{◌≡◌, ◌≢◌, ◌&&◌, not, Ok, Err
 ghost use Rattle.std.specs.List.{list_any};
 ghost use Rattle.class_plan.specs.Faults.{HoldsNone, IsSmallest};
 ghost use Rattle.class_plan.specs.Plans.{Listing, IsPlan};
-ghost use Rattle.class_plan.specs.Entries.{shown};
-ghost use Rattle.class_plan.specs.Parts.{in_range, ranged, part_entry, part_row, parts_contents, is_closed_unfiled, parts_faults, plan_of_parts};
+ghost use Rattle.class_plan.specs.Entries.{entry_view};
+ghost use Rattle.class_plan.specs.Parts.{in_range, if_in_range, part_entry, part_row, parts_contents, is_closed_unfiled, parts_faults, plan_of_parts};
 ghost use Rattle.class_plan.specs.declared.faults.PlanFault.TheVariants.{NoMemory};
 
 use crate::entries::{Listed, Stated};
 use crate::faults::PlanFault;
 use crate::plan_rules::plan_from;
-use crate::plans::{Plan, UNFILED};
+use crate::plans::Plan;
 use crate::schedules::Schedule;
 use crate::texts::limit_of;
+use class_paths::UNFILED;
 use std::alloc::{AllocError, Global};
 
 /// Whether the count, if there is one, is in its unit's range.
@@ -27,7 +28,7 @@ fn is_in_range(schedule: Schedule) -> bool
 
 /// The schedule, if its count is in range.
 fn in_range_only(schedule: Schedule) -> Option<Schedule>
-    ensures { result ≡ ranged schedule }
+    ensures { result ≡ if_in_range schedule }
 {
     if is_in_range(schedule) {
         Some(schedule)
@@ -37,7 +38,7 @@ fn in_range_only(schedule: Schedule) -> Option<Schedule>
 }
 
 fn listed_part(part: &(Vec<u8>, bool, Option<Schedule>)) -> Listed<'_>
-    ensures { shown result ≡ part_entry part.now }
+    ensures { entry_view result ≡ part_entry part.now }
 {
     let stated = match part.2 {
         Some(schedule) => match in_range_only(schedule) {
@@ -57,7 +58,7 @@ fn list_parts(
     alloc: Global,
     parts: &[(Vec<u8>, bool, Option<Schedule>)],
 ) -> Result<Vec<Listed<'_>>, AllocError>
-    ensures { IfOk result (λ v. map shown v.items ≡ map part_entry parts.now) }
+    ensures { IfOk result (λ v. map entry_view v.items ≡ map part_entry parts.now) }
 {
     let mut listed = Vec::with_capacity(alloc, parts.len())?;
     for part in parts {
@@ -67,13 +68,13 @@ fn list_parts(
 }
 
 fn is_unfiled_closed(class: &Listed<'_>) -> bool
-    ensures { result ≡ is_closed_unfiled (shown class.now) }
+    ensures { result ≡ is_closed_unfiled (entry_view class.now) }
 {
     class.path == UNFILED && !class.is_open
 }
 
 fn closes_unfiled(listed: &[Listed<'_>]) -> bool
-    ensures { result ≡ list_any (λ c. is_closed_unfiled (shown c)) listed.now }
+    ensures { result ≡ list_any (λ c. is_closed_unfiled (entry_view c)) listed.now }
 {
     listed.iter().any(|class| is_unfiled_closed(class))
 }

@@ -4,19 +4,19 @@ ghost use Rattle.std.specs.List.{list_any};
 ghost use Rattle.std.specs.List.Sorted.{IsStrictlySortedBy};
 ghost use Rattle.std.specs.Ordering.{nat_cmp};
 ghost use Rattle.std.specs.Cmp.Lexicographic.{slice_cmp};
-ghost use Rattle.class_plan.specs.Faults.{judged, HoldsNone, IsSmallest};
-ghost use Rattle.class_plan.specs.Paths.{is_path, has_parent_in, unfiled};
+ghost use Rattle.class_paths.specs.Path.{is_path, has_parent_in, unfiled};
+ghost use Rattle.class_plan.specs.Faults.{verdict, HoldsNone, IsSmallest};
 ghost use Rattle.class_plan.specs.Plans.{has, paths_of};
 ghost use Rattle.class_plan.specs.Fields.{rows_in};
-ghost use Rattle.class_plan.specs.Entries.{shown, is_faulty, own_of, rows_from, comes_again, with_unfiled, contents_faults, contents, plan_of, IsListable};
+ghost use Rattle.class_plan.specs.Entries.{entry_view, is_faulty, own_of, rows_from, comes_again, with_unfiled, contents_faults, contents, plan_of, IsListable};
 ghost use Rattle.class_plan.specs.declared.faults.PlanFault.TheVariants.{NoMemory};
 ghost use Rattle.class_plan.specs.declared.schedules.Schedule.TheVariants.{Permanent};
 
 use crate::entries::{Listed, Stated};
 use crate::faults::PlanFault;
-use crate::paths::fits_path;
-use crate::plans::{Class, MAX_CLASSES, Plan, UNFILED, class_at, has_parent};
+use crate::plans::{Class, MAX_CLASSES, Plan, class_at, has_parent};
 use crate::schedules::Schedule;
+use class_paths::{UNFILED, fits_path};
 use std::alloc::{AllocError, Global};
 use std::collections::BTreeMap;
 
@@ -42,8 +42,8 @@ fn insert_all(
     alloc: Global,
     listed: &[Listed<'_>],
 ) -> Result<(BTreeMap<Vec<u8>, Class>, bool), AllocError>
-    ensures rows { IfOk result (λ p. rows_in p.0 ≡ rows_from [] (map shown listed.now)) }
-    ensures twice { IfOk result (λ p. p.1 ≡ comes_again [] (map shown listed.now)) }
+    ensures rows { IfOk result (λ p. rows_in p.0 ≡ rows_from [] (map entry_view listed.now)) }
+    ensures twice { IfOk result (λ p. p.1 ≡ comes_again [] (map entry_view listed.now)) }
 {
     let mut classes = BTreeMap::new(alloc);
     let mut is_twice = false;
@@ -78,8 +78,8 @@ fn add_unfiled(
 }
 
 fn gather(alloc: Global, listed: &[Listed<'_>]) -> Result<Gathered, AllocError>
-    ensures rows { IfOk result (λ g. rows_in g.classes ≡ with_unfiled (rows_from [] (map shown listed.now))) }
-    ensures twice { IfOk result (λ g. g.is_twice ≡ comes_again [] (map shown listed.now)) }
+    ensures rows { IfOk result (λ g. rows_in g.classes ≡ with_unfiled (rows_from [] (map entry_view listed.now))) }
+    ensures twice { IfOk result (λ g. g.is_twice ≡ comes_again [] (map entry_view listed.now)) }
 {
     let (classes, is_twice) = insert_all(alloc, listed)?;
     Ok(Gathered {
@@ -122,9 +122,9 @@ fn checked_root(
     gathered: &Gathered,
     listed: &[Listed<'_>],
 ) -> Result<Schedule, PlanFault>
-    requires rows { rows_in gathered.now.classes ≡ with_unfiled (rows_from [] (map shown listed.now)) }
-    requires twice { gathered.now.is_twice ≡ comes_again [] (map shown listed.now) }
-    ensures judged { result ≡ judged (contents_faults (contents root listed.now)) (unwrap_or root Permanent) }
+    requires rows { rows_in gathered.now.classes ≡ with_unfiled (rows_from [] (map entry_view listed.now)) }
+    requires twice { gathered.now.is_twice ≡ comes_again [] (map entry_view listed.now) }
+    ensures judged { result ≡ verdict (contents_faults (contents root listed.now)) (unwrap_or root Permanent) }
     ensures in_order { OnOk result (IsStrictlySortedBy (slice_cmp nat_cmp) (paths_of (rows_in gathered.now.classes))) }
 {
     if has_bad_path(listed) {

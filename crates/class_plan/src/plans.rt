@@ -1,25 +1,22 @@
 //! A plan: the root's schedule and the classes. A class has a path, is open or closed, and may
 //! have a schedule of its own.
 ghost use Rattle.std.specs.Prelude.{◌≡◌, ◌≢◌, ◌≤◌, Bool, true, false, is_some, Option, Some, None, option_map, Ok, Err, IfOk, IfErr, OnOk, OnErr, MatchResult, IfSome, map};
-ghost use Rattle.class_plan.specs.Paths.{has_parent_in};
-ghost use Rattle.class_plan.specs.Plans.{found, has, is_among, is_open_in, open_paths_of, first_plan, IsPlan};
+ghost use Rattle.class_paths.specs.Path.{has_parent_in};
+ghost use Rattle.class_plan.specs.Plans.{row_at, has, is_among, is_open_in, open_paths_of, first_plan, IsPlan};
 ghost use Rattle.class_plan.specs.Fields.{rows_in};
-ghost use Rattle.class_plan.specs.Changes.{added, speaks_against};
+ghost use Rattle.class_plan.specs.Changes.{addition, speaks_against};
 ghost use Rattle.class_plan.specs.Faults.{first_fault, HoldsNone, IsSmallest};
 ghost use Rattle.class_plan.specs.declared.faults.PlanFault.TheVariants.{NoMemory};
 
 use crate::faults::PlanFault;
-use crate::paths::{SLASH, fits_path};
 use crate::schedules::Schedule;
+use class_paths::{SLASH, UNFILED, fits_path};
 use std::alloc::{AllocError, Global};
 use std::collections::{BTreeMap, BTreeSet};
 use std::marker::Model;
 
 /// The most classes of a plan, `unfiled` among them.
 pub(crate) const MAX_CLASSES: usize = 4096;
-
-/// The class that is always there and open.
-pub(crate) const UNFILED: &[u8] = b"unfiled";
 
 /// What a plan keeps of a class besides its path.
 #[derive(Clone, Copy, Debug)]
@@ -50,9 +47,9 @@ impl Model for Plan {
 
 pub(crate) fn class_at(classes: &BTreeMap<Vec<u8>, Class>, path: &[u8]) -> Option<Class>
     ensures open { option_map (λ c. c.is_open) result ≡
-        option_map (λ r. r.is_open) (found path.now (rows_in classes.now)) }
+        option_map (λ r. r.is_open) (row_at path.now (rows_in classes.now)) }
     ensures schedule { option_map (λ c. c.schedule) result ≡
-        option_map (λ r. r.schedule) (found path.now (rows_in classes.now)) }
+        option_map (λ r. r.schedule) (row_at path.now (rows_in classes.now)) }
     ensures some { is_some result ≡ has (rows_in classes.now) path.now }
 {
     classes.get(path).copied()
@@ -123,8 +120,8 @@ impl Plan {
     ///
     /// A refusal leaves the plan unchanged.
     pub fn add(&mut self, path: &[u8]) -> Result<(), PlanFault>
-        ensures ok { OnOk result (added self.old path.now ≡ Ok self.new) }
-        ensures refused { IfErr result (λ f. f ≢ NoMemory → added self.old path.now ≡ Err f) }
+        ensures ok { OnOk result (addition self.old path.now ≡ Ok self.new) }
+        ensures refused { IfErr result (λ f. f ≢ NoMemory → addition self.old path.now ≡ Err f) }
         ensures smallest { MatchResult result (λ _. HoldsNone (speaks_against self.old path.now)) (λ f. f ≢ NoMemory →
             IsSmallest (speaks_against self.old path.now) f) }
         ensures memory { result ≡ Err NoMemory → HoldsNone (speaks_against self.old path.now) }

@@ -1,7 +1,7 @@
 //! Reads of a plan: its root's schedule, its classes, and the schedule of a path.
 ghost use Rattle.std.specs.Prelude.{◌≡◌, ◌<◌, length, map, Option, option_map, IfOk, IfSome};
 ghost use Rattle.std.specs.List.{HoldsAt};
-ghost use Rattle.class_plan.specs.Paths.{ancestors};
+ghost use Rattle.class_paths.specs.Path.{ancestors};
 ghost use Rattle.class_plan.specs.Schedules.{IsInRange};
 ghost use Rattle.class_plan.specs.Plans.{has, own_at, first_own, schedule_at, IsPlan, IsScheduleOf};
 ghost use Rattle.class_plan.specs.Fields.{rows_in};
@@ -11,9 +11,9 @@ ghost use Rattle.class_plan.specs.Dates.{IsCaptureDay, IsDueOf, IsLater, IsSameD
 ghost use Rattle.jiff_core.specs.declared.civil.date.Date.{Date};
 
 use crate::dates::due_date;
-use crate::paths::SLASH;
 use crate::plans::{Class, Plan, class_at};
 use crate::schedules::Schedule;
+use class_paths::SLASH;
 use jiff::civil::Date;
 use std::alloc::{AllocError, Global};
 use std::collections::BTreeMap;

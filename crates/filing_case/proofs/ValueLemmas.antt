@@ -12,7 +12,7 @@ use Rattle.mail_words.specs.Value.{value_of_body}
 use Rattle.sieve_meaning.specs.Case.{Field}
 use Rattle.filing_case.specs.declared.fields.FieldEnds.{FieldEnds}
 use Rattle.filing_case.specs.Message.{field_in}
-use Rattle.filing_case.specs.Fields.{listed, fields_from, ascend, start_from}
+use Rattle.filing_case.specs.Fields.{nth_field, fields_from, ascend, start_from}
 
 -- ends that ascend, one by one
 record Ascends (start : ℕ) (e : FieldEnds) (es : List FieldEnds) (last : ℕ) : Type 0 where
@@ -112,7 +112,7 @@ record IsPlaced (octets : List ℕ) (start : ℕ) (es : List FieldEnds) (last pl
   name : start_from start es place ≤ e.name
   value : e.name ≤ e.value
   within : e.value ≤ last
-  field : listed (fields_from octets start es) place ≡ record { name = slice_range octets (start_from start es place) e.name; value = slice_range octets e.name e.value }
+  field : nth_field (fields_from octets start es) place ≡ record { name = slice_range octets (start_from start es place) e.name; value = slice_range octets e.name e.value }
 
 placed : (octets : List ℕ) (start : ℕ) (es : List FieldEnds) (last place : ℕ) (e : FieldEnds) → ascend start es last ≡ true → place < length es → e ≡ slice_index_or es place e → IsPlaced octets start es last place e
 placed octets start [] last place e h k is = absurd (omega arith)
@@ -127,8 +127,8 @@ pub record HasField (fields : List Field) (octets : List ℕ) (es : List FieldEn
   pub name : start_from 0 es place ≤ e.name
   pub value : e.name ≤ e.value
   pub within : e.value ≤ length octets
-  pub name_is : slice_range octets (start_from 0 es place) e.name ≡ (listed fields place).name
-  pub value_is : slice_range octets e.name e.value ≡ (listed fields place).value
+  pub name_is : slice_range octets (start_from 0 es place) e.name ≡ (nth_field fields place).name
+  pub value_is : slice_range octets e.name e.value ≡ (nth_field fields place).value
 
 pub has_field : (fields : List Field) (octets : List ℕ) (es : List FieldEnds) (place : ℕ) (e : FieldEnds) → fields_from octets 0 es ≡ fields → ascend 0 es (length octets) ≡ true → place < length fields → e ≡ slice_index_or es place e → HasField fields octets es place e
 has_field fields octets es place e view h k is =
@@ -138,8 +138,8 @@ has_field fields octets es place e view h k is =
       name = p.name;
       value = p.value;
       within = p.within;
-      name_is = sym (ap (λ fs. (listed fs place).name) (sym view) ∙ ap (λ f. f.name) p.field);
-      value_is = sym (ap (λ fs. (listed fs place).value) (sym view) ∙ ap (λ f. f.value) p.field);
+      name_is = sym (ap (λ fs. (nth_field fs place).name) (sym view) ∙ ap (λ f. f.name) p.field);
+      value_is = sym (ap (λ fs. (nth_field fs place).value) (sym view) ∙ ap (λ f. f.value) p.field);
     }
 
 pub start_from-zero : (es : List FieldEnds) → 0 ≡ start_from 0 es 0

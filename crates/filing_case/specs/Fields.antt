@@ -4,12 +4,12 @@ use Rattle.sieve_meaning.specs.Case.{Field, Facts}
 use Rattle.filing_case.specs.declared.fields.FieldEnds.{FieldEnds}
 
 -- the field at a place of a list, counted from 0
-abbrev pub listed : List Field → ℕ → Field
-listed fields place = slice_index_or fields place (record { name = []; value = [] })
+abbrev pub nth_field : List Field → ℕ → Field
+nth_field fields place = slice_index_or fields place (record { name = []; value = [] })
 
 -- the field at a place of a case
 abbrev pub field_at : Facts → ℕ → Field
-field_at facts place = listed facts.fields place
+field_at facts place = nth_field facts.fields place
 
 -- the fields whose names and values are in the octets, from a start on: a name, its value, the next name, and so on
 abbrev pub fields_from : List ℕ → ℕ → List FieldEnds → List Field

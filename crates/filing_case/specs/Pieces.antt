@@ -8,5 +8,5 @@ pub record Coming : Type 0 where
   pub paths : List (List ℕ)
 
 -- this message was fed so far
-abbrev pub coming : List ℕ → List (List ℕ) → Coming
-coming message paths = record { reader = reader_of message; paths = paths }
+abbrev pub pieces_view : List ℕ → List (List ℕ) → Coming
+pieces_view message paths = record { reader = reader_of message; paths = paths }

@@ -4,7 +4,7 @@ ghost use Rattle.std.specs.Prelude.{◌≡◌, ◌+◌, ◌*◌, ◌<◌, ◌≤
 ghost use Rattle.mail_head.specs.Fields.{fields_of};
 ghost use Rattle.mail_words.specs.Value.{value_of_body};
 ghost use Rattle.filing_case.specs.Message.{field_in};
-ghost use Rattle.filing_case.specs.Fields.{listed, start_from};
+ghost use Rattle.filing_case.specs.Fields.{nth_field, start_from};
 
 use mail_head::{Field, MAX_OCTETS, first_field};
 use mail_words::append_value;
@@ -67,7 +67,7 @@ impl FieldValues {
     /// The name of the field at a place, counted from 0 and below `count`.
     pub fn name(&self, place: usize) -> &[u8]
         requires { place < length self.now }
-        ensures { result.now ≡ (listed self.now place).name }
+        ensures { result.now ≡ (nth_field self.now place).name }
     {
         let start = start_of(self.ends.as_slice(), place);
         part(self.octets.as_slice(), start, self.ends[place].name)
@@ -76,7 +76,7 @@ impl FieldValues {
     /// The value of the field at a place, counted from 0 and below `count`.
     pub fn value(&self, place: usize) -> &[u8]
         requires { place < length self.now }
-        ensures { result.now ≡ (listed self.now place).value }
+        ensures { result.now ≡ (nth_field self.now place).value }
     {
         let ends = self.ends[place];
         part(self.octets.as_slice(), ends.name, ends.value)

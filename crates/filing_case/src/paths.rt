@@ -2,7 +2,7 @@
 
 ghost use Rattle.std.specs.Prelude.{◌≡◌, ℕ, List, Bool};
 
-use sieve_meaning::Paths;
+use class_paths::Paths;
 use std::collections::BTreeSet;
 
 /// Decides which paths are open classes. It answers by one ghost function, which does not change while it is only read.

@@ -5,7 +5,7 @@ ghost use Rattle.mail_head.specs.Pieces.{reader_of};
 ghost use Rattle.mail_head.specs.declared.buffer.HeadFault.TheVariants.{TooLong};
 ghost use Rattle.filing_case.specs.Message.{case_of, is_among};
 ghost use Rattle.filing_case.specs.Whole.{facts_of};
-ghost use Rattle.filing_case.specs.Pieces.{coming};
+ghost use Rattle.filing_case.specs.Pieces.{pieces_view};
 ghost use Rattle.filing_case.specs.Views.{paths_in};
 
 use crate::whole::{WholeCase, fields_fed};
@@ -36,7 +36,7 @@ impl Model for PieceCase {
 impl PieceCase {
     /// A case that was fed nothing, with the paths that are open. It takes no memory yet.
     pub fn new(alloc: Global, paths: BTreeSet<Vec<u8>>) -> PieceCase
-        ensures { result ≡ coming [] (paths_in paths) }
+        ensures { result ≡ pieces_view [] (paths_in paths) }
     {
         PieceCase {
             alloc,

@@ -1,16 +1,18 @@
 -- The run of what is pinned ends with the outcome of the capture.
 use Rattle.std.proofs.Common.{◌≡◌, ◌<◌, ℕ, zero, suc, List, refl, arith, ◌∙◌, sym, subst, Bool, true, false, Some, None, []}
+use Rattle.sieve_meaning.specs.declared.outcome.Outcome.{Outcome}
+use Rattle.sieve_meaning.specs.declared.run_fault.RunFault.TheVariants.{TooHeavy}
 use Rattle.sieve_meaning.specs.Case.{Facts}
 use Rattle.sieve_meaning.specs.Program.{Commands}
 use Rattle.sieve_meaning.specs.Meaning.{Library}
 use Rattle.sieve_meaning.specs.TooHeavy.{is_too_heavy}
-use Rattle.sieve_meaning.specs.Outcome.{Outcome, outcome, outcome_at}
+use Rattle.sieve_meaning.specs.Outcome.{outcome, outcome_at}
 use Rattle.sieve_meaning.proofs.OutcomeLaws.{heavy_outcome, light_outcome}
 use Rattle.filing_image.specs.Program.{Program}
 use Rattle.filing_table.specs.Machine.{State, At, start, after_steps}
 use Rattle.filing_table.specs.Ends.{HasOutcome}
 use Rattle.filing_table.proofs.Once.{one_outcome}
-use Rattle.filing_commands.specs.Pinning.{Stood, IsAlone, GivesOutcome, Pins, PinsChosen, PinsScript, Chosen, nothing, script, image_of, case_in, one_stop, one_fault, kept_alone}
+use Rattle.filing_commands.specs.Pinning.{BeginState, IsAlone, GivesOutcome, Pins, PinsChosen, PinsScript, Chosen, nothing, script, image_of, case_in, one_stop, one_fault, kept_alone}
 
 -- a run of one step
 first_only : (p : Program) (c : Facts) (k : ℕ) → k < 1 → (t : State) × (after_steps p c k ≡ At t)
@@ -20,8 +22,8 @@ first_only p c (suc k) h = absurd (omega (arith, h))
 stop_ends : (c : Facts) → HasOutcome one_stop c 1 kept_alone
 stop_ends c = (None, start, record { over = refl; going = first_only one_stop c }, refl)
 
-pub fault_ends : (c : Facts) → HasOutcome one_fault c 1 (outcome_at (Some 5) [] false false)
-fault_ends c = (Some 5, start, record { over = refl; going = first_only one_fault c }, refl)
+pub fault_ends : (c : Facts) → HasOutcome one_fault c 1 (outcome_at (Some TooHeavy) [] false false)
+fault_ends c = (Some TooHeavy, start, record { over = refl; going = first_only one_fault c }, refl)
 
 script_gives : (heavy : Bool) (facts : Facts) (lib : Library) (name : List ℕ) (c : Commands) (p : Program) (n : ℕ) (o : Outcome) → is_too_heavy lib (Some name) c ≡ heavy → PinsScript heavy lib name c p → HasOutcome p facts n o → o ≡ outcome facts lib (Some name) c
 script_gives true facts lib name c p n o e h k =
@@ -40,5 +42,5 @@ chosen_gives (image_of q) facts lib p n o h k =
     let P : Program → Type 0 = λ q. HasOutcome q facts n o in
     (n, subst P h k)
 
-pub pinned_alone : (s : Stood) (p : Program) (n : ℕ) (o : Outcome) → Pins s p → HasOutcome p (case_in s) n o → IsAlone s o
+pub pinned_alone : (s : BeginState) (p : Program) (n : ℕ) (o : Outcome) → Pins s p → HasOutcome p (case_in s) n o → IsAlone s o
 pinned_alone s p n o h k = chosen_gives s.program (case_in s) s.library p n o h k

@@ -8,4 +8,4 @@ pub mod Pinning
 pub mod Office
 pub mod Standing
 pub mod Calls
-pub mod Told
+pub mod CallAnswers

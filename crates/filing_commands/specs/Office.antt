@@ -1,9 +1,10 @@
 -- The commands that have nothing to do with captures in flight: which answers each may have, and what it changes.
-use Rattle.std.specs.Prelude.{◌≡◌, ℕ, true, false, ◌≤◌, ◌<◌, ◌⊎◌, List, [], length, if◌then◌else◌, Some, None, is_some, Result, Ok, Err}
+use Rattle.std.specs.Prelude.{◌≡◌, ℕ, true, false, ◌≤◌, ◌<◌, ◌⊎◌, List, [], length, if◌then◌else◌, None, is_some, Result, Ok, Err}
 use Rattle.std.specs.Str.{bytes_eq}
 use Rattle.sieve_syntax.specs.Tree.{CommandTrees}
 use Rattle.sieve_meaning.specs.Program.{Commands}
 use Rattle.sieve_meaning.specs.Reading.{program_of}
+use Rattle.sieve_meaning.specs.declared.outcome.Outcome.{Outcome}
 use Rattle.sieve_meaning.specs.Outcome as meaning
 use Rattle.class_plan.specs.Plans.{Listing, is_open_in}
 use Rattle.filing_image.specs.Program.{Program}
@@ -12,7 +13,7 @@ use Rattle.filing_case.specs.Message.{case_of}
 use Rattle.record_store.specs.Archive as archives
 use Rattle.record_store.specs.Archive.{Archive, Line}
 use Rattle.record_store.specs.declared.fault.StoreFault.{StoreFault}
-use Rattle.filing_commands.specs.Answers.{Answer, done, captured, begun, running, ended, filed, listed, refused}
+use Rattle.filing_commands.specs.Answers.{Answer, done, dry_run, begun, running, ended, captured, listed, refused}
 use Rattle.filing_commands.specs.Faults.{has_place, store_number}
 use Rattle.filing_commands.specs.Limits.{greatest_image, greatest_message, greatest_plan, greatest_script}
 use Rattle.filing_commands.specs.Parts.{IsGood, IsGoodImage, IsKept, IsPlanOf, RefusesImage, RefusesPlan, RefusesScript, RefusesToKeep}
@@ -69,8 +70,8 @@ abbrev pub with_program : Officer → Active → Officer
 with_program o active = record o { active = active }
 
 -- The office after an officer has set this program.
-abbrev pub setting : Office → (officer : List ℕ) → Active → Office
-setting s officer active = with_officer s officer (with_program (s.officers officer) active)
+abbrev pub with_active : Office → (officer : List ℕ) → Active → Office
+with_active s officer active = with_officer s officer (with_program (s.officers officer) active)
 
 -- The archive's command is done, and this is the office afterwards.
 abbrev pub IsMade : Office → Result Archive StoreFault → Office → Type 0
@@ -83,7 +84,7 @@ IsRefused (Ok a) n = ⊥
 IsRefused (Err f) n = n ≡ store_number f
 
 -- A script captures a message with this outcome. It can include the global scripts, no personal one, and has no name.
-pub record IsFiled (s : Office) (script message : List ℕ) (o : meaning.Outcome) : Type 0 where
+pub record IsFiled (s : Office) (script message : List ℕ) (o : Outcome) : Type 0 where
   pub tree : CommandTrees
   pub good : IsGood script tree
   pub short : length message ≤ greatest_message
@@ -91,7 +92,7 @@ pub record IsFiled (s : Office) (script message : List ℕ) (o : meaning.Outcome
       (program_of tree)
 
 -- An image captures a message with this outcome, by its run on the message and the open classes of the plan.
-pub record IsTried (s : Office) (octets message : List ℕ) (o : meaning.Outcome) : Type 0 where
+pub record IsTried (s : Office) (octets message : List ℕ) (o : Outcome) : Type 0 where
   pub program : Program
   pub good : IsGoodImage octets program
   pub short : length message ≤ greatest_message
@@ -122,9 +123,9 @@ Settles s (set_script officer name text) new =
 Settles s (set_global name text) new = (scripts : List (List ℕ × Commands)) × IsKept s.globals name text scripts ×
     (new ≡ with_globals s scripts)
 Settles s (activate officer name) new = (is_some (script_at name (s.officers officer).scripts) ≡ true) ×
-    (new ≡ setting s officer (script_named name))
-Settles s (deactivate officer) new = new ≡ setting s officer no_program
-Settles s (set_image officer octets) new = (p : Program) × IsGoodImage octets p × (new ≡ setting s officer (image p))
+    (new ≡ with_active s officer (script_named name))
+Settles s (deactivate officer) new = new ≡ with_active s officer no_program
+Settles s (set_image officer octets) new = (p : Program) × IsGoodImage octets p × (new ≡ with_active s officer (image p))
 Settles s (file script message) new = ⊥
 Settles s (try_image octets message) new = ⊥
 Settles s (hold name r) new = IsMade s (archives.hold s.archive name r) new
@@ -133,7 +134,7 @@ Settles s (due day) new = ⊥
 Settles s (destroy r day) new = IsMade s (archives.destroy s.archive r day) new
 
 -- A dry run captures a message with this outcome.
-abbrev pub Captures : Office → PlainCommand → meaning.Outcome → Type 0
+abbrev pub Captures : Office → PlainCommand → Outcome → Type 0
 Captures s (file script message) o = IsFiled s script message o
 Captures s (try_image octets message) o = IsTried s octets message o
 Captures s _ o = ⊥
@@ -163,13 +164,13 @@ Refuses s (destroy r day) n = IsRefused (archives.destroy s.archive r day) n
 -- anything, and a refusal has an offset exactly where its number is shown with one.
 abbrev pub OfficeRule : Office → PlainCommand → Answer → Office → Type 0
 OfficeRule s c done new = Settles s c new
-OfficeRule s c (captured o) new = (new ≡ s) × Captures s c o
+OfficeRule s c (dry_run o) new = (new ≡ s) × Captures s c o
 OfficeRule s c (listed lines) new = (new ≡ s) × Lists s c lines
 OfficeRule s c (refused n at) new = (new ≡ s) × (is_some at ≡ has_place n) × Refuses s c n
 OfficeRule s c (begun t b) new = ⊥
 OfficeRule s c (running k) new = ⊥
 OfficeRule s c (ended k) new = ⊥
-OfficeRule s c (filed f lines) new = ⊥
+OfficeRule s c (captured f lines) new = ⊥
 
 -- There was no memory. A payload over its limit is refused for its length instead.
 abbrev pub LacksMemory : (limit : ℕ) (payload : List ℕ) (number : ℕ) → Type 0

@@ -1,5 +1,5 @@
 -- What scripts, images and plans in payloads are, and why they are refused.
-use Rattle.std.specs.Prelude.{◌≡◌, ℕ, true, false, ◌≤◌, ◌<◌, ◌⊎◌, List, length, Some, None, Ok, Err}
+use Rattle.std.specs.Prelude.{◌≡◌, ℕ, false, ◌≤◌, ◌<◌, ◌⊎◌, List, length, Some, None, Ok, Err}
 use Rattle.sieve_syntax.specs.Tree.{CommandTrees}
 use Rattle.sieve_text.specs.declared.fault.TextRefusal.{TextRefusal}
 use Rattle.sieve_text.specs.declared.fault.TextFault.TheVariants as texts

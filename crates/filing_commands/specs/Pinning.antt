@@ -1,5 +1,8 @@
 -- What an officer has set, the state at the beginning of a capture, what is pinned for the capture, and its outcome.
 use Rattle.std.specs.Prelude.{◌≡◌, ℕ, List, [], ◌∷◌, Bool, true, false, if◌then◌else◌, Option, Some, None}
+use Rattle.sieve_meaning.specs.declared.outcome.Outcome.{Outcome}
+use Rattle.sieve_meaning.specs.declared.run_fault.RunFault.TheVariants as run_faults
+use Rattle.sieve_meaning.specs.RunFaults.{number_of}
 use Rattle.sieve_meaning.specs.Case.{Facts}
 use Rattle.sieve_meaning.specs.Program.{Commands}
 use Rattle.sieve_meaning.specs.Meaning.{Library}
@@ -46,7 +49,7 @@ chosen_by (image p) scripts = image_of p
 
 -- The state at the beginning of a capture: the officer's program, what an include finds, the message, the open classes,
 -- and the day in days since 1970-01-01.
-pub record Stood : Type 0 where
+pub record BeginState : Type 0 where
   pub program : Chosen
   pub library : Library
   pub message : List ℕ
@@ -54,21 +57,21 @@ pub record Stood : Type 0 where
   pub day : ℕ
 
 -- The case of the message and of the open classes.
-abbrev pub case_in : Stood → Facts
+abbrev pub case_in : BeginState → Facts
 case_in s = case_of s.message s.is_open
 
 -- Nothing is filed, and the message is kept.
-abbrev pub kept_alone : meaning.Outcome
+abbrev pub kept_alone : Outcome
 kept_alone = meaning.outcome_at None [] false false
 
 -- The outcome of a program in a case.
-abbrev pub GivesOutcome : Chosen → Library → Facts → meaning.Outcome → Type 0
+abbrev pub GivesOutcome : Chosen → Library → Facts → Outcome → Type 0
 GivesOutcome nothing lib facts o = o ≡ kept_alone
 GivesOutcome (script name s) lib facts o = o ≡ meaning.outcome facts lib (Some name) s
 GivesOutcome (image_of p) lib facts o = (n : ℕ) × HasOutcome p facts n o
 
 -- The outcome of a capture by the state at its beginning alone.
-abbrev pub IsAlone : Stood → meaning.Outcome → Type 0
+abbrev pub IsAlone : BeginState → Outcome → Type 0
 IsAlone s o = GivesOutcome s.program s.library (case_in s) o
 
 -- A program of one instruction.
@@ -76,7 +79,7 @@ abbrev pub one_stop : Program
 one_stop = record { budget = 1; texts = []; numbers = []; slots = 0; procedures = None; code = Stop ∷ [] }
 
 abbrev pub one_fault : Program
-one_fault = record { budget = 1; texts = []; numbers = []; slots = 0; procedures = None; code = Fault 5 ∷ [] }
+one_fault = record { budget = 1; texts = []; numbers = []; slots = 0; procedures = None; code = Fault (number_of run_faults.TooHeavy) ∷ [] }
 
 -- The budget of what is pinned, in steps.
 abbrev pub budget_by : Chosen → Library → ℕ
@@ -84,7 +87,7 @@ budget_by nothing lib = 1
 budget_by (script name s) lib = if is_too_heavy lib (Some name) s then 1 else script_budget lib (Some name) s
 budget_by (image_of p) lib = p.budget
 
-abbrev pub budget_of : Stood → ℕ
+abbrev pub budget_of : BeginState → ℕ
 budget_of s = budget_by s.program s.library
 
 abbrev pub PinsScript : (too_heavy : Bool) → Library → (name : List ℕ) → Commands → Program → Type 0
@@ -98,5 +101,5 @@ PinsChosen nothing lib p = p ≡ one_stop
 PinsChosen (script name s) lib p = PinsScript (is_too_heavy lib (Some name) s) lib name s p
 PinsChosen (image_of q) lib p = p ≡ q
 
-abbrev pub Pins : Stood → Program → Type 0
+abbrev pub Pins : BeginState → Program → Type 0
 Pins s p = PinsChosen s.program s.library p

@@ -1,17 +1,17 @@
 -- The whole state of a desk, with the turns of each capture in flight, and which answers each command may have.
 use Rattle.std.specs.Prelude.{◌≡◌, ℕ, ◌+◌, ◌<◌, ◌/◌, ◌⊎◌, List, [], ◌∷◌, ◌++◌, length, Bool, true, false, ◌==◌, if◌then◌else◌, nat_lt, nat_le, Option, Some, None, Ok, Err}
-use Rattle.sieve_meaning.specs.Outcome.{Outcome}
+use Rattle.sieve_meaning.specs.declared.outcome.Outcome.{Outcome}
 use Rattle.class_plan.specs.Plans.{is_open_in}
 use Rattle.filing_image.specs.Program.{Program}
 use Rattle.filing_verify.specs.Well.{IsWell}
 use Rattle.filing_table.specs.Machine.{State, At, after_steps}
 use Rattle.filing_table.specs.Ends.{HasOutcome}
 use Rattle.filing_machine.specs.Runs.{IsModestAt}
-use Rattle.record_store.specs.Archive.{Archive, Line, capture, captured_lines}
+use Rattle.record_store.specs.Archive.{Archive, capture, captured_lines}
 use Rattle.record_store.specs.declared.fault.StoreFault.TheVariants.{Full}
-use Rattle.filing_commands.specs.Answers.{Answer, begun, running, ended, filed, refused}
+use Rattle.filing_commands.specs.Answers.{Answer, begun, running, ended, captured, refused}
 use Rattle.filing_commands.specs.Limits.{greatest_message, last_moment, last_ticket, most_in_flight}
-use Rattle.filing_commands.specs.Pinning.{Stood, case_in, IsAlone, Pins, chosen_by}
+use Rattle.filing_commands.specs.Pinning.{BeginState, case_in, IsAlone, Pins, chosen_by}
 use Rattle.filing_commands.specs.Office.{Office, opening_office, PlainCommand, OfficeStep, IsTrouble, with_archive}
 use Rattle.filing_commands.specs.Scripts.{library}
 
@@ -28,7 +28,7 @@ pub data Command : Type 0 where
 -- granted so far.
 pub record Flight : Type 0 where
   pub ticket : ℕ
-  pub stood : Stood
+  pub at_begin : BeginState
   pub pinned : Program
   pub run_length : ℕ
   pub granted : ℕ
@@ -57,8 +57,8 @@ abbrev pub without : ℕ → List Flight → List Flight
 without t [] = []
 without t (f ∷ fs) = if f.ticket == t then fs else f ∷ without t fs
 
-abbrev pub granting : Standing → ℕ → ℕ → Standing
-granting s t k = record s { flights = grant t k s.flights }
+abbrev pub with_turns : Standing → ℕ → ℕ → Standing
+with_turns s t k = record s { flights = grant t k s.flights }
 
 -- The first reason against one more capture: 94 for the moment, 95 for the message, 90 for the captures in flight, 97
 -- for the tickets.
@@ -71,8 +71,8 @@ begin_refusal count last moment size =
     else None
 
 -- The state at the beginning of a capture; a day has 86,400 seconds.
-abbrev pub stood_at : Office → (officer : List ℕ) → (moment : ℕ) → (message : List ℕ) → Stood
-stood_at s officer moment message = record {
+abbrev pub begin_state : Office → (officer : List ℕ) → (moment : ℕ) → (message : List ℕ) → BeginState
+begin_state s officer moment message = record {
   program = chosen_by (s.officers officer).active (s.officers officer).scripts;
   library = library (s.officers officer).scripts s.globals;
   message = message;
@@ -81,14 +81,14 @@ stood_at s officer moment message = record {
 }
 
 -- The run of the program in the case of that state has this many steps.
-abbrev pub IsLength : Stood → Program → ℕ → Type 0
+abbrev pub IsLength : BeginState → Program → ℕ → Type 0
 IsLength s p n = (o : Outcome) × HasOutcome p (case_in s) n o
 
 -- What is pinned for the capture fits the state at its beginning, may run, and has a run of the given length.
 pub record IsPinned (f : Flight) : Type 0 where
-  pub pins : Pins f.stood f.pinned
+  pub pins : Pins f.at_begin f.pinned
   pub well : IsWell f.pinned
-  pub length : IsLength f.stood f.pinned f.run_length
+  pub length : IsLength f.at_begin f.pinned f.run_length
 
 -- A capture begins with this ticket and budget, and this is the state afterwards.
 pub record Begins (s : Standing) (officer : List ℕ) (moment : ℕ) (message : List ℕ) (t b : ℕ)
@@ -97,7 +97,7 @@ pub record Begins (s : Standing) (officer : List ℕ) (moment : ℕ) (message : 
   pub flight : Flight
   pub pinned : IsPinned flight
   pub next : flight.ticket ≡ s.last + 1
-  pub stood : flight.stood ≡ stood_at s.office officer moment message
+  pub at_begin : flight.at_begin ≡ begin_state s.office officer moment message
   pub fresh : flight.granted ≡ 0
   pub ticket : t ≡ s.last + 1
   pub budget : b ≡ flight.pinned.budget
@@ -116,49 +116,49 @@ BeginStep s officer moment message (refused n at) new = (new ≡ s) × (at ≡ N
 BeginStep s officer moment message _ new = ⊥
 
 -- What a capture answers after a number of turns in all.
-abbrev pub turned : Flight → ℕ → Answer
-turned f k = if nat_le f.run_length k then ended f.run_length else running k
+abbrev pub turn_answer : Flight → ℕ → Answer
+turn_answer f k = if nat_le f.run_length k then ended f.run_length else running k
 
 -- Memory runs out after some of the turns, where the machine is about to run an instruction that takes memory.
 pub record IsInterrupted (f : Flight) (count made : ℕ) : Type 0 where
   pub within : made < count
   pub early : f.granted + made < f.run_length
   pub state : State
-  pub stands : after_steps f.pinned (case_in f.stood) (f.granted + made) ≡ At state
+  pub stands : after_steps f.pinned (case_in f.at_begin) (f.granted + made) ≡ At state
   pub takes_memory : IsModestAt f.pinned state.place → ⊥
 
 abbrev pub TurnStep : Standing → (t count : ℕ) → Option Flight → Answer → Standing → Type 0
 TurnStep s t k None a new = (a ≡ refused 91 None) × (new ≡ s)
 TurnStep s t k (Some f) a new =
-    ((a ≡ turned f (f.granted + k)) × (new ≡ granting s t k))
-    ⊎ ((a ≡ refused 99 None) × ((j : ℕ) × IsInterrupted f k j × (new ≡ granting s t j)))
+    ((a ≡ turn_answer f (f.granted + k)) × (new ≡ with_turns s t k))
+    ⊎ ((a ≡ refused 99 None) × ((j : ℕ) × IsInterrupted f k j × (new ≡ with_turns s t j)))
 
 -- What a whole capture answers, and the archive afterwards: its outcome's fault and the lines of its records, or 87.
-abbrev pub Files : Archive → Stood → Answer → Archive → Type 0
-Files a stood (filed fault lines) new =
-    (o : Outcome) × IsAlone stood o × (fault ≡ o.fault) × (capture a stood.message stood.day o.classes ≡ Ok new) ×
-    (lines ≡ captured_lines a stood.day o.classes)
-Files a stood (refused n at) new = (n ≡ 87) × (at ≡ None) × (new ≡ a) ×
-    ((o : Outcome) × IsAlone stood o × (capture a stood.message stood.day o.classes ≡ Err Full))
-Files a stood _ new = ⊥
+abbrev pub Files : Archive → BeginState → Answer → Archive → Type 0
+Files a at_begin (captured fault lines) new =
+    (o : Outcome) × IsAlone at_begin o × (fault ≡ o.fault) × (capture a at_begin.message at_begin.day o.classes ≡ Ok new) ×
+    (lines ≡ captured_lines a at_begin.day o.classes)
+Files a at_begin (refused n at) new = (n ≡ 87) × (at ≡ None) × (new ≡ a) ×
+    ((o : Outcome) × IsAlone at_begin o × (capture a at_begin.message at_begin.day o.classes ≡ Err Full))
+Files a at_begin _ new = ⊥
 
 -- A ticket is given up by an answer that is no refusal.
 abbrev pub is_refusal : Answer → Bool
 is_refusal (refused n at) = true
 is_refusal _ = false
 
-abbrev pub filing : Standing → (t : ℕ) → Answer → Archive → Standing
-filing s t a b = record { office = with_archive s.office b; flights = if is_refusal a then s.flights else without t s.flights; last = s.last }
+abbrev pub after_finish : Standing → (t : ℕ) → Answer → Archive → Standing
+after_finish s t a b = record { office = with_archive s.office b; flights = if is_refusal a then s.flights else without t s.flights; last = s.last }
 
-abbrev pub FinishWhole : Standing → (t : ℕ) → (early : Bool) → Stood → Answer → Standing → Type 0
-FinishWhole s t true stood a new = (a ≡ refused 92 None) × (new ≡ s)
-FinishWhole s t false stood a new =
-    ((b : Archive) × Files s.office.archive stood a b × (new ≡ filing s t a b))
+abbrev pub FinishWhole : Standing → (t : ℕ) → (early : Bool) → BeginState → Answer → Standing → Type 0
+FinishWhole s t true at_begin a new = (a ≡ refused 92 None) × (new ≡ s)
+FinishWhole s t false at_begin a new =
+    ((b : Archive) × Files s.office.archive at_begin a b × (new ≡ after_finish s t a b))
     ⊎ ((n : ℕ) × IsTrouble n × (a ≡ refused n None) × (new ≡ s))
 
 abbrev pub FinishStep : Standing → (t : ℕ) → Option Flight → Answer → Standing → Type 0
 FinishStep s t None a new = (a ≡ refused 91 None) × (new ≡ s)
-FinishStep s t (Some f) a new = FinishWhole s t (nat_lt f.granted f.run_length) f.stood a new
+FinishStep s t (Some f) a new = FinishWhole s t (nat_lt f.granted f.run_length) f.at_begin a new
 
 -- The answers that a command may have, and the state afterwards.
 unfoldable pub Step : Standing → Command → Answer → Standing → Type 0

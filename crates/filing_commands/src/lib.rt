@@ -9,10 +9,10 @@ mod fault;
 mod limits;
 mod payload;
 mod registry;
-mod told;
+mod results;
 
 pub use fault::{DeskFault, Refusal};
 pub use limits::{MAX_IMAGE_OCTETS, MAX_MESSAGE_OCTETS, MAX_PLAN_OCTETS, MAX_SCRIPT_OCTETS};
 pub use payload::Payload;
 pub use registry::Registry;
-pub use told::{Capture, Outcome, Turn};
+pub use results::{Capture, Turn};

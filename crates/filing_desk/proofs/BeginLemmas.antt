@@ -18,13 +18,13 @@ use Rattle.filing_commands.specs.Limits.{greatest_message, last_moment, last_tic
 use Rattle.filing_commands.specs.Office.{Office}
 use Rattle.filing_commands.specs.Pinning.{Pins, PinsChosen, chosen_by}
 use Rattle.filing_commands.specs.Scripts.{library, meanings_of}
-use Rattle.filing_commands.specs.Standing.{Standing, Flight, Step, BeginStep, begin, begin_refusal, stood_at}
-use Rattle.filing_commands.specs.Told.{told_ticket}
+use Rattle.filing_commands.specs.Standing.{Standing, Flight, Step, BeginStep, begin, begin_refusal, begin_state}
+use Rattle.filing_commands.specs.CallAnswers.{answer_of_ticket}
 use Rattle.filing_commands.specs.declared.fault.DeskFault.{DeskFault}
 use Rattle.filing_commands.specs.declared.fault.DeskFault.TheVariants.{NoMemory}
 use Rattle.filing_flights.specs.Begun.{HoldsBegun}
 use Rattle.filing_flights.specs.Flights.{Adds, AreHeld}
-use Rattle.filing_flights.specs.Held.{Held, Holds}
+use Rattle.filing_flights.specs.FlightViews.{FlightView, Holds}
 use Rattle.filing_flights.proofs.BegunLemmas.{after_begin, allowed, begins, first_begun, first_flight, refused_count, refused_length, refused_ticket}
 use Rattle.filing_flights.proofs.FlightsLemmas.{as_many}
 use Rattle.filing_flights.proofs.PlanLemmas.{open_has}
@@ -35,7 +35,7 @@ use Rattle.filing_desk.specs.declared.desk.Desk.{Desk}
 use Rattle.filing_desk.proofs.FlightLemmas.{cleans, reflies}
 
 -- the answer to a fault
-pub ticket_fault : (result : Result (ℕ × ℕ) DeskFault) (fault : DeskFault) → IsErr result → IsErrAnd result (λ f. f ≡ fault) → told_ticket result ≡ refused_by fault
+pub ticket_fault : (result : Result (ℕ × ℕ) DeskFault) (fault : DeskFault) → IsErr result → IsErrAnd result (λ f. f ≡ fault) → answer_of_ticket result ≡ refused_by fault
 ticket_fault (Err f) fault is same = ap refused_by same
 ticket_fault (Ok t) fault is same = absurd (false≢true is)
 
@@ -92,7 +92,7 @@ module _ {S : Type 0} (g : Ghosts S) where
     was_clean = cleans g old new keeps.store;
     leads = λ clean s stands.
         let P : Answer → Type 0 = λ x. BeginStep s officer moment message x s in
-        let Q : List Held → Type 0 = λ xs. AreHeld xs s.flights in
+        let Q : List FlightView → Type 0 = λ xs. AreHeld xs s.flights in
         let step : BeginStep s officer moment message (refused 99 None) s = (refl, refl, inr (sym (against old s moment (length message) stands) ∙ permitted, refl)) in
         record {
           to = s;
@@ -102,12 +102,12 @@ module _ {S : Type 0} (g : Ghosts S) where
   }
 
   -- what is pinned for an officer of the desk is what is pinned for what stands in the state
-  pins_stood : (desk : Desk S) (s : Standing) (officer : List ℕ) (moment : ℕ) (message : List ℕ) (p : Program) → StandsFor g desk s → PinsFor (officer_at officer desk.officers.officers) (meanings_of desk.officers.globals) p → Pins (stood_at s.office officer moment message) p
+  pins_stood : (desk : Desk S) (s : Standing) (officer : List ℕ) (moment : ℕ) (message : List ℕ) (p : Program) → StandsFor g desk s → PinsFor (officer_at officer desk.officers.officers) (meanings_of desk.officers.globals) p → Pins (begin_state s.office officer moment message) p
   pins_stood desk s officer moment message p stands pins =
       let P : Office → Type 0 = λ o. PinsChosen (chosen_by (o.officers officer).active (o.officers officer).scripts) (library (o.officers officer).scripts o.globals) p in
       subst P stands.officers pins
 
-  pub begin_done : (old mid new : Desk S) (officer : List ℕ) (moment : ℕ) (message : List ℕ) (day : Date) (x : Held) (a : Answer) → against_begin old moment (length message) ≡ None → epoch_day day ≡ pos (moment / 86400) → KeepsAll old mid → (AreOpenPaths old.open_paths old.store.plan → AreOpenPaths mid.open_paths old.store.plan) → (AreOpenPaths old.open_paths old.store.plan → IsEntered old officer (old.last + 1) message day x) → new.store ≡ mid.store → new.officers ≡ mid.officers → Adds mid.flights x new.flights → new.last ≡ old.last + 1 → new.open_paths ≡ mid.open_paths → a ≡ begun (old.last + 1) x.program.budget → Calls (IsClean g) (StandsFor g) old (begin officer moment message) a new
+  pub begin_done : (old mid new : Desk S) (officer : List ℕ) (moment : ℕ) (message : List ℕ) (day : Date) (x : FlightView) (a : Answer) → against_begin old moment (length message) ≡ None → epoch_day day ≡ pos (moment / 86400) → KeepsAll old mid → (AreOpenPaths old.open_paths old.store.plan → AreOpenPaths mid.open_paths old.store.plan) → (AreOpenPaths old.open_paths old.store.plan → IsEntered old officer (old.last + 1) message day x) → new.store ≡ mid.store → new.officers ≡ mid.officers → Adds mid.flights x new.flights → new.last ≡ old.last + 1 → new.open_paths ≡ mid.open_paths → a ≡ begun (old.last + 1) x.program.budget → Calls (IsClean g) (StandsFor g) old (begin officer moment message) a new
   unfolding Step
   begin_done old mid new officer moment message day x a permitted on keeps paths entered es eo adds el ep told = record {
     was_clean = cleans g old new (es ∙ keeps.store);
@@ -117,11 +117,11 @@ module _ {S : Type 0} (g : Ghosts S) where
         let there = subst P (sym stands.store.plan) stands.open_paths in
         let h = entered there in
         let next : old.last + 1 ≡ s.last + 1 = ap (λ n. n + 1) stands.last in
-        let stood = stood_at s.office officer moment message in
+        let at_begin = begin_state s.office officer moment message in
         let pins = pins_stood old s officer moment message h.program stands h.pins in
-        let flight = first_flight (s.last + 1) stood h.program h.well in
-        let opens : stood.is_open ≡ is_among h.paths = ap (λ p. is_open_in p) (sym stands.store.plan) ∙ sym h.open_paths in
-        let first = first_begun (s.last + 1) stood h.program h.well h.paths day pins opens on in
+        let flight = first_flight (s.last + 1) at_begin h.program h.well in
+        let opens : at_begin.is_open ≡ is_among h.paths = ap (λ p. is_open_in p) (sym stands.store.plan) ∙ sym h.open_paths in
+        let first = first_begun (s.last + 1) at_begin h.program h.well h.paths day pins opens on in
         let H : ℕ → Type 0 = λ n. HoldsBegun n h.program message h.paths day x in
         let holds : Holds x flight = subst H next h.holds flight first in
         let was = sym (against old s moment (length message) stands) ∙ permitted in
@@ -129,7 +129,7 @@ module _ {S : Type 0} (g : Ghosts S) where
         let to = after_begin s flight in
         let same : a ≡ begun (s.last + 1) h.program.budget = told ∙ ap (λ n. begun n x.program.budget) next ∙ ap (λ (q : Program). begun (s.last + 1) q.budget) holds.program in
         let B : Answer → Type 0 = λ y. BeginStep s officer moment message y to in
-        let Q : List Held → Type 0 = λ xs. AreHeld xs s.flights in
+        let Q : List FlightView → Type 0 = λ xs. AreHeld xs s.flights in
         let T : Option (List (List ℕ)) → Type 0 = λ y. AreOpenPaths y plan in
         let U : Listing → Type 0 = λ p. AreOpenPaths mid.open_paths p in
         record {

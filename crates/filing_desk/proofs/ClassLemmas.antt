@@ -3,12 +3,12 @@ use Rattle.std.proofs.Common.{◌≡◌, ℕ, List, [], ◌∷◌, Bool, true, f
 use Rattle.std.specs.List.{list_all}
 use Rattle.std.specs.Str.{bytes_eq}
 use Rattle.class_plan.proofs.Keeping.{has-more}
-use Rattle.class_plan.specs.Changes.{added, with_class}
-use Rattle.class_plan.specs.Plans.{Listing, Row, found, has, keeps, open_row}
+use Rattle.class_plan.specs.Changes.{addition, with_class}
+use Rattle.class_plan.specs.Plans.{Listing, Row, row_at, has, keeps, open_row}
 use Rattle.class_plan.specs.declared.faults.PlanFault.{PlanFault}
 use Rattle.class_plan.specs.declared.faults.PlanFault.TheVariants.{PathDropped}
 use Rattle.record_tables.specs.Rows.{Record}
-use Rattle.record_store.specs.Archive.{Archive, add_class, capture, captured, has_room, destroy, destroy_one, destroys, due_of, hold, hold_one, is_by, is_held, is_held_by, plan_answer, record_at, release, release_one, revise, with_hold, without, without_hold}
+use Rattle.record_store.specs.Archive.{Archive, add_class, capture, after_capture, has_room, destroy, destroy_one, destroys, due_of, hold, hold_one, is_by, is_held, is_held_by, plan_answer, record_at, release, release_one, revise, with_hold, without, without_hold}
 use Rattle.class_plan.specs.Plans.{schedule_at}
 use Rattle.class_plan.proofs.Removed.{added-new}
 use Rattle.record_store.specs.declared.fault.StoreFault.{StoreFault}
@@ -59,12 +59,12 @@ destroy_stays a b n day e = go (record_at a n) e
 pub captured_plan : (a b : Archive) (body : List ℕ) (day : ℕ) (classes : List (List ℕ)) → capture a body day classes ≡ Ok b → b.plan ≡ a.plan
 captured_plan a b body day classes e = go (has_room a classes) e
   where
-    same : (qs : List (List ℕ)) → (captured a body day qs).plan ≡ a.plan
+    same : (qs : List (List ℕ)) → (after_capture a body day qs).plan ≡ a.plan
     same [] = refl
     same (q ∷ qs) = refl
 
-    go : (r : Bool) → (if r then Ok (captured a body day classes) else Err fault.Full) ≡ Ok b → b.plan ≡ a.plan
-    go true e = ap (λ (x : Archive). x.plan) (sym (ok_is (captured a body day classes) b e)) ∙ same classes
+    go : (r : Bool) → (if r then Ok (after_capture a body day classes) else Err fault.Full) ≡ Ok b → b.plan ≡ a.plan
+    go true e = ap (λ (x : Archive). x.plan) (sym (ok_is (after_capture a body day classes) b e)) ∙ same classes
     go false e = absurd cc
 
 -- ---- the plan has its classes still
@@ -73,9 +73,9 @@ pub same_keeps : (a b : Archive) (q : List ℕ) → b.plan ≡ a.plan → has a.
 same_keeps a b q same there = ap (λ (p : Listing). has p.rows q) same ∙ there
 
 pub added_keeps : (a b : Archive) (path q : List ℕ) → add_class a path ≡ Ok b → has a.plan.rows q ≡ true → has b.plan.rows q ≡ true
-added_keeps a b path q made there = go (added a.plan path) refl made
+added_keeps a b path q made there = go (addition a.plan path) refl made
   where
-    go : (r : Result Listing PlanFault) → added a.plan path ≡ r → plan_answer a r ≡ Ok b → has b.plan.rows q ≡ true
+    go : (r : Result Listing PlanFault) → addition a.plan path ≡ r → plan_answer a r ≡ Ok b → has b.plan.rows q ≡ true
     go (Err f) is e = absurd cc
     go (Ok p) is e =
         let plan : b.plan ≡ p = ap (λ (x : Archive). x.plan) (sym (ok_is (record a { plan = p }) b e)) in
@@ -94,10 +94,10 @@ has_kept K (x ∷ rows) q h all = go (bytes_eq q x.path) refl h (has_kept K rows
     both true false e = absurd cc
     both false b e = absurd cc
 
-    go : (b : Bool) → bytes_eq q x.path ≡ b → is_some (cond b (Some x) (found q rows)) ≡ true
+    go : (b : Bool) → bytes_eq q x.path ≡ b → is_some (cond b (Some x) (row_at q rows)) ≡ true
         → (has rows q ≡ true → list_all (λ (r : Row). K r.path) rows ≡ true → K q ≡ true) → K q ≡ true
-    go true e found more = subst (λ z. K z ≡ true) (sym (same_path q x.path e)) (both (K x.path) _ all).0
-    go false e found more = more found (both (K x.path) _ all).1
+    go true e row_at more = subst (λ z. K z ≡ true) (sym (same_path q x.path e)) (both (K x.path) _ all).0
+    go false e row_at more = more row_at (both (K x.path) _ all).1
 
 pub revised_keeps : (a b : Archive) (p : Listing) (q : List ℕ) → revise a p ≡ Ok b → has a.plan.rows q ≡ true → has b.plan.rows q ≡ true
 revised_keeps a b p q made there = go (keeps a.plan p) refl made

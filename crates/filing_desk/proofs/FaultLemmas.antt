@@ -5,6 +5,7 @@ use Rattle.std.specs.declared.alloc.Global.{Global}
 use Rattle.std.proofs.lemmas.Bool.{false≢true}
 use Rattle.sqlite.specs.Store.{Ghosts}
 use Rattle.sieve_syntax.specs.Tree.{CommandTrees}
+use Rattle.sieve_meaning.specs.declared.outcome.Outcome.{Outcome}
 use Rattle.sieve_meaning.specs.Case.{Facts}
 use Rattle.sieve_meaning.specs.Outcome as meaning
 use Rattle.sieve_meaning.specs.Reading.{program_of}
@@ -14,7 +15,7 @@ use Rattle.filing_image.specs.Program.{Program}
 use Rattle.filing_table.specs.Ends.{HasOutcome}
 use Rattle.script_library.specs.Libraries.{Scripts, library_of}
 use Rattle.record_store.specs.declared.store.Line.{Line}
-use Rattle.filing_commands.specs.Answers.{Answer, captured}
+use Rattle.filing_commands.specs.Answers.{Answer, dry_run}
 use Rattle.filing_commands.specs.Calls.{Calls}
 use Rattle.filing_commands.specs.Faults.{refused_by}
 use Rattle.filing_commands.specs.Limits.{greatest_image, greatest_message, greatest_script}
@@ -22,10 +23,9 @@ use Rattle.filing_commands.specs.Office.{Office, PlainCommand, OfficeStep, Refus
 use Rattle.filing_commands.specs.Parts.{IsGood, IsGoodImage, RefusesImage, RefusesScript}
 use Rattle.filing_commands.specs.Scripts.{library}
 use Rattle.filing_commands.specs.Standing.{Standing, plain}
-use Rattle.filing_commands.specs.Told.{told_lines, told_outcome}
+use Rattle.filing_commands.specs.CallAnswers.{answer_of_lines, answer_of_outcome}
 use Rattle.filing_commands.specs.declared.fault.DeskFault.{DeskFault}
 use Rattle.filing_commands.specs.declared.fault.DeskFault.TheVariants.{NoMemory}
-use Rattle.filing_commands.specs.declared.told.Outcome.{Outcome}
 use Rattle.filing_desk.specs.Judging.{IsFaultOf, IsTooLong}
 use Rattle.filing_desk.specs.Standing.{IsClean, StandsFor}
 use Rattle.filing_desk.specs.declared.desk.Desk.{Desk}
@@ -33,11 +33,11 @@ use Rattle.filing_desk.proofs.ScriptLemmas.{library_meant}
 use Rattle.filing_desk.proofs.StepLemmas.{plain_calls}
 
 -- the answer to a fault
-pub outcome_fault : (result : Result Outcome DeskFault) (fault : DeskFault) → IsErr result → IsErrAnd result (λ f. f ≡ fault) → told_outcome result ≡ refused_by fault
+pub outcome_fault : (result : Result Outcome DeskFault) (fault : DeskFault) → IsErr result → IsErrAnd result (λ f. f ≡ fault) → answer_of_outcome result ≡ refused_by fault
 outcome_fault (Err f) fault is same = ap refused_by same
 outcome_fault (Ok o) fault is same = absurd (false≢true is)
 
-pub lines_fault : (result : Result (Vec Line Global) DeskFault) (fault : DeskFault) → IsErr result → IsErrAnd result (λ f. f ≡ fault) → told_lines result ≡ refused_by fault
+pub lines_fault : (result : Result (Vec Line Global) DeskFault) (fault : DeskFault) → IsErr result → IsErrAnd result (λ f. f ≡ fault) → answer_of_lines result ≡ refused_by fault
 lines_fault (Err f) fault is same = ap refused_by same
 lines_fault (Ok o) fault is same = absurd (false≢true is)
 
@@ -59,8 +59,8 @@ module _ {S : Type 0} (g : Ghosts S) where
   unchanged desk c a step = plain_calls g desk desk c a (λ clean. clean) (λ clean s stands. (s.office, step s stands, stands))
 
   -- the outcome of a script with the global scripts of a desk, in a message's case
-  pub file_done : (desk : Desk S) (p : Listing) (lent : Scripts) (tree : CommandTrees) (script message : List ℕ) (facts : Facts) (o : meaning.Outcome) → ((s : Standing) → StandsFor g desk s → p ≡ s.office.archive.plan) → lent ≡ record { personal = []; global = desk.officers.globals } → IsGood script tree → length message ≤ greatest_message → facts ≡ case_of message (is_open_in p) → o ≡ meaning.outcome facts (library_of lent) None (program_of tree) → Calls (IsClean g) (StandsFor g) desk (plain (file script message)) (captured o) desk
-  file_done desk p lent tree script message facts o is_plan globals good short case is = unchanged desk (file script message) (captured o) (λ s stands.
+  pub file_done : (desk : Desk S) (p : Listing) (lent : Scripts) (tree : CommandTrees) (script message : List ℕ) (facts : Facts) (o : Outcome) → ((s : Standing) → StandsFor g desk s → p ≡ s.office.archive.plan) → lent ≡ record { personal = []; global = desk.officers.globals } → IsGood script tree → length message ≤ greatest_message → facts ≡ case_of message (is_open_in p) → o ≡ meaning.outcome facts (library_of lent) None (program_of tree) → Calls (IsClean g) (StandsFor g) desk (plain (file script message)) (dry_run o) desk
+  file_done desk p lent tree script message facts o is_plan globals good short case is = unchanged desk (file script message) (dry_run o) (λ s stands.
       let main = program_of tree in
       let there : facts ≡ case_of message (is_open_in s.office.archive.plan) = case ∙ ap (λ q. case_of message (is_open_in q)) (is_plan s stands) in
       let lib : library_of lent ≡ library [] s.office.globals = library_meant lent desk.officers.globals globals ∙ ap (λ o. library [] o.globals) stands.officers in
@@ -73,8 +73,8 @@ module _ {S : Type 0} (g : Ghosts S) where
       inl (refl, filed))
 
   -- the outcome of an image's run
-  pub try_done : (desk : Desk S) (p : Listing) (program : Program) (image message : List ℕ) (facts : Facts) (n : ℕ) (o : meaning.Outcome) → ((s : Standing) → StandsFor g desk s → p ≡ s.office.archive.plan) → IsGoodImage image program → length message ≤ greatest_message → facts ≡ case_of message (is_open_in p) → HasOutcome program facts n o → Calls (IsClean g) (StandsFor g) desk (plain (try_image image message)) (captured o) desk
-  try_done desk p program image message facts n o is_plan good short case ran = unchanged desk (try_image image message) (captured o) (λ s stands.
+  pub try_done : (desk : Desk S) (p : Listing) (program : Program) (image message : List ℕ) (facts : Facts) (n : ℕ) (o : Outcome) → ((s : Standing) → StandsFor g desk s → p ≡ s.office.archive.plan) → IsGoodImage image program → length message ≤ greatest_message → facts ≡ case_of message (is_open_in p) → HasOutcome program facts n o → Calls (IsClean g) (StandsFor g) desk (plain (try_image image message)) (dry_run o) desk
+  try_done desk p program image message facts n o is_plan good short case ran = unchanged desk (try_image image message) (dry_run o) (λ s stands.
       let there : facts ≡ case_of message (is_open_in s.office.archive.plan) = case ∙ ap (λ q. case_of message (is_open_in q)) (is_plan s stands) in
       let P : Facts → Type 0 = λ f. HasOutcome program f n o in
       let tried : IsTried s.office image message o = record { program = program; good = good; short = short; steps = n; outcome = subst P there ran } in

@@ -8,7 +8,7 @@ use Rattle.sqlite.specs.Store.{Ghosts}
 use Rattle.class_plan.specs.Plans.{Listing}
 use Rattle.sieve_meaning.specs.Case.{Facts}
 use Rattle.filing_machine.specs.Runs.{Stands}
-use Rattle.record_store.specs.Archive.{Archive, capture, captured, captured_lines, has_room}
+use Rattle.record_store.specs.Archive.{Archive, capture, after_capture, captured_lines, has_room}
 use Rattle.record_store.specs.Stores.{AreClasses, Becomes, StandsFor, is_trouble, line_view}
 use Rattle.record_store.specs.declared.fault.StoreFault.{StoreFault}
 use Rattle.record_store.specs.declared.fault.StoreFault.TheVariants as fault
@@ -16,19 +16,19 @@ use Rattle.record_store.specs.declared.store.Line.{Line}
 use Rattle.record_store.specs.declared.store.Store.{Store}
 use Rattle.filing_commands.specs.Faults.{refused_by, store_fault, store_number}
 use Rattle.filing_commands.specs.Standing.{Flight}
-use Rattle.filing_commands.specs.Told.{told_capture}
+use Rattle.filing_commands.specs.CallAnswers.{answer_of_capture}
 use Rattle.filing_commands.specs.declared.fault.DeskFault.{DeskFault}
 use Rattle.filing_commands.specs.declared.fault.DeskFault.TheVariants as faults
-use Rattle.filing_commands.specs.declared.told.Capture.{Capture}
+use Rattle.filing_commands.specs.declared.results.Capture.{Capture}
 use Rattle.filing_flights.specs.Flights.{IsFound}
-use Rattle.filing_flights.specs.Held.{Held, facts_in}
+use Rattle.filing_flights.specs.FlightViews.{FlightView, facts_in}
 use Rattle.filing_desk.specs.Filing.{Files, IsNotFiled}
 use Rattle.filing_desk.specs.Standing.{IsShownBy}
 use Rattle.filing_desk.proofs.FlightLemmas.{none_found}
 use Rattle.filing_desk.proofs.StoreLemmas.{told, trouble_number}
 
 -- the answer to a fault
-pub capture_fault : (result : Result Capture DeskFault) (fault : DeskFault) → IsErr result → IsErrAnd result (λ f. f ≡ fault) → told_capture result ≡ refused_by fault
+pub capture_fault : (result : Result Capture DeskFault) (fault : DeskFault) → IsErr result → IsErrAnd result (λ f. f ≡ fault) → answer_of_capture result ≡ refused_by fault
 capture_fault (Err f) fault is same = ap refused_by same
 capture_fault (Ok c) fault is same = absurd (false≢true is)
 
@@ -36,7 +36,7 @@ capture_fault (Ok c) fault is same = absurd (false≢true is)
 only_full : (a : Archive) (body : List ℕ) (day : ℕ) (classes : List (List ℕ)) (f : StoreFault) → capture a body day classes ≡ Err f → f ≡ fault.Full
 only_full a body day classes f e = go (has_room a classes) e
   where
-    go : (r : Bool) → (if r then Ok (captured a body day classes) else Err fault.Full) ≡ Err f → f ≡ fault.Full
+    go : (r : Bool) → (if r then Ok (after_capture a body day classes) else Err fault.Full) ≡ Err f → f ≡ fault.Full
     go true e = absurd cc
     go false e = cc
 
@@ -84,6 +84,6 @@ module _ {S : Type 0} (g : Ghosts S) where
 pub none_shown : (o : Option Flight) → IsFound o None → o ≡ None
 none_shown o h = none_found o h
 
-pub shown : (o : Option Flight) (x : Held) → IsFound o (Some x) → Stands x.program (facts_in x.case) x.machine → IsShownBy o x.program x.machine
+pub shown : (o : Option Flight) (x : FlightView) → IsFound o (Some x) → Stands x.program (facts_in x.case) x.machine → IsShownBy o x.program x.machine
 shown None x h on = absurd h
 shown (Some f) x h on = let P : Facts → Type 0 = λ c. Stands x.program c x.machine in (h.program, subst P h.facts on, h.steps)

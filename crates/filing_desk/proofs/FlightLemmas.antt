@@ -6,27 +6,27 @@ use Rattle.std.specs.declared.alloc.Global.{Global}
 use Rattle.sqlite.specs.Store.{Ghosts}
 use Rattle.sqlite.specs.State.{HasCleanDisk}
 use Rattle.sqlite.specs.Held.{state}
+use Rattle.class_paths.specs.Paths.{IsIncreasing}
 use Rattle.class_plan.specs.Calendar.{number_of_day}
 use Rattle.class_plan.specs.Plans.{Listing}
+use Rattle.sieve_meaning.specs.declared.outcome.Outcome.{Outcome}
 use Rattle.sieve_meaning.specs.Case.{Facts}
-use Rattle.sieve_meaning.specs.Outcome.{Outcome}
-use Rattle.sieve_meaning.specs.Paths.{IsIncreasing}
 use Rattle.filing_case.specs.Message.{is_among}
 use Rattle.record_store.specs.Archive.{Archive, capture, captured_lines}
 use Rattle.record_store.specs.Stores as stores
-use Rattle.record_store.specs.Stores.{AreClasses, line_view}
+use Rattle.record_store.specs.Stores.{line_view}
 use Rattle.record_store.specs.declared.fault.StoreFault.{StoreFault}
 use Rattle.record_store.specs.declared.fault.StoreFault.TheVariants.{Full}
 use Rattle.record_store.specs.declared.store.Line.{Line}
 use Rattle.record_store.specs.declared.store.Store.{Store}
-use Rattle.filing_commands.specs.Answers.{Answer, filed, refused}
+use Rattle.filing_commands.specs.Answers.{Answer, captured, refused}
 use Rattle.filing_commands.specs.Calls.{Calls}
 use Rattle.filing_commands.specs.Faults.{refused_by}
 use Rattle.filing_commands.specs.Office.{with_archive}
-use Rattle.filing_commands.specs.Standing.{Standing, Flight, Step, FinishStep, flight_of, grant, granting, without, turn, finish}
+use Rattle.filing_commands.specs.Standing.{Standing, Flight, Step, FinishStep, flight_of, grant, with_turns, without, turn, finish}
 use Rattle.filing_commands.specs.declared.fault.DeskFault.{DeskFault}
 use Rattle.filing_flights.specs.Flights.{AreHeld, Finds, IsFound, Removes, Turns}
-use Rattle.filing_flights.specs.Held.{Held, Holds, IsClass, IsOutcome, TellsEnd}
+use Rattle.filing_flights.specs.FlightViews.{FlightView, Holds, IsClass, IsOutcome, TellsEnd}
 use Rattle.filing_flights.proofs.PlanLemmas.{HasOpen, are_classes}
 use Rattle.filing_officers.specs.Register.{office_of}
 use Rattle.filing_desk.specs.Filing.{Files}
@@ -64,24 +64,24 @@ pub none_found : (o : Option Flight) → IsFound o None → o ≡ None
 none_found None h = refl
 none_found (Some f) h = absurd h
 
-pub some_found : (o : Option Flight) (x : Held) → IsFound o (Some x) → (f : Flight) × (o ≡ Some f) × Holds x f
+pub some_found : (o : Option Flight) (x : FlightView) → IsFound o (Some x) → (f : Flight) × (o ≡ Some f) × Holds x f
 some_found None x h = absurd h
 some_found (Some f) x h = (f, refl, h)
 
 -- the plan has each path that was open at the beginning of a capture
-has_open : (x : Held) (f : Flight) (p : Listing) → Holds x f → HasPathsOf p f → HasOpen x p
+has_open : (x : FlightView) (f : Flight) (p : Listing) → Holds x f → HasPathsOf p f → HasOpen x p
 has_open x f p holds paths = λ q among.
-    let same : is_among x.case.paths ≡ f.stood.is_open = ap (λ (c : Facts). c.is_open) holds.facts in
+    let same : is_among x.case.paths ≡ f.at_begin.is_open = ap (λ (c : Facts). c.is_open) holds.facts in
     paths q (ap (λ (h : List ℕ → Bool). h q) (sym same) ∙ among)
 
-ended_flag : (x : Held) (f : Flight) (b : Bool) → TellsEnd x b → Holds x f → b ≡ true → nat_lt f.granted f.run_length ≡ false
+ended_flag : (x : FlightView) (f : Flight) (b : Bool) → TellsEnd x b → Holds x f → b ≡ true → nat_lt f.granted f.run_length ≡ false
 ended_flag x f b tells holds e = go (nat_lt f.granted f.run_length) (sym (tells f holds) ∙ e)
   where
     go : (c : Bool) → not c ≡ true → c ≡ false
     go true h = absurd cc
     go false h = refl
 
-early_flag : (x : Held) (f : Flight) (b : Bool) → TellsEnd x b → Holds x f → b ≡ false → nat_lt f.granted f.run_length ≡ true
+early_flag : (x : FlightView) (f : Flight) (b : Bool) → TellsEnd x b → Holds x f → b ≡ false → nat_lt f.granted f.run_length ≡ true
 early_flag x f b tells holds e = go (nat_lt f.granted f.run_length) (sym (tells f holds) ∙ e)
   where
     go : (c : Bool) → not c ≡ false → c ≡ true
@@ -114,7 +114,7 @@ module _ {S : Type 0} (g : Ghosts S) where
         let h = turns s stands.flights in
         let P : Option (List (List ℕ)) → Type 0 = λ x. AreOpenPaths x s.office.archive.plan in
         record {
-          to = granting s t h.made;
+          to = with_turns s t h.made;
           is_one = h.step;
           there = reflies old new s (grant t h.made s.flights) s.last es eo (el ∙ stands.last) (subst P (sym ep) stands.open_paths) stands h.held (granted_classes s.office.archive.plan t h.made s.flights stands.classes);
         };
@@ -135,25 +135,25 @@ module _ {S : Type 0} (g : Ghosts S) where
       subst P (sym (none_found (flight_of t s.flights) (finds s.flights stands.flights))) (refl, refl))
 
   -- a capture that has not come to its end
-  pub finish_early : (desk : Desk S) (t : ℕ) (x : Held) (b : Bool) → Finds desk.flights t (Some x) → TellsEnd x b → b ≡ false → Calls (IsClean g) (StandsFor g) desk (finish t) (refused 92 None) desk
+  pub finish_early : (desk : Desk S) (t : ℕ) (x : FlightView) (b : Bool) → Finds desk.flights t (Some x) → TellsEnd x b → b ≡ false → Calls (IsClean g) (StandsFor g) desk (finish t) (refused 92 None) desk
   finish_early desk t x b finds tells e = finish_same desk t (refused 92 None) (λ s stands.
       let f = some_found (flight_of t s.flights) x (finds s.flights stands.flights) in
       let early = early_flag x f.0 b tells f.2 e in
       rw (f.1, early) (refl, refl))
 
   -- there is no memory for the outcome
-  pub finish_poor : (desk : Desk S) (t : ℕ) (x : Held) (b : Bool) (a : Answer) → Finds desk.flights t (Some x) → TellsEnd x b → b ≡ true → a ≡ refused 99 None → Calls (IsClean g) (StandsFor g) desk (finish t) a desk
+  pub finish_poor : (desk : Desk S) (t : ℕ) (x : FlightView) (b : Bool) (a : Answer) → Finds desk.flights t (Some x) → TellsEnd x b → b ≡ true → a ≡ refused 99 None → Calls (IsClean g) (StandsFor g) desk (finish t) a desk
   finish_poor desk t x b a finds tells e told = finish_same desk t a (λ s stands.
       let f = some_found (flight_of t s.flights) x (finds s.flights stands.flights) in
       let ended = ended_flag x f.0 b tells f.2 e in
       rw (f.1, ended) (inr (99, inl refl, told, refl)))
 
   -- the archive that is filed into, in the terms of the flight
-  of_flight : (x : Held) (f : Flight) (s : Standing) → Holds x f → number_of_day x.day ≡ f.stood.day
+  of_flight : (x : FlightView) (f : Flight) (s : Standing) → Holds x f → number_of_day x.day ≡ f.at_begin.day
   of_flight x f s holds = ap (λ z. unsigned_abs z) holds.day
 
   -- nothing is filed
-  pub finish_refused : (old new : Desk S) (t : ℕ) (x : Held) (b : Bool) (o : Outcome) (f : DeskFault) (a : Answer) → Finds old.flights t (Some x) → TellsEnd x b → b ≡ true → IsOutcome x o → IsIncreasing o.classes → All (IsClass x) o.classes → Files g old.store new.store x.message (number_of_day x.day) o.classes (Err f) → stores.Falls g old.store new.store → new.officers ≡ old.officers → new.flights ≡ old.flights → new.last ≡ old.last → new.open_paths ≡ old.open_paths → a ≡ refused_by f → Calls (IsClean g) (StandsFor g) old (finish t) a new
+  pub finish_refused : (old new : Desk S) (t : ℕ) (x : FlightView) (b : Bool) (o : Outcome) (f : DeskFault) (a : Answer) → Finds old.flights t (Some x) → TellsEnd x b → b ≡ true → IsOutcome x o → IsIncreasing o.classes → All (IsClass x) o.classes → Files g old.store new.store x.message (number_of_day x.day) o.classes (Err f) → stores.Falls g old.store new.store → new.officers ≡ old.officers → new.flights ≡ old.flights → new.last ≡ old.last → new.open_paths ≡ old.open_paths → a ≡ refused_by f → Calls (IsClean g) (StandsFor g) old (finish t) a new
   unfolding Step
   finish_refused old new t x b o f a finds tells e alone up each files falls eo ef el ep told = record {
     was_clean = falls;
@@ -164,7 +164,7 @@ module _ {S : Type 0} (g : Ghosts S) where
         let classes = are_classes x s.office.archive.plan o.classes stands.store.archive.plan (has_open x flight s.office.archive.plan here.2 (found_classes s.office.archive.plan t s.flights flight stands.classes here.1)) each up in
         let h = files s.office.archive stands.store classes in
         let P : Option (List (List ℕ)) → Type 0 = λ y. AreOpenPaths y s.office.archive.plan in
-        let Q : List Held → Type 0 = λ xs. AreHeld xs s.flights in
+        let Q : List FlightView → Type 0 = λ xs. AreHeld xs s.flights in
         let there : StandsFor g new s = record {
           store = h.0;
           officers = ap (λ y. office_of s.office.archive y) eo ∙ stands.officers;
@@ -177,7 +177,7 @@ module _ {S : Type 0} (g : Ghosts S) where
         let step : FinishStep s t (Some flight) (refused number None) s = rw ended (elim h.1.reason [
           | inl trouble ↦ inr (number, trouble, refl, refl)
           | inr full ↦
-              let C : List ℕ → Type 0 = λ m. capture s.office.archive m flight.stood.day o.classes ≡ Err Full in
+              let C : List ℕ → Type 0 = λ m. capture s.office.archive m flight.at_begin.day o.classes ≡ Err Full in
               let D : ℕ → Type 0 = λ d. capture s.office.archive x.message d o.classes ≡ Err Full in
               inl (s.office.archive, (full.0, refl, refl, (o, alone flight here.2, subst C here.2.message (subst D (of_flight x flight s here.2) full.1))), refl)
         ]) in
@@ -191,7 +191,7 @@ module _ {S : Type 0} (g : Ghosts S) where
   becomes new (Err f) h = absurd h
 
   -- a capture is whole
-  pub finish_done : (old new : Desk S) (t : ℕ) (x : Held) (b : Bool) (o : Outcome) (lines : Vec Line Global) → Finds old.flights t (Some x) → TellsEnd x b → b ≡ true → IsOutcome x o → Files g old.store new.store x.message (number_of_day x.day) o.classes (Ok lines) → stores.Falls g old.store new.store → new.officers ≡ old.officers → Removes old.flights t new.flights → new.last ≡ old.last → new.open_paths ≡ old.open_paths → Calls (IsClean g) (StandsFor g) old (finish t) (filed o.fault (map line_view lines.items)) new
+  pub finish_done : (old new : Desk S) (t : ℕ) (x : FlightView) (b : Bool) (o : Outcome) (lines : Vec Line Global) → Finds old.flights t (Some x) → TellsEnd x b → b ≡ true → IsOutcome x o → Files g old.store new.store x.message (number_of_day x.day) o.classes (Ok lines) → stores.Falls g old.store new.store → new.officers ≡ old.officers → Removes old.flights t new.flights → new.last ≡ old.last → new.open_paths ≡ old.open_paths → Calls (IsClean g) (StandsFor g) old (finish t) (captured o.fault (map line_view lines.items)) new
   unfolding Step
   finish_done old new t x b o lines finds tells e alone files falls eo removes el ep = record {
     was_clean = falls;
@@ -202,11 +202,11 @@ module _ {S : Type 0} (g : Ghosts S) where
         let was = s.office.archive in
         let h = files was stands.store in
         let D : ℕ → Type 0 = λ d. stores.Becomes g new.store (capture was x.message d o.classes) × (map line_view lines.items ≡ captured_lines was d o.classes) in
-        let C : List ℕ → Type 0 = λ m. stores.Becomes g new.store (capture was m flight.stood.day o.classes) in
+        let C : List ℕ → Type 0 = λ m. stores.Becomes g new.store (capture was m flight.at_begin.day o.classes) in
         let dated = subst D (of_flight x flight s here.2) h in
-        let made = becomes new.store (capture was flight.stood.message flight.stood.day o.classes) (subst C here.2.message dated.0) in
+        let made = becomes new.store (capture was flight.at_begin.message flight.at_begin.day o.classes) (subst C here.2.message dated.0) in
         let now = made.0 in
-        let same : now.plan ≡ was.plan = captured_plan was now flight.stood.message flight.stood.day o.classes made.1 in
+        let same : now.plan ≡ was.plan = captured_plan was now flight.at_begin.message flight.at_begin.day o.classes made.1 in
         let left = without t s.flights in
         let P : Option (List (List ℕ)) → Type 0 = λ y. AreOpenPaths y now.plan in
         let Q : Listing → Type 0 = λ p. AreOpenPaths old.open_paths p in
@@ -219,7 +219,7 @@ module _ {S : Type 0} (g : Ghosts S) where
           open_paths = subst P (sym ep) (subst Q (sym same) stands.open_paths);
           classes = subst U (sym same) (left_classes was.plan t s.flights stands.classes);
         } in
-        let answer = filed o.fault (map line_view lines.items) in
+        let answer = captured o.fault (map line_view lines.items) in
         let to : Standing = record { office = with_archive s.office now; flights = left; last = s.last } in
         let step : FinishStep s t (Some flight) answer to = rw ended (inl (now, (o, alone flight here.2, refl, made.1, dated.1), refl)) in
         let T : Option Flight → Type 0 = λ y. FinishStep s t y answer to in

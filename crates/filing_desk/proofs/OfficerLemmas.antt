@@ -23,7 +23,7 @@ use Rattle.filing_commands.specs.Standing.{Standing, plain}
 use Rattle.filing_commands.specs.declared.fault.DeskFault.{DeskFault}
 use Rattle.filing_commands.specs.declared.fault.DeskFault.TheVariants.{LibraryFull, NoMemory, NoScript}
 use Rattle.filing_flights.specs.Flights.{AreHeld}
-use Rattle.filing_flights.specs.Held.{Held}
+use Rattle.filing_flights.specs.FlightViews.{FlightView}
 use Rattle.filing_officers.specs.Register.{office_of, officer_at}
 use Rattle.filing_desk.specs.Standing.{AreOpenPaths, HasPathsOf, IsClean, StandsFor}
 use Rattle.filing_desk.specs.declared.desk.Desk.{Desk}
@@ -84,7 +84,7 @@ module _ {S : Type 0} (g : Ghosts S) where
   resets old new s b rest stands same is =
       let P : Store S → Type 0 = λ x. stores.StandsFor g x b.archive in
       let Q : Archive → Type 0 = λ x. stores.StandsFor g old.store x in
-      let R : List Held → Type 0 = λ xs. AreHeld xs s.flights in
+      let R : List FlightView → Type 0 = λ xs. AreHeld xs s.flights in
       let T : Option (List (List ℕ)) → Type 0 = λ x. AreOpenPaths x b.archive.plan in
       let U : Archive → Type 0 = λ x. AreOpenPaths old.open_paths x.plan in
       let V : Archive → Type 0 = λ x. AllByRecursion (HasPathsOf x.plan) s.flights in

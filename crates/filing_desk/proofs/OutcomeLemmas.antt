@@ -5,11 +5,12 @@ use Rattle.filing_image.specs.Program.{Program}
 use Rattle.filing_table.specs.Ends.{HasOutcome}
 use Rattle.filing_table.proofs.Once.{one_outcome}
 use Rattle.filing_gen.specs.Correct.{IsCompiled}
+use Rattle.sieve_meaning.specs.declared.outcome.Outcome.{Outcome}
 use Rattle.sieve_meaning.specs.Case.{Facts}
 use Rattle.sieve_meaning.specs.Program.{Commands}
 use Rattle.sieve_meaning.specs.Meaning.{Library, meaning}
 use Rattle.sieve_meaning.specs.TooHeavy.{IsTooHeavy}
-use Rattle.sieve_meaning.specs.Outcome.{Outcome, outcome, outcome_of}
+use Rattle.sieve_meaning.specs.Outcome.{outcome, outcome_of}
 use Rattle.sieve_meaning.proofs.OutcomeLaws.{light_outcome, not_heavy}
 
 pub ok_is_no_fault : {A B : Type 0} (a : A) (b : B) → Ok a ≡ Err b → ⊥

@@ -8,22 +8,22 @@ use Rattle.sieve_syntax.specs.declared.tree.Script.{Script}
 use Rattle.sieve_meaning.specs.Program.{Commands}
 use Rattle.sieve_meaning.specs.Reading.{program_of}
 use Rattle.sieve_meaning.specs.Meaning.{ScriptName}
-use Rattle.script_library.specs.Libraries.{NamedScript, Scripts, library_of, named, location_of}
+use Rattle.script_library.specs.Libraries.{NamedScript, Scripts, library_of, script_under, location_of}
 use Rattle.filing_commands.specs.Scripts.{script_at, location, library, meanings_of}
 
 abbrev meaning_of : Script → Commands
 meaning_of x = program_of (tree_of x)
 
 -- a name has the meaning of the script that is stored at it
-pub meaning_at : (name : List ℕ) (es : List NamedScript) → option_map meaning_of (named name es) ≡ script_at name (meanings_of es)
+pub meaning_at : (name : List ℕ) (es : List NamedScript) → option_map meaning_of (script_under name es) ≡ script_at name (meanings_of es)
 meaning_at name [] = refl
 meaning_at name (e ∷ es) = go _ refl (meaning_at name es)
   where
-    go : (b : Bool) → bytes_eq e.name name ≡ b → option_map meaning_of (named name es) ≡ script_at name (meanings_of es) → option_map meaning_of (named name (e ∷ es)) ≡ script_at name (meanings_of (e ∷ es))
+    go : (b : Bool) → bytes_eq e.name name ≡ b → option_map meaning_of (script_under name es) ≡ script_at name (meanings_of es) → option_map meaning_of (script_under name (e ∷ es)) ≡ script_at name (meanings_of (e ∷ es))
     go true is rest = rw is refl
     go false is rest = rw is rest
 
-found_in : (l : Scripts) (s : ScriptName) (global : Bool) → option_map meaning_of (named s.name (location_of global l)) ≡ script_at s.name (location global (meanings_of l.personal) (meanings_of l.global))
+found_in : (l : Scripts) (s : ScriptName) (global : Bool) → option_map meaning_of (script_under s.name (location_of global l)) ≡ script_at s.name (location global (meanings_of l.personal) (meanings_of l.global))
 found_in l s true = meaning_at s.name l.global
 found_in l s false = meaning_at s.name l.personal
 

@@ -16,10 +16,10 @@ use Rattle.filing_commands.specs.Calls.{Calls}
 use Rattle.filing_commands.specs.Faults.{refused_by, store_fault, store_number}
 use Rattle.filing_commands.specs.Office.{Office, PlainCommand, OfficeStep, Settles, Refuses, GivesUp, IsMade, IsRefused, IsTrouble, with_archive}
 use Rattle.filing_commands.specs.Standing.{Standing, Flight, Step, plain}
-use Rattle.filing_commands.specs.Told.{told_done}
+use Rattle.filing_commands.specs.CallAnswers.{answer_of_done}
 use Rattle.filing_commands.specs.declared.fault.DeskFault.{DeskFault}
 use Rattle.filing_flights.specs.Flights.{AreHeld}
-use Rattle.filing_flights.specs.Held.{Held}
+use Rattle.filing_flights.specs.FlightViews.{FlightView}
 use Rattle.filing_officers.specs.Register.{office_of}
 use Rattle.filing_desk.specs.Standing.{AreOpenPaths, HasPathsOf, IsClean, StandsFor}
 use Rattle.filing_desk.specs.declared.desk.Desk.{Desk}
@@ -40,7 +40,7 @@ refusal : (f : StoreFault) (r : Result Archive StoreFault) → r ≡ Err f → I
 refusal f r e = let P : Result Archive StoreFault → Type 0 = λ x. IsRefused x (store_number f) in subst P (sym e) refl
 
 -- the answer to a fault
-pub done_fault : (result : Result (Unit {0}) DeskFault) (fault : DeskFault) → IsErr result → IsErrAnd result (λ f. f ≡ fault) → told_done result ≡ refused_by fault
+pub done_fault : (result : Result (Unit {0}) DeskFault) (fault : DeskFault) → IsErr result → IsErrAnd result (λ f. f ≡ fault) → answer_of_done result ≡ refused_by fault
 done_fault (Err f) fault is same = ap refused_by same
 done_fault (Ok u) fault is same = absurd (false≢true is)
 
@@ -78,7 +78,7 @@ module _ {S : Type 0} (g : Ghosts S) where
   -- the desk represents the state with the archive that its store represents now
   pub restands : (old new : Desk S) (s : Standing) (b : Archive) → KeepsRest old new → StandsFor g old s → stores.StandsFor g new.store b → AreOpenPaths new.open_paths b.plan → ((q : List ℕ) → has s.office.archive.plan.rows q ≡ true → has b.plan.rows q ≡ true) → StandsFor g new (record s { office = with_archive s.office b })
   restands old new s b rest stands store paths keeps =
-      let P : List Held → Type 0 = λ xs. AreHeld xs s.flights in
+      let P : List FlightView → Type 0 = λ xs. AreHeld xs s.flights in
       record {
         store = store;
         officers = ap (λ x. office_of b x) rest.officers ∙ ap (λ o. with_archive o b) stands.officers;

@@ -13,7 +13,7 @@ use Rattle.filing_commands.specs.declared.fault.DeskFault.{DeskFault}
 use Rattle.filing_commands.specs.declared.payload.Payload.{Payload}
 use Rattle.filing_commands.specs.declared.payload.Payload.TheVariants as payload
 use Rattle.filing_flights.specs.Begun.{HoldsBegun}
-use Rattle.filing_flights.specs.Held.{Held}
+use Rattle.filing_flights.specs.FlightViews.{FlightView}
 use Rattle.filing_officers.specs.Register.{PinsFor, officer_at}
 use Rattle.filing_desk.specs.declared.desk.Desk.{Desk}
 
@@ -32,8 +32,8 @@ IsShort limit payload.TooLong = ⊥
 IsShort limit payload.NoMemory = Unit {0}
 
 -- a message that comes in pieces
-abbrev pub joined : (pieces : List (Bor (List ℕ))) → List ℕ
-joined pieces = flat_map (λ p. p.now) pieces
+abbrev pub whole_message : (pieces : List (Bor (List ℕ))) → List ℕ
+whole_message pieces = flat_map (λ p. p.now) pieces
 
 -- all of a desk is as it was, except that open paths may be kept
 pub record KeepsAll {S : Type 0} (old new : Desk S) : Type 0 where
@@ -44,7 +44,7 @@ pub record KeepsAll {S : Type 0} (old new : Desk S) : Type 0 where
 
 -- a new capture of what stands at a desk, with no step made
 pub record IsEntered {S : Type 0} (desk : Desk S) (officer : List ℕ) (ticket : ℕ) (message : List ℕ) (day : Date)
-    (x : Held) : Type 0 where
+    (x : FlightView) : Type 0 where
   pub program : Program
   pub paths : List (List ℕ)
   pub open_paths : is_among paths ≡ is_open_in desk.store.plan

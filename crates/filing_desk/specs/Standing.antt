@@ -26,7 +26,7 @@ AreOpenPaths (Some paths) p = is_among paths ≡ is_open_in p
 
 -- each path that was open at the beginning of a flight is a class of the plan
 abbrev pub HasPathsOf : Listing → Flight → Type 0
-HasPathsOf p f = (q : List ℕ) → f.stood.is_open q ≡ true → has p.rows q ≡ true
+HasPathsOf p f = (q : List ℕ) → f.at_begin.is_open q ≡ true → has p.rows q ≡ true
 
 -- Its store represents the archive of the state, its officers represent the office, and its captures hold the flights.
 pub record StandsFor {S : Type 0} (g : Ghosts S) (desk : Desk S) (s : Standing) : Type 0 where
@@ -41,5 +41,5 @@ pub record StandsFor {S : Type 0} (g : Ghosts S) (desk : Desk S) (s : Standing) 
 -- and its run's length
 abbrev pub IsShownBy : Option Flight → Program → Stored → Type 0
 IsShownBy None program machine = ⊥
-IsShownBy (Some f) program machine = (program ≡ f.pinned) × Stands program (case_in f.stood) machine ×
+IsShownBy (Some f) program machine = (program ≡ f.pinned) × Stands program (case_in f.at_begin) machine ×
     (machine.steps ≡ min f.granted f.run_length)

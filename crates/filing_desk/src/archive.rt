@@ -7,7 +7,7 @@ ghost use Rattle.record_store.specs.declared.fault.StoreFault.TheVariants.{NoRec
 ghost use Rattle.filing_commands.specs.Limits.{greatest_plan, last_day};
 ghost use Rattle.filing_commands.specs.Office as office;
 ghost use Rattle.filing_commands.specs.Standing as commands;
-ghost use Rattle.filing_commands.specs.Told.{told_done, told_lines};
+ghost use Rattle.filing_commands.specs.CallAnswers.{answer_of_done, answer_of_lines};
 
 use crate::desk::Desk;
 use class_plan::{Date, Plan, day_number};
@@ -50,7 +50,7 @@ impl<S: Alter> Desk<S> {
     /// 53 (no parent), 54 (there already) and 56 (4,096 classes).
     pub fn add_class(&mut self, path: &[u8]) -> Result<(), DeskFault>
         ensures { Calls (IsClean S.Store) (StandsFor S.Store) self.old (commands.plain (office.add_class path.now))
-            (told_done result) self.new }
+            (answer_of_done result) self.new }
     {
         self.store.add_class(path)?;
         self.open_paths = None;
@@ -62,7 +62,7 @@ impl<S: Alter> Desk<S> {
     pub fn set_plan(&mut self, text: &Payload) -> Result<(), DeskFault>
         ensures { CallsWith (IsClean S.Store) (StandsFor S.Store) self.old greatest_plan text.now
             (λ t. commands.plain (office.set_plan t))
-            (told_done result) self.new }
+            (answer_of_done result) self.new }
     {
         let octets = text.octets(MAX_PLAN_OCTETS, DeskFault::PlanTooLong)?;
         let plan = Plan::from_toml(self.alloc, octets)?;
@@ -75,7 +75,7 @@ impl<S: Alter> Desk<S> {
     /// (that hold is there).
     pub fn hold(&mut self, name: &[u8], number: u64) -> Result<(), DeskFault>
         ensures { Calls (IsClean S.Store) (StandsFor S.Store) self.old (commands.plain (office.hold name.now number))
-            (told_done result) self.new }
+            (answer_of_done result) self.new }
     {
         let number = record_number(number)?;
         self.store.hold(name, number)?;
@@ -85,7 +85,7 @@ impl<S: Alter> Desk<S> {
     /// Ends a hold of a name on a record, as `Registry` says. Refused with 80 (no such record) or 85 (no such hold).
     pub fn release(&mut self, name: &[u8], number: u64) -> Result<(), DeskFault>
         ensures { Calls (IsClean S.Store) (StandsFor S.Store) self.old
-            (commands.plain (office.release name.now number)) (told_done result) self.new }
+            (commands.plain (office.release name.now number)) (answer_of_done result) self.new }
     {
         let number = record_number(number)?;
         self.store.release(name, number)?;
@@ -96,7 +96,7 @@ impl<S: Alter> Desk<S> {
     /// due by then, by due day and then by number.
     pub fn due(&mut self, day: Date) -> Result<Vec<Line>, DeskFault>
         ensures { CallsOn (IsClean S.Store) (StandsFor S.Store) self.old day (λ n. commands.plain (office.due n))
-            (told_lines result) self.new }
+            (answer_of_lines result) self.new }
     {
         let lines = self.store.due(day_from_1970(day))?;
         Ok(lines)
@@ -107,7 +107,7 @@ impl<S: Alter> Desk<S> {
     pub fn destroy(&mut self, number: u64, day: Date) -> Result<(), DeskFault>
         ensures { CallsOn (IsClean S.Store) (StandsFor S.Store) self.old day
             (λ n. commands.plain (office.destroy number n))
-            (told_done result) self.new }
+            (answer_of_done result) self.new }
     {
         let number = record_number(number)?;
         self.store.destroy(number, day_from_1970(day))?;

@@ -11,20 +11,20 @@ ghost use Rattle.filing_commands.specs.Limits.{greatest_message};
 ghost use Rattle.filing_commands.specs.Payloads.{IsOf};
 ghost use Rattle.filing_commands.specs.Standing as commands;
 ghost use Rattle.filing_commands.specs.Standing.{Standing, flight_of};
-ghost use Rattle.filing_commands.specs.Told.{told_capture, told_ticket, told_turn};
+ghost use Rattle.filing_commands.specs.CallAnswers.{answer_of_capture, answer_of_ticket, answer_of_turn};
 ghost use Rattle.filing_commands.specs.declared.fault.DeskFault.TheVariants.{NoMemory};
 ghost use Rattle.filing_desk.specs.Beginning.{IsEntered, IsNumbered, IsShort, KeepsAll, against_begin};
 ghost use Rattle.filing_desk.specs.Filing.{Files};
 ghost use Rattle.filing_desk.specs.Standing.{AreOpenPaths, IsShownBy};
 
 use crate::desk::Desk;
+use class_paths::Paths;
 use class_plan::{Date, day_of};
 use filing_commands::{Capture, DeskFault, MAX_MESSAGE_OCTETS, Payload, Turn};
-use filing_flights::{Flight, PinnedPaths, class_paths};
+use filing_flights::{Flight, PinnedPaths, path_vectors};
 use filing_machine::Machine;
 use filing_verify::Verified;
 use record_store::{Line, Store, StoreFault, are_classes};
-use sieve_meaning::Paths;
 use sqlite::Alter;
 use std::alloc::{AllocError, Global};
 
@@ -65,7 +65,7 @@ fn file_outcome<S: Alter>(
         (number_of_day flight.now.day) classes.now result }
     ensures falls { Falls S.Store store.old store.new }
 {
-    let classes = class_paths(alloc, classes)?;
+    let classes = path_vectors(alloc, classes)?;
     if !are_classes(store.plan(), classes.as_slice()) {
         return Err(DeskFault::Store(StoreFault::NoArchive));
     }
@@ -152,7 +152,7 @@ impl<S: Alter> Desk<S> {
     ) -> Result<(u32, u32), DeskFault>
         ensures { CallsWith (IsClean S.Store) (StandsFor S.Store) self.old greatest_message message
             (λ m. commands.begin officer.now moment m)
-            (told_ticket result) self.new }
+            (answer_of_ticket result) self.new }
     {
         let day = self.judge_begin(moment, &message)?;
         let octets = octets_of(message)?;
@@ -168,7 +168,7 @@ impl<S: Alter> Desk<S> {
     /// ticket). Where there is no memory (99), the steps that were made before are kept.
     pub fn turn(&mut self, ticket: u64, count: u32) -> Result<Turn, DeskFault>
         ensures { Calls (IsClean S.Store) (StandsFor S.Store) self.old (commands.turn ticket count)
-            (told_turn result) self.new }
+            (answer_of_turn result) self.new }
     {
         self.flights.turn(ticket, count)
     }
@@ -177,7 +177,7 @@ impl<S: Alter> Desk<S> {
     /// with 91 (no such ticket), 92 (not ended) or 87 (numbers of records used up); the ticket is then kept.
     pub fn finish(&mut self, ticket: u64) -> Result<Capture, DeskFault>
         ensures { Calls (IsClean S.Store) (StandsFor S.Store) self.old (commands.finish ticket)
-            (told_capture result) self.new }
+            (answer_of_capture result) self.new }
     {
         let Some(flight) = self.flights.get(ticket) else {
             return Err(DeskFault::NoTicket);

@@ -1,60 +1,47 @@
 //! Dry runs: the outcome of a script or an image for a message, with nothing stored. A script is compiled in `program`
 //! of `filing_gen`, and an image is run in `machine` of `filing_machine`.
 
-ghost use Rattle.std.specs.Prelude.{◌≡◌, ℕ, [], false, Some, None, IfOk, IfErr};
+ghost use Rattle.std.specs.Prelude.{◌≡◌, ℕ, None, IfOk, IfErr};
 ghost use Rattle.sieve_syntax.specs.View.{tree_of};
 ghost use Rattle.sieve_meaning.specs.Reading.{program_of};
-ghost use Rattle.sieve_meaning.specs.Outcome.{outcome_at, outcome};
-ghost use Rattle.script_library.specs.Lent.{scripts_of};
+ghost use Rattle.sieve_meaning.specs.Outcome.{outcome};
+ghost use Rattle.script_library.specs.BorrowedShelves.{scripts_of};
 ghost use Rattle.script_library.specs.Libraries.{library_of};
 ghost use Rattle.filing_table.specs.Ends.{HasOutcome};
 ghost use Rattle.filing_commands.specs.Limits.{greatest_image, greatest_message, greatest_script};
 ghost use Rattle.filing_commands.specs.Office as office;
 ghost use Rattle.filing_commands.specs.Standing as commands;
-ghost use Rattle.filing_commands.specs.Told.{outcome_view, told_outcome};
+ghost use Rattle.filing_commands.specs.CallAnswers.{answer_of_outcome};
 ghost use Rattle.filing_commands.specs.declared.fault.DeskFault.TheVariants.{NoMemory};
 
 use crate::desk::Desk;
 use crate::payloads::{judge_image, judge_message, judge_script};
-use filing_commands::{DeskFault, Outcome, Payload};
+use filing_commands::{DeskFault, Payload};
 use filing_gen::{GenFault, compile_with};
 use filing_machine::{Case, run};
 use filing_verify::Verified;
 use script_library::{Shelf, Shelves};
 use sieve_check::Checked;
-use sieve_meaning::default_class_alone;
+use sieve_meaning::{Outcome, RunFault, fault_alone};
 use sqlite::Alter;
 use std::alloc::{AllocError, Global};
 
-/// The default class alone, with a fault.
-fn faulty(alloc: Global, fault: u8) -> Result<Outcome, AllocError>
-    ensures { IfOk result (λ o. outcome_view o ≡ outcome_at (Some fault) [] false false) }
-{
-    Ok(Outcome {
-        classes: default_class_alone(alloc)?,
-        fault: Some(fault),
-    })
-}
-
 /// The outcome of an image's run in a case, without the number of its steps.
 fn run_image<C: Case>(alloc: Global, program: &Verified, case: &C) -> Result<Outcome, AllocError>
-    ensures { IfOk result (λ o. (n : ℕ) × HasOutcome program.now (C.facts case.now) n (outcome_view o)) }
+    ensures { IfOk result (λ o. (n : ℕ) × HasOutcome program.now (C.facts case.now) n o) }
 {
     let ran = run(alloc, program, case)?;
-    Ok(Outcome {
-        classes: ran.classes,
-        fault: ran.fault,
-    })
+    Ok(ran.outcome)
 }
 
-/// The outcome of a script in a case: that of the run of its image, or fault 5 where the script is too heavy for one.
+/// The outcome of a script in a case: that of the run of its image, or a fault where the script is too heavy for one.
 fn outcome_of<C: Case>(
     alloc: Global,
     case: &C,
     script: &Checked,
     shelves: Shelves<'_>,
 ) -> Result<Outcome, DeskFault>
-    ensures outcome { IfOk result (λ o. outcome_view o ≡
+    ensures outcome { IfOk result (λ o. o ≡
         outcome (C.facts case.now) (library_of (scripts_of shelves.entry)) None
         (program_of (tree_of script.now.script))) }
     ensures refused { IfErr result (λ f. f ≡ NoMemory) }
@@ -65,7 +52,7 @@ fn outcome_of<C: Case>(
             Ok(outcome)
         }
         Err(GenFault::TooLarge) => {
-            let outcome = faulty(alloc, 5)?;
+            let outcome = fault_alone(alloc, RunFault::TooHeavy)?;
             Ok(outcome)
         }
         Err(GenFault::NoMemory) => Err(DeskFault::NoMemory),
@@ -81,7 +68,7 @@ impl<S: Alter> Desk<S> {
     /// octets.
     pub fn try_image(&self, image: &Payload, message: &Payload) -> Result<Outcome, DeskFault>
         ensures { CallsWithTwo (IsClean S.Store) (StandsFor S.Store) self.now (greatest_image, greatest_message) image.now message.now
-            (λ i m. commands.plain (office.try_image i m)) (told_outcome result) self.now }
+            (λ i m. commands.plain (office.try_image i m)) (answer_of_outcome result) self.now }
     {
         let program = judge_image(self.alloc, image)?;
         let case = judge_message(self.alloc, self.store.plan(), message)?;
@@ -94,7 +81,7 @@ impl<S: Alter> Desk<S> {
     /// of more than 8,388,608 octets. A script that is too heavy has the outcome fault 5.
     pub fn file(&self, script: &Payload, message: &Payload) -> Result<Outcome, DeskFault>
         ensures { CallsWithTwo (IsClean S.Store) (StandsFor S.Store) self.now (greatest_script, greatest_message) script.now message.now
-            (λ s m. commands.plain (office.file s m)) (told_outcome result) self.now }
+            (λ s m. commands.plain (office.file s m)) (answer_of_outcome result) self.now }
     {
         let checked = judge_script(self.alloc, script)?;
         let case = judge_message(self.alloc, self.store.plan(), message)?;

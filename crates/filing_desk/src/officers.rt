@@ -4,7 +4,7 @@ ghost use Rattle.std.specs.Prelude.{Ok};
 ghost use Rattle.filing_commands.specs.Limits.{greatest_image, greatest_script};
 ghost use Rattle.filing_commands.specs.Office as office;
 ghost use Rattle.filing_commands.specs.Standing as commands;
-ghost use Rattle.filing_commands.specs.Told.{told_done};
+ghost use Rattle.filing_commands.specs.CallAnswers.{answer_of_done};
 
 use crate::desk::Desk;
 use crate::payloads::{judge_image, judge_script};
@@ -24,7 +24,7 @@ impl<S: Alter> Desk<S> {
         text: &Payload,
     ) -> Result<(), DeskFault>
         ensures { CallsWith (IsClean S.Store) (StandsFor S.Store) self.old greatest_script text.now
-            (λ t. commands.plain (office.set_script officer.now name.now t)) (told_done result) self.new }
+            (λ t. commands.plain (office.set_script officer.now name.now t)) (answer_of_done result) self.new }
     {
         let script = judge_script(self.alloc, text)?;
         self.officers.set_script(officer, name, script)?;
@@ -35,7 +35,7 @@ impl<S: Alter> Desk<S> {
     /// (check), or 96 (thirty-two global scripts have other names).
     pub fn set_global(&mut self, name: &[u8], text: &Payload) -> Result<(), DeskFault>
         ensures { CallsWith (IsClean S.Store) (StandsFor S.Store) self.old greatest_script text.now
-            (λ t. commands.plain (office.set_global name.now t)) (told_done result) self.new }
+            (λ t. commands.plain (office.set_global name.now t)) (answer_of_done result) self.new }
     {
         let script = judge_script(self.alloc, text)?;
         self.officers.set_global(name, script)?;
@@ -46,7 +46,7 @@ impl<S: Alter> Desk<S> {
     /// none of that name.
     pub fn activate(&mut self, officer: &[u8], name: &[u8]) -> Result<(), DeskFault>
         ensures { Calls (IsClean S.Store) (StandsFor S.Store) self.old
-            (commands.plain (office.activate officer.now name.now)) (told_done result) self.new }
+            (commands.plain (office.activate officer.now name.now)) (answer_of_done result) self.new }
     {
         self.officers.activate(officer, name)?;
         Ok(())
@@ -55,7 +55,7 @@ impl<S: Alter> Desk<S> {
     /// Sets no program for an officer, as `Registry` says. It is never refused.
     pub fn deactivate(&mut self, officer: &[u8])
         ensures { Calls (IsClean S.Store) (StandsFor S.Store) self.old (commands.plain (office.deactivate officer.now))
-            (told_done (Ok tt)) self.new }
+            (answer_of_done (Ok tt)) self.new }
     {
         self.officers.deactivate(officer);
     }
@@ -64,7 +64,7 @@ impl<S: Alter> Desk<S> {
     /// (code).
     pub fn set_image(&mut self, officer: &[u8], image: &Payload) -> Result<(), DeskFault>
         ensures { CallsWith (IsClean S.Store) (StandsFor S.Store) self.old greatest_image image.now
-            (λ i. commands.plain (office.set_image officer.now i)) (told_done result) self.new }
+            (λ i. commands.plain (office.set_image officer.now i)) (answer_of_done result) self.new }
     {
         let program = judge_image(self.alloc, image)?;
         self.officers.set_image(officer, program)?;

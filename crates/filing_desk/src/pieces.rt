@@ -4,8 +4,8 @@ ghost use Rattle.std.specs.Prelude.{◌≡◌, ◌<◌, ◌≤◌, length, IfOk,
 ghost use Rattle.filing_commands.specs.Limits.{greatest_message};
 ghost use Rattle.filing_commands.specs.Payloads.{IsOf};
 ghost use Rattle.filing_commands.specs.Standing as commands;
-ghost use Rattle.filing_commands.specs.Told.{told_ticket};
-ghost use Rattle.filing_desk.specs.Beginning.{joined};
+ghost use Rattle.filing_commands.specs.CallAnswers.{answer_of_ticket};
+ghost use Rattle.filing_desk.specs.Beginning.{whole_message};
 
 use crate::desk::Desk;
 use filing_commands::{DeskFault, MAX_MESSAGE_OCTETS, Payload};
@@ -14,8 +14,8 @@ use std::alloc::{AllocError, Global};
 
 /// How many octets the pieces of a message have together; none where they are more than a message may have.
 fn length_of(pieces: &[&[u8]]) -> Option<usize>
-    ensures { MatchOption result (greatest_message < length (joined pieces.now))
-        (λ n. (n ≡ length (joined pieces.now)) × (n ≤ greatest_message)) }
+    ensures { MatchOption result (greatest_message < length (whole_message pieces.now))
+        (λ n. (n ≡ length (whole_message pieces.now)) × (n ≤ greatest_message)) }
 {
     let mut octets: usize = 0;
     for piece in pieces {
@@ -29,7 +29,7 @@ fn length_of(pieces: &[&[u8]]) -> Option<usize>
 
 /// The octets of all pieces, for which memory is allocated once.
 fn join(alloc: Global, length: usize, pieces: &[&[u8]]) -> Result<Vec<u8>, AllocError>
-    ensures { IfOk result (λ v. v.items ≡ joined pieces.now) }
+    ensures { IfOk result (λ v. v.items ≡ whole_message pieces.now) }
 {
     let mut message = Vec::with_capacity(alloc, length)?;
     for piece in pieces {
@@ -40,7 +40,7 @@ fn join(alloc: Global, length: usize, pieces: &[&[u8]]) -> Result<Vec<u8>, Alloc
 
 /// The message that comes in pieces, as a payload. No memory is allocated where it is too long.
 fn payload_of(alloc: Global, pieces: &[&[u8]]) -> Payload
-    ensures { IsOf greatest_message result (joined pieces.now) }
+    ensures { IsOf greatest_message result (whole_message pieces.now) }
 {
     let Some(length) = length_of(pieces) else {
         return Payload::TooLong;
@@ -64,8 +64,8 @@ impl<S: Alter> Desk<S> {
         pieces: &[&[u8]],
     ) -> Result<(u32, u32), DeskFault>
         ensures { Calls (IsClean S.Store) (StandsFor S.Store) self.old
-            (commands.begin officer.now moment (joined pieces.now))
-            (told_ticket result) self.new }
+            (commands.begin officer.now moment (whole_message pieces.now))
+            (answer_of_ticket result) self.new }
     {
         let message = payload_of(self.alloc, pieces);
         self.begin(officer, moment, message)

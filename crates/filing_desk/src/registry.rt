@@ -4,8 +4,9 @@
 
 use crate::desk::Desk;
 use class_plan::Date;
-use filing_commands::{Capture, DeskFault, Outcome, Payload, Registry, Turn};
+use filing_commands::{Capture, DeskFault, Payload, Registry, Turn};
 use record_store::Line;
+use sieve_meaning::Outcome;
 use sqlite::Alter;
 
 impl<S: Alter> Registry for Desk<S> {

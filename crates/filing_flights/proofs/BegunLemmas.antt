@@ -9,13 +9,13 @@ use Rattle.filing_verify.specs.Well.{IsWell}
 use Rattle.filing_case.specs.Message.{case_of, is_among}
 use Rattle.filing_machine.proofs.Ends.{ends_within}
 use Rattle.filing_commands.specs.Limits.{greatest_message, last_moment, last_ticket, most_in_flight}
-use Rattle.filing_commands.specs.Pinning.{Pins, Stood, case_in}
-use Rattle.filing_commands.specs.Standing.{Begins, Flight, IsPinned, Standing, begin_refusal, stood_at}
-use Rattle.filing_flights.specs.Held.{Held, facts_in}
+use Rattle.filing_commands.specs.Pinning.{Pins, BeginState, case_in}
+use Rattle.filing_commands.specs.Standing.{Begins, Flight, IsPinned, Standing, begin_refusal, begin_state}
+use Rattle.filing_flights.specs.FlightViews.{FlightView, facts_in}
 use Rattle.filing_flights.specs.Begun.{HoldsBegun, IsBegun}
 
 -- a capture with the case of its message and paths, and with no step made, holds each flight that begins with these
-pub holds_begun : (x : Held) (paths : List (List ℕ)) → facts_in x.case ≡ case_of x.message (is_among paths) → x.machine.steps ≡ 0 → HoldsBegun x.ticket x.program x.message paths x.day x
+pub holds_begun : (x : FlightView) (paths : List (List ℕ)) → facts_in x.case ≡ case_of x.message (is_among paths) → x.machine.steps ≡ 0 → HoldsBegun x.ticket x.program x.message paths x.day x
 holds_begun x paths case none = λ f b.
     let granted = b.fresh in
     record {
@@ -23,35 +23,35 @@ holds_begun x paths case none = λ f b.
       program = sym b.program;
       pinned = b.pinned;
       message = sym b.message;
-      facts = case ∙ ap (λ m. case_of m (is_among paths)) (sym b.message) ∙ ap (case_of f.stood.message) (sym b.paths);
+      facts = case ∙ ap (λ m. case_of m (is_among paths)) (sym b.message) ∙ ap (case_of f.at_begin.message) (sym b.paths);
       day = b.day;
       steps = omega (arith, none, granted);
     }
 
 -- the flight that begins with a ticket; its run is as long as that of a program that may run
-abbrev pub first_flight : (ticket : ℕ) → (s : Stood) → (p : Program) → IsWell p → Flight
-first_flight ticket s p well = record { ticket = ticket; stood = s; pinned = p; run_length = (ends_within p (case_in s) well).0; granted = 0 }
+abbrev pub first_flight : (ticket : ℕ) → (s : BeginState) → (p : Program) → IsWell p → Flight
+first_flight ticket s p well = record { ticket = ticket; at_begin = s; pinned = p; run_length = (ends_within p (case_in s) well).0; granted = 0 }
 
-pub first_pinned : (t : ℕ) (s : Stood) (p : Program) (well : IsWell p) → Pins s p → IsPinned (first_flight t s p well)
+pub first_pinned : (t : ℕ) (s : BeginState) (p : Program) (well : IsWell p) → Pins s p → IsPinned (first_flight t s p well)
 first_pinned t s p well pins = let run = ends_within p (case_in s) well in record { pins = pins; well = well; length = (run.1, run.3) }
 
 -- it begins with the program, the message, the open paths and the day of the state at its beginning
-pub first_begun : (t : ℕ) (s : Stood) (p : Program) (well : IsWell p) (paths : List (List ℕ)) (day : Date) → Pins s p → s.is_open ≡ is_among paths → epoch_day day ≡ pos s.day → IsBegun t p s.message paths day (first_flight t s p well)
+pub first_begun : (t : ℕ) (s : BeginState) (p : Program) (well : IsWell p) (paths : List (List ℕ)) (day : Date) → Pins s p → s.is_open ≡ is_among paths → epoch_day day ≡ pos s.day → IsBegun t p s.message paths day (first_flight t s p well)
 first_begun t s p well paths day pins opens on = record { ticket = refl; program = refl; pinned = first_pinned t s p well pins; message = refl; paths = opens; day = on; fresh = refl }
 
 -- the state of the desk after a capture has begun
 abbrev pub after_begin : (s : Standing) → Flight → Standing
 after_begin s f = record { office = s.office; flights = s.flights ++ f ∷ []; last = s.last + 1 }
 
-pub begins : (s : Standing) (officer : List ℕ) (moment : ℕ) (message : List ℕ) (p : Program) (well : IsWell p) → begin_refusal (length s.flights) s.last moment (length message) ≡ None → Pins (stood_at s.office officer moment message) p → Begins s officer moment message (s.last + 1) p.budget (after_begin s (first_flight (s.last + 1) (stood_at s.office officer moment message) p well))
+pub begins : (s : Standing) (officer : List ℕ) (moment : ℕ) (message : List ℕ) (p : Program) (well : IsWell p) → begin_refusal (length s.flights) s.last moment (length message) ≡ None → Pins (begin_state s.office officer moment message) p → Begins s officer moment message (s.last + 1) p.budget (after_begin s (first_flight (s.last + 1) (begin_state s.office officer moment message) p well))
 begins s officer moment message p well allowed pins =
-    let stood = stood_at s.office officer moment message in
+    let at_begin = begin_state s.office officer moment message in
     record {
       allowed = allowed;
-      flight = first_flight (s.last + 1) stood p well;
-      pinned = first_pinned (s.last + 1) stood p well pins;
+      flight = first_flight (s.last + 1) at_begin p well;
+      pinned = first_pinned (s.last + 1) at_begin p well pins;
       next = refl;
-      stood = refl;
+      at_begin = refl;
       fresh = refl;
       ticket = refl;
       budget = refl;

@@ -1,15 +1,20 @@
 -- The classes of a run's outcome: the default class, and paths that are open in the case.
 use Rattle.std.proofs.Common.{◌≡◌, ℕ, zero, suc, ◌+◌, List, [], ◌∷◌, ◌++◌, refl, subst, inl, inr, Bool, true, false, not, Option, Some, None, length}
-use Rattle.std.specs.Prelude.{◌⊎◌, ◌||◌, ◌&&◌, if◌then◌else◌, nat_le, nat_lt, nat_eq, slice_get, slice_index_or, slice_set}
+use Rattle.std.specs.Prelude.{◌⊎◌, ◌||◌, if◌then◌else◌, nat_le, nat_lt, nat_eq, slice_get, slice_index_or, slice_set}
 use Rattle.std.specs.List.{AllByRecursion, list_any}
+use Rattle.class_paths.specs.Path.{unfiled}
+use Rattle.class_paths.specs.Paths.{Paths, insert_path, IsIncreasing}
+use Rattle.sieve_meaning.specs.declared.outcome.Outcome.{Outcome}
+use Rattle.sieve_meaning.specs.declared.run_fault.RunFault.{RunFault}
+use Rattle.sieve_meaning.specs.declared.run_fault.RunFault.TheVariants.{ClassNotOpen}
+use Rattle.sieve_meaning.specs.RunFaults.{fault_of}
 use Rattle.sieve_meaning.specs.Case.{Facts}
-use Rattle.sieve_meaning.specs.Paths.{Paths, insert_path, IsIncreasing}
-use Rattle.sieve_meaning.specs.Outcome.{Outcome, outcome_at, unfiled}
+use Rattle.sieve_meaning.specs.Outcome.{outcome_at}
 use Rattle.filing_flights.proofs.PathLemmas.{all_in_insert_path, insert_path_increasing, none_increasing}
 use Rattle.filing_image.specs.Program.{Program, first_places}
 use Rattle.filing_image.specs.declared.instruction.Operation.{Operation}
 use Rattle.filing_image.specs.declared.instruction.Operation.TheVariants.{PushTrue, PushFalse, Not, Values, Join, Match, Pop, Exists, Size, Number, Less as LessThan, Jump, JumpIf, JumpUnless, Marked, Mark, File, Keep, Discard, Stop, Fault, Call, Return}
-use Rattle.filing_table.specs.Machine.{Entry, T, L, N, State, Run, At, Over, Trap, compared, values_of, with_stack, with_named, only_if, file, enter, go_back, on_stack, at_place, step, after_steps}
+use Rattle.filing_table.specs.Machine.{Entry, T, L, N, State, Run, At, Over, Trap, comparison_holds, values_of, with_stack, with_named, only_if, file, enter, go_back, on_stack, at_place, step, after_steps}
 use Rattle.sieve_meaning.specs.Truth.{has_field}
 use Rattle.filing_table.specs.Ends.{HasOutcome}
 
@@ -38,7 +43,7 @@ module _ (p : Program) (c : Facts) where
 
   filed_under : (s : State) (a : ℕ) (path : List ℕ) → IsFiled c s.filed → HasFiled c (file c s a path)
   filed_under s a path h =
-      (elim (c.is_open path) as (λ b. c.is_open path ≡ b → HasFiled c (if b then At (record s { place = s.place + 1; filed = insert_path path s.filed; cancelled = s.cancelled || nat_eq a 0 }) else Over (Some 1) s)) [
+      (elim (c.is_open path) as (λ b. c.is_open path ≡ b → HasFiled c (if b then At (record s { place = s.place + 1; filed = insert_path path s.filed; cancelled = s.cancelled || nat_eq a 0 }) else Over (Some ClassNotOpen) s)) [
         | true ↦ λ e. record { open_paths = all_in_insert_path (λ q. c.is_open q ≡ true) s.filed path e h.open_paths; in_order = insert_path_increasing s.filed path h.in_order }
         | false ↦ λ e. h
       ]) refl
@@ -56,8 +61,8 @@ module _ (p : Program) (c : Facts) where
   acted Join s (L ys ∷ L xs ∷ es) h = on s (L (xs ++ ys) ∷ es) h
   acted Join s _ h = tt
   acted (Match a b) s (L xs ∷ es) h =
-      let go : List ℕ → Run = λ key. with_stack s (T (list_any (compared a key) xs) ∷ L xs ∷ es) in
-      only (nat_le a 5) (with_named (slice_get p.texts b) go) (named (slice_get p.texts b) go (λ key. on s (T (list_any (compared a key) xs) ∷ L xs ∷ es) h))
+      let go : List ℕ → Run = λ key. with_stack s (T (list_any (comparison_holds a key) xs) ∷ L xs ∷ es) in
+      only (nat_le a 5) (with_named (slice_get p.texts b) go) (named (slice_get p.texts b) go (λ key. on s (T (list_any (comparison_holds a key) xs) ∷ L xs ∷ es) h))
   acted (Match a b) s _ h = tt
   acted Pop s (e ∷ es) h = on s es h
   acted Pop s _ h = tt
@@ -77,7 +82,7 @@ module _ (p : Program) (c : Facts) where
   acted Keep s es h = h
   acted Discard s es h = h
   acted Stop s es h = h
-  acted (Fault a) s es h = only (nat_le 2 a && nat_le a 5) (Over (Some a) s) h
+  acted (Fault a) s es h = only (nat_le 2 a) (with_named (fault_of a) (λ fault. Over (Some fault) s)) (named (fault_of a) (λ fault. Over (Some fault) s) (λ fault. h))
   acted (Call b) s [] h = named (slice_get (first_places p) b) (enter s) (λ first. h)
   acted (Call b) s _ h = tt
   acted Return s [] h = gone_back s s.calls h
@@ -114,8 +119,8 @@ with_default c filed h = record {
   in_order = insert_path_increasing filed unfiled h.in_order;
 }
 
-left : (c : Facts) (fault : Option ℕ) (filed : Paths) (kept cancelled : Bool) → IsFiled c filed → AreOpenClasses c (outcome_at fault filed kept cancelled).classes
-left c (Some n) filed kept cancelled h = record { each = (inl refl, tt); in_order = insert_path_increasing [] unfiled none_increasing }
+left : (c : Facts) (fault : Option RunFault) (filed : Paths) (kept cancelled : Bool) → IsFiled c filed → AreOpenClasses c (outcome_at fault filed kept cancelled).classes
+left c (Some fault) filed kept cancelled h = record { each = (inl refl, tt); in_order = insert_path_increasing [] unfiled none_increasing }
 left c None filed kept cancelled h =
     elim (kept || not cancelled) as (λ b. AreOpenClasses c (if b then insert_path unfiled filed else filed)) [
       | true ↦ with_default c filed h

@@ -7,7 +7,7 @@ use Rattle.std.specs.Ordering.{nat_cmp, match_ordering, ordering_reverse}
 use Rattle.std.specs.declared.cmp.Ordering.{Ordering}
 use Rattle.std.specs.declared.cmp.Ordering.TheVariants.{Less, Equal, Greater}
 use Rattle.std.proofs.lemmas.Cmp.{nat_list_cmp_total}
-use Rattle.sieve_meaning.specs.Paths.{Paths, insert_path, IsIncreasing}
+use Rattle.class_paths.specs.Paths.{Paths, insert_path, IsIncreasing}
 
 -- byte order
 abbrev order : List ℕ → List ℕ → Ordering

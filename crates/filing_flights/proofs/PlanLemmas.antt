@@ -3,14 +3,14 @@ use Rattle.std.proofs.Common.{◌≡◌, ℕ, List, [], ◌∷◌, refl, sym, ap
 use Rattle.std.specs.Prelude.{is_some, option_map, unwrap_or, All}
 use Rattle.std.specs.List.{AllByRecursion}
 use Rattle.std.proofs.lemmas.List.Elements.{All-from_recursion, recursion_from_All}
-use Rattle.sieve_meaning.specs.Paths.{IsIncreasing}
+use Rattle.class_paths.specs.Path.{unfiled}
+use Rattle.class_paths.specs.Paths.{IsIncreasing}
 use Rattle.sieve_meaning.specs.Case.{Facts}
-use Rattle.class_plan.specs.Paths.{unfiled}
-use Rattle.class_plan.specs.Plans.{IsPlan, Listing, Row, found, has, is_open_in}
+use Rattle.class_plan.specs.Plans.{IsPlan, Listing, Row, row_at, has, is_open_in}
 use Rattle.record_store.specs.Stores.{AreClasses}
 use Rattle.filing_case.specs.Message.{is_among}
 use Rattle.filing_commands.specs.Standing.{Flight}
-use Rattle.filing_flights.specs.Held.{Held, Holds, IsClass}
+use Rattle.filing_flights.specs.FlightViews.{FlightView, Holds, IsClass}
 
 open_is_there : (o : Option Row) → unwrap_or (option_map (λ r. r.is_open) o) false ≡ true → is_some o ≡ true
 open_is_there None e = absurd cc
@@ -18,13 +18,13 @@ open_is_there (Some r) e = refl
 
 -- an open path is a class
 pub open_has : (p : Listing) (q : List ℕ) → is_open_in p q ≡ true → has p.rows q ≡ true
-open_has p q e = open_is_there (found q p.rows) e
+open_has p q e = open_is_there (row_at q p.rows) e
 
 -- the plan has each path that was open at the beginning of a capture
-abbrev pub HasOpen : Held → Listing → Type 0
+abbrev pub HasOpen : FlightView → Listing → Type 0
 HasOpen x p = (q : List ℕ) → is_among x.case.paths q ≡ true → has p.rows q ≡ true
 
-are_there : (x : Held) (p : Listing) (cs : List (List ℕ)) → has p.rows unfiled ≡ true → HasOpen x p → AllByRecursion (IsClass x) cs → AllByRecursion (λ q. has p.rows q ≡ true) cs
+are_there : (x : FlightView) (p : Listing) (cs : List (List ℕ)) → has p.rows unfiled ≡ true → HasOpen x p → AllByRecursion (IsClass x) cs → AllByRecursion (λ q. has p.rows q ≡ true) cs
 are_there x p [] d opens all = tt
 are_there x p (q ∷ qs) d opens all = (is_there all.0, are_there x p qs d opens all.1)
   where
@@ -32,11 +32,11 @@ are_there x p (q ∷ qs) d opens all = (is_there all.0, are_there x p qs d opens
     is_there (inl same) = let P : List ℕ → Type 0 = λ r. has p.rows r ≡ true in subst P (sym same) d
     is_there (inr among) = opens q among
 
-pub are_classes : (x : Held) (p : Listing) (cs : List (List ℕ)) → IsPlan p → HasOpen x p → All (IsClass x) cs → IsIncreasing cs → AreClasses p cs
+pub are_classes : (x : FlightView) (p : Listing) (cs : List (List ℕ)) → IsPlan p → HasOpen x p → All (IsClass x) cs → IsIncreasing cs → AreClasses p cs
 are_classes x p cs plan opens each up = record {
   classes = All-from_recursion (λ q. has p.rows q ≡ true) cs (are_there x p cs (open_has p unfiled plan.unfiled_open) opens (recursion_from_All (IsClass x) cs each));
   in_order = up;
 }
 
-pub held_has_open : (x : Held) (f : Flight) (p : Listing) → Holds x f → ((q : List ℕ) → f.stood.is_open q ≡ true → has p.rows q ≡ true) → HasOpen x p
+pub held_has_open : (x : FlightView) (f : Flight) (p : Listing) → Holds x f → ((q : List ℕ) → f.at_begin.is_open q ≡ true → has p.rows q ≡ true) → HasOpen x p
 held_has_open x f p h opens = λ q among. opens q (sym (ap (λ (c : Facts). c.is_open q) h.facts) ∙ among)

@@ -2,14 +2,14 @@
 use Rattle.std.proofs.Common.{◌≡◌, ℕ, List, [], ◌∷◌, ◌++◌, subst, eqb, true, false, Some}
 use Rattle.std.specs.Prelude.{◌+◌, if◌then◌else◌}
 use Rattle.std.specs.List.{AllByRecursion}
-use Rattle.filing_commands.specs.Pinning.{Stood}
+use Rattle.filing_commands.specs.Pinning.{BeginState}
 use Rattle.filing_commands.specs.Standing.{Flight, flight_of, grant, without}
 
-module _ (P : Stood → Type 0) where
+module _ (P : BeginState → Type 0) where
   abbrev pub AllStood : List Flight → Type 0
-  AllStood fs = AllByRecursion (λ (f : Flight). P f.stood) fs
+  AllStood fs = AllByRecursion (λ (f : Flight). P f.at_begin) fs
 
-  pub stood_append : (fs : List Flight) (f : Flight) → AllStood fs → P f.stood → AllStood (fs ++ f ∷ [])
+  pub stood_append : (fs : List Flight) (f : Flight) → AllStood fs → P f.at_begin → AllStood (fs ++ f ∷ [])
   stood_append [] f all one = (one, tt)
   stood_append (g ∷ fs) f all one = (all.0, stood_append fs f all.1 one)
 
@@ -25,10 +25,10 @@ module _ (P : Stood → Type 0) where
       let rest = stood_without t fs all.1 in
       elim (eqb f.ticket t) as (λ b. AllStood (if b then fs else f ∷ without t fs)) [ true ↦ all.1 | false ↦ (all.0, rest) ]
 
-  pub stood_flight : (t : ℕ) (fs : List Flight) (f : Flight) → flight_of t fs ≡ Some f → AllStood fs → P f.stood
+  pub stood_flight : (t : ℕ) (fs : List Flight) (f : Flight) → flight_of t fs ≡ Some f → AllStood fs → P f.at_begin
   stood_flight t [] f e all = absurd cc
   stood_flight t (g ∷ fs) f e all =
-      (elim (eqb g.ticket t) as (λ b. (if b then Some g else flight_of t fs) ≡ Some f → P f.stood) [
-        | true ↦ λ same. let is : g ≡ f = cc in subst (λ (h : Flight). P h.stood) is all.0
+      (elim (eqb g.ticket t) as (λ b. (if b then Some g else flight_of t fs) ≡ Some f → P f.at_begin) [
+        | true ↦ λ same. let is : g ≡ f = cc in subst (λ (h : Flight). P h.at_begin) is all.0
         | false ↦ λ later. stood_flight t fs f later all.1
       ]) e

@@ -5,7 +5,7 @@ use Rattle.jiff_core.specs.declared.civil.date.Date.{Date}
 use Rattle.filing_image.specs.Program.{Program}
 use Rattle.filing_case.specs.Message.{is_among}
 use Rattle.filing_commands.specs.Standing.{Flight, IsPinned}
-use Rattle.filing_flights.specs.Held.{Held, Holds}
+use Rattle.filing_flights.specs.FlightViews.{FlightView, Holds}
 
 -- a flight of a ticket, a program, a message, open paths and a day, which was granted no turns
 pub record IsBegun (number : ℕ) (p : Program) (octets : List ℕ) (opened : List (List ℕ)) (on : Date)
@@ -13,11 +13,11 @@ pub record IsBegun (number : ℕ) (p : Program) (octets : List ℕ) (opened : Li
   pub ticket : f.ticket ≡ number
   pub program : f.pinned ≡ p
   pub pinned : IsPinned f
-  pub message : f.stood.message ≡ octets
-  pub paths : f.stood.is_open ≡ is_among opened
-  pub day : epoch_day on ≡ pos f.stood.day
+  pub message : f.at_begin.message ≡ octets
+  pub paths : f.at_begin.is_open ≡ is_among opened
+  pub day : epoch_day on ≡ pos f.at_begin.day
   pub fresh : f.granted ≡ 0
 
 -- the capture holds each such flight
-abbrev pub HoldsBegun : (ticket : ℕ) → Program → (message : List ℕ) → (paths : List (List ℕ)) → Date → Held → Type 0
+abbrev pub HoldsBegun : (ticket : ℕ) → Program → (message : List ℕ) → (paths : List (List ℕ)) → Date → FlightView → Type 0
 HoldsBegun ticket p message paths day x = (f : Flight) → IsBegun ticket p message paths day f → Holds x f

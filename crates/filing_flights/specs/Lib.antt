@@ -1,4 +1,4 @@
 pub mod Machines
-pub mod Held
+pub mod FlightViews
 pub mod Begun
 pub mod Flights

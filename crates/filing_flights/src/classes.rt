@@ -2,11 +2,11 @@
 
 ghost use Rattle.std.specs.Prelude.{◌≡◌, map, IfOk};
 
-use sieve_meaning::Paths;
+use class_paths::Paths;
 use std::alloc::{AllocError, Global};
 
 /// The paths of a set, each as a vector, in the order of the set. The only error is out of memory (99).
-pub fn class_paths(alloc: Global, classes: &Paths) -> Result<Vec<Vec<u8>>, AllocError>
+pub fn path_vectors(alloc: Global, classes: &Paths) -> Result<Vec<Vec<u8>>, AllocError>
     ensures { IfOk result (λ v. map (λ p. p.items) v.items ≡ classes.now) }
 {
     let classes = classes.as_slice();

@@ -2,12 +2,12 @@
 
 ghost use Rattle.std.specs.Prelude.{◌≡◌, ◌≤◌, ◌+◌, length, true, not, nat_lt, IfOk, OnOk, OnErr};
 ghost use Rattle.std.specs.List.{All};
+ghost use Rattle.class_paths.specs.Paths.{IsIncreasing};
 ghost use Rattle.class_plan.specs.Dates.{IsCaptureDay};
 ghost use Rattle.sieve_meaning.specs.Case.{Facts};
-ghost use Rattle.sieve_meaning.specs.Paths.{IsIncreasing};
 ghost use Rattle.filing_image.specs.Program.{Program};
-ghost use Rattle.filing_machine.specs.Runs.{Stands, answer};
-ghost use Rattle.filing_flights.specs.Held.{IsGranted, IsOutcome, IsClass, StopsShort, TellsEnd, TellsTurns, facts_in, has_ended};
+ghost use Rattle.filing_machine.specs.Runs.{Stands};
+ghost use Rattle.filing_flights.specs.FlightViews.{IsGranted, IsOutcome, IsClass, StopsShort, TellsEnd, TellsTurns, facts_in, has_ended};
 ghost use Rattle.filing_flights.specs.Begun.{HoldsBegun};
 ghost use Rattle.filing_flights.specs.Machines.{HasMade, IsStopped};
 
@@ -15,8 +15,9 @@ use crate::paths::PinnedPaths;
 use class_plan::Date;
 use filing_case::{Case, WholeCase};
 use filing_commands::{MAX_MESSAGE_OCTETS, Turn};
-use filing_machine::{Machine, Outcome};
+use filing_machine::Machine;
 use filing_verify::Verified;
+use sieve_meaning::Outcome;
 use std::alloc::{AllocError, Global};
 use std::marker::Model;
 use std::rc::Rc;
@@ -34,10 +35,10 @@ pub struct Flight {
 
 impl Model for Flight {
     ghost use Rattle.class_plan.specs.Dates.{IsCaptureDay};
-    ghost use Rattle.filing_flights.specs.Held.{Held, facts_in};
+    ghost use Rattle.filing_flights.specs.FlightViews.{FlightView, facts_in};
     ghost use Rattle.filing_machine.specs.Runs.{Stands};
 
-    ghost Value = { Held };
+    ghost Value = { FlightView };
 
     ghost view = { λ f. record { ticket = f.ticket; program = f.program.value; message = f.message.items; case = f.case; day = f.day; machine = f.machine } };
 
@@ -139,7 +140,7 @@ impl Flight {
     /// once, and the fault. The caller ensures that the run has come to its end. The only error is out of memory (99).
     pub fn outcome(&self) -> Result<Outcome, AllocError>
         requires { has_ended self.now ≡ true }
-        ensures alone { IfOk result (λ o. IsOutcome self.now (answer o)) }
+        ensures alone { IfOk result (λ o. IsOutcome self.now o) }
         ensures in_order { IfOk result (λ o. IsIncreasing o.classes) }
         ensures classes { IfOk result (λ o. All (IsClass self.now) o.classes) }
     {

@@ -2,7 +2,7 @@
 
 ghost use Rattle.std.specs.Prelude.{◌≡◌, ◌<◌, ◌≤◌, ◌==◌, [], length, position, option_map, nat_le, OnOk, OnErr};
 ghost use Rattle.filing_commands.specs.Limits.{most_in_flight};
-ghost use Rattle.filing_commands.specs.Told.{told_turn};
+ghost use Rattle.filing_commands.specs.CallAnswers.{answer_of_turn};
 ghost use Rattle.filing_flights.specs.Flights.{Adds, Finds, Removes, TellsFull, Turns};
 
 use crate::flight::Flight;
@@ -29,9 +29,9 @@ pub struct Flights {
 
 impl Model for Flights {
     ghost use Rattle.std.specs.Prelude.{List, ◌≤◌, length};
-    ghost use Rattle.filing_flights.specs.Held.{Held};
+    ghost use Rattle.filing_flights.specs.FlightViews.{FlightView};
 
-    ghost Value = { List Held };
+    ghost Value = { List FlightView };
 
     ghost view = { λ s. s.flights.items };
 
@@ -69,7 +69,7 @@ impl Flights {
     /// Lets the capture with that ticket make `count` more steps, at most. Refused where there is none (91), and where
     /// there is no memory (99); the capture then keeps the steps that were made before. No other capture is changed.
     pub fn turn(&mut self, ticket: u64, count: u32) -> Result<Turn, DeskFault>
-        ensures { Turns self.old ticket count (told_turn result) self.new }
+        ensures { Turns self.old ticket count (answer_of_turn result) self.new }
     {
         let Some(at) = place_of(&self.flights, ticket) else {
             return Err(DeskFault::NoTicket);

@@ -11,7 +11,7 @@ mod flight;
 mod flights;
 mod paths;
 
-pub use classes::class_paths;
+pub use classes::path_vectors;
 pub use flight::Flight;
 pub use flights::Flights;
 pub use paths::PinnedPaths;

@@ -8,7 +8,7 @@ use Rattle.filing_verify.specs.Flow.{first_place}
 use Rattle.sieve_meaning.specs.Case.{Facts}
 use Rattle.filing_table.specs.Machine.{Run, At, with_named, enter}
 use Rattle.filing_flow.specs.Structure.{Flow, block, size}
-use Rattle.filing_flow.specs.Effect.{Filing, Exit, FallsThrough, Leaves, EndsRun, Stuck, returned, and_then, effect}
+use Rattle.filing_flow.specs.Effect.{Filing, Exit, FallsThrough, Leaves, EndsRun, Stuck, call_exit, and_then, effect}
 use Rattle.filing_flow.specs.Procedures.{called_by, RunsAsItsProcedures}
 use Rattle.filing_flow.specs.Whole.{nothing_done}
 use Rattle.filing_flow.proofs.Follow.{on, Comes, then, by_one, stepped, Arrives, arrives_later, CallsRun, flow_runs}
@@ -17,7 +17,7 @@ use Rattle.filing_flow.proofs.Rest.{RestOf, all, after_it, first_is}
 
 module _ (p : Program) (c : Facts) where
   -- a RETURN goes on after the call
-  goes_back : (calls : List ℕ) (x : Exit) (next end : ℕ) (ends : List ℕ) (y : Run) → slice_get p.code end ≡ Some Return → Arrives p c (next ∷ calls) x end [] y → Arrives p c calls (returned x) next ends y
+  goes_back : (calls : List ℕ) (x : Exit) (next end : ℕ) (ends : List ℕ) (y : Run) → slice_get p.code end ≡ Some Return → Arrives p c (next ∷ calls) x end [] y → Arrives p c calls (call_exit x) next ends y
   goes_back calls (FallsThrough f []) next end ends y at a = then p c a (by_one p c (stepped p c (next ∷ calls) f end [] Return at))
   goes_back calls (FallsThrough f (e ∷ es)) next end ends y at a = tt
   goes_back calls (Leaves n f es) next end ends y at a = tt
@@ -38,12 +38,12 @@ module _ (p : Program) (c : Facts) where
     call_runs : (a : Flow) (later : List Flow) (from place : ℕ) → RestOf p count from place (a ∷ later) → ((calls : List ℕ) → CallsRun p c calls (called_by c (suc from) later)) → (calls : List ℕ) → CallsRun p c calls (called_by c from (a ∷ later))
     call_runs a later from place rest run calls b f pc ends at = go (nat_eq b from) refl
       where
-        go : (t : Bool) → nat_eq b from ≡ t → Arrives p c calls (returned (cond t (effect (called_by c (suc from) later) c (block a) f []) (called_by c (suc from) later b f))) (pc + 1) ends (At (on calls f pc []))
+        go : (t : Bool) → nat_eq b from ≡ t → Arrives p c calls (call_exit (cond t (effect (called_by c (suc from) later) c (block a) f []) (called_by c (suc from) later b f))) (pc + 1) ends (At (on calls f pc []))
         go true e =
             let x = effect (called_by c (suc from) later) c (block a) f [] in
             let is : first_place p b ≡ Some place = ap (first_place p) (eqb-true b from e) ∙ first_is p count from place a later rest in
             let body = procedure_runs a later from place rest ((pc + 1) ∷ calls) (run ((pc + 1) ∷ calls)) f in
-            arrives_later p c calls (returned x) (pc + 1) ends (At (on calls f pc [])) (At (on ((pc + 1) ∷ calls) f place [])) (enters calls b place pc f at is)
+            arrives_later p c calls (call_exit x) (pc + 1) ends (At (on calls f pc [])) (At (on ((pc + 1) ∷ calls) f place [])) (enters calls b place pc f at is)
             (goes_back calls x (pc + 1) (place + size a) ends (At (on ((pc + 1) ∷ calls) f place [])) rest.stand.1 body)
         go false e = run calls b f pc ends at
 
@@ -52,7 +52,7 @@ module _ (p : Program) (c : Facts) where
     calls_run (a ∷ later) from place rest calls = call_runs a later from place rest (calls_run later (suc from) (place + size a + 1) (after_it p count from place a later rest)) calls
 
   -- a RETURN with no place to return to ends the run
-  last_returns : (x : Exit) (end : ℕ) (y : Run) → slice_get p.code end ≡ Some Return → Arrives p c [] x end [] y → Arrives p c [] (and_then (returned x) (λ f es. EndsRun None f)) end [] y
+  last_returns : (x : Exit) (end : ℕ) (y : Run) → slice_get p.code end ≡ Some Return → Arrives p c [] x end [] y → Arrives p c [] (and_then (call_exit x) (λ f es. EndsRun None f)) end [] y
   last_returns (FallsThrough f []) end y at a = record { pc = end; stack = []; calls = []; comes = then p c a (by_one p c (stepped p c [] f end [] Return at)) }
   last_returns (FallsThrough f (e ∷ es)) end y at a = tt
   last_returns (Leaves n f es) end y at a = tt

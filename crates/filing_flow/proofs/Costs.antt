@@ -8,6 +8,7 @@ use Rattle.filing_image.specs.Program.{Program}
 use Rattle.filing_verify.specs.Flow.{first_place, target, goes_on, Follows}
 use Rattle.filing_verify.specs.Well.{is_call, together, next_cost, target_cost, cost_by}
 use Rattle.filing_verify.proofs.Spending.{same_cost}
+use Rattle.sieve_meaning.specs.RunFaults.{number_of}
 use Rattle.filing_flow.specs.Structure.{Action, Push, Negate, ValuesOf, JoinTwo, MatchKey, Drop, HasField, PushSize, PushNumber, IsLess, IsMarked, SetMark, FileInto, SetKept, SetCancelled, End, Fail, CallTo, Flow, nothing, action, sequence, block, leave, leave_if, size, Bounds, IsSoundAction, IsSound}
 use Rattle.filing_flow.specs.Code.{places_in, IsWritten, Stands, end_at, jump_when}
 use Rattle.filing_flow.specs.Types.{Shape, shape_at, HasType}
@@ -96,7 +97,7 @@ module _ (p : Program) (cost : ℕ → ℕ) (exact : AreExact p cost) where
     action_cost SetKept pc o t ok at w le = plain_cost pc Keep t refl refl (at ∙ ap Some w) le
     action_cost SetCancelled pc o t ok at w le = plain_cost pc Discard t refl refl (at ∙ ap Some w) le
     action_cost End pc o t ok at w le = plain_cost pc Stop t refl refl (at ∙ ap Some w) le
-    action_cost (Fail n) pc o t ok at w le = plain_cost pc (Fault n) t refl refl (at ∙ ap Some w) le
+    action_cost (Fail fault) pc o t ok at w le = plain_cost pc (Fault (number_of fault)) t refl refl (at ∙ ap Some w) le
     action_cost (CallTo b) pc o t ok at w le = call_cost pc b t ok.0 (at ∙ ap Some w) le
 
     jump_cost : (pc b t : ℕ) → slice_get p.code pc ≡ Some (Jump b) → cost b ≤ t → cost pc ≤ 1 + t

@@ -1,6 +1,7 @@
 -- The run of a program of code in blocks ends as the code does.
 use Rattle.std.proofs.Common.{◌≡◌, ℕ, zero, suc, ◌+◌, [], Option, refl, sym, ap, ◌∙◌, subst}
 use Rattle.filing_image.specs.Program.{Program}
+use Rattle.sieve_meaning.specs.declared.run_fault.RunFault.{RunFault}
 use Rattle.sieve_meaning.specs.Case.{Facts}
 use Rattle.filing_table.specs.Machine.{State, Run, At, step, start, after_steps}
 use Rattle.filing_table.specs.Ends.{HasOutcome}
@@ -20,7 +21,7 @@ unfolding steps
 after_is p c zero = refl
 after_is p c (suc n) = ap (step p c) (after_is p c n) ∙ sym (steps_last p c n (At start))
 
-pub outcome_at_end : (p : Program) (c : Facts) (fault : Option ℕ) (f : Filing) → OverAt p c (At (on [] nothing_done 0 [])) fault f → (n : ℕ) × HasOutcome p c n (outcome_from fault f)
+pub outcome_at_end : (p : Program) (c : Facts) (fault : Option RunFault) (f : Filing) → OverAt p c (At (on [] nothing_done 0 [])) fault f → (n : ℕ) × HasOutcome p c n (outcome_from fault f)
 outcome_at_end p c fault f over =
     let s : State = on over.calls f over.pc over.stack in
     let (n, ends) = first_end p c over.comes.count fault s (after_is p c over.comes.count ∙ over.comes.leads) in

@@ -5,14 +5,18 @@ use Rattle.std.specs.List.{list_any}
 use Rattle.filing_image.specs.declared.instruction.Operation.{Operation}
 use Rattle.filing_image.specs.declared.instruction.Operation.TheVariants.{Jump, JumpIf, JumpUnless, Call}
 use Rattle.filing_image.specs.Program.{Program}
+use Rattle.class_paths.specs.Paths.{insert_path}
+use Rattle.sieve_meaning.specs.declared.run_fault.RunFault.{RunFault}
+use Rattle.sieve_meaning.specs.declared.run_fault.RunFault.TheVariants.{ClassNotOpen}
+use Rattle.sieve_meaning.specs.RunFaults.{number_of}
+use Rattle.sieve_meaning.proofs.RunFaultLemmas.{fault_of_number}
 use Rattle.sieve_meaning.specs.Case.{Facts}
 use Rattle.sieve_meaning.specs.Truth.{has_field}
-use Rattle.sieve_meaning.specs.Paths.{insert_path}
-use Rattle.filing_table.specs.Machine.{values_of, Entry, T, L, N, State, Run, At, Over, Trap, with_named, compared, on_stack, act, at_place, step}
+use Rattle.filing_table.specs.Machine.{values_of, Entry, T, L, N, State, Run, At, Over, Trap, with_named, comparison_holds, on_stack, at_place, step}
 use Rattle.filing_table.specs.Machine as table
 use Rattle.filing_flow.specs.Structure.{Action, Push, Negate, ValuesOf, JoinTwo, MatchKey, Drop, HasField, PushSize, PushNumber, IsLess, IsMarked, SetMark, FileInto, SetKept, SetCancelled, End, Fail, CallTo, Flow, nothing, action, sequence, block, leave, leave_if, size, Bounds, IsSoundAction, IsSound}
 use Rattle.filing_flow.specs.Code.{places_in, IsWritten, Stands, end_at, jump_when}
-use Rattle.filing_flow.specs.Effect.{Filing, Exit, FallsThrough, Leaves, EndsRun, Stuck, with_stack, filing, Called, returned, action_effect, and_then, caught, leaving, effect}
+use Rattle.filing_flow.specs.Effect.{Filing, Exit, FallsThrough, Leaves, EndsRun, Stuck, with_stack, file_exit, Called, call_exit, action_effect, and_then, caught, jump_exit, effect}
 
 unfoldable pub steps : Program → Facts → ℕ → Run → Run
 steps p c zero x = x
@@ -43,7 +47,7 @@ module _ (p : Program) (c : Facts) where
   unfolding steps
   by_one e = record { count = 1; leads = e }
 
-  pub record OverAt (x : Run) (e : Option ℕ) (f : Filing) : Type 0 where
+  pub record OverAt (x : Run) (e : Option RunFault) (f : Filing) : Type 0 where
     pub pc : ℕ
     pub stack : List Entry
     pub calls : List ℕ
@@ -102,8 +106,8 @@ module _ (p : Program) (c : Facts) (calls : List ℕ) where
   lt_is : (a b : ℕ) → a < b → nat_lt a b ≡ true
   lt_is a b l = grind (arith)
 
-  filed : (f : Filing) (pc : ℕ) (es : List Entry) (a : ℕ) (path : List ℕ) → Gives (filing c f es a path) (pc + 1) (table.file c (on calls f pc es) a path)
-  filed f pc es a path = elim (c.is_open path) as (λ t. Gives (cond t (FallsThrough (record f { filed = insert_path path f.filed; cancelled = f.cancelled || nat_eq a 0 }) es) (EndsRun (Some 1) f)) (pc + 1) (cond t (At (record (on calls f pc es) { place = pc + 1; filed = insert_path path f.filed; cancelled = f.cancelled || nat_eq a 0 })) (Over (Some 1) (on calls f pc es)))) [ true ↦ refl | false ↦ (pc, es, refl) ]
+  filed : (f : Filing) (pc : ℕ) (es : List Entry) (a : ℕ) (path : List ℕ) → Gives (file_exit c f es a path) (pc + 1) (table.file c (on calls f pc es) a path)
+  filed f pc es a path = elim (c.is_open path) as (λ t. Gives (cond t (FallsThrough (record f { filed = insert_path path f.filed; cancelled = f.cancelled || nat_eq a 0 }) es) (EndsRun (Some ClassNotOpen) f)) (pc + 1) (cond t (At (record (on calls f pc es) { place = pc + 1; filed = insert_path path f.filed; cancelled = f.cancelled || nat_eq a 0 })) (Over (Some ClassNotOpen) (on calls f pc es)))) [ true ↦ refl | false ↦ (pc, es, refl) ]
 
   stuck : (f : Filing) (pc : ℕ) (x : Run) → Gives Stuck pc x
   stuck f pc x = tt
@@ -126,7 +130,7 @@ module _ (p : Program) (c : Facts) (calls : List ℕ) where
   action_gives called bounds slots (ValuesOf name) f pc es o is_step ok (b, is, t) = rw is (named (with_stack f (L (values_of c name) ∷ es)) (pc + 1) _ name _ t (stacked f pc es (L (values_of c name) ∷ es)))
   action_gives called bounds slots JoinTwo f pc (L ys ∷ L xs ∷ es) o is_step ok w = rw w (stacked f pc (L ys ∷ L xs ∷ es) (L (xs ++ ys) ∷ es))
   action_gives called bounds slots JoinTwo f pc _ o is_step ok w = tt
-  action_gives called bounds slots (MatchKey a key) f pc (L xs ∷ es) o is_step ok (b, is, t) = rw is (rw (le_is a 5 ok) (named (with_stack f (T (list_any (compared a key) xs) ∷ L xs ∷ es)) (pc + 1) _ key _ t (stacked f pc (L xs ∷ es) (T (list_any (compared a key) xs) ∷ L xs ∷ es))))
+  action_gives called bounds slots (MatchKey a key) f pc (L xs ∷ es) o is_step ok (b, is, t) = rw is (rw (le_is a 5 ok) (named (with_stack f (T (list_any (comparison_holds a key) xs) ∷ L xs ∷ es)) (pc + 1) _ key _ t (stacked f pc (L xs ∷ es) (T (list_any (comparison_holds a key) xs) ∷ L xs ∷ es))))
   action_gives called bounds slots (MatchKey a key) f pc _ o is_step ok w = tt
   action_gives called bounds slots Drop f pc [] o is_step ok w = tt
   action_gives called bounds slots Drop f pc (e ∷ es) o is_step ok w = rw w (stacked f pc (e ∷ es) es)
@@ -137,14 +141,14 @@ module _ (p : Program) (c : Facts) (calls : List ℕ) where
   action_gives called bounds slots IsLess f pc _ o is_step ok w = tt
   action_gives called bounds slots (IsMarked b) f pc es o is_step ok w = rw w (rw (lt_is b p.slots (omega (arith, ok, slots))) (stacked f pc es (T (slice_index_or f.marks b false) ∷ es)))
   action_gives called bounds slots (SetMark b) f pc es o is_step ok w = rw w (rw (lt_is b p.slots (omega (arith, ok, slots))) refl)
-  action_gives called bounds slots (FileInto a path) f pc es o is_step ok (b, is, t) = rw is (rw (le_is a 1 ok) (named (filing c f es a path) (pc + 1) _ path _ t (filed f pc es a path)))
+  action_gives called bounds slots (FileInto a path) f pc es o is_step ok (b, is, t) = rw is (rw (le_is a 1 ok) (named (file_exit c f es a path) (pc + 1) _ path _ t (filed f pc es a path)))
   action_gives called bounds slots SetKept f pc es o is_step ok w = rw w refl
   action_gives called bounds slots SetCancelled f pc es o is_step ok w = rw w refl
   action_gives called bounds slots End f pc es o is_step ok w = (pc, es, rw w refl)
-  action_gives called bounds slots (Fail n) f pc es o is_step ok w = (pc, es, rw w (rw (le_is 2 n ok.0, le_is n 5 ok.1) refl))
+  action_gives called bounds slots (Fail fault) f pc es o is_step ok w = (pc, es, rw w (rw (le_is 2 (number_of fault) ok, fault_of_number fault) refl))
   action_gives called bounds slots (CallTo b) f pc es o is_step ok w = absurd is_step
 
-  leaves_if : (t : Bool) (n : ℕ) (ends : List ℕ) (pc : ℕ) (f : Filing) (es : List Entry) → slice_get p.code pc ≡ Some (jump_when t (end_at ends n)) → Arrives (leaving t n f es) (pc + 1) ends (At (on calls f pc es))
+  leaves_if : (t : Bool) (n : ℕ) (ends : List ℕ) (pc : ℕ) (f : Filing) (es : List Entry) → slice_get p.code pc ≡ Some (jump_when t (end_at ends n)) → Arrives (jump_exit t n f es) (pc + 1) ends (At (on calls f pc es))
   leaves_if true n ends pc f (T true ∷ es) h = by_one p c (stepped f pc (T true ∷ es) (JumpIf (end_at ends n)) h)
   leaves_if true n ends pc f (T false ∷ es) h = by_one p c (stepped f pc (T false ∷ es) (JumpIf (end_at ends n)) h)
   leaves_if true n ends pc f _ h = tt
@@ -154,7 +158,7 @@ module _ (p : Program) (c : Facts) (calls : List ℕ) where
 
   -- From a call the run comes to where the call's effect says.
   abbrev pub CallsRun : Called → Type 0
-  CallsRun called = (b : ℕ) (f : Filing) (pc : ℕ) (ends : List ℕ) → slice_get p.code pc ≡ Some (Call b) → Arrives (returned (called b f)) (pc + 1) ends (At (on calls f pc []))
+  CallsRun called = (b : ℕ) (f : Filing) (pc : ℕ) (ends : List ℕ) → slice_get p.code pc ≡ Some (Call b) → Arrives (call_exit (called b f)) (pc + 1) ends (At (on calls f pc []))
 
   module _ (called : Called) (calls_run : CallsRun called) (bounds : Bounds) (slots : bounds.slots ≡ p.slots) where
     action_runs : (x : Action) (ends : List ℕ) (pc : ℕ) (f : Filing) (es : List Entry) (o : Operation) → IsSoundAction bounds x → slice_get p.code pc ≡ Some o → IsWritten (places_in p.texts p.numbers) x o → Arrives (action_effect called c x f es) (pc + 1) ends (At (on calls f pc es))

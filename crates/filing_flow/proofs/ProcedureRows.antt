@@ -2,13 +2,14 @@
 use Rattle.std.proofs.Common.{◌≡◌, List, [], ◌∷◌, true, Some, None, refl}
 use Rattle.filing_image.specs.declared.instruction.Operation.TheVariants.{Discard, Call, Return}
 use Rattle.filing_image.specs.Program.{Program}
+use Rattle.sieve_meaning.specs.declared.run_fault.RunFault.TheVariants.{RecursiveInclude}
 use Rattle.sieve_meaning.specs.Case.{Facts}
 use Rattle.filing_table.specs.Machine.{after_steps}
 use Rattle.filing_flow.specs.Structure.{Flow, Push, SetKept, SetCancelled, End, Fail, CallTo, action, sequence, block, leave}
 use Rattle.filing_flow.specs.Code.{places_in}
 use Rattle.filing_flow.specs.Effect.{FallsThrough, EndsRun, Stuck, effect}
 use Rattle.filing_flow.specs.Whole.{nothing_done}
-use Rattle.filing_flow.specs.Procedures.{places_from, whole_size, ProceduresStand, called_by, steps_by, first_called}
+use Rattle.filing_flow.specs.Procedures.{places_from, whole_size, ProceduresStand, called_by, steps_by, first_call}
 use Rattle.filing_flow.proofs.Rows.{captured}
 
 abbrev facts : Facts
@@ -30,7 +31,7 @@ program = record { budget = 4; texts = []; numbers = []; slots = 0; procedures =
 worked_stands : ProceduresStand (places_in [] []) program.code worked 0
 worked_stands = ((Call 1, refl, refl), refl, ((Discard, refl, refl), refl, tt))
 
-worked_effect : effect (called_by facts 0 worked) facts first_called nothing_done [] ≡ EndsRun None (record nothing_done { cancelled = true })
+worked_effect : effect (called_by facts 0 worked) facts first_call nothing_done [] ≡ EndsRun None (record nothing_done { cancelled = true })
 worked_effect = refl
 
 -- two calls, and two returns
@@ -54,17 +55,17 @@ stopped = refl
 gone_on : effect (called_by facts 1 (sequence (leave 0) (action SetCancelled) ∷ [])) facts (block (sequence (action (CallTo 1)) (action SetKept))) nothing_done [] ≡ FallsThrough (record nothing_done { kept = true }) []
 gone_on = refl
 
-failed : effect (called_by facts 1 (action (Fail 3) ∷ [])) facts (action (CallTo 1)) nothing_done [] ≡ EndsRun (Some 3) nothing_done
+failed : effect (called_by facts 1 (action (Fail RecursiveInclude) ∷ [])) facts (action (CallTo 1)) nothing_done [] ≡ EndsRun (Some RecursiveInclude) nothing_done
 failed = refl
 
 -- no procedure calls itself, or one before it
-calls_itself : effect (called_by facts 0 (action (CallTo 0) ∷ [])) facts first_called nothing_done [] ≡ Stuck
+calls_itself : effect (called_by facts 0 (action (CallTo 0) ∷ [])) facts first_call nothing_done [] ≡ Stuck
 calls_itself = refl
 
-calls_back : effect (called_by facts 0 (action (CallTo 1) ∷ action (CallTo 0) ∷ [])) facts first_called nothing_done [] ≡ Stuck
+calls_back : effect (called_by facts 0 (action (CallTo 1) ∷ action (CallTo 0) ∷ [])) facts first_call nothing_done [] ≡ Stuck
 calls_back = refl
 
-not_there : effect (called_by facts 0 (action (CallTo 2) ∷ action SetKept ∷ [])) facts first_called nothing_done [] ≡ Stuck
+not_there : effect (called_by facts 0 (action (CallTo 2) ∷ action SetKept ∷ [])) facts first_call nothing_done [] ≡ Stuck
 not_there = refl
 
 -- the stack must be empty at a call and at a return

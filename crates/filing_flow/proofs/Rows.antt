@@ -6,8 +6,10 @@ use Rattle.filing_image.specs.declared.instruction.Operation.{Operation}
 use Rattle.filing_image.specs.declared.instruction.Operation.TheVariants.{PushTrue, PushFalse, Jump, JumpIf, JumpUnless, Exists, Number, File, Keep, Stop}
 use Rattle.filing_image.specs.Program.{Program}
 use Rattle.filing_verify.specs.declared.kind.Kind.TheVariants.{Truth}
+use Rattle.class_paths.specs.Path.{unfiled}
 use Rattle.sieve_meaning.specs.Case.{Facts}
-use Rattle.sieve_meaning.specs.Outcome.{Outcome, unfiled}
+use Rattle.sieve_meaning.specs.declared.outcome.Outcome.{Outcome}
+use Rattle.sieve_meaning.specs.declared.run_fault.RunFault.TheVariants.{ClassNotOpen, TooHeavy}
 use Rattle.filing_table.specs.Machine.{T, Run, Over, after_steps}
 use Rattle.filing_table.specs.Ends.{outcome_left}
 use Rattle.filing_flow.specs.Structure.{Flow, Push, Drop, HasField, PushNumber, FileInto, SetKept, SetCancelled, End, action, sequence, block, leave, leave_if, size}
@@ -100,7 +102,7 @@ left_three = refl
 ended : effect no_calls facts (sequence (block (action End)) (action SetKept)) nothing_done [] ≡ EndsRun None nothing_done
 ended = refl
 
-not_open : effect no_calls facts (sequence (action (FileInto 0 (codes "b"))) (action SetKept)) nothing_done [] ≡ EndsRun (Some 1) nothing_done
+not_open : effect no_calls facts (sequence (action (FileInto 0 (codes "b"))) (action SetKept)) nothing_done [] ≡ EndsRun (Some ClassNotOpen) nothing_done
 not_open = refl
 
 no_operand : effect no_calls facts (sequence (action Drop) (action SetKept)) nothing_done [] ≡ Stuck
@@ -121,9 +123,10 @@ not_twice h = let (m, (first_is, d, e), (second_is, g, k)) = h in absurd (cc (fi
 
 -- RUNS
 
+-- a run that has not ended has an outcome of no run
 abbrev pub captured : Run → Outcome
 captured (Over f s) = outcome_left f s
-captured _ = record { classes = []; fault = Some 99 }
+captured _ = record { classes = []; fault = Some TooHeavy }
 
 -- `if exists ["to", "cc"] { fileinto "a"; }`
 abbrev filed_if_both : Flow

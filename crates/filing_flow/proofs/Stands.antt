@@ -39,7 +39,7 @@ module _ (n m : Operands) (named : Named n m) where
   written_there SetKept o w = w
   written_there SetCancelled o w = w
   written_there End o w = w
-  written_there (Fail k) o w = w
+  written_there (Fail fault) o w = w
   written_there (CallTo b) o w = w
 
   pub stands_there : (os ps : List Operation) (low : ℕ) → SameFrom low os ps → (a : Flow) (ends : List ℕ) (place : ℕ) → low ≤ place → Stands n os a ends place → Stands m ps a ends place

@@ -8,6 +8,7 @@ use Rattle.filing_verify.specs.declared.kind.Kind.TheVariants.{Truth, Texts, Cou
 use Rattle.filing_image.specs.Program.{Program}
 use Rattle.filing_verify.specs.Flow.{first_place, target, Follows}
 use Rattle.filing_verify.specs.Shapes as shapes
+use Rattle.sieve_meaning.specs.RunFaults.{number_of}
 use Rattle.filing_flow.specs.Structure.{Action, Push, Negate, ValuesOf, JoinTwo, MatchKey, Drop, HasField, PushSize, PushNumber, IsLess, IsMarked, SetMark, FileInto, SetKept, SetCancelled, End, Fail, CallTo, Flow, nothing, action, sequence, block, leave, leave_if, size, Bounds, IsSoundAction, IsSound}
 use Rattle.filing_flow.specs.Code.{places_in, IsWritten, Stands, end_at, jump_when}
 use Rattle.filing_flow.specs.Types.{Shape, action_after, shape_at, HasType}
@@ -99,7 +100,7 @@ module _ (p : Program) (σ : ℕ → Shape) where
   action_fine bounds limit calls SetKept pc op i o before ok w here next e di dr = rw w (steady pc Keep i o here next refl e di dr)
   action_fine bounds limit calls SetCancelled pc op i o before ok w here next e di dr = rw w (steady pc Discard i o here next refl e di dr)
   action_fine bounds limit calls End pc op i o before ok w here next e di dr = rw w (steady pc Stop i o here next refl e di dr)
-  action_fine bounds limit calls (Fail n) pc op i o before ok w here next e di dr = rw w (steady pc (Fault n) i o here next refl e di dr)
+  action_fine bounds limit calls (Fail fault) pc op i o before ok w here next e di dr = rw w (steady pc (Fault (number_of fault)) i o here next refl e di dr)
   action_fine bounds limit calls (CallTo b) pc op [] o before ok w here next e di dr = let out : [] ≡ o = cc e in rw w (call_fine bounds limit pc b calls ok.0 before here (next ∙ sym out))
   action_fine bounds limit calls (CallTo b) pc op (k ∷ i) o before ok w here next e di dr = absurd (cc e)
 

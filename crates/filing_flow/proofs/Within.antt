@@ -8,6 +8,8 @@ use Rattle.filing_image.specs.declared.instruction.Operation.TheVariants.{PushTr
 use Rattle.filing_image.specs.Program.{Program, first_places}
 use Rattle.filing_verify.specs.Flow.{jump_target}
 use Rattle.filing_verify.specs.Well.{InRange}
+use Rattle.sieve_meaning.specs.RunFaults.{number_of}
+use Rattle.sieve_meaning.proofs.RunFaultLemmas.{number_at_most_five}
 use Rattle.filing_flow.specs.Structure.{Action, Push, Negate, ValuesOf, JoinTwo, MatchKey, Drop, HasField, PushSize, PushNumber, IsLess, IsMarked, SetMark, FileInto, SetKept, SetCancelled, End, Fail, CallTo, Flow, nothing, action, sequence, block, leave, leave_if, size, Bounds, IsSoundAction, IsSound}
 use Rattle.filing_flow.specs.Code.{places_in, IsWritten, Stands, end_at, jump_when}
 use Rattle.filing_flow.specs.Types.{Shape, shape_at, HasType}
@@ -44,7 +46,7 @@ module _ (p : Program) (bounds : Bounds) (slots : bounds.slots ≡ p.slots) (pro
   action_within SetKept o ok w = rw w (plain Keep tt refl (λ b e. cc))
   action_within SetCancelled o ok w = rw w (plain Discard tt refl (λ b e. cc))
   action_within End o ok w = rw w (plain Stop tt refl (λ b e. cc))
-  action_within (Fail n) o ok w = rw w (plain (Fault n) ok refl (λ b e. cc))
+  action_within (Fail fault) o ok w = rw w (plain (Fault (number_of fault)) (ok, number_at_most_five fault) refl (λ b e. cc))
   action_within (CallTo b) o ok w = rw w (record { in_range = omega (arith, ok.1, procedures); jumps = λ q to. absurd cc; calls = λ d is. let same : b ≡ d = cc in rw (← same) ok.0 })
 
   -- the ends of the blocks around are no further than the last place

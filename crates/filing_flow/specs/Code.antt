@@ -3,6 +3,7 @@
 use Rattle.std.specs.Prelude.{◌≡◌, ℕ, zero, suc, ◌+◌, List, [], ◌∷◌, Bool, true, false, Some, slice_get}
 use Rattle.filing_image.specs.declared.instruction.Operation.{Operation}
 use Rattle.filing_image.specs.declared.instruction.Operation.TheVariants.{PushTrue, PushFalse, Not, Values, Join, Match, Pop, Exists, Size, Number, Less, Jump, JumpIf, JumpUnless, Marked, Mark, File, Keep, Discard, Stop, Fault, Call}
+use Rattle.sieve_meaning.specs.RunFaults.{number_of}
 use Rattle.filing_flow.specs.Structure.{Action, Push, Negate, ValuesOf, JoinTwo, MatchKey, Drop, HasField, PushSize, PushNumber, IsLess, IsMarked, SetMark, FileInto, SetKept, SetCancelled, End, Fail, CallTo, Flow, nothing, action, sequence, block, leave, leave_if, size}
 
 -- which text, and which number, an operand names
@@ -33,7 +34,7 @@ IsWritten n (FileInto a path) o = (b : ℕ) × (o ≡ File a b) × n.text b path
 IsWritten n SetKept o = o ≡ Keep
 IsWritten n SetCancelled o = o ≡ Discard
 IsWritten n End o = o ≡ Stop
-IsWritten n (Fail k) o = o ≡ Fault k
+IsWritten n (Fail fault) o = o ≡ Fault (number_of fault)
 IsWritten n (CallTo b) o = o ≡ Call b
 
 -- the end of the block around that has this number, where the ends are listed from the innermost block on

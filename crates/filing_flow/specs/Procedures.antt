@@ -5,6 +5,7 @@ use Rattle.filing_image.specs.Program.{Program}
 use Rattle.filing_image.specs.declared.instruction.Operation.{Operation}
 use Rattle.filing_image.specs.declared.instruction.Operation.TheVariants.{Return}
 use Rattle.filing_verify.specs.Well.{IsWell}
+use Rattle.sieve_meaning.specs.declared.run_fault.RunFault.{RunFault}
 use Rattle.sieve_meaning.specs.Case.{Facts}
 use Rattle.filing_table.specs.Ends.{HasOutcome}
 use Rattle.filing_flow.specs.Structure.{Action, CallTo, End, Flow, nothing, action, sequence, block, leave, leave_if, size, IsSound}
@@ -83,15 +84,15 @@ steps_by from (a ∷ later) b = if nat_eq b from
 -- LAWS
 
 -- calls the first procedure, and then ends the run
-abbrev pub first_called : Flow
-first_called = sequence (action (CallTo 0)) (action End)
+abbrev pub first_call : Flow
+first_call = sequence (action (CallTo 0)) (action End)
 
 -- A program of sound procedures runs on the table machine as the call of the first one, and then the end of the run:
 -- where that code ends the run, the run of the program ends, with the same fault and the same outcome.
 abbrev pub RunsAsItsProcedures : Type 0
-RunsAsItsProcedures = (p : Program) (c : Facts) (procedures : List Flow) (fault : Option ℕ) (f : Filing) →
+RunsAsItsProcedures = (p : Program) (c : Facts) (procedures : List Flow) (fault : Option RunFault) (f : Filing) →
     AreProceduresOf p procedures → AreSound p.slots (length procedures) 0 procedures →
-    effect (called_by c 0 procedures) c first_called nothing_done [] ≡ EndsRun fault f → (n : ℕ) ×
+    effect (called_by c 0 procedures) c first_call nothing_done [] ≡ EndsRun fault f → (n : ℕ) ×
     HasOutcome p c n (outcome_from fault f)
 
 -- A program of 1 to 256 procedures that have types and are sound may run, where its budget has the steps of the first.

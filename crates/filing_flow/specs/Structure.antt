@@ -1,6 +1,8 @@
 -- Code in blocks: code without places, as in WebAssembly. A jump names how many blocks it leaves, and goes to the end
 -- of the last of them, so that it goes forward.
 use Rattle.std.specs.Prelude.{ℕ, ◌+◌, ◌<◌, ◌≤◌, List, Bool}
+use Rattle.sieve_meaning.specs.declared.run_fault.RunFault.{RunFault}
+use Rattle.sieve_meaning.specs.RunFaults.{number_of}
 
 -- one operation other than a jump, with the text or number that it names in place of an operand
 pub data Action : Type 0 where
@@ -33,7 +35,7 @@ pub data Action : Type 0 where
   -- ends the run
   End : Action
   -- ends the run with a fault
-  Fail : ℕ → Action
+  Fail : RunFault → Action
   -- runs the procedure with this number, and goes on after it
   CallTo : ℕ → Action
 
@@ -74,7 +76,7 @@ IsSoundAction bounds (MatchKey a key) = a ≤ 5
 IsSoundAction bounds (IsMarked b) = b < bounds.slots
 IsSoundAction bounds (SetMark b) = b < bounds.slots
 IsSoundAction bounds (FileInto a path) = a ≤ 1
-IsSoundAction bounds (Fail n) = (2 ≤ n) × (n ≤ 5)
+IsSoundAction bounds (Fail fault) = 2 ≤ number_of fault
 IsSoundAction bounds (CallTo b) = (bounds.own < b) × (b < bounds.procedures)
 IsSoundAction bounds _ = Unit {0}
 

@@ -31,7 +31,7 @@ action_after (FileInto a path) ks = Some ks
 action_after SetKept ks = Some ks
 action_after SetCancelled ks = Some ks
 action_after End ks = Some ks
-action_after (Fail n) ks = Some ks
+action_after (Fail fault) ks = Some ks
 action_after (CallTo b) [] = Some []
 action_after (CallTo b) _ = None
 

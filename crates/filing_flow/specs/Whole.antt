@@ -2,8 +2,10 @@
 use Rattle.std.specs.Prelude.{◌≡◌, ℕ, ◌+◌, ◌<◌, ◌≤◌, ◌^◌, [], Option, None, replicate, false, length}
 use Rattle.filing_image.specs.Program.{Program}
 use Rattle.filing_verify.specs.Well.{IsWell}
+use Rattle.sieve_meaning.specs.declared.outcome.Outcome.{Outcome}
+use Rattle.sieve_meaning.specs.declared.run_fault.RunFault.{RunFault}
 use Rattle.sieve_meaning.specs.Case.{Facts}
-use Rattle.sieve_meaning.specs.Outcome.{Outcome, outcome_at}
+use Rattle.sieve_meaning.specs.Outcome.{outcome_at}
 use Rattle.filing_table.specs.Ends.{HasOutcome}
 use Rattle.filing_flow.specs.Structure.{Flow, sequence, block, action, End, size, without_procedures, IsSound}
 use Rattle.filing_flow.specs.Code.{places_in, Stands}
@@ -25,13 +27,13 @@ abbrev pub nothing_done : Filing
 nothing_done = record { filed = []; kept = false; cancelled = false; marks = replicate 64 false }
 
 -- the outcome of a run that ends in this state, with this fault or with none
-abbrev pub outcome_from : Option ℕ → Filing → Outcome
+abbrev pub outcome_from : Option RunFault → Filing → Outcome
 outcome_from fault f = outcome_at fault f.filed f.kept f.cancelled
 
 -- A program of sound code runs on the table machine as its code runs in blocks: where the code ends the run, the run of
 -- the program ends, with the same fault and the same outcome.
 abbrev pub RunsAsItsCode : Type 0
-RunsAsItsCode = (p : Program) (c : Facts) (a : Flow) (fault : Option ℕ) (f : Filing) → IsCodeOf p a →
+RunsAsItsCode = (p : Program) (c : Facts) (a : Flow) (fault : Option RunFault) (f : Filing) → IsCodeOf p a →
     IsSound (without_procedures p.slots) a → effect no_calls c (whole a) nothing_done [] ≡ EndsRun fault f → (n : ℕ) ×
     HasOutcome p c n (outcome_from fault f)
 

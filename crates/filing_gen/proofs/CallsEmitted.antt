@@ -2,7 +2,7 @@
 use Rattle.std.proofs.Common.{◌≡◌, ℕ, ◌+◌, List, [], Bool, true, false, refl, ap, ◌∙◌, arith}
 use Rattle.filing_flow.specs.Structure.{Flow, size}
 use Rattle.filing_flow.specs.Types.{Shape, HasType}
-use Rattle.filing_gen.specs.Linked.{once_flow}
+use Rattle.filing_gen.specs.IncludeCode.{once_flow}
 use Rattle.filing_gen.specs.Inclusions.{code_of_call, code_of}
 use Rattle.filing_gen.specs.declared.callees.Call.{Call}
 use Rattle.filing_gen.specs.declared.callees.Call.TheVariants.{TooDeep, To, Missing}

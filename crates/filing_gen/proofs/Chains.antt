@@ -1,5 +1,5 @@
 -- Commands of the tree that were written one after the other, where the ends of open branches are not known yet.
-use Rattle.std.proofs.Common.{◌≡◌, ℕ, suc, ◌+◌, ◌<◌, ◌≤◌, List, [], ◌∷◌, ◌++◌, Bool, true, false, length, map, refl, sym, ap, ◌∙◌, subst, arith, drop, get_or, Vec, Global}
+use Rattle.std.proofs.Common.{◌≡◌, ℕ, suc, ◌+◌, ◌<◌, ◌≤◌, List, [], ◌∷◌, ◌++◌, Bool, true, false, length, map, refl, sym, ap, ◌∙◌, subst, arith, drop, get_or}
 use Rattle.std.specs.Prelude.{if◌then◌else◌}
 use Rattle.std.specs.List.{All}
 use Rattle.std.proofs.lemmas.List.{length-set}
@@ -17,12 +17,12 @@ use Rattle.sieve_meaning.specs.Words.{command_word}
 use Rattle.sieve_meaning.specs.Program.{Include, Commands}
 use Rattle.sieve_meaning.specs.Reading.{only_in, block_in}
 use Rattle.sieve_meaning.specs.Branching.{part_of, is_branch}
-use Rattle.sieve_meaning.specs.declared.branches.Part.{Part}
-use Rattle.sieve_meaning.specs.declared.branches.Part.TheVariants.{Branch, Otherwise, Plain}
-use Rattle.filing_flow.specs.Structure.{Flow, leave_if, size}
+use Rattle.sieve_meaning.specs.declared.branches.BranchPart.{BranchPart}
+use Rattle.sieve_meaning.specs.declared.branches.BranchPart.TheVariants.{Branch, Otherwise, Plain}
+use Rattle.filing_flow.specs.Structure.{Flow, size}
 use Rattle.filing_flow.specs.Code.{end_at}
 use Rattle.filing_gen.specs.declared.output.Output.{Output}
-use Rattle.filing_gen.specs.Structured.{test_flow, flow, branch_flow}
+use Rattle.filing_gen.specs.BlockCode.{test_flow, flow, branch_flow}
 use Rattle.filing_gen.specs.Adds.{Puts, Emits, HasRoom}
 use Rattle.filing_gen.specs.Ends.{no_place, with_operation, with_jumps}
 use Rattle.filing_gen.specs.Emission.{commands_long, part_long, long_from, plain_flow, part_flow, part_ends, is_apart, EmitsPart, EmitsOpen}
@@ -33,7 +33,7 @@ use Rattle.filing_gen.proofs.Turns.{flow_long, turn_long, part_grows, branch_emi
 -- PARTS
 
 -- a part that has no jump to the end of branches
-part_open : (g : Include → Flow) (back : ℕ) (part : Part) (c : CommandTree) (x y : Output) (jumps : List ℕ) → All (λ p. p < length x.code.items) jumps → ((end : ℕ) → EmitsPart g back part end c x y) → EmitsOpen g back part c x jumps y jumps
+part_open : (g : Include → Flow) (back : ℕ) (part : BranchPart) (c : CommandTree) (x y : Output) (jumps : List ℕ) → All (λ p. p < length x.code.items) jumps → ((end : ℕ) → EmitsPart g back part end c x y) → EmitsOpen g back part c x jumps y jumps
 part_open g back part c x y jumps low h end n ends eq = emits_jumps end jumps x y (part_flow g n part c) (part_ends part end ends) low (h end n ends eq)
 
 module _ (g : Include → Flow) (back : ℕ) (c : TreeCommand) (x y : Output) (jumps : List ℕ) (low : All (λ p. p < length x.code.items) jumps) where
@@ -182,7 +182,7 @@ stands_last g back old now new jumps is_open whole h is n ends eq =
 -- BY THE COMMANDS OF A LIST
 
 module _ (g : Include → Flow) (back : ℕ) (old : Output) (whole : Commands) (word : CommandWord) (is_open : Bool) (xs : List TreeCommand) (i : ℕ) (x : TreeCommand) (at : x ≡ get_or xs i x) (lt : i < length xs) (named : command_word (out-Command x).name ≡ word)
-    (part : Part) (told : part ≡ part_of word is_open) (now ended : Output) (jumps kept : List ℕ) (h : Stands g back old now jumps is_open (commands_of (map command_of (drop i xs))) whole)
+    (part : BranchPart) (told : part ≡ part_of word is_open) (now ended : Output) (jumps kept : List ℕ) (h : Stands g back old now jumps is_open (commands_of (map command_of (drop i xs))) whole)
     (is : ended ≡ (if is_apart word part then with_jumps (length now.code.items) jumps now else now)) (are : kept ≡ (if is_apart word part then [] else jumps)) where
   abbrev following : CommandTrees
   following = commands_of (map command_of (drop (i + 1) xs))
@@ -199,7 +199,7 @@ module _ (g : Include → Flow) (back : ℕ) (old : Output) (whole : Commands) (
       let r = stands_room g back old ended kept is_open (trees.command_then (command_of x) following) whole before.0 room in
       let long = turn_long (λ j. size (g j)) word is_open xs i x at lt named in
       let same = ap (λ (cs : CommandTrees). long_from (λ j. size (g j)) is_open cs) split in
-      let mine = ap (λ (p : Part). part_long (λ j. size (g j)) p (command_of x)) told in (
+      let mine = ap (λ (p : BranchPart). part_long (λ j. size (g j)) p (command_of x)) told in (
         (omega (arith, r.0, long, same, mine), omega (arith, r.1, long, same, mine), omega (arith, r.2, long, same, mine)),
         before.0.places,
       )
@@ -207,7 +207,7 @@ module _ (g : Include → Flow) (back : ℕ) (old : Output) (whole : Commands) (
   pub turn_stands : (new : Output) (after : List ℕ) → EmitsOpen g back part (command_of x) ended kept new after → All (λ p. p < length new.code.items) after → (opened : Bool) → opened ≡ is_branch part → Stands g back old new after opened following whole
   turn_stands new after e low opened branches =
       subst (λ (b : Bool). Stands g back old new after b following whole) (sym (branches ∙ ap is_branch told))
-      (stands_turn g back old whole word is_open x following named ended new kept after before.0 before.1 (subst (λ (p : Part). EmitsOpen g back p (command_of x) ended kept new after) told e) low)
+      (stands_turn g back old whole word is_open x following named ended new kept after before.0 before.1 (subst (λ (p : BranchPart). EmitsOpen g back p (command_of x) ended kept new after) told e) low)
 
 pub last_stands : (g : Include → Flow) (back : ℕ) (old now new : Output) (jumps : List ℕ) (is_open : Bool) (xs : List TreeCommand) (i : ℕ) (whole : Commands) → Stands g back old now jumps is_open (commands_of (map command_of (drop i xs))) whole → length xs ≤ i
     → new ≡ with_jumps (length now.code.items) jumps now → (n : ℕ) (ends : List ℕ) → end_at ends n ≡ back → Emits old new (flow g n whole) ends

@@ -13,12 +13,14 @@ use Rattle.filing_flow.proofs.Ended.{program_ends}
 use Rattle.sieve_meaning.specs.Case.{Facts}
 use Rattle.sieve_meaning.specs.Program.{Commands}
 use Rattle.sieve_meaning.specs.Meaning.{Ending, GoesOn, Returns, Stops, Faults, included, meaning, opening, main_names, Library}
-use Rattle.sieve_meaning.specs.Outcome.{Outcome, outcome_at, outcome_of}
+use Rattle.sieve_meaning.specs.declared.outcome.Outcome.{Outcome}
+use Rattle.sieve_meaning.specs.declared.run_fault.RunFault.{RunFault}
+use Rattle.sieve_meaning.specs.Outcome.{outcome_at, outcome_of}
 use Rattle.sieve_meaning.proofs.OutcomeLaws.{budget_by_weight}
 use Rattle.sieve_meaning.specs.Weight.{linked_weight, included_weight}
-use Rattle.filing_gen.specs.Structured.{script_flow}
+use Rattle.filing_gen.specs.BlockCode.{script_flow}
 use Rattle.script_procedures.specs.Slots.{Slots, HasSlots}
-use Rattle.filing_gen.specs.Linked.{linked_flow, Marked}
+use Rattle.filing_gen.specs.IncludeCode.{linked_flow, Marked}
 use Rattle.filing_gen.specs.Alike.{Marking, Related, filing_at, exit_of, Alike}
 use Rattle.std.specs.Prelude.{slice_get}
 use Rattle.filing_image.specs.declared.instruction.Operation.{Operation}
@@ -35,23 +37,23 @@ use Rattle.filing_gen.proofs.IncludesTypes.{included_typed, included_small, incl
 use Rattle.filing_gen.proofs.Types.{flow_typed, flow_small, flow_sound}
 
 -- how the run ends after a script's ending
-abbrev pub fault_of : Ending → Option ℕ
+abbrev pub fault_of : Ending → Option RunFault
 fault_of (GoesOn f) = None
 fault_of (Returns f) = None
 fault_of (Stops f) = None
-fault_of (Faults n f) = Some n
+fault_of (Faults fault f) = Some fault
 
 end_means : (c : Facts) (e : Ending) (g : code.Filing) → code.and_then (caught (exit_of 0 e g)) (effect no_calls c (action End)) ≡ EndsRun (fault_of e) g
 end_means c (GoesOn f) g = refl
 end_means c (Returns f) g = refl
 end_means c (Stops f) g = refl
-end_means c (Faults n f) g = refl
+end_means c (Faults fault f) g = refl
 
 outcome_is : (e : Ending) → outcome_at (fault_of e) (filing_at e).filed (filing_at e).kept (filing_at e).cancelled ≡ outcome_of e
 outcome_is (GoesOn f) = refl
 outcome_is (Returns f) = refl
 outcome_is (Stops f) = refl
-outcome_is (Faults n f) = refl
+outcome_is (Faults fault f) = refl
 
 pub same_outcome : (marking : Marking) (e : Ending) (g : code.Filing) → Related marking (filing_at e) g → outcome_from (fault_of e) g ≡ outcome_of e
 same_outcome marking e g r = rw (r.filed, r.kept, r.cancelled) (outcome_is e)

@@ -6,7 +6,7 @@ use Rattle.std.proofs.Math.ListN.{drop_of_length-le}
 use Rattle.filing_image.specs.declared.instruction.Operation.{Operation}
 use Rattle.filing_image.specs.declared.instruction.Operation.TheVariants.{Jump, JumpIf, JumpUnless, PushTrue, PushFalse}
 use Rattle.filing_flow.specs.Structure.{Action, Push, Flow, nothing, action, sequence, block, leave, leave_if, size}
-use Rattle.filing_flow.specs.Code.{Operands, IsWritten, Stands, end_at, jump_when}
+use Rattle.filing_flow.specs.Code.{IsWritten, Stands, end_at, jump_when}
 use Rattle.filing_flow.proofs.Stands.{Named, SameFrom, stands_there}
 use Rattle.filing_gen.specs.declared.output.Output.{Output}
 use Rattle.filing_gen.specs.Pools.{IsAmong}

@@ -21,7 +21,8 @@ use Rattle.filing_flow.specs.Structure.{Flow, nothing, action, sequence, block, 
 use Rattle.filing_flow.specs.Code.{end_at}
 use Rattle.filing_flow.specs.Types.{Shape, HasType}
 use Rattle.sieve_meaning.specs.Words.{same_word}
-use Rattle.filing_gen.specs.Structured.{comparison, names_flow, keys_flow, values_flow, either, header_flow, tests_flow, test_flow}
+use Rattle.filing_table.specs.Comparison.{comparison}
+use Rattle.filing_gen.specs.BlockCode.{names_flow, keys_flow, values_flow, either, header_flow, tests_flow, test_flow}
 use Rattle.filing_gen.specs.declared.output.Output.{Output}
 use Rattle.filing_gen.specs.Adds.{Puts, Emits, HasRoom}
 use Rattle.filing_gen.specs.Names.{each_once, others_once, has_name}

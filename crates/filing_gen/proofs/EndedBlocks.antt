@@ -6,7 +6,7 @@ use Rattle.std.proofs.lemmas.List.{length-map}
 use Rattle.std.proofs.lemmas.Option.{slice_get-map}
 use Rattle.std.specs.Prelude.{slice_get, option_map}
 use Rattle.filing_image.specs.declared.instruction.Operation.{Operation}
-use Rattle.filing_image.specs.declared.instruction.Operation.TheVariants.{Jump, JumpIf, JumpUnless}
+use Rattle.filing_image.specs.declared.instruction.Operation.TheVariants.{Jump}
 use Rattle.filing_flow.specs.Structure.{Action, Push, Negate, ValuesOf, JoinTwo, MatchKey, Drop, HasField, PushSize, PushNumber, IsLess, IsMarked, SetMark, FileInto, SetKept, SetCancelled, End, Fail, CallTo, Flow, nothing, action, sequence, block, leave, leave_if, size}
 use Rattle.filing_flow.specs.Code.{Operands, IsWritten, Stands, end_at, jump_when}
 use Rattle.filing_flow.specs.Types.{Shape, shape_at, HasType}
@@ -53,7 +53,7 @@ written_known n e (FileInto a path) o (b, is, t) = rw is refl
 written_known n e SetKept o w = rw w refl
 written_known n e SetCancelled o w = rw w refl
 written_known n e End o w = rw w refl
-written_known n e (Fail k) o w = rw w refl
+written_known n e (Fail fault) o w = rw w refl
 written_known n e (CallTo b) o w = rw w refl
 
 -- a place that is known, since it is not after the end
@@ -121,7 +121,7 @@ jumps_ended x y z a e k i o typed h below most is ends =
     let there : EndedFrom e low y.code.items z.code.items =
     λ i o le at. subst (λ (l : List Operation). slice_get l i ≡ Some (with_end e o)) (sym code) (get_ended (with_end e) x.code.items h.added i o le (subst (λ (l : List Operation). slice_get l i ≡ Some o) h.code at)) in
     let long : length y.code.items ≡ low + size a = (grows x y a (no_place ∷ []) h).code in
-    let stood : Stands n z.code.items a (e ∷ []) low = ended_stands n e most y.code.items z.code.items low there a (no_place ∷ []) low (omega arith) (omega (arith, long, below)) h.stands in
+    let at_begin : Stands n z.code.items a (e ∷ []) low = ended_stands n e most y.code.items z.code.items low there a (no_place ∷ []) low (omega arith) (omega (arith, long, below)) h.stands in
     let named : Named n (operands_of z) = record { text = λ b t at. subst (λ (l : List (List ℕ × ℕ)). IsAmong (t, b) l) (sym is.texts) at; number = λ b t at. subst (λ (l : List (ℕ × ℕ)). IsAmong (t, b) l) (sym is.numbers) at } in
     record {
       keeps = record {
@@ -133,7 +133,7 @@ jumps_ended x y z a e k i o typed h below most is ends =
       added = map (with_end e) h.added;
       code = code;
       long = length-map h.added (with_end e) ∙ h.long;
-      stands = stands_there n (operands_of z) named z.code.items z.code.items 0 (λ i o le at. at) a (e ∷ ends) low (omega arith) (closed n z.code.items a (k ∷ []) i o typed (e ∷ []) [] ends refl low stood);
+      stands = stands_there n (operands_of z) named z.code.items z.code.items 0 (λ i o le at. at) a (e ∷ ends) low (omega arith) (closed n z.code.items a (k ∷ []) i o typed (e ∷ []) [] ends refl low at_begin);
     }
 
 -- the block was written with no end, and then its end was

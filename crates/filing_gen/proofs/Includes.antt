@@ -5,16 +5,17 @@ use Rattle.std.proofs.lemmas.List.{get_or-set_same, get_or-set_other, length-set
 use Rattle.std.proofs.lemmas.Bool.{or_right, false_from_ne_true}
 use Rattle.sieve_meaning.specs.Case.{Facts}
 use Rattle.sieve_meaning.specs.Program.{Include, Commands}
-use Rattle.sieve_meaning.specs.Meaning.{ScriptName, script_named, same_script, is_among, Library, Filing, Ending, GoesOn, Returns, Stops, Faults, run, included, including, ended, entering, unless_entered, unless_missing, unless_active}
+use Rattle.sieve_meaning.specs.declared.run_fault.RunFault.TheVariants.{ScriptMissing, NestingTooDeep}
+use Rattle.sieve_meaning.specs.Meaning.{ScriptName, script_named, same_script, is_among, Library, Filing, Ending, GoesOn, Returns, Stops, Faults, run, included, inclusion, ending_of_include, entering, unless_entered, unless_missing, unless_active}
 use Rattle.sieve_meaning.proofs.SharingLemmas.{same_is, same_self}
 use Rattle.filing_table.specs.Machine.{T}
 use Rattle.filing_flow.specs.Structure.{SetMark, Fail, Flow, nothing, action, sequence, block}
-use Rattle.filing_flow.specs.Effect.{Exit, FallsThrough, Leaves, EndsRun, Called, effect, caught}
+use Rattle.filing_flow.specs.Effect.{Exit, Called, effect, caught}
 use Rattle.filing_flow.specs.Effect as code
-use Rattle.filing_gen.specs.Structured.{flow}
+use Rattle.filing_gen.specs.BlockCode.{flow}
 use Rattle.filing_gen.specs.Alike.{Marking, Related, filing_at, Alike, Agrees}
 use Rattle.script_procedures.specs.Slots.{Slots, HasSlots}
-use Rattle.filing_gen.specs.Linked.{once_flow, active_flow, found_flow, including_flow, included_flow, Marked, is_passed}
+use Rattle.filing_gen.specs.IncludeCode.{once_flow, active_flow, found_flow, including_flow, included_flow, Marked, is_passed}
 use Rattle.filing_gen.proofs.Means.{flow_means}
 
 or_replaced : (a b d : Bool) → (a || b) ≡ true → (b ≡ true → d ≡ true) → (a || d) ≡ true
@@ -26,14 +27,14 @@ caught_any : (marking : Marking) (n : ℕ) (e : Ending) (x : Exit) → Alike mar
 caught_any marking n (GoesOn f) x a b = record { filing = a.filing; related = a.related; exit = ap caught a.exit }
 caught_any marking n (Returns f) x a b = absurd (cc (a.exit, b.exit))
 caught_any marking n (Stops f) x a b = record { filing = a.filing; related = a.related; exit = ap caught a.exit }
-caught_any marking n (Faults i f) x a b = record { filing = a.filing; related = a.related; exit = ap caught a.exit }
+caught_any marking n (Faults fault f) x a b = record { filing = a.filing; related = a.related; exit = ap caught a.exit }
 
 -- the end of an included script
-pub ended_alike : (marking : Marking) (n : ℕ) (e : Ending) (x : Exit) → Alike marking 0 e x → Alike marking n (ended e) (caught x)
+pub ended_alike : (marking : Marking) (n : ℕ) (e : Ending) (x : Exit) → Alike marking 0 e x → Alike marking n (ending_of_include e) (caught x)
 ended_alike marking n (GoesOn f) x h = record { filing = h.filing; related = h.related; exit = ap caught h.exit }
 ended_alike marking n (Returns f) x h = record { filing = h.filing; related = h.related; exit = ap caught h.exit }
 ended_alike marking n (Stops f) x h = record { filing = h.filing; related = h.related; exit = ap caught h.exit }
-ended_alike marking n (Faults i f) x h = record { filing = h.filing; related = h.related; exit = ap caught h.exit }
+ended_alike marking n (Faults fault f) x h = record { filing = h.filing; related = h.related; exit = ap caught h.exit }
 
 module _ (called : Called) (c : Facts) (lib : Library) (slot : Slots) (count : ℕ) (has : HasSlots lib slot count) (main : List ScriptName) where
   pub shrunk : (chain : List ScriptName) (s : ScriptName) (f : Filing) (g : code.Filing) → Related (Marked lib slot main (s ∷ chain)) f g → Related (Marked lib slot main chain) f g
@@ -75,13 +76,13 @@ module _ (called : Called) (c : Facts) (lib : Library) (slot : Slots) (count : �
   once_alike chain s x false a go n f g r at out k = k n
   once_alike chain s x true a go n f g r at out k =
       let told : slice_index_or g.marks (slot s) false ≡ is_among f.entered s = r.marks.found s x at out in
-      subst (λ (b : Bool). Alike (Marked lib slot main chain) n (unless_entered (is_among f.entered s) go f) (caught (code.and_then (code.leaving true 0 g (T b ∷ [])) (effect called c a)))) (sym told)
-      (elim (is_among f.entered s) as (λ b. Alike (Marked lib slot main chain) n (unless_entered b go f) (caught (code.and_then (code.leaving true 0 g (T b ∷ [])) (effect called c a))))
+      subst (λ (b : Bool). Alike (Marked lib slot main chain) n (unless_entered (is_among f.entered s) go f) (caught (code.and_then (code.jump_exit true 0 g (T b ∷ [])) (effect called c a)))) (sym told)
+      (elim (is_among f.entered s) as (λ b. Alike (Marked lib slot main chain) n (unless_entered b go f) (caught (code.and_then (code.jump_exit true 0 g (T b ∷ [])) (effect called c a))))
       [ true ↦ record { filing = g; related = r; exit = refl } | false ↦ caught_any (Marked lib slot main chain) n (go f) (effect called c a g []) (k 0) (k 1) ])
 
   module _ (chain : List ScriptName) (within : (s : ScriptName) → is_among main s ≡ true → is_among chain s ≡ true) (enter : Commands → Filing → Ending) (a : Commands → Flow) (i : Include) (k : Enters chain (script_named i) enter a) where
     none_judged : (n : ℕ) (p optional : Bool) (go : Commands → Filing → Ending) (f : Filing) (g : code.Filing) → Related (Marked lib slot main chain) f g
-        → Alike (Marked lib slot main chain) n (unless_entered p (unless_missing None optional go) f) (effect called c (cond (p || optional) nothing (action (Fail 2))) g [])
+        → Alike (Marked lib slot main chain) n (unless_entered p (unless_missing None optional go) f) (effect called c (cond (p || optional) nothing (action (Fail ScriptMissing))) g [])
     none_judged n true optional go f g r = record { filing = g; related = r; exit = refl }
     none_judged n false true go f g r = record { filing = g; related = r; exit = refl }
     none_judged n false false go f g r = record { filing = g; related = r; exit = refl }
@@ -95,7 +96,7 @@ module _ (called : Called) (c : Facts) (lib : Library) (slot : Slots) (count : �
         → Alike (Marked lib slot main chain) n (unless_entered (i.once && is_among f.entered (script_named i)) (unless_missing o i.optional (λ script. unless_active b (enter script))) f)
         (effect called c (found_flow o (is_passed main i) (λ script. active_flow b i.once (once_flow i.once (slot (script_named i)) (a script)))) g [])
     judged None at b e n f g r =
-        subst (λ (q : Bool). Alike (Marked lib slot main chain) n (unless_entered (i.once && is_among f.entered (script_named i)) (unless_missing None i.optional (λ script. unless_active b (enter script))) f) (effect called c (cond ((i.once && q) || i.optional) nothing (action (Fail 2))) g []))
+        subst (λ (q : Bool). Alike (Marked lib slot main chain) n (unless_entered (i.once && is_among f.entered (script_named i)) (unless_missing None i.optional (λ script. unless_active b (enter script))) f) (effect called c (cond ((i.once && q) || i.optional) nothing (action (Fail ScriptMissing))) g []))
         (r.marks.missing (script_named i) at) (none_judged n (i.once && is_among f.entered (script_named i)) i.optional (λ script. unless_active b (enter script)) f g r)
     judged (Some x) at true e n f g r =
         subst (λ (q : Bool). Alike (Marked lib slot main chain) n (unless_entered (i.once && q) (unless_missing (Some x) i.optional (λ script. unless_active true (enter script))) f) (effect called c (active_flow true i.once (once_flow i.once (slot (script_named i)) (a x))) g []))
@@ -104,16 +105,16 @@ module _ (called : Called) (c : Facts) (lib : Library) (slot : Slots) (count : �
         let out = false_from_ne_true (is_among main (script_named i)) (λ h. absurd (cc (within (script_named i) h, e))) in
         once_alike chain (script_named i) x i.once (a x) (unless_missing (Some x) i.optional (λ script. unless_active false (enter script))) n f g r at out (λ m. k x at e m f g r)
 
-    pub including_alike : (n : ℕ) (f : Filing) (g : code.Filing) → Related (Marked lib slot main chain) f g → Alike (Marked lib slot main chain) n (including lib chain enter i f) (effect called c (including_flow lib slot main chain a i) g [])
+    pub including_alike : (n : ℕ) (f : Filing) (g : code.Filing) → Related (Marked lib slot main chain) f g → Alike (Marked lib slot main chain) n (inclusion lib chain enter i f) (effect called c (including_flow lib slot main chain a i) g [])
     including_alike n f g r = judged (lib.find (script_named i)) refl (is_among chain (script_named i)) refl n f g r
 
   pub included_agrees : (left : ℕ) (chain : List ScriptName) → ((s : ScriptName) → is_among main s ≡ true → is_among chain s ≡ true) → Agrees called c (Marked lib slot main chain) (included_flow lib slot main left chain) (included c lib left chain)
   included_agrees zero chain within i n f g r =
-      including_alike chain within (λ script f. Faults 4 f) (λ script. action (Fail 4)) i (λ x at out n f g r. record { filing = g; related = r; exit = refl }) n f g r
+      including_alike chain within (λ script f. Faults NestingTooDeep f) (λ script. action (Fail NestingTooDeep)) i (λ x at out n f g r. record { filing = g; related = r; exit = refl }) n f g r
   included_agrees (suc left) chain within i n f g r =
       let s = script_named i in
       let inner = included_agrees left (s ∷ chain) (λ t h. or_right (same_script t s) (is_among chain t) (within t h)) in
-      including_alike chain within (λ script f. ended (run c (included c lib left (script_named i ∷ chain)) script (entering (script_named i) f)))
+      including_alike chain within (λ script f. ending_of_include (run c (included c lib left (script_named i ∷ chain)) script (entering (script_named i) f)))
       (λ script. block (sequence (action (SetMark (slot (script_named i)))) (flow (included_flow lib slot main left (script_named i ∷ chain)) 0 script))) i
       (λ x at out n f g r.
       let now : code.Filing = record g { marks = slice_set g.marks (slot (script_named i)) true } in

@@ -1,15 +1,16 @@
 -- The code of includes has a type and sound operands, and no more operations than its weight.
 use Rattle.std.proofs.Common.{◌≡◌, ℕ, zero, suc, ◌+◌, ◌≤◌, ◌<◌, List, [], ◌∷◌, Bool, true, false, Option, Some, None, refl, arith}
 use Rattle.filing_verify.specs.declared.kind.Kind.TheVariants.{Truth}
+use Rattle.sieve_meaning.specs.declared.run_fault.RunFault.TheVariants.{NestingTooDeep}
 use Rattle.filing_flow.specs.Structure.{SetMark, Fail, Flow, action, sequence, block, size, Bounds, IsSound}
 use Rattle.filing_flow.specs.Types.{Shape, HasType}
 use Rattle.sieve_meaning.specs.Program.{Include, Commands}
 use Rattle.sieve_meaning.specs.Meaning.{ScriptName, script_named, is_among, Library}
 use Rattle.sieve_meaning.specs.Weight.{weight, included_weight, unless_missing, unless_active}
-use Rattle.filing_gen.specs.Structured.{flow}
-use Rattle.filing_gen.specs.Levels.{entered_flow}
+use Rattle.filing_gen.specs.BlockCode.{flow}
+use Rattle.filing_gen.specs.Levels.{flow_at_level}
 use Rattle.script_procedures.specs.Slots.{Slots, HasSlots}
-use Rattle.filing_gen.specs.Linked.{once_flow, active_flow, found_flow, including_flow, included_flow, is_passed}
+use Rattle.filing_gen.specs.IncludeCode.{once_flow, active_flow, found_flow, including_flow, included_flow, is_passed}
 use Rattle.filing_gen.proofs.Types.{flow_typed, flow_small, flow_sound, IncludesTyped, IncludesSmall, IncludesSound}
 
 -- TYPES
@@ -34,12 +35,12 @@ including_typed lib slot main chain a i h es =
     (λ x. active_typed (is_among chain (script_named i)) i.once _ es (once_typed i.once (slot (script_named i)) (a x) es (h x)))
 
 pub included_typed : (lib : Library) (slot : Slots) (main : List ScriptName) (left : ℕ) (chain : List ScriptName) → IncludesTyped (included_flow lib slot main left chain)
-included_typed lib slot main zero chain i es = including_typed lib slot main chain (λ script. action (Fail 4)) i (λ x es. (refl, omega arith, omega arith)) es
+included_typed lib slot main zero chain i es = including_typed lib slot main chain (λ script. action (Fail NestingTooDeep)) i (λ x es. (refl, omega arith, omega arith)) es
 included_typed lib slot main (suc left) chain i es =
     including_typed lib slot main chain (λ script. block (sequence (action (SetMark (slot (script_named i)))) (flow (included_flow lib slot main left (script_named i ∷ chain)) 0 script))) i
     (λ x es. ([], (refl, omega arith, omega arith), flow_typed (included_flow lib slot main left (script_named i ∷ chain)) (included_typed lib slot main left (script_named i ∷ chain)) zero x ([] ∷ es) refl)) es
 
-pub entered_typed : (lib : Library) (slots : Slots) (main : List ScriptName) (left : ℕ) (chain : List ScriptName) (slot : ℕ) (script : Commands) (es : List Shape) → HasType (entered_flow lib slots main left chain slot script) es [] []
+pub entered_typed : (lib : Library) (slots : Slots) (main : List ScriptName) (left : ℕ) (chain : List ScriptName) (slot : ℕ) (script : Commands) (es : List Shape) → HasType (flow_at_level lib slots main left chain slot script) es [] []
 entered_typed lib slots main zero chain slot script es = (refl, omega arith, omega arith)
 entered_typed lib slots main (suc left) chain slot script es = ([], (refl, omega arith, omega arith), flow_typed (included_flow lib slots main left chain) (included_typed lib slots main left chain) zero script ([] ∷ es) refl)
 
@@ -74,7 +75,7 @@ nothing_there (Some x) false = refl
 
 pub included_small : (lib : Library) (slot : Slots) (main : List ScriptName) (left : ℕ) (chain : List ScriptName) → IncludesSmall (included_flow lib slot main left chain) (included_weight lib left chain)
 included_small lib slot main zero chain i =
-    omega (arith, including_small lib slot main chain (λ script. action (Fail 4)) (λ x. 0) i (λ x. omega arith), nothing_there (lib.find (script_named i)) (is_among chain (script_named i)))
+    omega (arith, including_small lib slot main chain (λ script. action (Fail NestingTooDeep)) (λ x. 0) i (λ x. omega arith), nothing_there (lib.find (script_named i)) (is_among chain (script_named i)))
 included_small lib slot main (suc left) chain i =
     including_small lib slot main chain (λ script. block (sequence (action (SetMark (slot (script_named i)))) (flow (included_flow lib slot main left (script_named i ∷ chain)) 0 script))) (λ script. weight (included_weight lib left (script_named i ∷ chain)) script) i
     (λ x. omega (arith, flow_small (included_flow lib slot main left (script_named i ∷ chain)) (included_weight lib left (script_named i ∷ chain)) (included_small lib slot main left (script_named i ∷ chain)) 0 x))
@@ -87,12 +88,12 @@ once_sound bounds false slot a lt h = h
 
 active_sound : (bounds : Bounds) (active once : Bool) (a : Flow) → IsSound bounds a → IsSound bounds (active_flow active once a)
 active_sound bounds true true a h = tt
-active_sound bounds true false a h = (omega arith, omega arith)
+active_sound bounds true false a h = omega arith
 active_sound bounds false once a h = h
 
 found_sound : (bounds : Bounds) (lib : Library) (s : ScriptName) (o : Option Commands) → lib.find s ≡ o → (passed : Bool) (go : Commands → Flow) → ((x : Commands) → lib.find s ≡ Some x → IsSound bounds (go x)) → IsSound bounds (found_flow o passed go)
 found_sound bounds lib s None at true go h = tt
-found_sound bounds lib s None at false go h = (omega arith, omega arith)
+found_sound bounds lib s None at false go h = omega arith
 found_sound bounds lib s (Some x) at passed go h = h x at
 
 pub including_sound : (bounds : Bounds) (lib : Library) (slot : Slots) → HasSlots lib slot bounds.slots → (main chain : List ScriptName) (a : Commands → Flow) (i : Include) → ((x : Commands) → slot (script_named i) < bounds.slots → IsSound bounds (a x)) → IsSound bounds (including_flow lib slot main chain a i)
@@ -101,7 +102,7 @@ including_sound bounds lib slot has main chain a i h =
     (λ x at. active_sound bounds (is_among chain (script_named i)) i.once (once_flow i.once (slot (script_named i)) (a x)) (once_sound bounds i.once (slot (script_named i)) (a x) (has.inside (script_named i) x at) (h x (has.inside (script_named i) x at))))
 
 pub included_sound : (bounds : Bounds) (lib : Library) (slot : Slots) → HasSlots lib slot bounds.slots → (main : List ScriptName) (left : ℕ) (chain : List ScriptName) → IncludesSound bounds (included_flow lib slot main left chain)
-included_sound bounds lib slot has main zero chain i = including_sound bounds lib slot has main chain (λ script. action (Fail 4)) i (λ x lt. (omega arith, omega arith))
+included_sound bounds lib slot has main zero chain i = including_sound bounds lib slot has main chain (λ script. action (Fail NestingTooDeep)) i (λ x lt. omega arith)
 included_sound bounds lib slot has main (suc left) chain i =
     including_sound bounds lib slot has main chain (λ script. block (sequence (action (SetMark (slot (script_named i)))) (flow (included_flow lib slot main left (script_named i ∷ chain)) 0 script))) i
     (λ x lt. (lt, flow_sound bounds (included_flow lib slot main left (script_named i ∷ chain)) (included_sound bounds lib slot has main left (script_named i ∷ chain)) 0 x))

@@ -2,14 +2,14 @@
 use Rattle.std.proofs.Common.{◌≡◌, ℕ, zero, suc, ◌<◌, List, [], ◌∷◌, Bool, true, false, Option, Some, None, length, refl, sym, ap, ◌∙◌}
 use Rattle.sieve_meaning.specs.Program.{Include, Commands}
 use Rattle.sieve_meaning.specs.Meaning.{ScriptName, script_named, is_among, Library}
-use Rattle.sieve_meaning.specs.Weight.{unless_missing, unless_active}
 use Rattle.sieve_meaning.specs.Procedures.{Procedure}
 use Rattle.filing_flow.specs.Structure.{SetMark, Flow, action, sequence}
 use Rattle.script_library.specs.Libraries.{Scripts, library_of}
 use Rattle.script_procedures.specs.Slots.{slots_of}
-use Rattle.script_procedures.specs.Made.{number_of}
-use Rattle.filing_gen.specs.Linked.{is_passed, once_flow}
-use Rattle.filing_gen.specs.Levels.{Judgement, Passes, Fails, Enters, judged, judgement, judged_flow, judged_weight}
+use Rattle.script_procedures.specs.ProcedureCode.{number_of}
+use Rattle.filing_gen.specs.IncludeCode.{is_passed, once_flow}
+use Rattle.sieve_meaning.specs.declared.run_fault.RunFault.{RunFault}
+use Rattle.filing_gen.specs.Levels.{Judgement, Passes, Fails, Enters, judgement_by, judgement, judgement_flow, judgement_weight}
 use Rattle.filing_gen.specs.Procedures.{call_flow, call_entry, calling_flow, path_at, called_path}
 use Rattle.filing_gen.specs.Numbers.{number_at, AreNumbers}
 use Rattle.filing_gen.specs.Inclusions.{call_of, code_of_call, code_of, path_of_call, path_of, CallsOneOf}
@@ -18,7 +18,7 @@ use Rattle.filing_gen.proofs.LevelLemmas.{flow_cases, weight_cases}
 use Rattle.filing_gen.proofs.ProcedureTypes.{number_below}
 
 -- a script that is entered is there
-entered_is : (o : Option Commands) (passed active once : Bool) (x : Commands) → Enters x ≡ judged o passed active once → o ≡ Some x
+entered_is : (o : Option Commands) (passed active once : Bool) (x : Commands) → Enters x ≡ judgement_by o passed active once → o ≡ Some x
 entered_is None true active once x h = absurd (cc h)
 entered_is None false active once x h = absurd (cc h)
 entered_is (Some y) passed true true x h = absurd (cc h)
@@ -45,21 +45,21 @@ module _ (l : Scripts) (main : List ScriptName) (later : List Procedure) (p : Pr
   entry_path paths zero x = 0
   entry_path paths (suc left) x = path_at paths (number_of lib later (record { script = x; left = left; chain = s ∷ p.chain }))
 
-  flow_told : (own : ℕ) (j : Judgement) → j ≡ judgement lib main p.chain i → calling_flow lib (slots_of l) main own later p i ≡ judged_flow j i.once (slots_of l s) (call_entry lib (slots_of l) own later p.left p.chain s)
+  flow_told : (own : ℕ) (j : Judgement) → j ≡ judgement lib main p.chain i → calling_flow lib (slots_of l) main own later p i ≡ judgement_flow j i.once (slots_of l s) (call_entry lib (slots_of l) own later p.left p.chain s)
   flow_told own j is =
       flow_cases (lib.find s) (is_passed main i) (is_among p.chain s) i.once (slots_of l s) (call_entry lib (slots_of l) own later p.left p.chain s)
-      ∙ ap (λ (k : Judgement). judged_flow k i.once (slots_of l s) (call_entry lib (slots_of l) own later p.left p.chain s)) (sym is)
+      ∙ ap (λ (k : Judgement). judgement_flow k i.once (slots_of l s) (call_entry lib (slots_of l) own later p.left p.chain s)) (sym is)
 
-  no_path : (j : Judgement) → 0 ≡ judged_weight j (λ x. 0)
+  no_path : (j : Judgement) → 0 ≡ judgement_weight j (λ x. 0)
   no_path Passes = refl
-  no_path (Fails n) = refl
+  no_path (Fails fault) = refl
   no_path (Enters x) = refl
 
-  path_told : (paths : List ℕ) (left : ℕ) (j : Judgement) → j ≡ judgement lib main p.chain i → called_path lib later paths left p.chain i ≡ judged_weight j (entry_path paths left)
+  path_told : (paths : List ℕ) (left : ℕ) (j : Judgement) → j ≡ judgement lib main p.chain i → called_path lib later paths left p.chain i ≡ judgement_weight j (entry_path paths left)
   path_told paths zero j is = no_path j
   path_told paths (suc left) j is =
       weight_cases (lib.find s) (is_passed main i) (is_among p.chain s) i.once (entry_path paths (suc left))
-      ∙ ap (λ (k : Judgement). judged_weight k (entry_path paths (suc left))) (sym is)
+      ∙ ap (λ (k : Judgement). judgement_weight k (entry_path paths (suc left))) (sym is)
 
   -- where nothing is done
   module _ (is : Passes ≡ judgement lib main p.chain i) where
@@ -70,12 +70,12 @@ module _ (l : Scripts) (main : List ScriptName) (later : List Procedure) (p : Pr
     pass_path paths = path_told paths p.left Passes is
 
   -- where the run ends
-  module _ (n : ℕ) (is : Fails n ≡ judgement lib main p.chain i) where
-    pub fault_code : (own : ℕ) → calling_flow lib (slots_of l) main own later p i ≡ code_of own i.once (Fault n)
-    fault_code own = flow_told own (Fails n) is
+  module _ (fault : RunFault) (is : Fails fault ≡ judgement lib main p.chain i) where
+    pub fault_code : (own : ℕ) → calling_flow lib (slots_of l) main own later p i ≡ code_of own i.once (Fault fault)
+    fault_code own = flow_told own (Fails fault) is
 
-    pub fault_path : (paths : List ℕ) → called_path lib later paths p.left p.chain i ≡ path_of paths (Fault n)
-    fault_path paths = path_told paths p.left (Fails n) is
+    pub fault_path : (paths : List ℕ) → called_path lib later paths p.left p.chain i ≡ path_of paths (Fault fault)
+    fault_path paths = path_told paths p.left (Fails fault) is
 
   -- where a script is entered
   module _ (numbers : List (Option ℕ)) (are : AreNumbers l later p numbers) (x : Commands) (is : Enters x ≡ judgement lib main p.chain i) (slot : ℕ) (at : slot ≡ slots_of l s) where

@@ -1,6 +1,8 @@
 -- Includes by what they come to.
 use Rattle.std.proofs.Common.{◌≡◌, ℕ, zero, suc, ◌+◌, ◌<◌, ◌^◌, List, [], ◌∷◌, Bool, true, false, Option, Some, None, length, ◌⊎◌, inl, inr, refl, sym, ap, ◌∙◌, arith}
 use Rattle.filing_image.specs.declared.instruction.Operation.TheVariants.{Marked, Mark, JumpIf}
+use Rattle.sieve_meaning.specs.declared.run_fault.RunFault.{RunFault}
+use Rattle.sieve_meaning.specs.declared.run_fault.RunFault.TheVariants.{NestingTooDeep}
 use Rattle.filing_flow.specs.Structure.{IsMarked, SetMark, Fail, Flow, action, sequence, block, leave_if, size}
 use Rattle.filing_flow.specs.Code.{end_at}
 use Rattle.filing_flow.specs.Types.{Shape, HasType}
@@ -8,14 +10,14 @@ use Rattle.sieve_meaning.specs.Program.{Include, Commands}
 use Rattle.sieve_meaning.specs.Meaning.{ScriptName, script_named, is_among, Library}
 use Rattle.sieve_meaning.specs.Weight.{weight, included_weight, unless_missing, unless_active}
 use Rattle.filing_gen.specs.declared.output.Output.{Output}
-use Rattle.filing_gen.specs.Structured.{flow}
+use Rattle.filing_gen.specs.BlockCode.{flow}
 use Rattle.filing_gen.specs.Adds.{Puts, Emits}
 use Rattle.filing_gen.specs.declared.finding.Finding.{Finding}
 use Rattle.filing_gen.specs.declared.finding.Finding.TheVariants.{Pass, Fault}
-use Rattle.filing_gen.specs.Scopes.{told}
+use Rattle.filing_gen.specs.Scopes.{judgement_of}
 use Rattle.script_procedures.specs.Slots.{Slots}
-use Rattle.filing_gen.specs.Linked.{is_passed, once_flow, active_flow, found_flow, included_flow}
-use Rattle.filing_gen.specs.Levels.{Judgement, Passes, Fails, Enters, judged, judgement, judged_flow, judged_weight, entered_flow, entered_weight}
+use Rattle.filing_gen.specs.IncludeCode.{is_passed, once_flow, active_flow, found_flow, included_flow}
+use Rattle.filing_gen.specs.Levels.{Judgement, Passes, Fails, Enters, judgement_by, judgement, judgement_flow, judgement_weight, flow_at_level, weight_at_level}
 use Rattle.filing_gen.specs.Ends.{no_place, IsEnded}
 use Rattle.filing_gen.proofs.Emitted.{emits_sequence, action_emitted, leave_if_emitted}
 use Rattle.filing_gen.proofs.EndedBlocks.{block_ended}
@@ -25,7 +27,7 @@ use Rattle.filing_gen.proofs.IncludesTypes.{once_typed}
 -- CODE
 
 pub flow_cases : (o : Option Commands) (passed active once : Bool) (slot : ℕ) (enter : Commands → Flow)
-    → found_flow o passed (λ script. active_flow active once (once_flow once slot (enter script))) ≡ judged_flow (judged o passed active once) once slot enter
+    → found_flow o passed (λ script. active_flow active once (once_flow once slot (enter script))) ≡ judgement_flow (judgement_by o passed active once) once slot enter
 flow_cases None true active once slot enter = refl
 flow_cases None false active once slot enter = refl
 flow_cases (Some x) passed true true slot enter = refl
@@ -33,64 +35,64 @@ flow_cases (Some x) passed true false slot enter = refl
 flow_cases (Some x) passed false once slot enter = refl
 
 pub flow_judged : (lib : Library) (slots : Slots) (main : List ScriptName) (left : ℕ) (chain : List ScriptName) (i : Include)
-    → included_flow lib slots main left chain i ≡ judged_flow (judgement lib main chain i) i.once (slots (script_named i)) (entered_flow lib slots main left (script_named i ∷ chain) (slots (script_named i)))
-flow_judged lib slots main zero chain i = flow_cases (lib.find (script_named i)) (is_passed main i) (is_among chain (script_named i)) i.once (slots (script_named i)) (λ script. action (Fail 4))
+    → included_flow lib slots main left chain i ≡ judgement_flow (judgement lib main chain i) i.once (slots (script_named i)) (flow_at_level lib slots main left (script_named i ∷ chain) (slots (script_named i)))
+flow_judged lib slots main zero chain i = flow_cases (lib.find (script_named i)) (is_passed main i) (is_among chain (script_named i)) i.once (slots (script_named i)) (λ script. action (Fail NestingTooDeep))
 flow_judged lib slots main (suc left) chain i =
     flow_cases (lib.find (script_named i)) (is_passed main i) (is_among chain (script_named i)) i.once (slots (script_named i))
     (λ script. block (sequence (action (SetMark (slots (script_named i)))) (flow (included_flow lib slots main left (script_named i ∷ chain)) 0 script)))
 
 -- WEIGHT
 
-no_weight : (j : Judgement) → judged_weight j (λ script. 0) ≡ 0
+no_weight : (j : Judgement) → judgement_weight j (λ script. 0) ≡ 0
 no_weight Passes = refl
-no_weight (Fails n) = refl
+no_weight (Fails fault) = refl
 no_weight (Enters script) = refl
 
-pub weight_cases : (o : Option Commands) (passed active once : Bool) (enter : Commands → ℕ) → unless_missing o (λ script. unless_active active (enter script)) ≡ judged_weight (judged o passed active once) enter
+pub weight_cases : (o : Option Commands) (passed active once : Bool) (enter : Commands → ℕ) → unless_missing o (λ script. unless_active active (enter script)) ≡ judgement_weight (judgement_by o passed active once) enter
 weight_cases None true active once enter = refl
 weight_cases None false active once enter = refl
 weight_cases (Some x) passed true true enter = refl
 weight_cases (Some x) passed true false enter = refl
 weight_cases (Some x) passed false once enter = refl
 
-pub weight_judged : (lib : Library) (main : List ScriptName) (left : ℕ) (chain : List ScriptName) (i : Include) → included_weight lib left chain i ≡ judged_weight (judgement lib main chain i) (entered_weight lib left (script_named i ∷ chain))
+pub weight_judged : (lib : Library) (main : List ScriptName) (left : ℕ) (chain : List ScriptName) (i : Include) → included_weight lib left chain i ≡ judgement_weight (judgement lib main chain i) (weight_at_level lib left (script_named i ∷ chain))
 weight_judged lib main zero chain i = sym (no_weight (judgement lib main chain i))
 weight_judged lib main (suc left) chain i = weight_cases (lib.find (script_named i)) (is_passed main i) (is_among chain (script_named i)) i.once (λ script. weight (included_weight lib left (script_named i ∷ chain)) script)
 
 -- BY WHAT THE CODE FINDS
 
 module _ (lib : Library) (slots : Slots) (main : List ScriptName) (left : ℕ) (chain : List ScriptName) (i : Include) where
-  pub flow_told : (j : Judgement) → j ≡ judgement lib main chain i → included_flow lib slots main left chain i ≡ judged_flow j i.once (slots (script_named i)) (entered_flow lib slots main left (script_named i ∷ chain) (slots (script_named i)))
-  flow_told j is = flow_judged lib slots main left chain i ∙ ap (λ (k : Judgement). judged_flow k i.once (slots (script_named i)) (entered_flow lib slots main left (script_named i ∷ chain) (slots (script_named i)))) (sym is)
+  pub flow_told : (j : Judgement) → j ≡ judgement lib main chain i → included_flow lib slots main left chain i ≡ judgement_flow j i.once (slots (script_named i)) (flow_at_level lib slots main left (script_named i ∷ chain) (slots (script_named i)))
+  flow_told j is = flow_judged lib slots main left chain i ∙ ap (λ (k : Judgement). judgement_flow k i.once (slots (script_named i)) (flow_at_level lib slots main left (script_named i ∷ chain) (slots (script_named i)))) (sym is)
 
-  pub weight_told : (j : Judgement) → j ≡ judgement lib main chain i → included_weight lib left chain i ≡ judged_weight j (entered_weight lib left (script_named i ∷ chain))
-  weight_told j is = weight_judged lib main left chain i ∙ ap (λ (k : Judgement). judged_weight k (entered_weight lib left (script_named i ∷ chain))) (sym is)
+  pub weight_told : (j : Judgement) → j ≡ judgement lib main chain i → included_weight lib left chain i ≡ judgement_weight j (weight_at_level lib left (script_named i ∷ chain))
+  weight_told j is = weight_judged lib main left chain i ∙ ap (λ (k : Judgement). judgement_weight k (weight_at_level lib left (script_named i ∷ chain))) (sym is)
 
   -- where no script is entered
-  pub nothing_weighed : (f : Finding) → told f ≡ judgement lib main chain i → (f ≡ Pass) ⊎ ((n : ℕ) × (f ≡ Fault n)) → included_weight lib left chain i ≡ 0
-  nothing_weighed f is (inl at) = weight_told Passes (sym (ap told at) ∙ is)
-  nothing_weighed f is (inr at) = weight_told (Fails at.0) (sym (ap told at.1) ∙ is)
+  pub nothing_weighed : (f : Finding) → judgement_of f ≡ judgement lib main chain i → (f ≡ Pass) ⊎ ((fault : RunFault) × (f ≡ Fault fault)) → included_weight lib left chain i ≡ 0
+  nothing_weighed f is (inl at) = weight_told Passes (sym (ap judgement_of at) ∙ is)
+  nothing_weighed f is (inr at) = weight_told (Fails at.0) (sym (ap judgement_of at.1) ∙ is)
 
   -- where a script is entered
   module _ (script : Commands) (is : Enters script ≡ judgement lib main chain i) where
-    pub entry_weight : included_weight lib left chain i ≡ entered_weight lib left (script_named i ∷ chain) script
+    pub entry_weight : included_weight lib left chain i ≡ weight_at_level lib left (script_named i ∷ chain) script
     entry_weight = weight_told (Enters script) is
 
     module _ (slot : ℕ) (at : slot ≡ slots (script_named i)) where
-      entry_flow : included_flow lib slots main left chain i ≡ once_flow i.once slot (entered_flow lib slots main left (script_named i ∷ chain) slot script)
-      entry_flow = flow_told (Enters script) is ∙ ap (λ (n : ℕ). once_flow i.once n (entered_flow lib slots main left (script_named i ∷ chain) n script)) (sym at)
+      entry_flow : included_flow lib slots main left chain i ≡ once_flow i.once slot (flow_at_level lib slots main left (script_named i ∷ chain) slot script)
+      entry_flow = flow_told (Enters script) is ∙ ap (λ (n : ℕ). once_flow i.once n (flow_at_level lib slots main left (script_named i ∷ chain) n script)) (sym at)
 
-      pub plain_entry : i.once ≡ false → included_flow lib slots main left chain i ≡ entered_flow lib slots main left (script_named i ∷ chain) slot script
-      plain_entry once = entry_flow ∙ ap (λ (b : Bool). once_flow b slot (entered_flow lib slots main left (script_named i ∷ chain) slot script)) once
+      pub plain_entry : i.once ≡ false → included_flow lib slots main left chain i ≡ flow_at_level lib slots main left (script_named i ∷ chain) slot script
+      plain_entry once = entry_flow ∙ ap (λ (b : Bool). once_flow b slot (flow_at_level lib slots main left (script_named i ∷ chain) slot script)) once
 
-      pub once_entry : i.once ≡ true → included_flow lib slots main left chain i ≡ once_flow true slot (entered_flow lib slots main left (script_named i ∷ chain) slot script)
-      once_entry once = entry_flow ∙ ap (λ (b : Bool). once_flow b slot (entered_flow lib slots main left (script_named i ∷ chain) slot script)) once
+      pub once_entry : i.once ≡ true → included_flow lib slots main left chain i ≡ once_flow true slot (flow_at_level lib slots main left (script_named i ∷ chain) slot script)
+      once_entry once = entry_flow ∙ ap (λ (b : Bool). once_flow b slot (flow_at_level lib slots main left (script_named i ∷ chain) slot script)) once
 
-      pub plain_size : i.once ≡ false → size (included_flow lib slots main left chain i) ≡ size (entered_flow lib slots main left (script_named i ∷ chain) slot script)
+      pub plain_size : i.once ≡ false → size (included_flow lib slots main left chain i) ≡ size (flow_at_level lib slots main left (script_named i ∷ chain) slot script)
       plain_size once = ap (λ (a : Flow). size a) (plain_entry once)
 
-      pub once_size : i.once ≡ true → size (included_flow lib slots main left chain i) ≡ size (entered_flow lib slots main left (script_named i ∷ chain) slot script) + 2
-      once_size once = let e : size (included_flow lib slots main left chain i) ≡ size (once_flow true slot (entered_flow lib slots main left (script_named i ∷ chain) slot script)) = ap (λ (a : Flow). size a) (once_entry once) in omega (arith, e)
+      pub once_size : i.once ≡ true → size (included_flow lib slots main left chain i) ≡ size (flow_at_level lib slots main left (script_named i ∷ chain) slot script) + 2
+      once_size once = let e : size (included_flow lib slots main left chain i) ≡ size (once_flow true slot (flow_at_level lib slots main left (script_named i ∷ chain) slot script)) = ap (λ (a : Flow). size a) (once_entry once) in omega (arith, e)
 
 -- EMISSION
 

@@ -1,18 +1,19 @@
 -- The code of a script does what the script means.
 use Rattle.std.proofs.Common.{Some, ◌≡◌, ℕ, suc, List, [], ◌∷◌, Bool, true, false, not, ◌||◌, cond, inl, refl, ap, ◌∙◌}
 use Rattle.std.specs.Prelude.{nat_eq}
+use Rattle.class_paths.specs.Paths.{Paths, insert_path}
 use Rattle.sieve_meaning.specs.Case.{Facts}
-use Rattle.sieve_meaning.specs.Paths.{Paths, insert_path}
 use Rattle.sieve_meaning.specs.Truth.{truth}
 use Rattle.sieve_meaning.specs.Program.{Include, Command, require, keep, discard, stop, return, file_into, branch, include, Commands, no_command, command_then, Branches, no_branch, otherwise, if_then}
+use Rattle.sieve_meaning.specs.declared.run_fault.RunFault.TheVariants.{ClassNotOpen}
 use Rattle.sieve_meaning.specs.Meaning.{Filing, Ending, GoesOn, Returns, Stops, Faults, Included, filing, run, run_one, run_branches, and_then}
 use Rattle.sieve_meaning.specs.Procedures.{includes_of, includes_in, branch_includes}
 use Rattle.sieve_meaning.proofs.SharingLemmas.{IsIn, in_front, in_rest}
 use Rattle.filing_table.specs.Machine.{Entry, T}
 use Rattle.filing_flow.specs.Structure.{Flow, FileInto, action, sequence, leave}
-use Rattle.filing_flow.specs.Effect.{Exit, FallsThrough, Leaves, EndsRun, Called, effect, caught}
+use Rattle.filing_flow.specs.Effect.{Exit, FallsThrough, EndsRun, Called, effect, caught}
 use Rattle.filing_flow.specs.Effect as code
-use Rattle.filing_gen.specs.Structured.{flow, flow_one, branches_flow, copy_number}
+use Rattle.filing_gen.specs.BlockCode.{flow, flow_one, branches_flow, copy_number}
 use Rattle.filing_gen.specs.Alike.{Marking, Related, Alike, Agrees}
 use Rattle.filing_gen.proofs.Truths.{test_means}
 
@@ -22,14 +23,14 @@ module _ (called : Called) (c : Facts) (marking : Marking) where
   then_means n (GoesOn f) x a go h k = let y = k f h.filing h.related in record { filing = y.filing; related = y.related; exit = ap (λ z. code.and_then z (effect called c a)) h.exit ∙ y.exit }
   then_means n (Returns f) x a go h k = record { filing = h.filing; related = h.related; exit = ap (λ z. code.and_then z (effect called c a)) h.exit }
   then_means n (Stops f) x a go h k = record { filing = h.filing; related = h.related; exit = ap (λ z. code.and_then z (effect called c a)) h.exit }
-  then_means n (Faults i f) x a go h k = record { filing = h.filing; related = h.related; exit = ap (λ z. code.and_then z (effect called c a)) h.exit }
+  then_means n (Faults fault f) x a go h k = record { filing = h.filing; related = h.related; exit = ap (λ z. code.and_then z (effect called c a)) h.exit }
 
   -- past the end of all branches
   caught_means : (n : ℕ) (e : Ending) (x : Exit) → Alike marking (suc n) e x → Alike marking n e (caught x)
   caught_means n (GoesOn f) x h = record { filing = h.filing; related = h.related; exit = ap caught h.exit }
   caught_means n (Returns f) x h = record { filing = h.filing; related = h.related; exit = ap caught h.exit }
   caught_means n (Stops f) x h = record { filing = h.filing; related = h.related; exit = ap caught h.exit }
-  caught_means n (Faults i f) x h = record { filing = h.filing; related = h.related; exit = ap caught h.exit }
+  caught_means n (Faults fault f) x h = record { filing = h.filing; related = h.related; exit = ap caught h.exit }
 
   -- from the block of a true test to the end of all branches
   abbrev taken : (code.Filing → List Entry → Exit) → Exit → Exit
@@ -39,7 +40,7 @@ module _ (called : Called) (c : Facts) (marking : Marking) where
   taken_means n (GoesOn f) x go h = record { filing = h.filing; related = h.related; exit = ap (taken go) h.exit }
   taken_means n (Returns f) x go h = record { filing = h.filing; related = h.related; exit = ap (taken go) h.exit }
   taken_means n (Stops f) x go h = record { filing = h.filing; related = h.related; exit = ap (taken go) h.exit }
-  taken_means n (Faults i f) x go h = record { filing = h.filing; related = h.related; exit = ap (taken go) h.exit }
+  taken_means n (Faults fault f) x go h = record { filing = h.filing; related = h.related; exit = ap (taken go) h.exit }
 
   cancels : (copy : Bool) → nat_eq (copy_number copy) 0 ≡ not copy
   cancels true = refl
@@ -48,7 +49,7 @@ module _ (called : Called) (c : Facts) (marking : Marking) where
   file_means : (n : ℕ) (copy : Bool) (path : List ℕ) (f : Filing) (s : code.Filing) → Related marking f s → Alike marking n (filing c copy path f) (effect called c (action (FileInto (copy_number copy) path)) s [])
   file_means n copy path f s r =
       let now : code.Filing = record s { filed = insert_path path s.filed; cancelled = s.cancelled || nat_eq (copy_number copy) 0 } in
-      elim (c.is_open path) as (λ b. Alike marking n (cond b (GoesOn (record f { filed = insert_path path f.filed; cancelled = f.cancelled || not copy })) (Faults 1 f)) (cond b (FallsThrough now []) (EndsRun (Some 1) s))) [
+      elim (c.is_open path) as (λ b. Alike marking n (cond b (GoesOn (record f { filed = insert_path path f.filed; cancelled = f.cancelled || not copy })) (Faults ClassNotOpen f)) (cond b (FallsThrough now []) (EndsRun (Some ClassNotOpen) s))) [
         | true ↦ record { filing = now; related = record { filed = ap (λ (p : Paths). insert_path path p) r.filed; kept = r.kept; cancelled = ap (λ b. b || nat_eq (copy_number copy) 0) r.cancelled ∙ ap (λ b. f.cancelled || b) (cancels copy); marks = r.marks }; exit = refl }
         | false ↦ record { filing = s; related = r; exit = refl }
       ]
@@ -81,7 +82,7 @@ module _ (called : Called) (c : Facts) (marking : Marking) where
       branches_means n (if_then t xs bs) agree f s r =
           let inside : AgreesAt g h (includes_of xs) = λ i is. agree i (in_front i (includes_of xs) (branch_includes bs) is) in
           let others : AgreesAt g h (branch_includes bs) = λ i is. agree i (in_rest i (includes_of xs) (branch_includes bs) is) in
-          rw (test_means called c t s) (elim (truth c t) as (λ b. Alike marking n (cond b (run c h xs f) (run_branches c h bs f)) (caught (code.and_then (caught (code.and_then (code.leaving false 0 s (T b ∷ [])) (effect called c (sequence (flow g (suc (suc n)) xs) (leave 1))))) (effect called c (branches_flow g (suc n) bs))))) [
+          rw (test_means called c t s) (elim (truth c t) as (λ b. Alike marking n (cond b (run c h xs f) (run_branches c h bs f)) (caught (code.and_then (caught (code.and_then (code.jump_exit false 0 s (T b ∷ [])) (effect called c (sequence (flow g (suc (suc n)) xs) (leave 1))))) (effect called c (branches_flow g (suc n) bs))))) [
             | true ↦ taken_means n (run c h xs f) (effect called c (flow g (suc (suc n)) xs) s []) (effect called c (branches_flow g (suc n) bs)) (means_at (suc (suc n)) xs inside f s r)
             | false ↦ branches_means n bs others f s r
           ])

@@ -1,5 +1,5 @@
 -- Tables of the numbers of procedures, as they are made.
-use Rattle.std.proofs.Common.{◌≡◌, ℕ, zero, suc, ◌+◌, ◌<◌, List, [], ◌∷◌, ◌++◌, length, Option, refl, sym, ap, subst, arith}
+use Rattle.std.proofs.Common.{◌≡◌, ℕ, zero, suc, ◌+◌, ◌<◌, List, [], ◌∷◌, ◌++◌, length, Option, refl, sym, subst, arith}
 use Rattle.std.proofs.Common.{below_more}
 use Rattle.sieve_meaning.specs.Procedures.{Procedure}
 use Rattle.script_library.specs.Libraries.{Scripts}

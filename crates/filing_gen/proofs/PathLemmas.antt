@@ -7,7 +7,7 @@ use Rattle.sieve_meaning.specs.Weight.{weight, unless_missing, unless_active}
 use Rattle.sieve_meaning.specs.Procedures.{includes_of, Procedure, main_procedure, procedures, included_path, path_weight}
 use Rattle.sieve_meaning.proofs.SharingLemmas.{IsIn, SameAt, weight_alike, shared_path}
 use Rattle.sieve_meaning.proofs.ProcedureLemmas.{some_is, IsSomeEntered, FindsCalls, AllFind, AllOf, all_element, IsElement, named_once, shared_script, all_find, after_main, procedures_are, after_main_entered}
-use Rattle.script_procedures.specs.Made.{number_of}
+use Rattle.script_procedures.specs.ProcedureCode.{number_of}
 use Rattle.filing_gen.specs.Procedures.{path_at, called_path, path_weights}
 use Rattle.filing_gen.proofs.CallLemmas.{numbered, entered_there}
 

@@ -2,7 +2,7 @@
 use Rattle.std.proofs.Common.{◌≡◌, ℕ, zero, suc, ◌+◌, ◌<◌, ◌≤◌, ◌^◌, List, [], ◌∷◌, ◌-◌, length, map, take, drop, get_or, set, Bool, true, false, cond, Option, Some, None, refl, sym, ap, ◌∙◌, subst, arith}
 use Rattle.std.specs.Prelude.{nat_lt, slice_index}
 use Rattle.std.specs.List.{All}
-use Rattle.std.proofs.lemmas.Bool.{ltb-true, ltb-false, lt-ltb, le-ltb}
+use Rattle.std.proofs.lemmas.Bool.{ltb-false, lt-ltb, le-ltb}
 use Rattle.std.proofs.lemmas.List.{length-map, take_rest}
 use Rattle.sieve_meaning.specs.Meaning.{Library}
 use Rattle.sieve_meaning.specs.Program.{Commands}
@@ -10,7 +10,7 @@ use Rattle.sieve_meaning.specs.Procedures.{Procedure, procedures, path_weight}
 use Rattle.sieve_meaning.proofs.ProcedureLemmas.{after_main}
 use Rattle.script_library.specs.Libraries.{Scripts}
 use Rattle.script_procedures.specs.Keys.{IsKeyOf}
-use Rattle.script_procedures.specs.Made.{procedure_of, IsEntered, HaveKeys}
+use Rattle.script_procedures.specs.ProcedureCode.{procedure_of, IsEntered, HaveKeys}
 use Rattle.script_procedures.specs.declared.procedure.Procedure as code
 use Rattle.filing_gen.specs.Procedures.{path_weights}
 use Rattle.filing_gen.specs.Paths.{known_path, path_from}

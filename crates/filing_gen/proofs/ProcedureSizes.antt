@@ -3,11 +3,11 @@ use Rattle.std.proofs.Common.{◌≡◌, ℕ, zero, suc, ◌+◌, ◌≤◌, Lis
 use Rattle.sieve_meaning.specs.Program.{Commands}
 use Rattle.sieve_meaning.specs.Meaning.{ScriptName, script_named, is_among, Library}
 use Rattle.sieve_meaning.specs.Procedures.{Procedure, own_weight, shared_weight}
-use Rattle.filing_flow.specs.Structure.{Flow, size}
+use Rattle.filing_flow.specs.Structure.{size}
 use Rattle.filing_flow.specs.Procedures.{whole_size}
-use Rattle.filing_gen.specs.Structured.{script_flow}
+use Rattle.filing_gen.specs.BlockCode.{script_flow}
 use Rattle.script_procedures.specs.Slots.{Slots}
-use Rattle.script_procedures.specs.Made.{number_of}
+use Rattle.script_procedures.specs.ProcedureCode.{number_of}
 use Rattle.filing_gen.specs.Procedures.{call_flow, call_entry, calling_flow, procedure_flows}
 use Rattle.filing_gen.proofs.IncludesTypes.{including_small, nothing_there}
 use Rattle.filing_gen.proofs.Types.{flow_small, IncludesSmall}

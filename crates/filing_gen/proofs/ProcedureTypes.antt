@@ -6,9 +6,9 @@ use Rattle.sieve_meaning.specs.Procedures.{Procedure, is_shared}
 use Rattle.filing_flow.specs.Structure.{Bounds, IsSound}
 use Rattle.filing_flow.specs.Types.{Shape, HasType}
 use Rattle.filing_flow.specs.Procedures.{AreSound, AreTyped}
-use Rattle.filing_gen.specs.Structured.{script_flow}
+use Rattle.filing_gen.specs.BlockCode.{script_flow}
 use Rattle.script_procedures.specs.Slots.{Slots, HasSlots}
-use Rattle.script_procedures.specs.Made.{number_of}
+use Rattle.script_procedures.specs.ProcedureCode.{number_of}
 use Rattle.filing_gen.specs.Procedures.{call_flow, call_entry, calling_flow, procedure_flows}
 use Rattle.filing_gen.proofs.IncludesTypes.{including_typed, including_sound}
 use Rattle.filing_gen.proofs.Types.{flow_typed, flow_sound, IncludesTyped, IncludesSound}
@@ -41,11 +41,11 @@ module _ (lib : Library) (slot : Slots) (main : List ScriptName) (own : ℕ) (la
 
   module _ (bounds : Bounds) (has : HasSlots lib slot bounds.slots) (from : bounds.own ≡ own) (enough : own + length later < bounds.procedures) where
     call_sound : (number : Option ℕ) → ((n : ℕ) → number ≡ Some n → n < length later) → IsSound bounds (call_flow own number)
-    call_sound None inside = (omega arith, omega arith)
+    call_sound None inside = omega arith
     call_sound (Some n) inside = let below = inside n refl in (omega (arith, from), omega (arith, enough, below))
 
     entry_sound : (left : ℕ) (chain : List ScriptName) (s : ScriptName) (x : Commands) → slot s < bounds.slots → IsSound bounds (call_entry lib slot own later left chain s x)
-    entry_sound zero chain s x lt = (omega arith, omega arith)
+    entry_sound zero chain s x lt = omega arith
     entry_sound (suc left) chain s x lt =
         let e : Procedure = record { script = x; left = left; chain = s ∷ chain } in
         (lt, call_sound (number_of lib later e) (number_below lib later e))

@@ -10,7 +10,7 @@ use Rattle.sieve_meaning.specs.TooHeavy.{is_too_heavy}
 use Rattle.sieve_meaning.proofs.OutcomeLaws.{heavy_by_procedures, budget_by_path}
 use Rattle.script_library.specs.Libraries.{Scripts, library_of}
 use Rattle.script_procedures.specs.Slots.{slots_of, HasSlots}
-use Rattle.script_procedures.specs.Made.{procedure_of, AreProcedures}
+use Rattle.script_procedures.specs.ProcedureCode.{procedure_of, AreProcedures}
 use Rattle.script_procedures.specs.declared.procedure.Procedure as code
 use Rattle.filing_gen.specs.Adds.{IsImageOf}
 use Rattle.filing_gen.specs.Correct.{IsCompiled}

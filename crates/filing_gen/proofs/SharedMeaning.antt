@@ -7,19 +7,20 @@ use Rattle.filing_image.specs.Program.{Program}
 use Rattle.filing_table.specs.Ends.{HasOutcome}
 use Rattle.sieve_meaning.specs.Case.{Facts}
 use Rattle.sieve_meaning.specs.Program.{Commands}
-use Rattle.sieve_meaning.specs.Meaning.{ScriptName, Library, Filing, Ending, GoesOn, Returns, Stops, Faults, run, included, ended, opening, meaning, main_names}
-use Rattle.sieve_meaning.specs.Outcome.{Outcome, outcome_of}
+use Rattle.sieve_meaning.specs.Meaning.{ScriptName, Library, Filing, Ending, GoesOn, Returns, Stops, Faults, run, included, ending_of_include, opening, meaning, main_names}
+use Rattle.sieve_meaning.specs.declared.outcome.Outcome.{Outcome}
+use Rattle.sieve_meaning.specs.Outcome.{outcome_of}
 use Rattle.sieve_meaning.specs.Procedures.{Procedure, main_procedure, procedures}
 use Rattle.sieve_meaning.proofs.ProcedureLemmas.{AllOf, AllFind, IsSomeEntered, all_element, some_is, all_find, after_main, procedures_are, after_main_entered}
 use Rattle.filing_flow.specs.Structure.{CallTo, Flow, action, End}
-use Rattle.filing_flow.specs.Effect.{Exit, EndsRun, Called, effect, caught, returned}
+use Rattle.filing_flow.specs.Effect.{Exit, EndsRun, Called, effect, caught, call_exit}
 use Rattle.filing_flow.specs.Effect as code
 use Rattle.filing_flow.specs.Whole.{nothing_done, outcome_from}
-use Rattle.filing_flow.specs.Procedures.{AreProceduresOf, AreSound, called_by, first_called}
+use Rattle.filing_flow.specs.Procedures.{AreProceduresOf, AreSound, called_by, first_call}
 use Rattle.filing_flow.proofs.Calls.{procedures_end}
 use Rattle.script_procedures.specs.Slots.{Slots, HasSlots}
-use Rattle.filing_gen.specs.Structured.{script_flow}
-use Rattle.filing_gen.specs.Linked.{Marked}
+use Rattle.filing_gen.specs.BlockCode.{script_flow}
+use Rattle.filing_gen.specs.IncludeCode.{Marked}
 use Rattle.filing_gen.specs.Alike.{Marking, exit_of, Alike}
 use Rattle.filing_gen.specs.Procedures.{calling_flow, procedure_flows, shared_flows}
 use Rattle.filing_gen.proofs.Includes.{ended_alike}
@@ -28,18 +29,18 @@ use Rattle.filing_gen.proofs.PathLemmas.{got_element}
 use Rattle.filing_gen.proofs.Compiled.{fault_of, same_outcome, opening_related}
 
 -- a procedure returns, or ends the run, as its script does
-returned_alike : (marking : Marking) (n : ℕ) (e : Ending) (x : Exit) → Alike marking n (ended e) x → Alike marking n (ended e) (returned x)
-returned_alike marking n (GoesOn f) x h = record { filing = h.filing; related = h.related; exit = ap returned h.exit }
-returned_alike marking n (Returns f) x h = record { filing = h.filing; related = h.related; exit = ap returned h.exit }
-returned_alike marking n (Stops f) x h = record { filing = h.filing; related = h.related; exit = ap returned h.exit }
-returned_alike marking n (Faults k f) x h = record { filing = h.filing; related = h.related; exit = ap returned h.exit }
+returned_alike : (marking : Marking) (n : ℕ) (e : Ending) (x : Exit) → Alike marking n (ending_of_include e) x → Alike marking n (ending_of_include e) (call_exit x)
+returned_alike marking n (GoesOn f) x h = record { filing = h.filing; related = h.related; exit = ap call_exit h.exit }
+returned_alike marking n (Returns f) x h = record { filing = h.filing; related = h.related; exit = ap call_exit h.exit }
+returned_alike marking n (Stops f) x h = record { filing = h.filing; related = h.related; exit = ap call_exit h.exit }
+returned_alike marking n (Faults fault f) x h = record { filing = h.filing; related = h.related; exit = ap call_exit h.exit }
 
 -- the first procedure ends the run as the main script does
-first_ends : (called : Called) (c : Facts) (e : Ending) (g : code.Filing) → code.and_then (returned (caught (exit_of 0 e g))) (effect called c (action End)) ≡ EndsRun (fault_of e) g
+first_ends : (called : Called) (c : Facts) (e : Ending) (g : code.Filing) → code.and_then (call_exit (caught (exit_of 0 e g))) (effect called c (action End)) ≡ EndsRun (fault_of e) g
 first_ends called c (GoesOn f) g = refl
 first_ends called c (Returns f) g = refl
 first_ends called c (Stops f) g = refl
-first_ends called c (Faults n f) g = refl
+first_ends called c (Faults fault f) g = refl
 
 module _ (c : Facts) (lib : Library) (slot : Slots) (count : ℕ) (has : HasSlots lib slot count) (main : List ScriptName) where
   -- what calls of these procedures do, of which the first has the number `own`
@@ -81,10 +82,10 @@ module _ (c : Facts) (lib : Library) (slot : Slots) (count : ℕ) (has : HasSlot
       let few : p.left ≤ 7 = omega (arith, entered.0.1, entered.0.2.left_is) in
       let body = procedure_means called c lib slot count has main own later (calls_mean own later entered.1 (are_meant (suc own) later finds.1 entered.1)) p few finds.0 chain same within f g r in
       let whole = effect called c (own_flow own p later) g [] in
-      subst (λ (x : Exit). Alike marking n (ended e) (returned x)) (sym (calls_itself own p later g)) (returned_alike marking n e (caught whole) (ended_alike marking n e whole body)))
+      subst (λ (x : Exit). Alike marking n (ending_of_include e) (call_exit x)) (sym (calls_itself own p later g)) (returned_alike marking n e (caught whole) (ended_alike marking n e whole body)))
   are_meant own (p ∷ later) finds entered (suc n) q at =
       λ chain same within m f g r.
-      subst (λ (x : Exit). Alike (Marked lib slot main chain) m (ended (run c (included c lib q.left chain) q.script f)) (returned x)) (sym (calls_later own p later n g))
+      subst (λ (x : Exit). Alike (Marked lib slot main chain) m (ending_of_include (run c (included c lib q.left chain) q.script f)) (call_exit x)) (sym (calls_later own p later n g))
       (are_meant (suc own) later finds.1 entered.1 n q at chain same within m f g r)
 
 module _ (lib : Library) (slot : Slots) (count : ℕ) (has : HasSlots lib slot count) (known_as : Option (List ℕ)) (main : Commands) where
@@ -109,7 +110,7 @@ module _ (lib : Library) (slot : Slots) (count : ℕ) (has : HasSlots lib slot c
   -- The run of the procedures, from the first one on, ends as the main script does.
   pub record EndsAlike (c : Facts) : Type 0 where
     pub filing : code.Filing
-    pub ends : effect (called_by c 0 (shared_flows lib slot known_as main)) c first_called nothing_done [] ≡ EndsRun (fault_of (meaning c lib known_as main)) filing
+    pub ends : effect (called_by c 0 (shared_flows lib slot known_as main)) c first_call nothing_done [] ≡ EndsRun (fault_of (meaning c lib known_as main)) filing
     pub outcome : outcome_from (fault_of (meaning c lib known_as main)) filing ≡ outcome_of (meaning c lib known_as main)
 
   pub ends_alike : (c : Facts) → EndsAlike c
@@ -120,8 +121,8 @@ module _ (lib : Library) (slot : Slots) (count : ℕ) (has : HasSlots lib slot c
       record {
         filing = h.filing;
         ends =
-            ap (λ (ps : List Procedure). effect (called_by c 0 (procedure_flows lib slot names 0 ps)) c first_called nothing_done []) (procedures_are lib known_as main)
-            ∙ ap (λ (x : Exit). code.and_then (returned (caught x)) (effect called c (action End))) h.exit
+            ap (λ (ps : List Procedure). effect (called_by c 0 (procedure_flows lib slot names 0 ps)) c first_call nothing_done []) (procedures_are lib known_as main)
+            ∙ ap (λ (x : Exit). code.and_then (call_exit (caught x)) (effect called c (action End))) h.exit
             ∙ first_ends called c m h.filing;
         outcome = same_outcome (Marked lib slot names names) m h.filing h.related;
       }

@@ -11,8 +11,9 @@ use Rattle.filing_flow.specs.Structure.{SetMark, Flow, action, sequence}
 use Rattle.filing_flow.specs.Procedures.{flow_steps, steps_by}
 use Rattle.script_procedures.specs.Slots.{Slots}
 use Rattle.filing_gen.specs.Names.{each_once, others_once}
-use Rattle.filing_gen.specs.Structured.{comparison, values_flow, keys_flow, names_flow, test_flow, tests_flow, flow, flow_one, branches_flow, script_flow}
-use Rattle.filing_gen.specs.Linked.{once_flow, active_flow, found_flow, including_flow, is_passed}
+use Rattle.filing_table.specs.Comparison.{comparison}
+use Rattle.filing_gen.specs.BlockCode.{values_flow, keys_flow, names_flow, test_flow, tests_flow, flow, flow_one, branches_flow, script_flow}
+use Rattle.filing_gen.specs.IncludeCode.{once_flow, active_flow, found_flow, including_flow, is_passed}
 use Rattle.filing_gen.specs.Procedures.{call_flow, call_entry, calling_flow, procedure_flows, shared_flows, path_at, called_path, path_weights}
 use Rattle.filing_gen.proofs.IncludesTypes.{nothing_there}
 use Rattle.filing_gen.proofs.Names.{once_fewer, others_fewer}

@@ -10,13 +10,14 @@ use Rattle.sieve_meaning.specs.Matching.{key_matches}
 use Rattle.sieve_meaning.specs.Case.{Facts, Field, is_named}
 use Rattle.sieve_meaning.specs.Truth.{has_field, header_truth, truth, all_true, some_true}
 use Rattle.sieve_meaning.specs.Program.{Test, always, negated, all_of, any_of, has_all, over, under, header, Tests, no_test, test_then}
-use Rattle.filing_table.specs.Machine.{Entry, T, L, compared, values_of}
+use Rattle.filing_table.specs.Machine.{Entry, T, L, comparison_holds, values_of}
 use Rattle.filing_flow.specs.Structure.{Push, Drop, Flow, action, sequence, leave}
 use Rattle.filing_flow.specs.Effect.{Filing, Exit, FallsThrough, Leaves, Called, effect, caught}
 use Rattle.filing_flow.specs.Effect as effects
 use Rattle.filing_gen.specs.Names.{each_once, others_once}
 use Rattle.filing_gen.proofs.Names.{some_once, every_once, same_named}
-use Rattle.filing_gen.specs.Structured.{comparison, either, values_flow, keys_flow, names_flow, header_flow, test_flow, tests_flow}
+use Rattle.filing_table.specs.Comparison.{comparison}
+use Rattle.filing_gen.specs.BlockCode.{either, values_flow, keys_flow, names_flow, header_flow, test_flow, tests_flow}
 
 -- LISTS: a test of some values of some fields
 
@@ -67,7 +68,7 @@ any_values p name (f ∷ fs) =
     elim (is_named name f) as (λ b. list_any p (map (λ f. f.value) (cond b (f ∷ filter (is_named name) fs) (filter (is_named name) fs))) ≡ ((b && p f.value) || list_any (λ f. is_named name f && p f.value) fs))
     [ true ↦ ap (λ b. p f.value || b) (any_values p name fs) | false ↦ any_values p name fs ]
 
-compared_is : (m : MatchType) (c : Comparator) (key value : List ℕ) → compared (comparison m c) key value ≡ key_matches m c key value
+compared_is : (m : MatchType) (c : Comparator) (key value : List ℕ) → comparison_holds (comparison m c) key value ≡ key_matches m c key value
 compared_is match_types.Is comparators.Octet key value = refl
 compared_is match_types.Is comparators.Casemap key value = refl
 compared_is match_types.Contains comparators.Octet key value = refl
@@ -77,21 +78,21 @@ compared_is match_types.Matches comparators.Casemap key value = refl
 
 module _ (called : Called) (c : Facts) where
   -- some value of the named fields matches the key
-  key_truth : (a : ℕ) (names : List (List ℕ)) (key : List ℕ) → list_any (compared a key) (flat_map (values_of c) names) ≡ list_any (λ f. list_any (λ name. is_named name f) names && compared a key f.value) c.fields
+  key_truth : (a : ℕ) (names : List (List ℕ)) (key : List ℕ) → list_any (comparison_holds a key) (flat_map (values_of c) names) ≡ list_any (λ f. list_any (λ name. is_named name f) names && comparison_holds a key f.value) c.fields
   key_truth a names key =
-      any_flat (compared a key) (values_of c) names
-      ∙ any_same (λ name. list_any (compared a key) (values_of c name)) (λ name. list_any (λ f. is_named name f && compared a key f.value) c.fields) names (λ name. any_values (compared a key) name c.fields)
-      ∙ any_swap (λ name f. is_named name f && compared a key f.value) names c.fields
-      ∙ any_same (λ f. list_any (λ name. is_named name f && compared a key f.value) names) (λ f. list_any (λ name. is_named name f) names && compared a key f.value) c.fields (λ f. any_and_last (λ name. is_named name f) (compared a key f.value) names)
+      any_flat (comparison_holds a key) (values_of c) names
+      ∙ any_same (λ name. list_any (comparison_holds a key) (values_of c name)) (λ name. list_any (λ f. is_named name f && comparison_holds a key f.value) c.fields) names (λ name. any_values (comparison_holds a key) name c.fields)
+      ∙ any_swap (λ name f. is_named name f && comparison_holds a key f.value) names c.fields
+      ∙ any_same (λ f. list_any (λ name. is_named name f && comparison_holds a key f.value) names) (λ f. list_any (λ name. is_named name f) names && comparison_holds a key f.value) c.fields (λ f. any_and_last (λ name. is_named name f) (comparison_holds a key f.value) names)
 
-  header_is : (m : MatchType) (o : Comparator) (names keys : List (List ℕ)) → list_any (λ key. list_any (compared (comparison m o) key) (flat_map (values_of c) names)) keys ≡ header_truth c m o names keys
+  header_is : (m : MatchType) (o : Comparator) (names keys : List (List ℕ)) → list_any (λ key. list_any (comparison_holds (comparison m o) key) (flat_map (values_of c) names)) keys ≡ header_truth c m o names keys
   header_is m o names keys =
       let a = comparison m o in
-      any_same (λ key. list_any (compared a key) (flat_map (values_of c) names)) (λ key. list_any (λ f. list_any (λ name. is_named name f) names && compared a key f.value) c.fields) keys (λ key. key_truth a names key)
-      ∙ any_swap (λ key f. list_any (λ name. is_named name f) names && compared a key f.value) keys c.fields
-      ∙ any_same (λ f. list_any (λ key. list_any (λ name. is_named name f) names && compared a key f.value) keys) (λ f. list_any (λ name. is_named name f) names && list_any (λ key. key_matches m o key f.value) keys) c.fields
-      (λ f. any_and (list_any (λ name. is_named name f) names) (λ key. compared a key f.value) keys
-      ∙ ap (λ b. list_any (λ name. is_named name f) names && b) (any_same (λ key. compared a key f.value) (λ key. key_matches m o key f.value) keys (λ key. compared_is m o key f.value)))
+      any_same (λ key. list_any (comparison_holds a key) (flat_map (values_of c) names)) (λ key. list_any (λ f. list_any (λ name. is_named name f) names && comparison_holds a key f.value) c.fields) keys (λ key. key_truth a names key)
+      ∙ any_swap (λ key f. list_any (λ name. is_named name f) names && comparison_holds a key f.value) keys c.fields
+      ∙ any_same (λ f. list_any (λ key. list_any (λ name. is_named name f) names && comparison_holds a key f.value) keys) (λ f. list_any (λ name. is_named name f) names && list_any (λ key. key_matches m o key f.value) keys) c.fields
+      (λ f. any_and (list_any (λ name. is_named name f) names) (λ key. comparison_holds a key f.value) keys
+      ∙ ap (λ b. list_any (λ name. is_named name f) names && b) (any_same (λ key. comparison_holds a key f.value) (λ key. key_matches m o key f.value) keys (λ key. compared_is m o key f.value)))
 
   -- TESTS
 
@@ -102,13 +103,13 @@ module _ (called : Called) (c : Facts) where
   values_means [] f xs = ap (λ (ys : List (List ℕ)). FallsThrough f (L ys ∷ [])) (sym (append-nil xs))
   values_means (n ∷ ns) f xs = values_means ns f (xs ++ values_of c n) ∙ ap (λ (ys : List (List ℕ)). FallsThrough f (L ys ∷ [])) (append_assoc xs (values_of c n) (flat_map (values_of c) ns))
 
-  keys_means : (a : ℕ) (ks : List (List ℕ)) (f : Filing) (xs : List (List ℕ)) → effect called c (keys_flow a ks) f (L xs ∷ []) ≡ exit_if (list_any (λ k. list_any (compared a k) xs) ks) f (L xs ∷ [])
+  keys_means : (a : ℕ) (ks : List (List ℕ)) (f : Filing) (xs : List (List ℕ)) → effect called c (keys_flow a ks) f (L xs ∷ []) ≡ exit_if (list_any (λ k. list_any (comparison_holds a k) xs) ks) f (L xs ∷ [])
   keys_means a [] f xs = refl
-  keys_means a (k ∷ ks) f xs = elim (list_any (compared a k) xs) as (λ t. effects.and_then (effects.leaving true 0 f (T t ∷ L xs ∷ [])) (effect called c (keys_flow a ks)) ≡ exit_if (t || list_any (λ k. list_any (compared a k) xs) ks) f (L xs ∷ [])) [ true ↦ refl | false ↦ keys_means a ks f xs ]
+  keys_means a (k ∷ ks) f xs = elim (list_any (comparison_holds a k) xs) as (λ t. effects.and_then (effects.jump_exit true 0 f (T t ∷ L xs ∷ [])) (effect called c (keys_flow a ks)) ≡ exit_if (t || list_any (λ k. list_any (comparison_holds a k) xs) ks) f (L xs ∷ [])) [ true ↦ refl | false ↦ keys_means a ks f xs ]
 
   names_means : (ns : List (List ℕ)) (f : Filing) → effect called c (names_flow ns) f [] ≡ exit_if (not (list_all (has_field c) ns)) f []
   names_means [] f = refl
-  names_means (n ∷ ns) f = elim (has_field c n) as (λ t. effects.and_then (effects.leaving false 0 f (T t ∷ [])) (effect called c (names_flow ns)) ≡ exit_if (not (t && list_all (has_field c) ns)) f []) [ true ↦ names_means ns f | false ↦ refl ]
+  names_means (n ∷ ns) f = elim (has_field c n) as (λ t. effects.and_then (effects.jump_exit false 0 f (T t ∷ [])) (effect called c (names_flow ns)) ≡ exit_if (not (t && list_all (has_field c) ns)) f []) [ true ↦ names_means ns f | false ↦ refl ]
 
   either_means : (past out b : Bool) (a : Flow) (f : Filing) → effect called c a f [] ≡ exit_if b f [] → effect called c (either past out a) f [] ≡ FallsThrough f (T (cond b out past) ∷ [])
   either_means past out true a f e = rw e refl
@@ -133,7 +134,7 @@ module _ (called : Called) (c : Facts) where
       let xs = values_of c n ++ flat_map (values_of c) ns in
       let a = comparison m o in
       let names = values_means ns f (values_of c n) in
-      let found = list_any (λ k. list_any (compared a k) xs) (k ∷ ks) in
+      let found = list_any (λ k. list_any (comparison_holds a k) xs) (k ∷ ks) in
       let keys : effect called c (keys_flow a (k ∷ ks)) f (L xs ∷ []) ≡ exit_if found f (L xs ∷ []) = keys_means a (k ∷ ks) f xs in
       rw (names, keys) (header_ends f xs found) ∙ ap (λ (b : Bool). FallsThrough f (T b ∷ [])) (header_is m o (n ∷ ns) (k ∷ ks))
 
@@ -162,8 +163,8 @@ module _ (called : Called) (c : Facts) where
 
     all_means : (ts : Tests) (f : Filing) → effect called c (tests_flow false ts) f [] ≡ exit_if (not (all_true c ts)) f []
     all_means no_test f = refl
-    all_means (test_then t ts) f = rw (test_means t f) (elim (truth c t) as (λ b. effects.and_then (effects.leaving false 0 f (T b ∷ [])) (effect called c (tests_flow false ts)) ≡ exit_if (not (b && all_true c ts)) f []) [ true ↦ all_means ts f | false ↦ refl ])
+    all_means (test_then t ts) f = rw (test_means t f) (elim (truth c t) as (λ b. effects.and_then (effects.jump_exit false 0 f (T b ∷ [])) (effect called c (tests_flow false ts)) ≡ exit_if (not (b && all_true c ts)) f []) [ true ↦ all_means ts f | false ↦ refl ])
 
     some_means : (ts : Tests) (f : Filing) → effect called c (tests_flow true ts) f [] ≡ exit_if (some_true c ts) f []
     some_means no_test f = refl
-    some_means (test_then t ts) f = rw (test_means t f) (elim (truth c t) as (λ b. effects.and_then (effects.leaving true 0 f (T b ∷ [])) (effect called c (tests_flow true ts)) ≡ exit_if (b || some_true c ts) f []) [ true ↦ refl | false ↦ some_means ts f ])
+    some_means (test_then t ts) f = rw (test_means t f) (elim (truth c t) as (λ b. effects.and_then (effects.jump_exit true 0 f (T b ∷ [])) (effect called c (tests_flow true ts)) ≡ exit_if (b || some_true c ts) f []) [ true ↦ refl | false ↦ some_means ts f ])

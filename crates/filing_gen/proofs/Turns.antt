@@ -1,7 +1,6 @@
 -- Commands of the tree that were written one after the other.
-use Rattle.std.proofs.Common.{◌≡◌, ℕ, suc, ◌+◌, ◌≤◌, List, [], ◌∷◌, ◌++◌, Bool, true, false, length, map, refl, sym, ap, ◌∙◌, subst, arith, append-nil, drop, get_or, ◌<◌, Vec, Global}
+use Rattle.std.proofs.Common.{◌≡◌, ℕ, suc, ◌+◌, ◌≤◌, List, [], ◌∷◌, ◌++◌, Bool, true, false, length, map, refl, ap, ◌∙◌, subst, arith, drop, get_or, ◌<◌}
 use Rattle.std.specs.Prelude.{if◌then◌else◌}
-use Rattle.filing_image.specs.declared.instruction.Operation.{Operation}
 use Rattle.filing_image.specs.declared.instruction.Operation.TheVariants.{Jump, JumpUnless}
 use Rattle.sieve_syntax.specs.Tree.{CommandTree, command, CommandTrees, no_commands, InnerTests, EndingTree}
 use Rattle.sieve_syntax.specs.Tree as trees
@@ -18,14 +17,14 @@ use Rattle.sieve_meaning.specs.Program.{Test, Include, Commands, Branches}
 use Rattle.sieve_meaning.specs.Reading.{only_in, block_in, program_of, branches_of}
 use Rattle.filing_flow.specs.Structure.{Flow, nothing, sequence, block, leave, leave_if, size}
 use Rattle.filing_flow.specs.Code.{Stands, end_at}
-use Rattle.filing_gen.specs.Structured.{test_flow, flow, flow_one, branches_flow, branch_flow}
+use Rattle.filing_gen.specs.BlockCode.{test_flow, flow, flow_one, branches_flow, branch_flow}
 use Rattle.filing_flow.specs.Whole.{whole}
 use Rattle.filing_gen.specs.Adds.{operands_of, Puts, Emits, IsCode}
 use Rattle.sieve_meaning.specs.Branching.{part_of, is_branch}
 use Rattle.filing_gen.specs.Emission.{commands_long, one_long, branches_long, plain_long, part_long, long_from, plain_flow, part_flow, part_ends, rest_flow, is_apart, EmitsPart}
 use Rattle.filing_gen.specs.declared.output.Output.{Output}
-use Rattle.sieve_meaning.specs.declared.branches.Part.{Part}
-use Rattle.sieve_meaning.specs.declared.branches.Part.TheVariants.{Branch, Otherwise, Plain}
+use Rattle.sieve_meaning.specs.declared.branches.BranchPart.{BranchPart}
+use Rattle.sieve_meaning.specs.declared.branches.BranchPart.TheVariants.{Branch, Otherwise, Plain}
 use Rattle.filing_gen.proofs.Emitted.{emits_sequence, emits_block, emits_nothing, after_nothing, first_of_block, leave_emitted, leave_if_emitted, Grows, grows, turn}
 
 -- how many operations commands take, wherever `return` goes
@@ -123,12 +122,12 @@ plain_is_long g n words.FileInto args = refl
 plain_is_long g n words.Include args = refl
 plain_is_long g n words.Other args = refl
 
-part_is_long : (g : Include → Flow) (n : ℕ) (part : Part) (c : CommandTree) → size (part_flow g n part c) ≡ part_long (λ i. size (g i)) part c
+part_is_long : (g : Include → Flow) (n : ℕ) (part : BranchPart) (c : CommandTree) → size (part_flow g n part c) ≡ part_long (λ i. size (g i)) part c
 part_is_long g n Branch (command name args inner finish) = omega (arith, flow_long g (suc (suc n)) (block_in finish))
 part_is_long g n Otherwise (command name args inner finish) = flow_long g (suc n) (block_in finish)
 part_is_long g n Plain (command name args inner finish) = plain_is_long g n (command_word name) args
 
-pub part_grows : (g : Include → Flow) (back : ℕ) (part : Part) (end : ℕ) (c : CommandTree) (x y : Output) → EmitsPart g back part end c x y → Grows x y (part_long (λ i. size (g i)) part c)
+pub part_grows : (g : Include → Flow) (back : ℕ) (part : BranchPart) (end : ℕ) (c : CommandTree) (x y : Output) → EmitsPart g back part end c x y → Grows x y (part_long (λ i. size (g i)) part c)
 part_grows g back part end c x y e = subst (λ (n : ℕ). Grows x y n) (part_is_long g 0 part c) (grows x y (part_flow g 0 part c) (part_ends part end (back ∷ [])) (e 0 (back ∷ []) refl))
 
 module _ (g : Include → Flow) (back : ℕ) (x y : Output) where

@@ -11,7 +11,8 @@ use Rattle.sieve_meaning.specs.Program.{Test, always, negated, all_of, any_of, h
 use Rattle.sieve_meaning.specs.Weight.{test_weight, tests_weight, weight, weight_one, branches_weight}
 use Rattle.filing_gen.specs.Names.{each_once, others_once}
 use Rattle.filing_gen.proofs.Names.{once_fewer, others_fewer}
-use Rattle.filing_gen.specs.Structured.{comparison, either, values_flow, keys_flow, names_flow, test_flow, tests_flow, copy_number, flow, flow_one, branches_flow}
+use Rattle.filing_table.specs.Comparison.{comparison}
+use Rattle.filing_gen.specs.BlockCode.{either, values_flow, keys_flow, names_flow, test_flow, tests_flow, copy_number, flow, flow_one, branches_flow}
 
 -- TYPES
 

@@ -5,7 +5,7 @@ use Rattle.filing_flow.specs.Structure.{Flow, size}
 use Rattle.filing_flow.specs.Code.{Operands, Stands}
 use Rattle.filing_flow.specs.Whole.{whole}
 use Rattle.filing_image.specs.Program.{Program}
-use Rattle.filing_gen.specs.Pools.{IsAmong, IsOnce}
+use Rattle.filing_gen.specs.Pools.{IsAmong}
 use Rattle.filing_gen.specs.declared.output.Output.{Output}
 
 -- an operand is the place of a text, or of a number, that was added

@@ -24,14 +24,14 @@ abbrev pub filing_at : Ending → Filing
 filing_at (GoesOn f) = f
 filing_at (Returns f) = f
 filing_at (Stops f) = f
-filing_at (Faults n f) = f
+filing_at (Faults fault f) = f
 
 -- how code ends, by the ending of its script, where `return` leaves the block with this number
 abbrev pub exit_of : ℕ → Ending → code.Filing → Exit
 exit_of n (GoesOn f) g = FallsThrough g []
 exit_of n (Returns f) g = Leaves n g []
 exit_of n (Stops f) g = EndsRun None g
-exit_of n (Faults k f) g = EndsRun (Some k) g
+exit_of n (Faults fault f) g = EndsRun (Some fault) g
 
 -- The code ends as the script does.
 pub record Alike (marking : Marking) (n : ℕ) (e : Ending) (x : Exit) : Type 0 where

@@ -9,12 +9,12 @@ use Rattle.sieve_meaning.specs.Program.{Include, Command, require, keep, discard
 use Rattle.sieve_meaning.specs.Reading.{only_in, block_in, program_of, branches_of, string_lists, first_string, has_tag, include_of}
 use Rattle.filing_flow.specs.Structure.{SetKept, SetCancelled, End, FileInto, Flow, nothing, action, sequence, block, leave, size}
 use Rattle.filing_flow.specs.Code.{end_at}
-use Rattle.filing_gen.specs.Structured.{test_flow, copy_number, flow, branches_flow, branch_flow}
+use Rattle.filing_gen.specs.BlockCode.{test_flow, copy_number, flow, branches_flow, branch_flow}
 use Rattle.filing_gen.specs.Adds.{Emits}
 use Rattle.filing_gen.specs.Ends.{with_jumps}
 use Rattle.filing_gen.specs.declared.output.Output.{Output}
-use Rattle.sieve_meaning.specs.declared.branches.Part.{Part}
-use Rattle.sieve_meaning.specs.declared.branches.Part.TheVariants.{Branch, Otherwise, Plain}
+use Rattle.sieve_meaning.specs.declared.branches.BranchPart.{BranchPart}
+use Rattle.sieve_meaning.specs.declared.branches.BranchPart.TheVariants.{Branch, Otherwise, Plain}
 
 -- SIZES: the number of operations of commands, where w gives that of each include
 
@@ -49,7 +49,7 @@ plain_long w words.Include args = w (include_of args)
 plain_long w word args = 0
 
 -- of a command by its part
-abbrev pub part_long : (Include → ℕ) → Part → CommandTree → ℕ
+abbrev pub part_long : (Include → ℕ) → BranchPart → CommandTree → ℕ
 part_long w Branch (command name args inner finish) = size (test_flow (only_in inner)) + commands_long w
     (block_in finish) + 2
 part_long w Otherwise (command name args inner finish) = commands_long w (block_in finish)
@@ -74,19 +74,19 @@ plain_flow g n words.Include args = g (include_of args)
 plain_flow g n word args = nothing
 
 -- of a command by its part; a branch is in the block of all branches
-abbrev pub part_flow : (Include → Flow) → ℕ → Part → CommandTree → Flow
+abbrev pub part_flow : (Include → Flow) → ℕ → BranchPart → CommandTree → Flow
 part_flow g n Branch (command name args inner finish) = branch_flow g (suc n) (only_in inner) (block_in finish)
 part_flow g n Otherwise (command name args inner finish) = flow g (suc n) (block_in finish)
 part_flow g n Plain (command name args inner finish) = plain_flow g n (command_word name) args
 
 -- whether a command is none of the open branches before it: it begins others, or is no part of branches
-abbrev pub is_apart : CommandWord → Part → Bool
+abbrev pub is_apart : CommandWord → BranchPart → Bool
 is_apart words.If part = true
 is_apart word Plain = true
 is_apart word part = false
 
 -- the ends of the blocks around a part, where the branches end at a place
-abbrev pub part_ends : Part → (end : ℕ) → List ℕ → List ℕ
+abbrev pub part_ends : BranchPart → (end : ℕ) → List ℕ → List ℕ
 part_ends Branch end ends = end ∷ ends
 part_ends Otherwise end ends = end ∷ ends
 part_ends Plain end ends = ends
@@ -97,13 +97,13 @@ rest_flow g n true cs = sequence (block (branches_flow g (suc n) (branches_of cs
 rest_flow g n false cs = flow g n (program_of cs)
 
 -- The command was written by its part, where `return` goes to the place back.
-abbrev pub EmitsPart : (Include → Flow) → (back : ℕ) → Part → (end : ℕ) → CommandTree → Output → Output → Type 0
+abbrev pub EmitsPart : (Include → Flow) → (back : ℕ) → BranchPart → (end : ℕ) → CommandTree → Output → Output → Type 0
 EmitsPart g back part end c x y = (n : ℕ) (ends : List ℕ) → end_at ends n ≡ back →
     Emits x y (part_flow g n part c) (part_ends part end ends)
 
 -- The command was written by its part, and the place of its jump to the end of all branches was added to those of the
 -- branches before it. The code is right wherever these jumps go.
-abbrev pub EmitsOpen : (Include → Flow) → (back : ℕ) → Part → CommandTree → Output → (before : List ℕ) → Output →
+abbrev pub EmitsOpen : (Include → Flow) → (back : ℕ) → BranchPart → CommandTree → Output → (before : List ℕ) → Output →
     (jumps : List ℕ) → Type 0
 EmitsOpen g back part c x before y jumps = (end : ℕ) →
     EmitsPart g back part end c (with_jumps end before x) (with_jumps end jumps y)

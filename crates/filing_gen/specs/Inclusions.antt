@@ -1,7 +1,8 @@
 -- What the includes of a procedure come to, in terms of the definitions.
 use Rattle.std.specs.Prelude.{ℕ, zero, suc, ◌<◌, List, Bool, Option, Some, None}
+use Rattle.sieve_meaning.specs.declared.run_fault.RunFault.TheVariants.{NestingTooDeep}
 use Rattle.filing_flow.specs.Structure.{SetMark, Fail, Flow, nothing, action, sequence}
-use Rattle.filing_gen.specs.Linked.{once_flow}
+use Rattle.filing_gen.specs.IncludeCode.{once_flow}
 use Rattle.filing_gen.specs.Procedures.{call_flow, path_at}
 use Rattle.filing_gen.specs.declared.callees.Call.{Call}
 use Rattle.filing_gen.specs.declared.callees.Call.TheVariants.{TooDeep, To, Missing}
@@ -16,14 +17,14 @@ call_of (suc left) (Some n) = To n
 
 -- the code that enters the script of a slot from the procedure with the number `own`
 abbrev pub code_of_call : (own slot : ℕ) → Call → Flow
-code_of_call own slot TooDeep = action (Fail 4)
+code_of_call own slot TooDeep = action (Fail NestingTooDeep)
 code_of_call own slot (To n) = sequence (action (SetMark slot)) (call_flow own (Some n))
 code_of_call own slot Missing = sequence (action (SetMark slot)) (call_flow own None)
 
 -- the code of an include, which may have `:once`
 abbrev pub code_of : (own : ℕ) → (once : Bool) → Inclusion → Flow
 code_of own once Pass = nothing
-code_of own once (Fault n) = action (Fail n)
+code_of own once (Fault fault) = action (Fail fault)
 code_of own once (Enter slot call) = once_flow once slot (code_of_call own slot call)
 
 abbrev pub path_of_call : (paths : List ℕ) → Call → ℕ
@@ -34,7 +35,7 @@ path_of_call paths Missing = 0
 -- what an include adds to the path weight of its procedure, by the path weights of the procedures after it
 abbrev pub path_of : (paths : List ℕ) → Inclusion → ℕ
 path_of paths Pass = 0
-path_of paths (Fault n) = 0
+path_of paths (Fault fault) = 0
 path_of paths (Enter slot call) = path_of_call paths call
 
 -- a procedure that is called is one of so many
@@ -46,5 +47,5 @@ CallsOneOf count Missing = Unit {0}
 -- a script that is entered has a slot below 64, and calls one of so many procedures
 abbrev pub EntersOneOf : (count : ℕ) → Inclusion → Type 0
 EntersOneOf count Pass = Unit {0}
-EntersOneOf count (Fault n) = Unit {0}
+EntersOneOf count (Fault fault) = Unit {0}
 EntersOneOf count (Enter slot call) = (slot < 64) × CallsOneOf count call

@@ -1,4 +1,4 @@
-pub mod Structured
+pub mod BlockCode
 pub mod Pools
 pub mod Names
 pub mod Adds
@@ -6,7 +6,7 @@ pub mod Alike
 pub mod Emission
 pub mod Correct
 pub mod Weights
-pub mod Linked
+pub mod IncludeCode
 pub mod Procedures
 pub mod Numbers
 pub mod Inclusions

@@ -1,26 +1,27 @@
 -- The code of procedures: an include marks its script and calls the script's procedure, whose code stands once for all
 -- includes that share it.
 use Rattle.std.specs.Prelude.{ℕ, zero, suc, ◌+◌, List, [], ◌∷◌, Option, Some, None, slice_index}
+use Rattle.sieve_meaning.specs.declared.run_fault.RunFault.TheVariants.{NestingTooDeep}
 use Rattle.sieve_meaning.specs.Program.{Include, Commands}
 use Rattle.sieve_meaning.specs.Meaning.{ScriptName, script_named, is_among, Library, main_names}
 use Rattle.sieve_meaning.specs.Weight.{weight, unless_missing, unless_active}
 use Rattle.sieve_meaning.specs.Procedures.{Procedure, procedures}
 use Rattle.filing_flow.specs.Structure.{SetMark, Fail, CallTo, Flow, action, sequence}
 use Rattle.script_procedures.specs.Slots.{Slots}
-use Rattle.script_procedures.specs.Made.{number_of}
-use Rattle.filing_gen.specs.Structured.{script_flow}
-use Rattle.filing_gen.specs.Linked.{including_flow}
+use Rattle.script_procedures.specs.ProcedureCode.{number_of}
+use Rattle.filing_gen.specs.BlockCode.{script_flow}
+use Rattle.filing_gen.specs.IncludeCode.{including_flow}
 
 -- The call of a procedure by its number among those after the caller's own. Each include that enters a script has a
 -- procedure, so that the fault never comes.
 abbrev pub call_flow : (own : ℕ) → (number : Option ℕ) → Flow
-call_flow own None = action (Fail 4)
+call_flow own None = action (Fail NestingTooDeep)
 call_flow own (Some n) = action (CallTo (own + suc n))
 
 -- the entry of a script where this number of further scripts may be active
 abbrev pub call_entry : Library → Slots → (own : ℕ) → (later : List Procedure) → (left : ℕ) → (chain : List ScriptName) →
     ScriptName → Commands → Flow
-call_entry lib slot own later zero chain s script = action (Fail 4)
+call_entry lib slot own later zero chain s script = action (Fail NestingTooDeep)
 call_entry lib slot own later (suc left) chain s script = sequence (action (SetMark (slot s)))
     (call_flow own (number_of lib later (record { script = script; left = left; chain = s ∷ chain })))
 

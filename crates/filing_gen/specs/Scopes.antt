@@ -12,13 +12,13 @@ use Rattle.filing_gen.specs.declared.finding.Finding.TheVariants.{Pass, Fault, E
 abbrev pub names_of : MainScript → List ScriptName
 names_of m = main_names (option_map (λ n. n.now) m.known_as)
 
-abbrev pub told : Finding → Judgement
-told Pass = Passes
-told (Fault n) = Fails n
-told (Entry slot script) = Enters (program_of (tree_of script.now))
+abbrev pub judgement_of : Finding → Judgement
+judgement_of Pass = Passes
+judgement_of (Fault fault) = Fails fault
+judgement_of (Entry slot script) = Enters (program_of (tree_of script.now))
 
 -- a script that is entered has this slot, which is below 64
 abbrev pub EntersAt : Finding → ℕ → Type 0
 EntersAt Pass n = Unit {0}
-EntersAt (Fault k) n = Unit {0}
+EntersAt (Fault fault) n = Unit {0}
 EntersAt (Entry slot script) n = (slot ≡ n) × (slot < 64)

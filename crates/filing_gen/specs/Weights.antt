@@ -8,8 +8,8 @@ use Rattle.sieve_meaning.specs.Words.{command_word}
 use Rattle.sieve_meaning.specs.Program.{Include}
 use Rattle.sieve_meaning.specs.Reading.{only_in, block_in, program_of, branches_of, include_of}
 use Rattle.sieve_meaning.specs.Weight.{test_weight, weight, branches_weight}
-use Rattle.sieve_meaning.specs.declared.branches.Part.{Part}
-use Rattle.sieve_meaning.specs.declared.branches.Part.TheVariants.{Branch, Otherwise, Plain}
+use Rattle.sieve_meaning.specs.declared.branches.BranchPart.{BranchPart}
+use Rattle.sieve_meaning.specs.declared.branches.BranchPart.TheVariants.{Branch, Otherwise, Plain}
 
 -- what is left once the amount taken is subtracted, or None where less was left
 abbrev pub IsLeft : (left taken : ℕ) → Option ℕ → Type 0
@@ -26,7 +26,7 @@ plain_weight w words.Include args = 4 + w (include_of args)
 plain_weight w word args = 4
 
 -- of a command by its part
-abbrev pub part_weight : (Include → ℕ) → Part → CommandTree → ℕ
+abbrev pub part_weight : (Include → ℕ) → BranchPart → CommandTree → ℕ
 part_weight w Branch (command name args inner finish) = 4 + test_weight (only_in inner) + weight w (block_in finish)
 part_weight w Otherwise (command name args inner finish) = 4 + weight w (block_in finish)
 part_weight w Plain (command name args inner finish) = plain_weight w (command_word name) args

@@ -2,14 +2,14 @@
 
 ghost use Rattle.std.specs.Prelude.{◌≡◌, ◌<◌, ℕ, List, length, map, IfOk};
 ghost use Rattle.std.specs.List.{All};
-ghost use Rattle.script_library.specs.Lent.{scripts_of};
+ghost use Rattle.script_library.specs.BorrowedShelves.{scripts_of};
 ghost use Rattle.script_procedures.specs.Keys.{IsKeyOf};
-ghost use Rattle.script_procedures.specs.Made.{procedure_of, IsEntered};
+ghost use Rattle.script_procedures.specs.ProcedureCode.{procedure_of, IsEntered};
 ghost use Rattle.filing_gen.specs.Numbers.{IsNumber, AreNumbers};
 
 use crate::finding::{Finding, Scope, find};
 use script_procedures::{Procedure, Reach, number_of, slot_count};
-use sieve_meaning::Include;
+use sieve_meaning::{Include, RunFault};
 use std::alloc::{AllocError, Global};
 
 /// The number, among the later procedures, of the one that an include of the script with this slot enters.
@@ -69,8 +69,8 @@ pub enum Call {
 pub enum Inclusion {
     /// It does nothing.
     Pass,
-    /// It ends the run with the fault of this number: 2 or 3.
-    Fault(u8),
+    /// It ends the run with this fault.
+    Fault(RunFault),
     /// It enters the script of this slot; under `:once` it does so only where the slot is not set.
     Enter(usize, Call),
 }
@@ -88,7 +88,7 @@ pub struct Callees<'a> {
 }
 
 impl Callees<'_> {
-    ghost use Rattle.sieve_meaning.specs.Scripts.{asked};
+    ghost use Rattle.sieve_meaning.specs.Scripts.{include_view};
     ghost use Rattle.script_library.specs.Libraries.{library_of};
     ghost use Rattle.script_procedures.specs.Slots.{slots_of};
     ghost use Rattle.filing_gen.specs.Scopes.{names_of};
@@ -114,16 +114,16 @@ impl Callees<'_> {
         ensures code { (own : ℕ) →
             calling_flow (library_of (scripts_of self.now.scope.shelves)) (slots_of (scripts_of self.now.scope.shelves))
             (names_of self.now.scope.main) own (map procedure_of self.now.later.now)
-            (procedure_of self.now.procedure.now) (asked include.now) ≡ code_of own include.now.is_once result }
+            (procedure_of self.now.procedure.now) (include_view include.now) ≡ code_of own include.now.is_once result }
         ensures path { (paths : List ℕ) →
             called_path (library_of (scripts_of self.now.scope.shelves)) (map procedure_of self.now.later.now) paths
-            self.now.procedure.now.key.left (procedure_of self.now.procedure.now).chain (asked include.now) ≡
+            self.now.procedure.now.key.left (procedure_of self.now.procedure.now).chain (include_view include.now) ≡
             path_of paths result }
         ensures within { EntersOneOf (length self.now.later.now) result }
     {
         match find(&self.scope, self.procedure, include) {
             Finding::Pass => Inclusion::Pass,
-            Finding::Fault(number) => Inclusion::Fault(number),
+            Finding::Fault(fault) => Inclusion::Fault(fault),
             Finding::Entry(slot, _) => Inclusion::Enter(slot, self.call(slot)),
         }
     }

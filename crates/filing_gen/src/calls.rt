@@ -5,9 +5,9 @@ ghost use Rattle.std.specs.Prelude.{◌+◌, ◌<◌, ◌^◌, length};
 use crate::callees::{Call, Callees, Inclusion};
 use crate::ends::{NO_PLACE, end_block};
 use crate::linker::Linker;
-use crate::output::{Output, put};
+use crate::output::{Output, put, put_fault};
 use filing_image::Operation;
-use sieve_meaning::Include;
+use sieve_meaning::{Include, RunFault};
 use std::alloc::{AllocError, Global};
 
 /// The includes of the procedure with the number `own`.
@@ -23,7 +23,7 @@ impl Calls<'_> {
     ghost use Rattle.filing_gen.specs.Adds.{Emits};
     ghost use Rattle.filing_gen.specs.Inclusions.{code_of_call, CallsOneOf};
 
-    /// Writes the entry of the script of a slot: the script is marked, and its procedure is called. It is fault 4 where
+    /// Writes the entry of the script of a slot: the script is marked, and its procedure is called. It is a fault where
     /// no further script may be active.
     fn emit_call(&self, out: &mut Output, slot: usize, call: Call) -> Result<(), AllocError>
         requires slot { slot < 64 }
@@ -32,14 +32,14 @@ impl Calls<'_> {
             Emits out.old out.new (code_of_call self.now.own slot call) ends) }
     {
         match call {
-            Call::TooDeep => put(out, Operation::Fault(4)),
+            Call::TooDeep => put_fault(out, RunFault::NestingTooDeep),
             Call::To(number) => {
                 put(out, Operation::Mark(slot as u16))?;
                 put(out, Operation::Call((self.own + 1 + number) as u16))
             }
             Call::Missing => {
                 put(out, Operation::Mark(slot as u16))?;
-                put(out, Operation::Fault(4))
+                put_fault(out, RunFault::NestingTooDeep)
             }
         }
     }
@@ -47,9 +47,9 @@ impl Calls<'_> {
 
 impl Linker for Calls<'_> {
     ghost use Rattle.std.specs.Prelude.{map};
-    ghost use Rattle.script_library.specs.Lent.{scripts_of};
+    ghost use Rattle.script_library.specs.BorrowedShelves.{scripts_of};
     ghost use Rattle.script_library.specs.Libraries.{library_of};
-    ghost use Rattle.script_procedures.specs.Made.{procedure_of};
+    ghost use Rattle.script_procedures.specs.ProcedureCode.{procedure_of};
     ghost use Rattle.script_procedures.specs.Slots.{slots_of};
     ghost use Rattle.filing_gen.specs.Scopes.{names_of};
     ghost use Rattle.filing_gen.specs.Procedures.{calling_flow};
@@ -66,7 +66,7 @@ impl Linker for Calls<'_> {
     ) -> Result<(), AllocError> {
         let (slot, call) = match self.callees.inclusion(include) {
             Inclusion::Pass => return Ok(()),
-            Inclusion::Fault(number) => return put(out, Operation::Fault(number)),
+            Inclusion::Fault(fault) => return put_fault(out, fault),
             Inclusion::Enter(slot, call) => (slot, call),
         };
         if !include.is_once {

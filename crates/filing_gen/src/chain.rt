@@ -56,7 +56,7 @@ impl<C: Chain> Chain for Link<'_, C> {
 }
 
 impl Chain for Procedure<'_> {
-    ghost use Rattle.script_procedures.specs.Made.{names_of};
+    ghost use Rattle.script_procedures.specs.ProcedureCode.{names_of};
 
     ghost names = { names_of };
 

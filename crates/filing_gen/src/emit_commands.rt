@@ -6,18 +6,18 @@ ghost use Rattle.sieve_syntax.specs.View.{command_of, commands_of, ending_of};
 ghost use Rattle.sieve_meaning.specs.Reading.{block_in, program_of, has_tag as has_tag_of, first_string as first_string_of, string_lists};
 ghost use Rattle.filing_flow.specs.Structure.{size, action, FileInto};
 ghost use Rattle.filing_flow.specs.Code.{end_at};
-ghost use Rattle.filing_gen.specs.Structured.{flow, copy_number};
+ghost use Rattle.filing_gen.specs.BlockCode.{flow, copy_number};
 ghost use Rattle.filing_gen.specs.Adds.{Emits, HasRoom};
 ghost use Rattle.filing_gen.specs.Emission.{commands_long, plain_long, part_long, plain_flow, is_apart, EmitsOpen};
 ghost use Rattle.filing_gen.specs.Ends.{with_jumps};
-ghost use Rattle.sieve_meaning.specs.declared.branches.Part.TheVariants as parts;
+ghost use Rattle.sieve_meaning.specs.declared.branches.BranchPart.TheVariants as parts;
 
 use crate::emit_tests::emit_only;
 use crate::ends::{NO_PLACE, end_branches};
 use crate::linker::Linker;
 use crate::output::{Output, put, put_at, text_operand};
 use filing_image::Operation;
-use sieve_meaning::branches::{Part, is_branch, part_in};
+use sieve_meaning::branches::{BranchPart, is_branch, part_in};
 use sieve_meaning::reading::{first_string, has_tag, include};
 use sieve_meaning::{CommandWord, command_word};
 use sieve_syntax::{Argument, Command, Ending};
@@ -128,7 +128,7 @@ fn emit_part<L: Linker>(
     linker: &L,
     out: &mut Output,
     command: &Command,
-    part: Part,
+    part: BranchPart,
     jumps: &mut Vec<usize>,
     back: u16,
 ) -> Result<(), AllocError>
@@ -140,9 +140,9 @@ fn emit_part<L: Linker>(
     ensures places { OnOk result (All (λ p. p < length out.new.code.items) jumps.new.items) }
 {
     match part {
-        Part::Branch => emit_branch(alloc, linker, out, command, jumps, back),
-        Part::Otherwise => emit_block(alloc, linker, out, &command.ending, back),
-        Part::Plain => {
+        BranchPart::Branch => emit_branch(alloc, linker, out, command, jumps, back),
+        BranchPart::Otherwise => emit_block(alloc, linker, out, &command.ending, back),
+        BranchPart::Plain => {
             let word = command_word(command.name.as_slice());
             emit_plain(alloc, linker, out, word, command.arguments.as_slice(), back)
         }
@@ -150,7 +150,7 @@ fn emit_part<L: Linker>(
 }
 
 /// Ends the open branches where the next command does not continue them: an `if`, or a plain command.
-fn end_before(out: &mut Output, jumps: &mut Vec<usize>, word: CommandWord, part: Part)
+fn end_before(out: &mut Output, jumps: &mut Vec<usize>, word: CommandWord, part: BranchPart)
     requires room { length out.old.code.items < 2 ^ 16 }
     requires places { All (λ p. p < length out.old.code.items) jumps.old.items }
     ensures out { out.new ≡ (if is_apart word part then with_jumps (length out.old.code.items) jumps.old.items out.old
@@ -158,8 +158,8 @@ fn end_before(out: &mut Output, jumps: &mut Vec<usize>, word: CommandWord, part:
     ensures jumps { jumps.new.items ≡ (if is_apart word part then [] else jumps.old.items) }
 {
     match (word, part) {
-        (CommandWord::If, _) | (_, Part::Plain) => end_branches(out, jumps),
-        (_, Part::Branch | Part::Otherwise) => {}
+        (CommandWord::If, _) | (_, BranchPart::Plain) => end_branches(out, jumps),
+        (_, BranchPart::Branch | BranchPart::Otherwise) => {}
     }
 }
 

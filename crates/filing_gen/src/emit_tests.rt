@@ -9,7 +9,7 @@ ghost use Rattle.sieve_meaning.specs.Reading.{test_in, only_in, tests_in, string
 ghost use Rattle.filing_flow.specs.Structure.{Flow, size, action, ValuesOf, HasField, MatchKey, PushNumber, PushSize, IsLess, Push, Drop, sequence, leave, leave_if, Negate};
 ghost use Rattle.filing_flow.specs.Code.{end_at};
 ghost use Rattle.filing_flow.specs.Types.{Shape, HasType};
-ghost use Rattle.filing_gen.specs.Structured.{comparison, either, values_flow, keys_flow, names_flow, header_flow, test_flow, tests_flow};
+ghost use Rattle.filing_gen.specs.BlockCode.{either, values_flow, keys_flow, names_flow, header_flow, test_flow, tests_flow};
 ghost use Rattle.filing_gen.specs.Names.{each_once, others_once};
 ghost use Rattle.filing_gen.specs.Ends.{no_place};
 ghost use Rattle.filing_gen.specs.Adds.{Emits, HasRoom};
@@ -19,24 +19,11 @@ use crate::ends::{NO_PLACE, end_block_at};
 use crate::field_names::FieldNames;
 use crate::output::{Output, number_operand, put, put_truth, text_operand};
 use filing_image::Operation;
+use filing_table::comparison_number;
 use sieve_meaning::reading::{comparator, has_tag, match_type, next_string_list, number};
-use sieve_meaning::{Comparator, MatchType, TestWord, test_word};
+use sieve_meaning::{TestWord, test_word};
 use sieve_syntax::{Argument, StringList, Test, Tests, Text};
 use std::alloc::{AllocError, Global};
-
-/// The number of a comparison, which is the first operand of `Match`.
-fn comparison_number(how: MatchType, comparator: Comparator) -> u8
-    ensures { result ≡ comparison how comparator }
-{
-    match (how, comparator) {
-        (MatchType::Is, Comparator::Octet) => 0,
-        (MatchType::Is, Comparator::Casemap) => 1,
-        (MatchType::Contains, Comparator::Octet) => 2,
-        (MatchType::Contains, Comparator::Casemap) => 3,
-        (MatchType::Matches, Comparator::Octet) => 4,
-        (MatchType::Matches, Comparator::Casemap) => 5,
-    }
-}
 
 /// Writes `JumpIf` or `JumpUnless`, to the end of the block around.
 fn put_jump(out: &mut Output, truth: bool) -> Result<(), AllocError>

@@ -3,19 +3,19 @@
 ghost use Rattle.std.specs.Prelude.{◌≡◌, ◌<◌, ℕ, option_map, IfSome};
 ghost use Rattle.sieve_syntax.specs.View.{tree_of};
 ghost use Rattle.sieve_meaning.specs.Reading.{program_of};
-ghost use Rattle.sieve_meaning.specs.Scripts.{asked, script_of};
-ghost use Rattle.script_library.specs.Lent.{scripts_of};
+ghost use Rattle.sieve_meaning.specs.Scripts.{include_view, script_of};
+ghost use Rattle.script_library.specs.BorrowedShelves.{scripts_of};
 ghost use Rattle.script_library.specs.Libraries.{library_of};
 ghost use Rattle.script_procedures.specs.Slots.{slots_of};
-ghost use Rattle.filing_gen.specs.Linked.{is_passed as is_passed_of};
-ghost use Rattle.filing_gen.specs.Levels.{judged, judgement};
-ghost use Rattle.filing_gen.specs.Scopes.{names_of, told, EntersAt};
+ghost use Rattle.filing_gen.specs.IncludeCode.{is_passed as is_passed_of};
+ghost use Rattle.filing_gen.specs.Levels.{judgement_by, judgement};
+ghost use Rattle.filing_gen.specs.Scopes.{names_of, judgement_of, EntersAt};
 
 use crate::chain::{Chain, MainScript};
 use script_library::Shelves;
 use script_procedures::find_script;
 use sieve_check::Checked;
-use sieve_meaning::Include;
+use sieve_meaning::{Include, RunFault};
 use sieve_syntax::Script;
 
 /// What all includes of a main script share: the scripts that can be included, and the main one.
@@ -30,8 +30,8 @@ pub struct Scope<'a> {
 pub enum Finding<'a> {
     /// It does nothing.
     Pass,
-    /// It ends the run with the fault of this number: 2 or 3.
-    Fault(u8),
+    /// It ends the run with this fault.
+    Fault(RunFault),
     /// It enters the script, which has this slot; under `:once` it does so only where the slot is not set.
     Entry(usize, &'a Script),
 }
@@ -39,21 +39,21 @@ pub enum Finding<'a> {
 /// Whether an include whose script is missing does nothing: it is `:optional`, or it is `:once` and names the main
 /// script, which was entered.
 fn is_passed(main: &MainScript<'_>, include: &Include<'_>) -> bool
-    ensures { result ≡ is_passed_of (names_of main.now) (asked include.now) }
+    ensures { result ≡ is_passed_of (names_of main.now) (include_view include.now) }
 {
     (include.is_once && main.contains(&include.script)) || include.is_optional
 }
 
 /// What an include comes to, by the script that it finds. Where there is none, the include does nothing if `is_passed`,
-/// and else is fault 2. Where the script is active, it does nothing under `:once`, and else is fault 3.
+/// and else is a fault. Where the script is active, it does nothing under `:once`, and else is a fault.
 fn finding_of<'a>(
     found: Option<(usize, &'a Checked)>,
     is_passed: bool,
     is_active: bool,
     is_once: bool,
 ) -> Finding<'a>
-    ensures told { told result ≡
-        judged (option_map (λ x. program_of (tree_of x))
+    ensures told { judgement_of result ≡
+        judgement_by (option_map (λ x. program_of (tree_of x))
         (option_map (λ f. f.1.now.script) found.entry)) is_passed is_active is_once }
     ensures slot { (slot : ℕ) → IfSome found.entry (λ f. f.0 ≡ slot) → IfSome found.entry (λ f. f.0 < 64) →
         EntersAt result slot }
@@ -63,7 +63,7 @@ fn finding_of<'a>(
             if is_passed {
                 Finding::Pass
             } else {
-                Finding::Fault(2)
+                Finding::Fault(RunFault::ScriptMissing)
             }
         }
         Some((slot, checked)) => {
@@ -72,7 +72,7 @@ fn finding_of<'a>(
             } else if is_once {
                 Finding::Pass
             } else {
-                Finding::Fault(3)
+                Finding::Fault(RunFault::RecursiveInclude)
             }
         }
     }
@@ -80,9 +80,9 @@ fn finding_of<'a>(
 
 /// What an include comes to, where the scripts of this chain are active.
 pub fn find<'a, C: Chain>(scope: &Scope<'a>, chain: &C, include: &Include<'_>) -> Finding<'a>
-    ensures told { told result ≡
+    ensures told { judgement_of result ≡
         judgement (library_of (scripts_of scope.now.shelves)) (names_of scope.now.main) (C.names chain.now)
-        (asked include.now) }
+        (include_view include.now) }
     ensures slot { EntersAt result (slots_of (scripts_of scope.now.shelves) (script_of include.now.script)) }
 {
     finding_of(

@@ -1,16 +1,16 @@
 //! The code of includes, level by level (RFC 6609, section 3.2): the code of the included script replaces the include.
-//! A level is the number of further scripts that may be active, so that the code is finite whatever the includes are.
+//! The levels end, so that the code is finite whatever the includes are.
 
-ghost use Rattle.std.specs.Prelude.{◌<◌, ℕ, zero, suc, List, OnOk};
+ghost use Rattle.std.specs.Prelude.{◌<◌, ℕ, List, OnOk};
 ghost use Rattle.sieve_syntax.specs.View.{tree_of};
 ghost use Rattle.sieve_meaning.specs.Reading.{program_of};
 ghost use Rattle.sieve_meaning.specs.Weight.{included_weight};
-ghost use Rattle.script_library.specs.Lent.{scripts_of};
+ghost use Rattle.script_library.specs.BorrowedShelves.{scripts_of};
 ghost use Rattle.script_library.specs.Libraries.{library_of};
 ghost use Rattle.filing_flow.specs.Structure.{size};
 ghost use Rattle.filing_gen.specs.Adds.{Emits, HasRoom};
-ghost use Rattle.filing_gen.specs.Levels.{entered_flow, entered_weight};
-ghost use Rattle.filing_gen.specs.Linked.{included_flow};
+ghost use Rattle.filing_gen.specs.Levels.{flow_at_level, weight_at_level};
+ghost use Rattle.filing_gen.specs.IncludeCode.{included_flow};
 ghost use Rattle.filing_gen.specs.Scopes.{names_of};
 ghost use Rattle.script_procedures.specs.Slots.{slots_of};
 ghost use Rattle.filing_gen.specs.Weights.{IsLeft};
@@ -20,23 +20,19 @@ use crate::emit_commands::emit_commands;
 use crate::ends::{NO_PLACE, end_block};
 use crate::finding::{Finding, Scope, find};
 use crate::linker::{Linker, Weights};
-use crate::output::{Output, put};
+use crate::output::{Output, put, put_fault};
 use crate::weight::weigh_commands;
 use filing_image::Operation;
-use sieve_meaning::Include;
+use sieve_meaning::{Above, Deepest, Include, Level, RunFault};
 use sieve_syntax::Script;
 use std::alloc::{AllocError, Global};
 use std::marker::PhantomData;
 
-/// How scripts are entered, by the number of further scripts that may be active. The script that is entered is already
-/// in the chain, as the innermost one.
-pub trait Level {
-    /// The number of further scripts that may be active.
-    ghost depth: { ℕ };
-
+/// The code that enters scripts at one level. The script that is entered is already in the chain, as the innermost one.
+pub trait EntryCode: Level {
     /// Subtracts what the script adds to the weight from `left`; none where it is more.
     fn weigh<C: Chain>(scope: &Scope<'_>, chain: &C, script: &Script, left: u32) -> Option<u32>
-        ensures { IsLeft left (entered_weight (library_of (scripts_of scope.now.shelves)) depth (C.names chain.now)
+        ensures { IsLeft left (weight_at_level (library_of (scripts_of scope.now.shelves)) Self.depth (C.names chain.now)
             (program_of (tree_of script.now))) result };
 
     /// Writes the code that enters the script, whose slot must be below 64. The only error is a refused allocation.
@@ -50,20 +46,16 @@ pub trait Level {
     ) -> Result<(), AllocError>
         requires slot { slot < 64 }
         requires room { HasRoom out.old
-            (size (entered_flow (library_of (scripts_of scope.now.shelves)) (slots_of (scripts_of scope.now.shelves))
-            (names_of scope.now.main) depth (C.names chain.now) slot (program_of (tree_of script.now)))) }
+            (size (flow_at_level (library_of (scripts_of scope.now.shelves)) (slots_of (scripts_of scope.now.shelves))
+            (names_of scope.now.main) Self.depth (C.names chain.now) slot (program_of (tree_of script.now)))) }
         ensures adds { OnOk result ((ends : List ℕ) →
-            Emits out.old out.new (entered_flow (library_of (scripts_of scope.now.shelves))
-            (slots_of (scripts_of scope.now.shelves)) (names_of scope.now.main) depth (C.names chain.now) slot
+            Emits out.old out.new (flow_at_level (library_of (scripts_of scope.now.shelves))
+            (slots_of (scripts_of scope.now.shelves)) (names_of scope.now.main) Self.depth (C.names chain.now) slot
             (program_of (tree_of script.now))) ends) };
 }
 
-/// No further script may be active: the entry is fault 4.
-pub struct Deepest {}
-
-impl Level for Deepest {
-    ghost depth = { zero };
-
+/// No further script may be active: the entry is a fault.
+impl EntryCode for Deepest {
     fn weigh<C: Chain>(_scope: &Scope<'_>, _chain: &C, _script: &Script, left: u32) -> Option<u32> {
         Some(left)
     }
@@ -76,18 +68,12 @@ impl Level for Deepest {
         _slot: usize,
         _script: &Script,
     ) -> Result<(), AllocError> {
-        put(out, Operation::Fault(4))
+        put_fault(out, RunFault::NestingTooDeep)
     }
 }
 
 /// One more script may be active than at the level `L`: the entry marks the script in its slot and runs it.
-pub struct Above<L> {
-    below: PhantomData<L>,
-}
-
-impl<L: Level> Level for Above<L> {
-    ghost depth = { suc L.depth };
-
+impl<L: EntryCode> EntryCode for Above<L> {
     fn weigh<C: Chain>(scope: &Scope<'_>, chain: &C, script: &Script, left: u32) -> Option<u32> {
         let includes: Includes<'_, C, L> = Includes {
             scope: *scope,
@@ -126,7 +112,7 @@ pub struct Includes<'a, C, L> {
     pub below: PhantomData<L>,
 }
 
-impl<C: Chain, L: Level> Weights for Includes<'_, C, L> {
+impl<C: Chain, L: EntryCode> Weights for Includes<'_, C, L> {
     ghost weight_of = { λ s. included_weight (library_of (scripts_of s.scope.shelves)) L.depth (C.names s.chain.now) };
 
     fn weigh(&self, include: &Include<'_>, left: u32) -> Option<u32> {
@@ -143,7 +129,7 @@ impl<C: Chain, L: Level> Weights for Includes<'_, C, L> {
     }
 }
 
-impl<C: Chain, L: Level> Linker for Includes<'_, C, L> {
+impl<C: Chain, L: EntryCode> Linker for Includes<'_, C, L> {
     ghost flow_of = { λ s. included_flow (library_of (scripts_of s.scope.shelves)) (slots_of (scripts_of s.scope.shelves)) (names_of s.scope.main) L.depth (C.names s.chain.now) };
 
     /// Writes nothing, a fault, or the entry of a script; under `:once` a jump before the entry skips it where the
@@ -156,7 +142,7 @@ impl<C: Chain, L: Level> Linker for Includes<'_, C, L> {
     ) -> Result<(), AllocError> {
         let (slot, script) = match find(&self.scope, self.chain, include) {
             Finding::Pass => return Ok(()),
-            Finding::Fault(number) => return put(out, Operation::Fault(number)),
+            Finding::Fault(fault) => return put_fault(out, fault),
             Finding::Entry(slot, script) => (slot, script),
         };
         let chain = Link {

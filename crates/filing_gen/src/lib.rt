@@ -1,6 +1,6 @@
 //! The compiler: from checked scripts, and a library of scripts that they include, to images that may run.
 //!
-//! In `specs/`, `Structured` defines the code in blocks (`filing_flow`) of a script, `Linked` and `Procedures` that of an
+//! In `specs/`, `BlockCode` defines the code in blocks (`filing_flow`) of a script, `IncludeCode` and `Procedures` that of an
 //! include, and `Correct` what the image of a script must satisfy. `Alike` says how a script and its code run side by
 //! side. The other files have the invariants of the passes over the tree.
 //!
@@ -12,7 +12,7 @@
 //!
 //! The code of an include is left to a `linker`, which looks the script up in the library (`script_library`), with its
 //! slot (`script_procedures`), and judges the include by the `chain` of active scripts (`finding`). That of `levels` puts
-//! the script's own code in the place of the include, one level further down; the deepest level has fault 4 instead.
+//! the script's own code in the place of the include, one level further down; the deepest level has a fault instead.
 //!
 //! Where that code would weigh more than 60,000, `shared` finds the procedures of the script (`script_procedures`) and
 //! weighs them (`paths`). Then `emit_procedures` writes each of them once, by the linker of `calls`: an include calls the

@@ -3,7 +3,7 @@
 ghost use Rattle.std.specs.Prelude.{ℕ, List, OnOk};
 ghost use Rattle.filing_flow.specs.Structure.{Flow, size};
 ghost use Rattle.sieve_meaning.specs.Program as program;
-ghost use Rattle.sieve_meaning.specs.Scripts.{asked};
+ghost use Rattle.sieve_meaning.specs.Scripts.{include_view};
 ghost use Rattle.filing_gen.specs.Adds.{Emits, HasRoom};
 ghost use Rattle.filing_gen.specs.Weights.{IsLeft};
 
@@ -18,7 +18,7 @@ pub trait Weights {
 
     /// Subtracts what an include adds to the weight from `left`; none where it is more.
     fn weigh(&self, include: &Include<'_>, left: u32) -> Option<u32>
-        ensures { IsLeft left (weight_of self.now (asked include.now)) result };
+        ensures { IsLeft left (weight_of self.now (include_view include.now)) result };
 }
 
 /// The code of each include of a script, by what it asks for.
@@ -28,7 +28,7 @@ pub trait Linker {
 
     /// Writes the code of an include. The only error is a refused allocation.
     fn emit(&self, alloc: Global, out: &mut Output, include: &Include<'_>) -> Result<(), AllocError>
-        requires { HasRoom out.old (size (flow_of self.now (asked include.now))) }
+        requires { HasRoom out.old (size (flow_of self.now (include_view include.now))) }
         ensures adds { OnOk result ((ends : List ℕ) →
-            Emits out.old out.new (flow_of self.now (asked include.now)) ends) };
+            Emits out.old out.new (flow_of self.now (include_view include.now)) ends) };
 }

@@ -1,7 +1,7 @@
 //! The output of the compiler.
 
 ghost use Rattle.std.specs.Prelude.{◌≡◌, ◌<◌, ◌^◌, ℕ, List, [], length, IfOk, OnOk};
-ghost use Rattle.filing_flow.specs.Structure.{Push, action};
+ghost use Rattle.filing_flow.specs.Structure.{Fail, Push, action};
 ghost use Rattle.filing_gen.specs.Adds.{Puts, Brings, Emits};
 ghost use Rattle.filing_gen.specs.Ends.{with_operation};
 ghost use Rattle.filing_gen.specs.Pools.{IsAmong};
@@ -9,6 +9,7 @@ ghost use Rattle.filing_gen.specs.Pools.{IsAmong};
 use crate::number_pool::NumberPool;
 use crate::text_pool::TextPool;
 use filing_image::Operation;
+use sieve_meaning::RunFault;
 use std::alloc::{AllocError, Global};
 
 /// The operations written so far, and the texts and numbers that they name.
@@ -60,6 +61,13 @@ pub fn put(out: &mut Output, operation: Operation) -> Result<(), AllocError>
 {
     out.code.push(operation)?;
     Ok(())
+}
+
+/// Appends the operation that ends the run with a fault. The only error is a refused allocation.
+pub fn put_fault(out: &mut Output, fault: RunFault) -> Result<(), AllocError>
+    ensures adds { OnOk result ((ends : List ℕ) → Emits out.old out.new (action (Fail fault)) ends) }
+{
+    put(out, Operation::Fault(fault.number()))
 }
 
 /// Replaces the operation at a place of the code.

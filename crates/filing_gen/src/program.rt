@@ -6,12 +6,12 @@ ghost use Rattle.sieve_syntax.specs.View.{command_of, commands_of, tree_of};
 ghost use Rattle.sieve_meaning.specs.Reading.{program_of};
 ghost use Rattle.sieve_meaning.specs.TooHeavy.{IsTooHeavy};
 ghost use Rattle.sieve_meaning.specs.Weight.{greatest_weight, linked_weight};
-ghost use Rattle.script_library.specs.Lent.{scripts_of};
+ghost use Rattle.script_library.specs.BorrowedShelves.{scripts_of};
 ghost use Rattle.script_library.specs.Libraries.{library_of};
 ghost use Rattle.filing_image.specs.Program.{held};
 ghost use Rattle.filing_flow.specs.Structure.{size};
 ghost use Rattle.filing_flow.specs.Types.{HasType};
-ghost use Rattle.filing_gen.specs.Structured.{script_flow};
+ghost use Rattle.filing_gen.specs.BlockCode.{script_flow};
 ghost use Rattle.filing_gen.specs.Adds.{IsCode, IsImageOf};
 ghost use Rattle.filing_gen.specs.Emission.{commands_long};
 ghost use Rattle.filing_gen.specs.Correct.{IsCompiled, NamesOnce};
@@ -22,7 +22,7 @@ use crate::emit_commands::emit_commands;
 use crate::ends::{NO_PLACE, end_block};
 use crate::fault::GenFault;
 use crate::finding::Scope;
-use crate::levels::{Above, Deepest, Includes};
+use crate::levels::Includes;
 use crate::linker::Linker;
 use crate::output::{Output, put};
 use crate::shared::build_shared;
@@ -32,6 +32,7 @@ use filing_verify::Verified;
 use script_library::{Library, Shelves};
 use script_procedures::slot_count;
 use sieve_check::Checked;
+use sieve_meaning::Levels;
 use sieve_syntax::{Command, Script};
 use std::alloc::{AllocError, Global};
 use std::marker::PhantomData;
@@ -79,10 +80,6 @@ pub fn image_of(
         Err(_) => Err(GenFault::NoMemory),
     }
 }
-
-/// The levels at which scripts are included: eight may be active, the main one among them. They are types, so that the
-/// compiler's recursion ends with them. A script without `include` uses none.
-type Levels = Above<Above<Above<Above<Above<Above<Above<Deepest>>>>>>>;
 
 /// The image of a script of this weight, which is at most 60,000.
 fn build(

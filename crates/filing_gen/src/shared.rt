@@ -9,9 +9,9 @@ ghost use Rattle.sieve_meaning.specs.Program.{Commands};
 ghost use Rattle.sieve_meaning.specs.Reading.{program_of};
 ghost use Rattle.sieve_meaning.specs.TooHeavy.{IsTooHeavy};
 ghost use Rattle.sieve_meaning.specs.Weight.{greatest_weight, linked_weight};
-ghost use Rattle.script_library.specs.Lent.{scripts_of};
+ghost use Rattle.script_library.specs.BorrowedShelves.{scripts_of};
 ghost use Rattle.script_library.specs.Libraries.{library_of};
-ghost use Rattle.script_procedures.specs.Made.{AreProcedures};
+ghost use Rattle.script_procedures.specs.ProcedureCode.{AreProcedures};
 ghost use Rattle.filing_gen.specs.Correct.{IsCompiled, NamesOnce};
 ghost use Rattle.filing_gen.specs.declared.fault.GenFault.TheVariants.{NoMemory, TooLarge};
 

@@ -9,7 +9,7 @@ ghost use Rattle.sieve_meaning.specs.Weight.{test_weight, tests_weight, weight};
 ghost use Rattle.filing_gen.specs.Weights.{IsLeft, plain_weight, part_weight};
 
 use crate::linker::Weights;
-use sieve_meaning::branches::{Part, is_branch, part_in};
+use sieve_meaning::branches::{BranchPart, is_branch, part_in};
 use sieve_meaning::reading::{include, next_string_list};
 use sieve_meaning::{CommandWord, TestWord, command_word, test_word};
 use sieve_syntax::{Argument, Command, Ending, Script, StringList, Test, Tests};
@@ -139,16 +139,16 @@ fn weigh_block<L: Weights>(linker: &L, ending: &Ending, left: u32) -> Option<u32
 /// Subtracts the weight of a command by its part. A `Branch` (`if`, `elsif`) weighs 4, its test and its block;
 /// `Otherwise` (`else`) weighs 4 and its block. `weigh_plain` says what any other command weighs.
 #[cycle(weights)]
-fn weigh_part<L: Weights>(linker: &L, command: &Command, part: Part, left: u32) -> Option<u32>
+fn weigh_part<L: Weights>(linker: &L, command: &Command, part: BranchPart, left: u32) -> Option<u32>
     ensures { IsLeft left (part_weight (L.weight_of linker.now) part (command_of command.now)) result }
 {
     match part {
-        Part::Branch => {
+        BranchPart::Branch => {
             let left = weigh_only(&command.tests, left.checked_sub(4)?)?;
             weigh_block(linker, &command.ending, left)
         }
-        Part::Otherwise => weigh_block(linker, &command.ending, left.checked_sub(4)?),
-        Part::Plain => weigh_plain(
+        BranchPart::Otherwise => weigh_block(linker, &command.ending, left.checked_sub(4)?),
+        BranchPart::Plain => weigh_plain(
             linker,
             command_word(command.name.as_slice()),
             command.arguments.as_slice(),

@@ -1,15 +1,18 @@
 -- The run of a verified program ends within its budget.
-use Rattle.std.proofs.Common.{◌≡◌, ℕ, ◌+◌, ◌≤◌, Option, Some, None, refl, sym, ap, ◌∙◌, arith, inl, inr, Bool}
+use Rattle.std.proofs.Common.{◌≡◌, ℕ, ◌+◌, ◌≤◌, Option, refl, sym, ap, ◌∙◌, arith, inl, inr}
 use Rattle.std.proofs.lemmas.Bool.{cases_lt}
 use Rattle.filing_image.specs.Program.{Program}
 use Rattle.filing_verify.specs.Well.{IsWell}
+use Rattle.sieve_meaning.specs.declared.outcome.Outcome.{Outcome}
+use Rattle.sieve_meaning.specs.declared.run_fault.RunFault.{RunFault}
 use Rattle.sieve_meaning.specs.Case.{Facts}
-use Rattle.sieve_meaning.specs.Paths.{Paths}
-use Rattle.sieve_meaning.specs.Outcome.{Outcome, outcome_at}
+use Rattle.sieve_meaning.specs.Outcome.{outcome_at}
 use Rattle.filing_table.specs.Machine.{State, Run, At, Over, Trap, after_steps}
 use Rattle.filing_table.specs.Ends.{Ends, outcome_left, HasOutcome}
 use Rattle.filing_table.proofs.Once.{over_is_not_at, first_end}
-use Rattle.filing_machine.specs.Seen.{state, run_at}
+use Rattle.filing_machine.specs.declared.state.Progress.{Progress}
+use Rattle.filing_machine.specs.declared.state.Progress.TheVariants.{Ended}
+use Rattle.filing_machine.specs.StateViews.{state, run_at}
 use Rattle.filing_machine.specs.Runs.{Stored, Stands}
 use Rattle.filing_machine.proofs.Sound.{keeps, in_budget, never_traps}
 
@@ -23,7 +26,7 @@ module _ (p : Program) (c : Facts) (well : IsWell p) where
       let most : p.budget + 1 ≤ p.budget = in_budget p c well p.budget t (keeps p c well p.budget t e) in
       omega arith
 
-  ends_by : (m : ℕ) (f : Option ℕ) (s : State) → after_steps p c p.budget ≡ Over f s → Ends p c m f s → EndsWithin p c
+  ends_by : (m : ℕ) (f : Option RunFault) (s : State) → after_steps p c p.budget ≡ Over f s → Ends p c m f s → EndsWithin p c
   ends_by m f s e ends =
       elim (cases_lt p.budget m) [
         | inl lt ↦ let (t, at) = ends.going p.budget lt in absurd (over_is_not_at f s t (sym e ∙ at))
@@ -39,15 +42,11 @@ module _ (p : Program) (c : Facts) (well : IsWell p) where
   ends_within = by_run (after_steps p c p.budget) refl
 
 -- a machine that has ended is at the end of its run
-pub ends_here : (p : Program) (c : Facts) (m : Stored) (fault : Option ℕ) → m.end ≡ Some fault → Stands p c m → Ends p c m.steps fault (state c m.at)
+pub ends_here : (p : Program) (c : Facts) (m : Stored) (fault : Option RunFault) → m.progress ≡ Ended fault → Stands p c m → Ends p c m.steps fault (state c m.at)
 ends_here p c m fault ended stands = record {
-  over = sym stands.on_run ∙ ap (λ (end : Option (Option ℕ)). run_at end (state c m.at)) ended;
+  over = sym stands.on_run ∙ ap (λ (progress : Progress). run_at progress (state c m.at)) ended;
   going = stands.going;
 }
 
-pub outcome_here : (p : Program) (c : Facts) (m : Stored) (fault : Option ℕ) (o : Outcome) → m.end ≡ Some fault → o ≡ outcome_at fault m.at.filed m.at.kept m.at.cancelled → Stands p c m → HasOutcome p c m.steps o
+pub outcome_here : (p : Program) (c : Facts) (m : Stored) (fault : Option RunFault) (o : Outcome) → m.progress ≡ Ended fault → o ≡ outcome_at fault m.at.filed m.at.kept m.at.cancelled → Stands p c m → HasOutcome p c m.steps o
 outcome_here p c m fault o ended e stands = (fault, state c m.at, ends_here p c m fault ended stands, sym e)
-
-pub answer_is : (fault : Option ℕ) (filed classes : Paths) (kept cancelled : Bool) (o : Outcome) → o ≡ record { classes = classes; fault = fault } → classes ≡ (outcome_at fault filed kept cancelled).classes → o ≡ outcome_at fault filed kept cancelled
-answer_is None filed classes kept cancelled o e same = e ∙ ap (λ (cs : Paths). record { classes = cs; fault = None }) same
-answer_is (Some n) filed classes kept cancelled o e same = e ∙ ap (λ (cs : Paths). record { classes = cs; fault = Some n }) same

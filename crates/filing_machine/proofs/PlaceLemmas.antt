@@ -6,7 +6,7 @@ use Rattle.sieve_meaning.specs.Case.{Facts, is_named}
 use Rattle.filing_case.specs.Fields.{field_at}
 use Rattle.filing_machine.specs.declared.state.Item.{Item}
 use Rattle.filing_machine.specs.declared.state.Item.TheVariants.{Fields}
-use Rattle.filing_machine.specs.Seen.{InCase}
+use Rattle.filing_machine.specs.StateViews.{InCase}
 use Rattle.std.proofs.lemmas.List.{append-nil, map-append, get_or-append_right, get_or_append_left}
 
 nil_of : (ys : List ℕ) → length ys ≡ 0 → ys ≡ []

@@ -8,8 +8,10 @@ use Rattle.filing_image.specs.declared.instruction.Operation.TheVariants.{PushTr
 use Rattle.filing_verify.specs.Well.{InRange, greatest_budget, IsWell}
 use Rattle.sieve_meaning.specs.Case.{Facts}
 use Rattle.filing_table.specs.Machine.{State, At, Trap, act, step, after_steps}
-use Rattle.filing_machine.specs.Seen.{state, entry, run_at, IsModest}
-use Rattle.filing_machine.specs.Runs.{Stored, seen, Stands, IsModestAt}
+use Rattle.filing_machine.specs.declared.state.Progress.{Progress}
+use Rattle.filing_machine.specs.declared.state.Progress.TheVariants.{Going}
+use Rattle.filing_machine.specs.StateViews.{state, entry, run_at, IsModest}
+use Rattle.filing_machine.specs.Runs.{Stored, run_view, Stands, IsModestAt}
 use Rattle.filing_machine.proofs.Sound.{keeps, sound, ranges, depth, room, in_budget, steps_to}
 
 -- what a step relies on
@@ -23,15 +25,15 @@ pub record Ready (p : Program) (c : Facts) (m : Stored) : Type 0 where
   pub budget : m.steps + 1 ≤ p.budget
   pub small : p.budget ≤ 1000000
   pub here : At (state c m.at) ≡ after_steps p c m.steps
-  pub to : step p c (seen c m) ≡ act p c (get_or p.code m.at.place PushTrue) (state c m.at)
+  pub to : step p c (run_view c m) ≡ act p c (get_or p.code m.at.place PushTrue) (state c m.at)
 
 budget_small : (x : Option (List ℕ)) (budget : ℕ) → budget ≤ greatest_budget x → budget ≤ 1000000
 budget_small None budget le = omega arith
 budget_small (Some firsts) budget le = le
 
-pub ready : (p : Program) (c : Facts) (m : Stored) → IsWell p → m.end ≡ None → Stands p c m → Ready p c m
+pub ready : (p : Program) (c : Facts) (m : Stored) → IsWell p → m.progress ≡ Going → Stands p c m → Ready p c m
 ready p c m well running stands =
-    let e : At (state c m.at) ≡ seen c m = ap (λ (end : Option (Option ℕ)). run_at end (state c m.at)) (sym running) in
+    let e : At (state c m.at) ≡ run_view c m = ap (λ (progress : Progress). run_at progress (state c m.at)) (sym running) in
     let k = keeps p c well m.steps (state c m.at) (e ∙ stands.on_run) in
     let deep = depth p c well m.steps (state c m.at) k in
     record {

@@ -1,7 +1,7 @@
 -- The run of a verified program never traps, and ends within its budget.
 use Rattle.std.proofs.Common.{◌≡◌, ◌≢◌, ℕ, zero, suc, ◌+◌, ◌<◌, ◌≤◌, List, [], ◌∷◌, ◌++◌, length, Bool, true, false, not, ◌||◌, cond, max, Option, Some, None, refl, sym, ap, ◌∙◌, subst, arith, inl, inr, ◌⊎◌, get_or}
 use Rattle.std.specs.Prelude.{slice_get, nat_lt, nat_eq}
-use Rattle.std.proofs.lemmas.Bool.{le-ltb, lt-ltb, le-leb, and_from}
+use Rattle.std.proofs.lemmas.Bool.{le-ltb, lt-ltb, le-leb}
 use Rattle.std.proofs.lemmas.Option.{slice_get-get_or, same_Some}
 use Rattle.std.proofs.lemmas.List.Elements.{All-get_or}
 use Rattle.filing_image.specs.declared.instruction.Operation.{Operation}
@@ -13,9 +13,13 @@ use Rattle.filing_verify.specs.Flow.{first_place, target, goes_on, Follows, Cont
 use Rattle.filing_verify.specs.Shapes.{after, IsFine, IsAssignment}
 use Rattle.filing_verify.specs.Well.{InRange, is_call, together, next_cost, target_cost, cost_by, Suffices, IsWell}
 use Rattle.filing_verify.proofs.Procedures.{by_kind, enters, leads_inside, number_small}
+use Rattle.class_paths.specs.Paths.{insert_path}
+use Rattle.sieve_meaning.specs.declared.run_fault.RunFault.{RunFault}
+use Rattle.sieve_meaning.specs.declared.run_fault.RunFault.TheVariants.{ClassNotOpen}
+use Rattle.sieve_meaning.specs.RunFaults.{fault_of}
+use Rattle.sieve_meaning.proofs.RunFaultLemmas.{fault_between}
 use Rattle.sieve_meaning.specs.Case.{Facts}
 use Rattle.sieve_meaning.specs.Truth.{has_field}
-use Rattle.sieve_meaning.specs.Paths.{insert_path}
 use Rattle.filing_table.specs.Machine.{Entry, T, L, N, State, values_of, Run, At, Over, Trap, with_stack, with_named, only_if, jump, file, enter, go_back, on_stack, act, at_place, start, step, after_steps}
 
 pub kind : Entry → Kind
@@ -82,10 +86,15 @@ jumped p o s es r b false g plain to e = inl (record { follows = inl (g, refl); 
 
 filed : (p : Program) (o : Operation) (s : State) (r : List Kind) (c : Facts) (a : ℕ) (path : List ℕ) → goes_on o ≡ true → is_call o ≡ false → Some (kinds s.stack) ≡ Some r → Does p o s r (file c s a path)
 unfolding Does
-filed p o s r c a path g plain e = elim (c.is_open path) as (λ b. Does p o s r (cond b (At (record s { place = s.place + 1; filed = insert_path path s.filed; cancelled = s.cancelled || nat_eq a 0 })) (Over (Some 1) s))) [
+filed p o s r c a path g plain e = elim (c.is_open path) as (λ b. Does p o s r (cond b (At (record s { place = s.place + 1; filed = insert_path path s.filed; cancelled = s.cancelled || nat_eq a 0 })) (Over (Some ClassNotOpen) s))) [
   | true ↦ inl (record { follows = inl (g, refl); kinds = cc; calls = refl; plain = plain })
   | false ↦ tt
 ]
+
+failed : (p : Program) (o : Operation) (s : State) (r : List Kind) (x : Option RunFault) (fault : RunFault) → x ≡ Some fault → Does p o s r (with_named x (λ f. Over (Some f) s))
+unfolding Does
+failed p o s r None fault e = absurd cc
+failed p o s r (Some f) fault e = tt
 
 entered : (p : Program) (b : ℕ) (s : State) (r : List Kind) (x : Option ℕ) → first_place p b ≡ x → b < length (first_places p) → s.stack ≡ [] → Does p (Call b) s r (with_named x (enter s))
 unfolding Does kinds
@@ -144,7 +153,7 @@ acts p c (File a b) s es r same e fits range = only p (File a b) s r _ _ (le-leb
 acts p c Keep s es r same e fits range = (inl (record { follows = inl (refl, refl); kinds = ap kinds same ∙ same_Some _ _ e; calls = refl; plain = refl }))
 acts p c Discard s es r same e fits range = (inl (record { follows = inl (refl, refl); kinds = ap kinds same ∙ same_Some _ _ e; calls = refl; plain = refl }))
 acts p c Stop s es r same e fits range = tt
-acts p c (Fault a) s es r same e fits range = only p (Fault a) s r _ _ (and_from _ _ (le-leb _ _ range.0) (le-leb _ _ range.1)) tt
+acts p c (Fault a) s es r same e fits range = let (fault, is) = fault_between a range.0 range.1 in only p (Fault a) s r _ _ (le-leb _ _ range.0) (failed p (Fault a) s r (fault_of a) fault is)
 acts p c (Call b) s [] r same e fits range = entered p b s r (first_place p b) refl range same
 acts p c (Call b) s (d ∷ es) r same e fits range = absurd cc
 acts p c Return s [] r same e fits range = came_back p s r s.calls refl same

@@ -3,14 +3,14 @@ use Rattle.std.proofs.Common.{◌≡◌, ℕ, false, List, [], ◌∷◌, Some, 
 use Rattle.std.specs.List.{list_any}
 use Rattle.std.specs.Option.{unwrap_or}
 use Rattle.sieve_meaning.specs.Case.{Facts}
-use Rattle.filing_table.specs.Machine.{compared}
+use Rattle.filing_table.specs.Machine.{comparison_holds}
 use Rattle.filing_case.specs.Fields.{field_at}
 use Rattle.filing_machine.specs.declared.state.Item.{Item}
 use Rattle.filing_machine.specs.declared.state.Item.TheVariants.{Truth, Fields, Count}
-use Rattle.filing_machine.specs.Seen.{entry}
+use Rattle.filing_machine.specs.StateViews.{entry}
 use Rattle.filing_machine.specs.Tops.{any_on_top}
 
-pub any_of_fields : (c : Facts) (k : ℕ) (key : List ℕ) (items : List Item) (places : List ℕ) → slice_get items 0 ≡ Some (Fields places) → any_on_top k key (map (entry c) items) ≡ list_any (compared k key) (map (λ place. (field_at c place).value) places)
+pub any_of_fields : (c : Facts) (k : ℕ) (key : List ℕ) (items : List Item) (places : List ℕ) → slice_get items 0 ≡ Some (Fields places) → any_on_top k key (map (entry c) items) ≡ list_any (comparison_holds k key) (map (λ place. (field_at c place).value) places)
 any_of_fields c k key [] places e = absurd (cc e)
 any_of_fields c k key (item ∷ items) places e =
     let is : item ≡ Fields places = ap (λ o. unwrap_or o item) e in

@@ -1,4 +1,4 @@
 pub mod Items
-pub mod Seen
+pub mod StateViews
 pub mod Runs
 pub mod Tops

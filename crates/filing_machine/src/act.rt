@@ -1,31 +1,31 @@
 //! One instruction of a run. What it asks of its case is answered in `whole` of `filing_case`.
 
-ghost use Rattle.std.specs.Prelude.{◌≡◌, ◌≢◌, ◌<◌, ◌≤◌, ◌+◌, ◌^◌, [], ◌∷◌, length, map, if◌then◌else◌, slice_set, true, IfOk, IsOk, OnErr, OnOk, Ok, None};
+ghost use Rattle.std.specs.Prelude.{◌≡◌, ◌≢◌, ◌<◌, ◌≤◌, ◌+◌, ◌^◌, [], ◌∷◌, length, map, if◌then◌else◌, slice_set, true, IfOk, IsOk, OnErr, OnOk, Ok};
 ghost use Rattle.std.specs.List.{AllByRecursion};
 ghost use Rattle.filing_verify.specs.Well.{InRange};
 ghost use Rattle.sieve_meaning.specs.Case.{Facts};
+ghost use Rattle.sieve_meaning.specs.RunFaults.{fault_of};
 ghost use Rattle.filing_table.specs.Machine.{act, file, go_back, Trap};
-ghost use Rattle.filing_machine.specs.Seen.{state, entry, run_at, InCase, IsModest, joined};
+ghost use Rattle.filing_machine.specs.StateViews.{state, entry, run_at, InCase, IsModest, after_join};
 ghost use Rattle.filing_machine.specs.Items.{HasTwo, IsBare};
+ghost use Rattle.filing_machine.specs.declared.state.Progress.TheVariants.{Going, Ended};
 
 use crate::fields::{any_matches, fields_named, has_field};
-use crate::state::{Item, Standing};
+use crate::state::{Item, Progress, Standing};
 use filing_case::Case;
 use filing_image::{Image, Operation};
+use sieve_meaning::RunFault;
 use std::alloc::{AllocError, Global};
 
-/// How a run ends: with a fault, 1 for a closed class or 2 to 5, or with none.
-type End = Option<u8>;
-
-/// Executes one instruction. Answers how the run ends, where the instruction ends it. The only error is a refused
-/// allocation, and the state is then unchanged.
+/// Executes one instruction. Answers whether the run goes on, or how the instruction ends it. The only error is a
+/// refused allocation, and the state is then unchanged.
 pub fn act<C: Case>(
     alloc: Global,
     operation: Operation,
     image: &Image,
     case: &C,
     at: &mut Standing,
-) -> Result<Option<End>, AllocError>
+) -> Result<Progress, AllocError>
     requires place { at.old.place + 1 < 2 ^ 16 }
     requires sound { act image.now (C.facts case.now) operation (state (C.facts case.now) at.old) ≢ Trap }
     requires in_case { AllByRecursion (InCase (C.facts case.now)) at.old.stack }
@@ -33,8 +33,8 @@ pub fn act<C: Case>(
     requires slots { image.now.slots ≤ 64 }
     requires deep { length at.old.stack ≤ 32 }
     requires room { length at.old.calls < 256 }
-    ensures does { IfOk result (λ end. act image.now (C.facts case.now) operation (state (C.facts case.now) at.old) ≡
-        run_at end (state (C.facts case.now) at.new)) }
+    ensures does { IfOk result (λ progress. act image.now (C.facts case.now) operation (state (C.facts case.now) at.old) ≡
+        run_at progress (state (C.facts case.now) at.new)) }
     ensures in_case { AllByRecursion (InCase (C.facts case.now)) at.new.stack }
     ensures err { OnErr result (at.new ≡ at.old) }
     ensures modest { IsModest operation → IsOk result }
@@ -75,42 +75,53 @@ pub fn act<C: Case>(
         Operation::File(a, b) => file(alloc, case, a, image.text(b as usize), at),
         Operation::Keep => keep(at),
         Operation::Discard => discard(at),
-        // The run ends, without a fault.
-        Operation::Stop => Ok(Some(None)),
-        Operation::Fault(a) => Ok(Some(Some(a))),
+        Operation::Stop => Ok(Progress::Ended(None)),
+        Operation::Fault(a) => Ok(fail(a)),
         Operation::Call(b) => enter(image.first_places()[b as usize], at),
         Operation::Return => go_back(at),
     }
 }
 
+/// Ends the run with the fault that has this number, which must be one of 2 to 5.
+fn fail(number: u8) -> Progress
+    requires least { 2 ≤ number }
+    requires greatest { number ≤ 5 }
+    ensures { result ≡ Ended (fault_of number) }
+{
+    let Some(fault) = RunFault::of_number(number) else {
+        unreachable!()
+    };
+    Progress::Ended(Some(fault))
+}
+
 /// Goes on to the next place.
-fn go_on(at: &mut Standing) -> Result<Option<End>, AllocError>
+fn go_on(at: &mut Standing) -> Result<Progress, AllocError>
     requires { at.old.place < 2 ^ 62 }
-    ensures to { result ≡ Ok None }
+    ensures to { result ≡ Ok Going }
     ensures at { at.new ≡ record at.old { place = at.old.place + 1 } }
 {
     at.place += 1;
-    Ok(None)
+    Ok(Progress::Going)
 }
 
 /// Jumps to a place where this holds, and else goes on to the next one.
-fn jump_if(holds: bool, place: u16, at: &mut Standing) -> Result<Option<End>, AllocError>
+fn jump_if(holds: bool, place: u16, at: &mut Standing) -> Result<Progress, AllocError>
     requires { at.old.place < 2 ^ 62 }
-    ensures to { result ≡ Ok None }
+    ensures to { result ≡ Ok Going }
     ensures at { at.new ≡ record at.old { place = (if holds then place else at.old.place + 1) } }
 {
     if !holds {
         return go_on(at);
     }
     at.place = place as usize;
-    Ok(None)
+    Ok(Progress::Going)
 }
 
 /// Pushes an item and goes on to the next place.
-fn push_on(item: Item, at: &mut Standing) -> Result<Option<End>, AllocError>
+fn push_on(item: Item, at: &mut Standing) -> Result<Progress, AllocError>
     requires place { at.old.place < 2 ^ 62 }
     requires room { length at.old.stack < 32 }
-    ensures to { result ≡ Ok None }
+    ensures to { result ≡ Ok Going }
     ensures at { at.new ≡ record at.old { place = at.old.place + 1; stack = item ∷ at.old.stack } }
 {
     at.stack.push(item);
@@ -118,42 +129,42 @@ fn push_on(item: Item, at: &mut Standing) -> Result<Option<End>, AllocError>
 }
 
 /// Enters the procedure with this first place, to return to the next place.
-fn enter(first: u16, at: &mut Standing) -> Result<Option<End>, AllocError>
+fn enter(first: u16, at: &mut Standing) -> Result<Progress, AllocError>
     requires place { at.old.place + 1 < 2 ^ 16 }
     requires bare { IsBare at.old.stack }
     requires room { length at.old.calls < 256 }
-    ensures to { result ≡ Ok None }
+    ensures to { result ≡ Ok Going }
     ensures bare { at.old.stack ≡ [] }
     ensures at { at.new ≡ record at.old { place = first; calls = (at.old.place + 1) ∷ at.old.calls } }
 {
     at.calls.push(at.place as u16 + 1);
     at.place = first as usize;
-    Ok(None)
+    Ok(Progress::Going)
 }
 
 /// Returns from the last call; ends the run where there is none.
-fn go_back(at: &mut Standing) -> Result<Option<End>, AllocError>
+fn go_back(at: &mut Standing) -> Result<Progress, AllocError>
     requires bare { IsBare at.old.stack }
     ensures ok { IsOk result }
     ensures bare { at.old.stack ≡ [] }
     ensures stack { at.new.stack ≡ at.old.stack }
     ensures does { (c : Facts) →
-        IfOk result (λ end. go_back (state c at.old) at.old.calls ≡ run_at end (state c at.new)) }
+        IfOk result (λ progress. go_back (state c at.old) at.old.calls ≡ run_at progress (state c at.new)) }
 {
     match at.calls.pop() {
         Some(place) => {
             at.place = place as usize;
-            Ok(None)
+            Ok(Progress::Going)
         }
-        None => Ok(Some(None)),
+        None => Ok(Progress::Ended(None)),
     }
 }
 
 /// Sets a slot.
-fn mark(slot: u16, at: &mut Standing) -> Result<Option<End>, AllocError>
+fn mark(slot: u16, at: &mut Standing) -> Result<Progress, AllocError>
     requires place { at.old.place < 2 ^ 62 }
     requires slot { slot < 64 }
-    ensures to { result ≡ Ok None }
+    ensures to { result ≡ Ok Going }
     ensures at { at.new ≡ record at.old { place = at.old.place + 1; marks = slice_set at.old.marks slot true } }
 {
     at.marks[slot as usize] = true;
@@ -161,9 +172,9 @@ fn mark(slot: u16, at: &mut Standing) -> Result<Option<End>, AllocError>
 }
 
 /// Sets the kept flag.
-fn keep(at: &mut Standing) -> Result<Option<End>, AllocError>
+fn keep(at: &mut Standing) -> Result<Progress, AllocError>
     requires { at.old.place < 2 ^ 62 }
-    ensures to { result ≡ Ok None }
+    ensures to { result ≡ Ok Going }
     ensures at { at.new ≡ record at.old { place = at.old.place + 1; kept = true } }
 {
     at.kept = true;
@@ -171,16 +182,16 @@ fn keep(at: &mut Standing) -> Result<Option<End>, AllocError>
 }
 
 /// Cancels the implicit keep.
-fn discard(at: &mut Standing) -> Result<Option<End>, AllocError>
+fn discard(at: &mut Standing) -> Result<Progress, AllocError>
     requires { at.old.place < 2 ^ 62 }
-    ensures to { result ≡ Ok None }
+    ensures to { result ≡ Ok Going }
     ensures at { at.new ≡ record at.old { place = at.old.place + 1; cancelled = true } }
 {
     at.cancelled = true;
     go_on(at)
 }
 
-/// Files the message under a path where it is open, and else ends the run with fault 1. `how` is 0 to cancel the
+/// Files the message under a path where it is open, and else ends the run with a fault. `how` is 0 to cancel the
 /// implicit keep.
 fn file<C: Case>(
     alloc: Global,
@@ -188,15 +199,15 @@ fn file<C: Case>(
     how: u8,
     path: &[u8],
     at: &mut Standing,
-) -> Result<Option<End>, AllocError>
+) -> Result<Progress, AllocError>
     requires { at.old.place < 2 ^ 62 }
-    ensures does { IfOk result (λ end. file (C.facts case.now) (state (C.facts case.now) at.old) how path.now ≡
-        run_at end (state (C.facts case.now) at.new)) }
+    ensures does { IfOk result (λ progress. file (C.facts case.now) (state (C.facts case.now) at.old) how path.now ≡
+        run_at progress (state (C.facts case.now) at.new)) }
     ensures stack { at.new.stack ≡ at.old.stack }
     ensures err { OnErr result (at.new ≡ at.old) }
 {
     if !case.is_open(path) {
-        return Ok(Some(Some(1)));
+        return Ok(Progress::Ended(Some(RunFault::ClassNotOpen)));
     }
     at.filed.insert(alloc, path)?;
     if how == 0 {
@@ -206,14 +217,14 @@ fn file<C: Case>(
 }
 
 /// Replaces the two lists on the top by one, in which the list pushed first comes first.
-fn join<C: Case>(case: &C, at: &mut Standing) -> Result<Option<End>, AllocError>
+fn join<C: Case>(case: &C, at: &mut Standing) -> Result<Progress, AllocError>
     requires place { at.old.place < 2 ^ 62 }
     requires two { HasTwo at.old.stack }
     requires in_case { AllByRecursion (InCase (C.facts case.now)) at.old.stack }
     requires deep { length at.old.stack ≤ 32 }
-    ensures to { IfOk result (λ end. end ≡ None) }
+    ensures to { IfOk result (λ progress. progress ≡ Going) }
     ensures does { OnOk result
-        (joined (state (C.facts case.now) at.old) (map (entry (C.facts case.now)) at.old.stack) ≡
+        (after_join (state (C.facts case.now) at.old) (map (entry (C.facts case.now)) at.old.stack) ≡
         state (C.facts case.now) at.new) }
     ensures in_case { AllByRecursion (InCase (C.facts case.now)) at.new.stack }
     ensures err { OnErr result (at.new ≡ at.old) }

@@ -4,12 +4,13 @@ ghost use Rattle.std.specs.Prelude.{◌≡◌, ◌<◌, length, map, All, IfOk};
 ghost use Rattle.std.specs.List.{list_any, find};
 ghost use Rattle.sieve_meaning.specs.Truth.{has_field as has_field_of};
 ghost use Rattle.sieve_meaning.specs.Matching.{key_matches as key_matches_by};
-ghost use Rattle.filing_table.specs.Machine.{values_of, compared};
+ghost use Rattle.filing_table.specs.Machine.{values_of, comparison_holds};
 ghost use Rattle.filing_case.specs.Fields.{field_at};
 ghost use Rattle.filing_machine.specs.Tops.{value_matches};
 
 use crate::places::FieldPlaces;
 use filing_case::Case;
+use filing_table::comparison_of;
 use sieve_match::{Comparator, MatchType, key_matches};
 use std::alloc::{AllocError, Global};
 
@@ -48,7 +49,7 @@ pub fn fields_named<C: Case>(
 #[tactic(auto, using(crate::proofs::FindLemmas::is_some_find, crate::proofs::FindLemmas::any_of_map))]
 pub fn any_matches<C: Case>(case: &C, fields: &FieldPlaces, comparison: u8, key: &[u8]) -> bool
     requires { All (λ place. place < length (C.facts case.now).fields) fields.now }
-    ensures { result ≡ list_any (compared comparison key.now)
+    ensures { result ≡ list_any (comparison_holds comparison key.now)
         (map (λ place. (field_at (C.facts case.now) place).value) fields.now) }
 {
     first_match(case, fields, comparison, key).is_some()
@@ -87,18 +88,4 @@ fn first_value_match<C: Case>(
         }
     }
     None
-}
-
-/// The match type and comparator of a comparison's number; each number from 5 on has the same.
-fn comparison_of(comparison: u8) -> (MatchType, Comparator)
-    ensures { compared comparison ≡ key_matches_by result.0 result.1 }
-{
-    match comparison {
-        0 => (MatchType::Is, Comparator::Octet),
-        1 => (MatchType::Is, Comparator::Casemap),
-        2 => (MatchType::Contains, Comparator::Octet),
-        3 => (MatchType::Contains, Comparator::Casemap),
-        4 => (MatchType::Matches, Comparator::Octet),
-        _ => (MatchType::Matches, Comparator::Casemap),
-    }
 }

@@ -4,7 +4,7 @@ ghost use Rattle.std.specs.Prelude.{ℕ, ◌≢◌, ◌≤◌};
 ghost use Rattle.filing_image.specs.Program.{Program};
 ghost use Rattle.filing_verify.specs.Well.{IsWell};
 ghost use Rattle.sieve_meaning.specs.Case.{Facts};
-ghost use Rattle.sieve_meaning.specs.Outcome.{Outcome};
+ghost use Rattle.sieve_meaning.specs.declared.outcome.Outcome.{Outcome};
 ghost use Rattle.filing_table.specs.Machine.{Trap, after_steps};
 ghost use Rattle.filing_table.specs.Ends.{HasOutcome};
 

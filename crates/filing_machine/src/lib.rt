@@ -10,7 +10,6 @@ mod calls;
 mod fields;
 mod laws;
 mod machine;
-mod outcome;
 mod places;
 mod stack;
 mod state;
@@ -18,6 +17,5 @@ mod top;
 
 pub use filing_case::{Case, OpenPaths, PieceCase, WholeCase};
 pub use laws::every_run_ends;
-pub use machine::{Machine, run};
-pub use outcome::Outcome;
+pub use machine::{EndedRun, Machine, run};
 pub use top::Top;

@@ -1,35 +1,35 @@
 //! The machine that runs verified programs.
 
-ghost use Rattle.std.specs.Prelude.{◌≡◌, ◌≤◌, ◌+◌, IfOk, IsOk, IfSome, OnErr, OnOk, None, is_some, true};
+ghost use Rattle.std.specs.Prelude.{◌≡◌, ◌≤◌, ◌+◌, IfOk, IsOk, IfSome, OnErr, OnOk, is_some, true};
 ghost use Rattle.std.specs.List.{AllByRecursion};
 ghost use Rattle.filing_image.specs.Program.{Program};
 ghost use Rattle.sieve_meaning.specs.Case.{Facts};
 ghost use Rattle.filing_table.specs.Machine.{At, step, start};
 ghost use Rattle.filing_table.specs.Ends.{HasOutcome};
-ghost use Rattle.filing_machine.specs.Runs.{seen, Stands, IsModestAt, answer, Leaves};
-ghost use Rattle.filing_machine.specs.Seen.{state, InCase};
+ghost use Rattle.filing_machine.specs.Runs.{run_view, Stands, IsModestAt, Leaves};
+ghost use Rattle.filing_machine.specs.StateViews.{state, is_ended, InCase};
+ghost use Rattle.filing_machine.specs.declared.state.Progress.TheVariants.{Going};
 ghost use Rattle.filing_machine.specs.Tops.{top_of_stack, any_on_top, value_matches};
 
 use crate::act::act;
 use crate::calls::Calls;
 use crate::fields::first_match;
-use crate::outcome::Outcome;
 use crate::stack::Stack;
-use crate::state::{Item, Standing};
+use crate::state::{Item, Progress, Standing};
 use crate::top::Top;
+use class_paths::Paths;
 use filing_case::Case;
 use filing_verify::Verified;
-use sieve_meaning::{Paths, captured_classes};
+use sieve_meaning::{Outcome, outcome_at_end};
 use std::alloc::{AllocError, Global};
 use std::marker::Model;
 
-/// A run of a verified program. Contracts see its state, its end once it has ended, and the number of its steps so far.
+/// A run of a verified program. Contracts see its state, how far it has come, and the number of its steps so far.
 #[derive(Drop)]
 pub struct Machine {
     alloc: Global,
     at: Standing,
-    /// How the run ended, once it has: with a fault or with none.
-    end: Option<Option<u8>>,
+    progress: Progress,
     steps: u64,
 }
 
@@ -38,16 +38,16 @@ impl Model for Machine {
 
     ghost Value = { Stored };
 
-    ghost view = { λ m. record { at = m.at; end = m.end; steps = m.steps } };
+    ghost view = { λ m. record { at = m.at; progress = m.progress; steps = m.steps } };
 }
 
 impl Machine {
     /// A machine before the first instruction of a program, with nothing done. It reserves the whole stack, and room for
     /// 256 places to return to. The program is only for the contract (`stands`). The only error is a refused allocation.
     pub fn start(alloc: Global, _program: &Verified) -> Result<Machine, AllocError>
-        ensures start { IfOk result (λ m. (c : Facts) → seen c m ≡ At start) }
+        ensures start { IfOk result (λ m. (c : Facts) → run_view c m ≡ At start) }
         ensures fresh { IfOk result (λ m. m.steps ≡ 0) }
-        ensures running { IfOk result (λ m. m.end ≡ None) }
+        ensures running { IfOk result (λ m. m.progress ≡ Going) }
         ensures stands { IfOk result (λ m. (c : Facts) → Stands _program.now c m) }
     {
         let stack = Stack::new(alloc)?;
@@ -63,7 +63,7 @@ impl Machine {
         Ok(Machine {
             alloc,
             at,
-            end: None,
+            progress: Progress::Going,
             steps: 0,
         })
     }
@@ -72,11 +72,11 @@ impl Machine {
     /// it was started with the program, and stepped with these two alone. The only error is a refused allocation, which
     /// comes at `Values`, `Join` and `File` alone; the machine is then unchanged.
     pub fn step<C: Case>(&mut self, program: &Verified, case: &C) -> Result<(), AllocError>
-        requires running { self.old.end ≡ None }
+        requires running { self.old.progress ≡ Going }
         requires stands { Stands program.now (C.facts case.now) self.old }
         ensures stands { Stands program.now (C.facts case.now) self.new }
-        ensures step { OnOk result (seen (C.facts case.now) self.new ≡
-            step program.now (C.facts case.now) (seen (C.facts case.now) self.old)) }
+        ensures step { OnOk result (run_view (C.facts case.now) self.new ≡
+            step program.now (C.facts case.now) (run_view (C.facts case.now) self.old)) }
         ensures count { OnOk result (self.new.steps ≡ self.old.steps + 1) }
         ensures budget { self.new.steps ≤ program.now.budget }
         ensures err { OnErr result (self.new ≡ self.old) }
@@ -84,16 +84,16 @@ impl Machine {
     {
         let image = program.image();
         let operation = image.code()[self.at.place];
-        self.end = act(self.alloc, operation, image, case, &mut self.at)?;
+        self.progress = act(self.alloc, operation, image, case, &mut self.at)?;
         self.steps += 1;
         Ok(())
     }
 
     /// Whether the run has ended, with or without a fault.
     pub fn is_ended(&self) -> bool
-        ensures { result ≡ is_some self.now.end }
+        ensures { result ≡ is_ended self.now.progress }
     {
-        self.end.is_some()
+        matches!(self.progress, Progress::Ended(_))
     }
 
     /// The program counter: the place of the next instruction, or of the last one once the run has ended.
@@ -135,38 +135,43 @@ impl Machine {
         self.steps
     }
 
-    /// What the run captured, and its length in steps. The machine must have ended. The only error is a refused
-    /// allocation.
+    /// What the run captured. The machine must have ended. The only error is a refused allocation.
     pub fn outcome(&self) -> Result<Outcome, AllocError>
-        requires { is_some self.now.end ≡ true }
-        ensures leaves { IfOk result (λ o. Leaves self.now (answer o)) }
-        ensures steps { IfOk result (λ o. o.steps ≡ self.now.steps) }
+        requires { is_ended self.now.progress ≡ true }
+        ensures leaves { IfOk result (λ o. Leaves self.now o) }
         ensures of_run { IfOk result (λ o. (p : Program) (c : Facts) → Stands p c self.now →
-            HasOutcome p c o.steps (answer o)) }
+            HasOutcome p c self.now.steps o) }
     {
-        let Some(fault) = self.end else {
+        let Progress::Ended(fault) = self.progress else {
             unreachable!()
         };
         let at = &self.at;
-        let classes = captured_classes(self.alloc, fault, &at.filed, at.kept, at.cancelled)?;
-        Ok(Outcome {
-            classes,
-            fault,
-            steps: self.steps,
-        })
+        outcome_at_end(self.alloc, fault, &at.filed, at.kept, at.cancelled)
     }
+}
+
+/// A run that has come to its end.
+#[derive(Drop)]
+pub struct EndedRun {
+    /// What it captured.
+    pub outcome: Outcome,
+    /// The number of steps that it made.
+    pub steps: u64,
 }
 
 /// Runs a program in a case to its end. Answers what the run captures, and its length in steps, which is within the
 /// budget. The only error is a refused allocation.
-pub fn run<C: Case>(alloc: Global, program: &Verified, case: &C) -> Result<Outcome, AllocError>
-    ensures outcome { IfOk result (λ o. HasOutcome program.now (C.facts case.now) o.steps (answer o)) }
-    ensures budget { IfOk result (λ o. o.steps ≤ program.now.budget) }
+pub fn run<C: Case>(alloc: Global, program: &Verified, case: &C) -> Result<EndedRun, AllocError>
+    ensures outcome { IfOk result (λ r. HasOutcome program.now (C.facts case.now) r.steps r.outcome) }
+    ensures budget { IfOk result (λ r. r.steps ≤ program.now.budget) }
 {
     let mut machine = Machine::start(alloc, program)?;
     while !machine.is_ended() {
         machine.step(program, case)?;
     }
     let outcome = machine.outcome()?;
-    Ok(outcome)
+    Ok(EndedRun {
+        outcome,
+        steps: machine.steps_done(),
+    })
 }

@@ -1,9 +1,10 @@
-//! The state of a machine.
+//! The state of a machine, and how far its run has come.
 
 use crate::calls::Calls;
 use crate::places::FieldPlaces;
 use crate::stack::Stack;
-use sieve_meaning::Paths;
+use class_paths::Paths;
+use sieve_meaning::RunFault;
 
 /// An item of the stack. A list of values is kept as the places of its fields.
 #[derive(Drop)]
@@ -28,4 +29,13 @@ pub struct Standing {
     pub marks: [bool; 64],
     /// The places to return to.
     pub calls: Calls,
+}
+
+/// How far a run has come.
+#[derive(Clone, Copy)]
+pub enum Progress {
+    /// It has not ended.
+    Going,
+    /// It has ended, with a fault or with none.
+    Ended(Option<RunFault>),
 }

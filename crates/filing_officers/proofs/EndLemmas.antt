@@ -1,10 +1,9 @@
 -- A program of one instruction that ends the run may run.
-use Rattle.std.proofs.Common.{◌≡◌, ◌<◌, ◌≤◌, ◌+◌, ◌^◌, [], ◌∷◌, ℕ, zero, suc, List, length, refl, arith, ap, ◌∙◌, sym, subst, inl, inr, Bool, true, false, Option, Some, None}
+use Rattle.std.proofs.Common.{◌≡◌, ◌<◌, ◌≤◌, ◌+◌, ◌^◌, [], ◌∷◌, ℕ, zero, suc, refl, arith, ap, ◌∙◌, sym, subst, inl, inr, true, false, Option, Some, None}
 use Rattle.std.specs.Prelude.{slice_get, ◌⊎◌, slice_index_or}
-use Rattle.filing_image.specs.Program.{Program}
 use Rattle.filing_image.specs.declared.instruction.Operation.{Operation}
-use Rattle.filing_image.specs.declared.instruction.Operation.TheVariants.{Stop, Fault, Call}
-use Rattle.filing_verify.specs.Flow.{jump_target, target, goes_on, Follows, Leads, Path, Reached}
+use Rattle.filing_image.specs.declared.instruction.Operation.TheVariants.{Call}
+use Rattle.filing_verify.specs.Flow.{jump_target, target, goes_on, Follows, Leads, Path}
 use Rattle.filing_verify.specs.Shapes.{after}
 use Rattle.filing_verify.specs.Well.{IsWell, InRange, is_call}
 use Rattle.filing_officers.specs.Ends.{IsEnd, alone}

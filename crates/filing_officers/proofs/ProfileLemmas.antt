@@ -9,7 +9,7 @@ use Rattle.std.specs.Map.{lookup, set_value}
 use Rattle.std.specs.BTreeMap.{is_at, insert_entry}
 use Rattle.std.specs.Ordering.{is_eq, match_ordering}
 use Rattle.sieve_meaning.specs.Program.{Commands}
-use Rattle.script_library.specs.Libraries.{NamedScript, named}
+use Rattle.script_library.specs.Libraries.{NamedScript, script_under}
 use Rattle.record_store.specs.Archive.{Archive}
 use Rattle.filing_commands.specs.Office.{with_officer, with_program}
 use Rattle.filing_commands.specs.Pinning.{Officer, new_officer, no_program}
@@ -17,7 +17,7 @@ use Rattle.filing_commands.specs.Scripts.{HasNoRoom, meanings_of, put_script, sc
 use Rattle.filing_officers.specs.declared.profile.Active.{Active}
 use Rattle.filing_officers.specs.declared.profile.KeptImage.{KeptImage}
 use Rattle.filing_officers.specs.declared.profile.Profile.{Profile}
-use Rattle.filing_officers.specs.Register.{Register, Settings, meaning_of, office_of, officer_at, officer_of, sharing}
+use Rattle.filing_officers.specs.Register.{Register, Settings, meaning_of, office_of, officer_at, officer_of, with_global_script}
 use Rattle.filing_officers.specs.Profiles.{active_of, officer_in, settings_of, settings_in}
 use Rattle.filing_officers.specs.Changes.{ChangesOnly}
 use Rattle.filing_officers.specs.Current.{KeepsCurrent, AllKeepCurrent, last_edition}
@@ -202,9 +202,9 @@ office_changed name g es new r f view h a =
     (ap (λ (os : List ℕ → Officer). record { archive = a; globals = meanings_of g; officers = os }) (fun_ext h.officers))
 
 -- the office after the global scripts have changed
-pub office_shared : (g new : List NamedScript) (xs : List (List ℕ × Settings)) (r : Register) (name : List ℕ) (main : Commands) → record { globals = g; officers = xs } ≡ r → meanings_of new ≡ put_script name main (meanings_of g) → (a : Archive) → office_of a (record { globals = new; officers = xs }) ≡ sharing (office_of a r) name main
+pub office_shared : (g new : List NamedScript) (xs : List (List ℕ × Settings)) (r : Register) (name : List ℕ) (main : Commands) → record { globals = g; officers = xs } ≡ r → meanings_of new ≡ put_script name main (meanings_of g) → (a : Archive) → office_of a (record { globals = new; officers = xs }) ≡ with_global_script (office_of a r) name main
 office_shared g new xs r name main view h a =
-    subst (λ (x : Register). office_of a (record { globals = new; officers = xs }) ≡ sharing (office_of a x) name main) view
+    subst (λ (x : Register). office_of a (record { globals = new; officers = xs }) ≡ with_global_script (office_of a x) name main) view
     (ap (λ (gs : List (List ℕ × Commands)). record { archive = a; globals = gs; officers = λ n. officer_at n xs }) h)
 
 -- EDITIONS
@@ -243,8 +243,8 @@ pub some_map : {A B : Type 0} (f : A → B) (o : Option A) → is_some (option_m
 some_map f None = refl
 some_map f (Some x) = refl
 
-pub has_named : (name : List ℕ) (es : List NamedScript) → is_some (named name es) ≡ is_some (script_at name (meanings_of es))
-has_named name es = sym (some_map meaning_of (named name es)) ∙ ap is_some (meaning_at name es)
+pub has_named : (name : List ℕ) (es : List NamedScript) → is_some (script_under name es) ≡ is_some (script_at name (meanings_of es))
+has_named name es = sym (some_map meaning_of (script_under name es)) ∙ ap is_some (meaning_at name es)
 
 -- an officer who has set nothing has no script, and so there is room
 pub room_unknown : (o : Officer) (name : List ℕ) → o ≡ new_officer → HasNoRoom o.scripts name → ⊥

@@ -40,12 +40,12 @@ abbrev pub with_script : Officer → (name : List ℕ) → Commands → Officer
 with_script o name script = with_scripts o (put_script name script o.scripts)
 
 -- the office after an officer kept that script under that name
-abbrev pub keeping : Office → (officer name : List ℕ) → Commands → Office
-keeping s officer name script = with_officer s officer (with_script (s.officers officer) name script)
+abbrev pub with_own_script : Office → (officer name : List ℕ) → Commands → Office
+with_own_script s officer name script = with_officer s officer (with_script (s.officers officer) name script)
 
 -- the office after that script was kept under that name for all officers
-abbrev pub sharing : Office → (name : List ℕ) → Commands → Office
-sharing s name script = with_globals s (put_script name script s.globals)
+abbrev pub with_global_script : Office → (name : List ℕ) → Commands → Office
+with_global_script s name script = with_globals s (put_script name script s.globals)
 
 -- what is pinned for an officer with those global scripts
 abbrev pub PinsFor : Officer → (globals : List (List ℕ × Commands)) → Program → Type 0

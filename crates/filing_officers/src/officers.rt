@@ -3,11 +3,11 @@
 ghost use Rattle.std.specs.Prelude.{◌≡◌, ◌↔◌, ◌⊎◌, Err, IfErr, IfOk, OnErr, OnOk, false, is_some, true};
 ghost use Rattle.filing_verify.specs.Well.{IsWell};
 ghost use Rattle.record_store.specs.Archive.{Archive};
-ghost use Rattle.filing_commands.specs.Office.{opening_office, setting};
+ghost use Rattle.filing_commands.specs.Office.{opening_office, with_active};
 ghost use Rattle.filing_commands.specs.Pinning.{image, no_program, script_named};
 ghost use Rattle.filing_commands.specs.Scripts.{HasNoRoom, meanings_of, script_at};
 ghost use Rattle.filing_commands.specs.declared.fault.DeskFault.TheVariants.{LibraryFull, NoMemory, NoScript};
-ghost use Rattle.filing_officers.specs.Register.{PinsFor, keeping, meaning_of, office_of, officer_at, sharing};
+ghost use Rattle.filing_officers.specs.Register.{PinsFor, with_own_script, meaning_of, office_of, officer_at, with_global_script};
 
 use crate::profile::{Active, Profile, put_on};
 use crate::profiles::{clear, has_script, pin, put_script, set};
@@ -71,7 +71,7 @@ impl Officers {
     /// Images that were kept before are not used again.
     pub fn set_global(&mut self, name: &[u8], script: Checked) -> Result<(), DeskFault>
         ensures done { OnOk result ((a : Archive) →
-            office_of a self.new ≡ sharing (office_of a self.old) name.now (meaning_of script.script)) }
+            office_of a self.new ≡ with_global_script (office_of a self.old) name.now (meaning_of script.script)) }
         ensures full { result ≡ Err LibraryFull → HasNoRoom (meanings_of self.old.globals) name.now }
         ensures has_room { OnOk result (HasNoRoom (meanings_of self.old.globals) name.now → ⊥) }
         ensures fault { IfErr result (λ f. (f ≡ LibraryFull) ⊎ (f ≡ NoMemory)) }
@@ -92,7 +92,7 @@ impl Officers {
         script: Checked,
     ) -> Result<(), DeskFault>
         ensures done { OnOk result ((a : Archive) →
-            office_of a self.new ≡ keeping (office_of a self.old) officer.now name.now (meaning_of script.script)) }
+            office_of a self.new ≡ with_own_script (office_of a self.old) officer.now name.now (meaning_of script.script)) }
         ensures full { result ≡ Err LibraryFull →
             HasNoRoom (officer_at officer.now self.old.officers).scripts name.now }
         ensures has_room { OnOk result (HasNoRoom (officer_at officer.now self.old.officers).scripts name.now → ⊥) }
@@ -108,7 +108,7 @@ impl Officers {
     /// where the officer has no script of that name (93) and where there is no memory (99); nothing is changed then.
     pub fn activate(&mut self, officer: &[u8], name: &[u8]) -> Result<(), DeskFault>
         ensures done { OnOk result ((a : Archive) →
-            office_of a self.new ≡ setting (office_of a self.old) officer.now (script_named name.now)) }
+            office_of a self.new ≡ with_active (office_of a self.old) officer.now (script_named name.now)) }
         ensures no_script { result ≡ Err NoScript ↔
             (is_some (script_at name.now (officer_at officer.now self.old.officers).scripts) ≡ false) }
         ensures there { OnOk result (is_some (script_at name.now (officer_at officer.now self.old.officers).scripts) ≡
@@ -131,7 +131,7 @@ impl Officers {
 
     /// Sets no program for an officer. It allocates nothing and is never refused.
     pub fn deactivate(&mut self, officer: &[u8])
-        ensures { (a : Archive) → office_of a self.new ≡ setting (office_of a self.old) officer.now no_program }
+        ensures { (a : Archive) → office_of a self.new ≡ with_active (office_of a self.old) officer.now no_program }
     {
         clear(&mut self.profiles, officer);
     }
@@ -139,7 +139,7 @@ impl Officers {
     /// Sets an image as an officer's program. The only refusal is no memory (99); nothing is changed then.
     pub fn set_image(&mut self, officer: &[u8], program: Verified) -> Result<(), DeskFault>
         ensures done { OnOk result ((a : Archive) →
-            office_of a self.new ≡ setting (office_of a self.old) officer.now (image program)) }
+            office_of a self.new ≡ with_active (office_of a self.old) officer.now (image program)) }
         ensures fault { IfErr result (λ f. f ≡ NoMemory) }
         ensures unchanged { OnErr result (self.new ≡ self.old) }
     {
@@ -154,7 +154,7 @@ impl Officers {
     }
 
     /// What is pinned for a capture that begins now: the officer's image; the image of the officer's script with what
-    /// it includes, or one `Fault 5` where that is too heavy; or one `Stop` where no program is set. The
+    /// it includes, or one `Fault` where that is too heavy; or one `Stop` where no program is set. The
     /// only error is out of memory.
     ///
     /// A script is compiled once, and again only after the officer's program or a script that it can include was set.

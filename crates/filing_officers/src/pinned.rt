@@ -1,7 +1,7 @@
 //! What is pinned for a capture.
 
 ghost use Rattle.std.specs.Prelude.{◌≡◌, IfOk};
-ghost use Rattle.script_library.specs.Lent.{scripts_of};
+ghost use Rattle.script_library.specs.BorrowedShelves.{scripts_of};
 ghost use Rattle.filing_commands.specs.Pinning.{PinsChosen, script as chosen_script, script_if, one_stop};
 ghost use Rattle.filing_commands.specs.Scripts.{meanings_of, script_at};
 ghost use Rattle.filing_officers.specs.Ends.{IsEnd, alone};
@@ -12,6 +12,7 @@ use filing_image::{Image, Operation};
 use filing_verify::Verified;
 use script_library::{Shelf, Shelves};
 use sieve_check::Checked;
+use sieve_meaning::RunFault;
 use std::alloc::{AllocError, Global};
 
 /// The program of one instruction that ends the run.
@@ -33,7 +34,7 @@ pub(crate) fn pin_nothing(alloc: Global) -> Result<Verified, AllocError>
     single(alloc, Operation::Stop)
 }
 
-/// What is pinned for a script with its name: its image, or one `Fault 5` where it is too heavy.
+/// What is pinned for a script with its name: its image, or one `Fault` where it is too heavy.
 fn pin_script(
     alloc: Global,
     name: &[u8],
@@ -45,7 +46,7 @@ fn pin_script(
 {
     match compile_with(alloc, script, Some(name), shelves) {
         Ok(program) => Ok(program),
-        Err(GenFault::TooLarge) => single(alloc, Operation::Fault(5)),
+        Err(GenFault::TooLarge) => single(alloc, Operation::Fault(RunFault::TooHeavy.number())),
         Err(GenFault::NoMemory) => Err(AllocError),
     }
 }

@@ -2,10 +2,11 @@
 use Rattle.std.proofs.Common.{◌≡◌, ◌∷◌, [], codes, Some, None, refl}
 use Rattle.std.specs.Fmt.{digits}
 use Rattle.jiff_core.specs.Calendar.{days_from_civil, day_count, days_of_years, days_of_months}
-use Rattle.filing_commands.specs.Answers.{begun, running, ended, filed, listed}
+use Rattle.sieve_meaning.specs.declared.run_fault.RunFault.TheVariants.{ClassNotOpen}
+use Rattle.filing_commands.specs.Answers.{begun, running, ended, captured, listed}
 use Rattle.filing_commands.specs.Office.{activate, destroy, due, hold}
 use Rattle.filing_commands.specs.Standing.{plain, turn}
-use Rattle.filing_session.specs.Asked.{Alone, Begin, SetScript, Unknown, BadWord, asked}
+use Rattle.filing_session.specs.LineRequests.{Alone, Begin, SetScript, Unknown, BadWord, request_of}
 use Rattle.filing_session.specs.Dates.{day_of, day_octets}
 use Rattle.filing_session.specs.Replies.{reply_octets}
 use Rattle.filing_session.specs.Words.{number_in, number_of}
@@ -45,52 +46,52 @@ unfolding day_octets digits
 leap_day_told = refl
 
 -- what lines ask
-turn_asked : asked (codes "TURN 1 1000000") ≡ Alone (turn 1 1000000)
-unfolding asked number_of number_in
+turn_asked : request_of (codes "TURN 1 1000000") ≡ Alone (turn 1 1000000)
+unfolding request_of number_of number_in
 turn_asked = refl
 
-too_many_turns : asked (codes "TURN 1 1000001") ≡ BadWord
-unfolding asked number_of number_in
+too_many_turns : request_of (codes "TURN 1 1000001") ≡ BadWord
+unfolding request_of number_of number_in
 too_many_turns = refl
 
-begin_asked : asked (codes "BEGIN ann 1700000000 12") ≡ Begin (codes "ann") 1700000000 12
-unfolding asked number_of number_in
+begin_asked : request_of (codes "BEGIN ann 1700000000 12") ≡ Begin (codes "ann") 1700000000 12
+unfolding request_of number_of number_in
 begin_asked = refl
 
-script_asked : asked (codes "SCRIPT ann main 35") ≡ SetScript (codes "ann") (codes "main") 35
-unfolding asked number_of number_in
+script_asked : request_of (codes "SCRIPT ann main 35") ≡ SetScript (codes "ann") (codes "main") 35
+unfolding request_of number_of number_in
 script_asked = refl
 
-no_name : asked (codes "ACTIVE ann ") ≡ BadWord
-unfolding asked
+no_name : request_of (codes "ACTIVE ann ") ≡ BadWord
+unfolding request_of
 no_name = refl
 
-active_asked : asked (codes "ACTIVE ann main") ≡ Alone (plain (activate (codes "ann") (codes "main")))
-unfolding asked
+active_asked : request_of (codes "ACTIVE ann main") ≡ Alone (plain (activate (codes "ann") (codes "main")))
+unfolding request_of
 active_asked = refl
 
-hold_asked : asked (codes "HOLD case-7 1") ≡ Alone (plain (hold (codes "case-7") 1))
-unfolding asked number_of number_in
+hold_asked : request_of (codes "HOLD case-7 1") ≡ Alone (plain (hold (codes "case-7") 1))
+unfolding request_of number_of number_in
 hold_asked = refl
 
-leading_zero : asked (codes "HOLD case-7 01") ≡ BadWord
-unfolding asked number_of number_in
+leading_zero : request_of (codes "HOLD case-7 01") ≡ BadWord
+unfolding request_of number_of number_in
 leading_zero = refl
 
-due_asked : asked (codes "DUE 2024-02-29") ≡ Alone (plain (due 19782))
-unfolding asked day_of number_in days_from_civil day_count days_of_years days_of_months
+due_asked : request_of (codes "DUE 2024-02-29") ≡ Alone (plain (due 19782))
+unfolding request_of day_of number_in days_from_civil day_count days_of_years days_of_months
 due_asked = refl
 
-destroy_asked : asked (codes "DESTROY 1 2023-11-14") ≡ Alone (plain (destroy 1 19675))
-unfolding asked day_of number_of number_in days_from_civil day_count days_of_years days_of_months
+destroy_asked : request_of (codes "DESTROY 1 2023-11-14") ≡ Alone (plain (destroy 1 19675))
+unfolding request_of day_of number_of number_in days_from_civil day_count days_of_years days_of_months
 destroy_asked = refl
 
-one_word_more : asked (codes "DUE 2024-02-29 ") ≡ BadWord
-unfolding asked
+one_word_more : request_of (codes "DUE 2024-02-29 ") ≡ BadWord
+unfolding request_of
 one_word_more = refl
 
-no_command : asked (codes "due 2024-02-29") ≡ Unknown
-unfolding asked
+no_command : request_of (codes "due 2024-02-29") ≡ Unknown
+unfolding request_of
 no_command = refl
 
 -- what is answered
@@ -106,11 +107,11 @@ ended_told : reply_octets (ended 9) ≡ codes "ended 9\n"
 unfolding digits
 ended_told = refl
 
-records_told : reply_octets (filed (Some 1) (record { number = 1; path = codes "unfiled"; due = None } ∷ [])) ≡ codes "fault 1\nrecord 1 class unfiled due never\n"
+records_told : reply_octets (captured (Some ClassNotOpen) (record { number = 1; path = codes "unfiled"; due = None } ∷ [])) ≡ codes "fault 1\nrecord 1 class unfiled due never\n"
 unfolding digits
 records_told = refl
 
-nothing_filed : reply_octets (filed None []) ≡ codes "discarded\n"
+nothing_filed : reply_octets (captured None []) ≡ codes "discarded\n"
 nothing_filed = refl
 
 list_told : reply_octets (listed (record { number = 1; path = codes "tax"; due = Some 20041 } ∷ [])) ≡ codes "record 1 class tax due 2024-11-14\nok\n"

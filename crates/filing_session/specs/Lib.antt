@@ -5,11 +5,11 @@ pub mod Words
 pub mod Dates
 pub mod WordsLeft
 pub mod Commands
-pub mod Asked
+pub mod LineRequests
 pub mod Payloads
 pub mod Replies
 pub mod Session
-pub mod Heard
+pub mod ItemAnswers
 pub mod Laws
 pub mod Memory
 pub mod Known

@@ -1,11 +1,12 @@
 -- The octets of replies. Each line ends with LF.
 use Rattle.std.specs.Prelude.{ℕ, List, [], ◌∷◌, ◌++◌, Bool, true, false, Option, Some, None, codes, decimal, flat_map, map, if◌then◌else◌}
-use Rattle.sieve_meaning.specs.Outcome as meaning
+use Rattle.sieve_meaning.specs.declared.outcome.Outcome.{Outcome}
+use Rattle.sieve_meaning.specs.declared.run_fault.RunFault.{RunFault}
+use Rattle.sieve_meaning.specs.RunFaults.{number_of}
 use Rattle.record_store.specs.Archive.{Line}
 use Rattle.record_store.specs.Stores.{line_view}
 use Rattle.record_store.specs.declared.store.Line as code
-use Rattle.filing_commands.specs.Answers.{Answer, done, captured, begun, running, ended, filed, listed, refused}
-use Rattle.filing_commands.specs.Told.{outcome_view}
+use Rattle.filing_commands.specs.Answers.{Answer, done, dry_run, begun, running, ended, captured, listed, refused}
 use Rattle.filing_session.specs.Dates.{due_octets}
 use Rattle.filing_session.specs.declared.reply.Reply.{Reply}
 use Rattle.filing_session.specs.declared.reply.Reply.TheVariants as reply
@@ -18,15 +19,15 @@ abbrev pub classes_octets : List (List ℕ) → List ℕ
 classes_octets [] = codes "discarded\n"
 classes_octets (path ∷ paths) = flat_map class_octets (path ∷ paths)
 
-abbrev pub fault_octets : ℕ → List ℕ
-fault_octets fault = codes "fault " ++ decimal fault ++ codes "\n"
+abbrev pub fault_octets : RunFault → List ℕ
+fault_octets fault = codes "fault " ++ decimal (number_of fault) ++ codes "\n"
 
-abbrev pub faults_octets : Option ℕ → List ℕ
+abbrev pub faults_octets : Option RunFault → List ℕ
 faults_octets (Some fault) = fault_octets fault
 faults_octets None = []
 
 -- the fault, where there is one, and then the classes
-abbrev pub outcome_octets : meaning.Outcome → List ℕ
+abbrev pub outcome_octets : Outcome → List ℕ
 outcome_octets o = faults_octets o.fault ++ classes_octets o.classes
 
 abbrev pub ticket_octets : (ticket budget : ℕ) → List ℕ
@@ -53,7 +54,7 @@ records_octets [] = codes "discarded\n"
 records_octets (line ∷ lines) = list_octets (line ∷ lines)
 
 -- the fault, where there is one, and then the records
-abbrev pub capture_octets : (fault : Option ℕ) → List Line → List ℕ
+abbrev pub capture_octets : (fault : Option RunFault) → List Line → List ℕ
 capture_octets fault lines = faults_octets fault ++ records_octets lines
 
 -- the number, and the offset where there is one
@@ -63,21 +64,21 @@ refused_octets number (Some offset) = codes "refused " ++ decimal number ++ code
 
 abbrev pub reply_octets : Answer → List ℕ
 reply_octets done = codes "ok\n"
-reply_octets (captured o) = outcome_octets o
+reply_octets (dry_run o) = outcome_octets o
 reply_octets (begun ticket budget) = ticket_octets ticket budget
 reply_octets (running steps) = turn_octets false steps
 reply_octets (ended steps) = turn_octets true steps
-reply_octets (filed fault lines) = capture_octets fault lines
+reply_octets (captured fault lines) = capture_octets fault lines
 reply_octets (listed lines) = list_octets lines ++ codes "ok\n"
 reply_octets (refused number offset) = refused_octets number offset
 
 -- the answer that a reply represents
 abbrev pub answer_of : Reply → Answer
 answer_of reply.Done = done
-answer_of (reply.Captured o) = captured (outcome_view o)
+answer_of (reply.DryRun o) = dry_run o
 answer_of (reply.Begun ticket budget) = begun ticket budget
 answer_of (reply.Turned t) = if t.ended then ended t.steps else running t.steps
-answer_of (reply.Filed c) = filed c.fault (map line_view c.lines.items)
+answer_of (reply.Captured c) = captured c.fault (map line_view c.lines.items)
 answer_of (reply.Listed lines) = listed (map line_view lines.items)
 answer_of (reply.Refused r) = refused r.number r.offset
 

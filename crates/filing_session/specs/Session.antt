@@ -4,11 +4,11 @@ use Rattle.filing_commands.specs.Answers.{Answer, refused}
 use Rattle.filing_commands.specs.Office as office
 use Rattle.filing_commands.specs.Standing.{Command, plain, begin}
 use Rattle.filing_session.specs.Lines.{Line, Whole, TooLong, Cut, End, line_of}
-use Rattle.filing_session.specs.Asked.{Asked, Alone, SetPlan, SetScript, SetGlobal, SetImage, Begin, File, Try, Quit, Unknown, BadWord, asked}
+use Rattle.filing_session.specs.LineRequests.{LineRequest, Alone, SetPlan, SetScript, SetGlobal, SetImage, Begin, File, Try, Quit, Unknown, BadWord, request_of}
 use Rattle.filing_session.specs.Replies.{reply_octets}
 use Rattle.filing_session.specs.Streams.{IsAfter}
-use Rattle.filing_session.specs.declared.items.Ending.{Ending}
-use Rattle.filing_session.specs.declared.items.Ending.TheVariants as ending
+use Rattle.filing_session.specs.declared.items.SessionEnd.{SessionEnd}
+use Rattle.filing_session.specs.declared.items.SessionEnd.TheVariants as ending
 
 -- what one line asks, with its payloads
 pub data Item : Type 0 where
@@ -20,65 +20,65 @@ pub data Item : Type 0 where
   WrongWord : Item
 
 -- what an input begins with: an item or the session's end, and the octets after it
-pub data Heard : Type 0 where
-  Got : Item → (rest : List ℕ) → Heard
-  Stop : Ending → (rest : List ℕ) → Heard
+pub data InputStart : Type 0 where
+  Got : Item → (rest : List ℕ) → InputStart
+  Stop : SessionEnd → (rest : List ℕ) → InputStart
 
 -- a session: its items, and how it ends
 pub record Session : Type 0 where
   pub items : List Item
-  pub ending : Ending
+  pub ending : SessionEnd
 
 -- a payload follows the line's LF directly
-abbrev pub with_payload : (size : ℕ) → (List ℕ → Command) → (rest : List ℕ) → Heard
+abbrev pub with_payload : (size : ℕ) → (List ℕ → Command) → (rest : List ℕ) → InputStart
 with_payload size command rest = if nat_le size (length rest)
     then Got (Call (command (take size rest))) (drop size rest) else Stop ending.CutShort []
 
 -- and a second one directly follows the first
-abbrev pub with_payloads : (first second : ℕ) → (List ℕ → List ℕ → Command) → (rest : List ℕ) → Heard
+abbrev pub with_payloads : (first second : ℕ) → (List ℕ → List ℕ → Command) → (rest : List ℕ) → InputStart
 with_payloads first second command rest =
     if nat_le (first + second) (length rest)
     then Got (Call (command (take first rest) (take second (drop first rest)))) (drop (first + second) rest)
     else Stop ending.CutShort []
 
-abbrev pub heard_line : Asked → (rest : List ℕ) → Heard
-heard_line (Alone command) rest = Got (Call command) rest
-heard_line (SetPlan text) rest = with_payload text (λ p. plain (office.set_plan p)) rest
-heard_line (SetScript officer name text) rest = with_payload text (λ p. plain (office.set_script officer name p)) rest
-heard_line (SetGlobal name text) rest = with_payload text (λ p. plain (office.set_global name p)) rest
-heard_line (SetImage officer image) rest = with_payload image (λ p. plain (office.set_image officer p)) rest
-heard_line (Begin officer moment message) rest = with_payload message (λ p. begin officer moment p) rest
-heard_line (File script message) rest = with_payloads script message (λ s m. plain (office.file s m)) rest
-heard_line (Try image message) rest = with_payloads image message (λ i m. plain (office.try_image i m)) rest
-heard_line Quit rest = Stop ending.Quit rest
-heard_line Unknown rest = Got UnknownCommand rest
-heard_line BadWord rest = Got WrongWord rest
+abbrev pub start_by_request : LineRequest → (rest : List ℕ) → InputStart
+start_by_request (Alone command) rest = Got (Call command) rest
+start_by_request (SetPlan text) rest = with_payload text (λ p. plain (office.set_plan p)) rest
+start_by_request (SetScript officer name text) rest = with_payload text (λ p. plain (office.set_script officer name p)) rest
+start_by_request (SetGlobal name text) rest = with_payload text (λ p. plain (office.set_global name p)) rest
+start_by_request (SetImage officer image) rest = with_payload image (λ p. plain (office.set_image officer p)) rest
+start_by_request (Begin officer moment message) rest = with_payload message (λ p. begin officer moment p) rest
+start_by_request (File script message) rest = with_payloads script message (λ s m. plain (office.file s m)) rest
+start_by_request (Try image message) rest = with_payloads image message (λ i m. plain (office.try_image i m)) rest
+start_by_request Quit rest = Stop ending.Quit rest
+start_by_request Unknown rest = Got UnknownCommand rest
+start_by_request BadWord rest = Got WrongWord rest
 
-abbrev pub heard_in : Line → Heard
-heard_in (Whole text rest) = heard_line (asked text) rest
-heard_in (TooLong rest) = Stop ending.LongLine rest
-heard_in Cut = Stop ending.CutShort []
-heard_in End = Stop ending.Ended []
+abbrev pub start_by_line : Line → InputStart
+start_by_line (Whole text rest) = start_by_request (request_of text) rest
+start_by_line (TooLong rest) = Stop ending.LongLine rest
+start_by_line Cut = Stop ending.CutShort []
+start_by_line End = Stop ending.Ended []
 
 -- what an input begins with
-abbrev pub heard : List ℕ → Heard
-heard input = heard_in (line_of input)
+abbrev pub start_of : List ℕ → InputStart
+start_of input = start_by_line (line_of input)
 
-abbrev pub go_on : Heard → (List ℕ → Session) → Session
+abbrev pub go_on : InputStart → (List ℕ → Session) → Session
 go_on (Got item rest) next = record { items = item ∷ (next rest).items; ending = (next rest).ending }
 go_on (Stop e rest) next = record { items = []; ending = e }
 
 -- the session of an input, with at most this number of items
 unfoldable pub session_of : ℕ → List ℕ → Session
 session_of zero input = record { items = []; ending = ending.Limit }
-session_of (suc most) input = go_on (heard input) (λ rest. session_of most rest)
+session_of (suc most) input = go_on (start_of input) (λ rest. session_of most rest)
 
 -- the session of an input: it has at most 1,000,000 items
 abbrev pub session_in : List ℕ → Session
 session_in input = session_of 1000000 input
 
 -- what is left unread: after an item, what is left of the rest; after an ending, all the rest
-abbrev pub left_after : Heard → (List ℕ → List ℕ) → List ℕ
+abbrev pub left_after : InputStart → (List ℕ → List ℕ) → List ℕ
 left_after (Got item rest) next = next rest
 left_after (Stop e rest) next = rest
 
@@ -86,10 +86,10 @@ left_after (Stop e rest) next = rest
 -- its last item. Of a line that is too long, 513 octets are read.
 unfoldable pub left_by : ℕ → List ℕ → List ℕ
 left_by zero input = input
-left_by (suc most) input = left_after (heard input) (λ rest. left_by most rest)
+left_by (suc most) input = left_after (start_of input) (λ rest. left_by most rest)
 
 -- what is written at the end
-abbrev pub ending_octets : Ending → List ℕ
+abbrev pub ending_octets : SessionEnd → List ℕ
 ending_octets ending.Quit = codes "end\n"
 ending_octets ending.Ended = codes "end\n"
 ending_octets ending.CutShort = codes "refused 72\nend\n"
@@ -145,7 +145,7 @@ module _ {D : Type 0} (Does : D → Command → Answer → D → Type 0) where
   IsCut session s old written new = IsCutInAnswer session s old written new ⊎ IsCutInEnding session s old written new
 
 -- the input ended, between items or inside one
-abbrev pub EndsByInput : Ending → Type 0
+abbrev pub EndsByInput : SessionEnd → Type 0
 EndsByInput ending.Ended = Unit {0}
 EndsByInput ending.CutShort = Unit {0}
 EndsByInput ending.Quit = ⊥

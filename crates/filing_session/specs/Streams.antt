@@ -29,9 +29,9 @@ is_interrupted (Ok n) = false
 is_interrupted (Err e) = not (is_failed e)
 
 -- how many octets a call moved
-abbrev pub moved : Result ℕ Trouble → ℕ
-moved (Ok n) = n
-moved (Err e) = 0
+abbrev pub transfer_length : Result ℕ Trouble → ℕ
+transfer_length (Ok n) = n
+transfer_length (Err e) = 0
 
 -- what was there, and then a prefix of these octets
 abbrev pub IsAfter : (old octets new : List ℕ) → Type 0

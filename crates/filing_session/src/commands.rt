@@ -5,7 +5,7 @@ ghost use Rattle.std.specs.Prelude.{◌≡◌, None};
 ghost use Rattle.filing_commands.specs.Answers.{refused as refused_answer};
 ghost use Rattle.filing_commands.specs.Calls.{Calls, CallsWith, CallsWithTwo};
 ghost use Rattle.filing_commands.specs.Faults.{refused_by};
-ghost use Rattle.filing_commands.specs.Told.{told_capture, told_done, told_lines, told_outcome, told_ticket, told_turn};
+ghost use Rattle.filing_commands.specs.CallAnswers.{answer_of_capture, answer_of_done, answer_of_lines, answer_of_outcome, answer_of_ticket, answer_of_turn};
 ghost use Rattle.filing_session.specs.Commands.{command_of, one_command, one_limit, two_command, two_limits};
 ghost use Rattle.filing_session.specs.Replies.{answer_of};
 
@@ -13,9 +13,10 @@ use crate::reply::Reply;
 use crate::requests::{NoPayload, OnePayload, TwoPayloads};
 use filing_commands::{
     Capture, DeskFault, MAX_IMAGE_OCTETS, MAX_MESSAGE_OCTETS, MAX_PLAN_OCTETS, MAX_SCRIPT_OCTETS,
-    Outcome, Payload, Refusal, Registry, Turn,
+    Payload, Refusal, Registry, Turn,
 };
 use record_store::Line;
+use sieve_meaning::Outcome;
 
 /// A refusal that has no offset.
 pub fn refused(number: u8) -> Reply
@@ -28,69 +29,69 @@ pub fn refused(number: u8) -> Reply
 }
 
 /// The reply to a call that is refused.
-fn refused_for(fault: DeskFault) -> Reply
+fn reply_of_fault(fault: DeskFault) -> Reply
     ensures { answer_of result ≡ refused_by fault }
 {
     Reply::Refused(fault.refusal())
 }
 
 /// The reply to a call that answers nothing but success.
-fn settled(done: Result<(), DeskFault>) -> Reply
-    ensures { answer_of result ≡ told_done done }
+fn reply_of_done(done: Result<(), DeskFault>) -> Reply
+    ensures { answer_of result ≡ answer_of_done done }
 {
     match done {
         Ok(()) => Reply::Done,
-        Err(fault) => refused_for(fault),
+        Err(fault) => reply_of_fault(fault),
     }
 }
 
 /// The reply to a dry run, `FILE` or `TRY`.
-fn captured(outcome: Result<Outcome, DeskFault>) -> Reply
-    ensures { answer_of result ≡ told_outcome outcome }
+fn reply_of_outcome(outcome: Result<Outcome, DeskFault>) -> Reply
+    ensures { answer_of result ≡ answer_of_outcome outcome }
 {
     match outcome {
-        Ok(outcome) => Reply::Captured(outcome),
-        Err(fault) => refused_for(fault),
+        Ok(outcome) => Reply::DryRun(outcome),
+        Err(fault) => reply_of_fault(fault),
     }
 }
 
 /// The reply to `BEGIN`.
-fn begun(begun: Result<(u32, u32), DeskFault>) -> Reply
-    ensures { answer_of result ≡ told_ticket begun }
+fn reply_of_ticket(ticket: Result<(u32, u32), DeskFault>) -> Reply
+    ensures { answer_of result ≡ answer_of_ticket ticket }
 {
-    match begun {
+    match ticket {
         Ok((ticket, budget)) => Reply::Begun { ticket, budget },
-        Err(fault) => refused_for(fault),
+        Err(fault) => reply_of_fault(fault),
     }
 }
 
 /// The reply to `TURN`.
-fn turned(turn: Result<Turn, DeskFault>) -> Reply
-    ensures { answer_of result ≡ told_turn turn }
+fn reply_of_turn(turn: Result<Turn, DeskFault>) -> Reply
+    ensures { answer_of result ≡ answer_of_turn turn }
 {
     match turn {
         Ok(turn) => Reply::Turned(turn),
-        Err(fault) => refused_for(fault),
+        Err(fault) => reply_of_fault(fault),
     }
 }
 
 /// The reply to `FINISH`.
-fn filed(capture: Result<Capture, DeskFault>) -> Reply
-    ensures { answer_of result ≡ told_capture capture }
+fn reply_of_capture(capture: Result<Capture, DeskFault>) -> Reply
+    ensures { answer_of result ≡ answer_of_capture capture }
 {
     match capture {
-        Ok(capture) => Reply::Filed(capture),
-        Err(fault) => refused_for(fault),
+        Ok(capture) => Reply::Captured(capture),
+        Err(fault) => reply_of_fault(fault),
     }
 }
 
 /// The reply to a due list.
-fn listed(lines: Result<Vec<Line>, DeskFault>) -> Reply
-    ensures { answer_of result ≡ told_lines lines }
+fn reply_of_lines(lines: Result<Vec<Line>, DeskFault>) -> Reply
+    ensures { answer_of result ≡ answer_of_lines lines }
 {
     match lines {
         Ok(lines) => Reply::Listed(lines),
-        Err(fault) => refused_for(fault),
+        Err(fault) => reply_of_fault(fault),
     }
 }
 
@@ -99,18 +100,18 @@ pub fn do_alone<R: Registry>(registry: &mut R, command: &NoPayload<'_>) -> Reply
     ensures { Calls R.clean R.stands registry.old (command_of command.now) (answer_of result) registry.new }
 {
     match command {
-        NoPayload::AddClass(path) => settled(registry.add_class(path)),
-        NoPayload::Activate { officer, name } => settled(registry.activate(officer, name)),
+        NoPayload::AddClass(path) => reply_of_done(registry.add_class(path)),
+        NoPayload::Activate { officer, name } => reply_of_done(registry.activate(officer, name)),
         NoPayload::Deactivate(officer) => {
             registry.deactivate(officer);
             Reply::Done
         }
-        NoPayload::Turn { ticket, count } => turned(registry.turn(*ticket, *count)),
-        NoPayload::Finish(ticket) => filed(registry.finish(*ticket)),
-        NoPayload::Hold { name, number } => settled(registry.hold(name, *number)),
-        NoPayload::Release { name, number } => settled(registry.release(name, *number)),
-        NoPayload::Due(day) => listed(registry.due(day.date)),
-        NoPayload::Destroy { number, day } => settled(registry.destroy(*number, day.date)),
+        NoPayload::Turn { ticket, count } => reply_of_turn(registry.turn(*ticket, *count)),
+        NoPayload::Finish(ticket) => reply_of_capture(registry.finish(*ticket)),
+        NoPayload::Hold { name, number } => reply_of_done(registry.hold(name, *number)),
+        NoPayload::Release { name, number } => reply_of_done(registry.release(name, *number)),
+        NoPayload::Due(day) => reply_of_lines(registry.due(day.date)),
+        NoPayload::Destroy { number, day } => reply_of_done(registry.destroy(*number, day.date)),
     }
 }
 
@@ -142,13 +143,15 @@ pub fn do_one<R: Registry>(registry: &mut R, command: OnePayload<'_>, payload: P
         (answer_of result) registry.new }
 {
     match command {
-        OnePayload::SetPlan => settled(registry.set_plan(&payload)),
+        OnePayload::SetPlan => reply_of_done(registry.set_plan(&payload)),
         OnePayload::SetScript { officer, name } => {
-            settled(registry.set_script(officer, name, &payload))
+            reply_of_done(registry.set_script(officer, name, &payload))
         }
-        OnePayload::SetGlobal(name) => settled(registry.set_global(name, &payload)),
-        OnePayload::SetImage(officer) => settled(registry.set_image(officer, &payload)),
-        OnePayload::Begin { officer, moment } => begun(registry.begin(officer, moment, payload)),
+        OnePayload::SetGlobal(name) => reply_of_done(registry.set_global(name, &payload)),
+        OnePayload::SetImage(officer) => reply_of_done(registry.set_image(officer, &payload)),
+        OnePayload::Begin { officer, moment } => reply_of_ticket(registry.begin(
+            officer, moment, payload,
+        )),
     }
 }
 
@@ -163,7 +166,7 @@ pub fn do_two<R: Registry>(
         (answer_of result) registry.now }
 {
     match command {
-        TwoPayloads::File => captured(registry.file(first, second)),
-        TwoPayloads::Try => captured(registry.try_image(first, second)),
+        TwoPayloads::File => reply_of_outcome(registry.file(first, second)),
+        TwoPayloads::Try => reply_of_outcome(registry.try_image(first, second)),
     }
 }

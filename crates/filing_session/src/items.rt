@@ -3,10 +3,10 @@
 ghost use Rattle.std.specs.Prelude.{◌≡◌, IfOk, OnErr};
 ghost use Rattle.filing_commands.specs.Calls.{Calls};
 ghost use Rattle.filing_session.specs.Commands.{one_command, two_command};
-ghost use Rattle.filing_session.specs.Heard.{Answers, SaysEnd};
-ghost use Rattle.filing_session.specs.Session.{heard, heard_line, with_payload, with_payloads};
+ghost use Rattle.filing_session.specs.ItemAnswers.{Answers, SaysEnd};
+ghost use Rattle.filing_session.specs.Session.{start_of, start_by_request, with_payload, with_payloads};
 ghost use Rattle.filing_session.specs.Streams.{TellsEnd, TellsTroubles};
-ghost use Rattle.filing_session.specs.Asked.{asked_as};
+ghost use Rattle.filing_session.specs.LineRequests.{request_view};
 
 use crate::commands::{do_alone, do_one, do_two, limit_of_one, limits_of_two, refused};
 use crate::lines::{LineBuffer, LineEnd, read_line};
@@ -19,7 +19,7 @@ use std::alloc::Global;
 
 /// How a session ends.
 #[derive(Clone, Copy, Debug, PartialEq, Eq)]
-pub enum Ending {
+pub enum SessionEnd {
     /// By `QUIT`.
     Quit,
     /// The input ended between commands.
@@ -34,11 +34,11 @@ pub enum Ending {
 
 /// What a line with its payloads leads to.
 #[derive(Drop)]
-pub enum Said {
+pub enum Reaction {
     /// A reply, and the session goes on.
     Reply(Reply),
     /// The session ends.
-    End(Ending),
+    End(SessionEnd),
 }
 
 /// Reads the payload of a command that has one, and executes the command.
@@ -48,17 +48,17 @@ fn answer_one<S: Source, R: Registry>(
     registry: &mut R,
     command: OnePayload<'_>,
     size: usize,
-) -> Result<Said, ReadFault>
-    ensures said { S.tells → IfOk result (λ a. Answers (Calls R.clean R.stands) registry.old
+) -> Result<Reaction, ReadFault>
+    ensures reaction { S.tells → IfOk result (λ a. Answers (Calls R.clean R.stands) registry.old
         (with_payload size (one_command command.entry) (S.left source.old)) a registry.new (S.left source.new)) }
     ensures same { OnErr result (registry.new ≡ registry.old) }
     ensures ends { TellsEnd (SaysEnd result) (S.ends source.old) (S.ends source.new) }
     ensures troubles { TellsTroubles S.failures S.interruptions S.most_interruptions result source.old source.new }
 {
     let Some(payload) = read_payload(alloc, source, size, limit_of_one(command))? else {
-        return Ok(Said::End(Ending::CutShort));
+        return Ok(Reaction::End(SessionEnd::CutShort));
     };
-    Ok(Said::Reply(do_one(registry, command, payload)))
+    Ok(Reaction::Reply(do_one(registry, command, payload)))
 }
 
 /// Reads the payloads of a command that has two, and executes the command. Both are read before anything is judged.
@@ -68,17 +68,17 @@ fn answer_two<S: Source, R: Registry>(
     registry: &R,
     command: TwoPayloads,
     sizes: (usize, usize),
-) -> Result<Said, ReadFault>
-    ensures said { S.tells → IfOk result (λ a. Answers (Calls R.clean R.stands) registry.now
+) -> Result<Reaction, ReadFault>
+    ensures reaction { S.tells → IfOk result (λ a. Answers (Calls R.clean R.stands) registry.now
         (with_payloads sizes.0 sizes.1 (two_command command) (S.left source.old)) a registry.now (S.left source.new)) }
     ensures ends { TellsEnd (SaysEnd result) (S.ends source.old) (S.ends source.new) }
     ensures troubles { TellsTroubles S.failures S.interruptions S.most_interruptions result source.old source.new }
 {
     let limits = limits_of_two(command);
     let Some((first, second)) = read_two(alloc, source, sizes, limits)? else {
-        return Ok(Said::End(Ending::CutShort));
+        return Ok(Reaction::End(SessionEnd::CutShort));
     };
-    Ok(Said::Reply(do_two(registry, command, &first, &second)))
+    Ok(Reaction::Reply(do_two(registry, command, &first, &second)))
 }
 
 /// Reads the payloads that a line announces, and executes what it asks.
@@ -87,22 +87,22 @@ fn answer<S: Source, R: Registry>(
     source: &mut S,
     registry: &mut R,
     request: &Request<'_>,
-) -> Result<Said, ReadFault>
-    ensures said { S.tells → IfOk result (λ a. Answers (Calls R.clean R.stands) registry.old
-        (heard_line (asked_as request.now) (S.left source.old)) a registry.new (S.left source.new)) }
+) -> Result<Reaction, ReadFault>
+    ensures reaction { S.tells → IfOk result (λ a. Answers (Calls R.clean R.stands) registry.old
+        (start_by_request (request_view request.now) (S.left source.old)) a registry.new (S.left source.new)) }
     ensures same { OnErr result (registry.new ≡ registry.old) }
     ensures ends { TellsEnd (SaysEnd result) (S.ends source.old) (S.ends source.new) }
     ensures troubles { TellsTroubles S.failures S.interruptions S.most_interruptions result source.old source.new }
 {
     match request {
-        Request::Alone(command) => Ok(Said::Reply(do_alone(registry, command))),
+        Request::Alone(command) => Ok(Reaction::Reply(do_alone(registry, command))),
         Request::One(command, size) => answer_one(alloc, source, registry, *command, *size),
         Request::Two(command, first, second) => {
             answer_two(alloc, source, registry, *command, (*first, *second))
         }
-        Request::Quit => Ok(Said::End(Ending::Quit)),
-        Request::Unknown => Ok(Said::Reply(refused(70))),
-        Request::BadWord => Ok(Said::Reply(refused(71))),
+        Request::Quit => Ok(Reaction::End(SessionEnd::Quit)),
+        Request::Unknown => Ok(Reaction::Reply(refused(70))),
+        Request::BadWord => Ok(Reaction::Reply(refused(71))),
     }
 }
 
@@ -113,17 +113,17 @@ pub fn next<S: Source, R: Registry>(
     source: &mut S,
     registry: &mut R,
     line: &mut LineBuffer,
-) -> Result<Said, ReadFault>
-    ensures said { S.tells → IfOk result (λ a. Answers (Calls R.clean R.stands) registry.old
-        (heard (S.left source.old)) a registry.new (S.left source.new)) }
+) -> Result<Reaction, ReadFault>
+    ensures reaction { S.tells → IfOk result (λ a. Answers (Calls R.clean R.stands) registry.old
+        (start_of (S.left source.old)) a registry.new (S.left source.new)) }
     ensures same { OnErr result (registry.new ≡ registry.old) }
     ensures ends { TellsEnd (SaysEnd result) (S.ends source.old) (S.ends source.new) }
     ensures troubles { TellsTroubles S.failures S.interruptions S.most_interruptions result source.old source.new }
 {
     match read_line(source, line)? {
         LineEnd::Whole => answer(alloc, source, registry, &read_request(line.as_slice())),
-        LineEnd::TooLong => Ok(Said::End(Ending::LongLine)),
-        LineEnd::Cut => Ok(Said::End(Ending::CutShort)),
-        LineEnd::Nothing => Ok(Said::End(Ending::Ended)),
+        LineEnd::TooLong => Ok(Reaction::End(SessionEnd::LongLine)),
+        LineEnd::Cut => Ok(Reaction::End(SessionEnd::CutShort)),
+        LineEnd::Nothing => Ok(Reaction::End(SessionEnd::Ended)),
     }
 }

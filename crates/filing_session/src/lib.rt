@@ -3,7 +3,7 @@
 //! - `stream`: sources and sinks, which may fail, be interrupted, and move fewer octets than they are asked to;
 //! - `tally`: how their troubles are counted;
 //! - `lines`, `words`, `dates`, `requests`, `payload`: what is read, a line with its payloads at a time;
-//! - `reply`, `told_dates`: what is written;
+//! - `reply`, `due_dates`: what is written;
 //! - `commands`: what each command does at a registry, which is the desk of an office;
 //! - `items`: one line with its payloads, which is read and executed;
 //! - `input`, `output`: a source over a reader, which is read `ahead`, and a sink over a writer;
@@ -20,6 +20,7 @@ mod ahead;
 mod commands;
 mod dates;
 mod day;
+mod due_dates;
 mod input;
 mod items;
 mod laws;
@@ -32,7 +33,6 @@ mod requests;
 mod session;
 mod stream;
 mod tally;
-mod told_dates;
 mod trouble;
 mod words;
 

@@ -1,17 +1,17 @@
 //! Replies, and how they are written.
 
 ghost use Rattle.std.specs.Prelude.{◌++◌, ℕ, codes, flat_map, map};
-ghost use Rattle.filing_commands.specs.Told.{outcome_view};
 ghost use Rattle.record_store.specs.Stores.{line_view};
 ghost use Rattle.filing_session.specs.Replies.{answer_of, reply_octets, classes_octets, class_octets, refused_octets, outcome_octets, fault_octets, faults_octets, head_octets, ticket_octets, turn_octets, capture_octets, records_octets, list_octets, line_octets};
 ghost use Rattle.filing_session.specs.Written.{Writes};
 ghost use Rattle.filing_session.specs.Streams.{TellsTroubles};
 
+use crate::due_dates::write_due;
 use crate::stream::{Sink, WriteFault, write_all, write_pieces};
-use crate::told_dates::write_due;
-use filing_commands::{Capture, Outcome, Refusal, Turn};
+use filing_commands::{Capture, Refusal, Turn};
 use itoa::Buffer;
 use record_store::Line;
+use sieve_meaning::{Outcome, RunFault};
 use sieve_syntax::Text;
 
 /// The answer to a command.
@@ -20,13 +20,13 @@ pub enum Reply {
     /// It is done.
     Done,
     /// The outcome of a dry run, `FILE` or `TRY`.
-    Captured(Outcome),
+    DryRun(Outcome),
     /// A capture has begun, with a budget in steps.
     Begun { ticket: u32, budget: u32 },
     /// How far a capture is after a `TURN`.
     Turned(Turn),
     /// A capture is finished by `FINISH`, with these records.
-    Filed(Capture),
+    Captured(Capture),
     /// The records that are due.
     Listed(Vec<Line>),
     /// It is refused.
@@ -55,18 +55,18 @@ fn write_classes<K: Sink>(sink: &mut K, paths: &[Text]) -> Result<(), WriteFault
     Ok(())
 }
 
-/// Writes the line of a fault.
-fn write_fault<K: Sink>(sink: &mut K, fault: u8) -> Result<(), WriteFault>
+/// Writes the line of a fault, which has its number.
+fn write_fault<K: Sink>(sink: &mut K, fault: RunFault) -> Result<(), WriteFault>
     ensures written { K.tells → Writes result (K.written sink.old) (fault_octets fault) (K.written sink.new) }
     ensures troubles { TellsTroubles K.failures K.interruptions K.most_interruptions result sink.old sink.new }
 {
     let mut number = Buffer::new();
-    let number = number.format(fault).as_bytes();
+    let number = number.format(fault.number()).as_bytes();
     write_pieces(sink, &[b"fault ".as_slice(), number, b"\n".as_slice()])
 }
 
 /// Writes the line of the fault, where there is one. No outcome has more than one.
-fn write_faults<K: Sink>(sink: &mut K, fault: Option<u8>) -> Result<(), WriteFault>
+fn write_faults<K: Sink>(sink: &mut K, fault: Option<RunFault>) -> Result<(), WriteFault>
     ensures written { K.tells → Writes result (K.written sink.old) (faults_octets fault) (K.written sink.new) }
     ensures troubles { TellsTroubles K.failures K.interruptions K.most_interruptions result sink.old sink.new }
 {
@@ -78,8 +78,7 @@ fn write_faults<K: Sink>(sink: &mut K, fault: Option<u8>) -> Result<(), WriteFau
 
 /// Writes the fault, where there is one, and the classes.
 fn write_outcome<K: Sink>(sink: &mut K, outcome: &Outcome) -> Result<(), WriteFault>
-    ensures written { K.tells →
-        Writes result (K.written sink.old) (outcome_octets (outcome_view outcome.now)) (K.written sink.new) }
+    ensures written { K.tells → Writes result (K.written sink.old) (outcome_octets outcome.now) (K.written sink.new) }
     ensures troubles { TellsTroubles K.failures K.interruptions K.most_interruptions result sink.old sink.new }
 {
     write_faults(sink, outcome.fault)?;
@@ -228,10 +227,10 @@ pub fn write_reply<K: Sink>(sink: &mut K, reply: &Reply) -> Result<(), WriteFaul
 {
     match reply {
         Reply::Done => write_all(sink, b"ok\n"),
-        Reply::Captured(outcome) => write_outcome(sink, outcome),
+        Reply::DryRun(outcome) => write_outcome(sink, outcome),
         Reply::Begun { ticket, budget } => write_ticket(sink, *ticket, *budget),
         Reply::Turned(turn) => write_turn(sink, *turn),
-        Reply::Filed(capture) => write_capture(sink, capture),
+        Reply::Captured(capture) => write_capture(sink, capture),
         Reply::Listed(lines) => write_due_list(sink, lines.as_slice()),
         Reply::Refused(refusal) => write_refusal(sink, *refusal),
     }

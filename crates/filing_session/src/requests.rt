@@ -1,7 +1,7 @@
 //! What a command line asks. A word that is the length of a payload has the name of that payload, such as `text`.
 
 ghost use Rattle.std.specs.Prelude.{◌≡◌};
-ghost use Rattle.filing_session.specs.Asked.{class_of, plan_of, script_of, global_of, active_of, inactive_of, image_of, file_of, try_of, begin_of, turn_of, finish_of, hold_of, release_of, due_of, destroy_of, quit_of, asked_of_officers, asked_of_captures, asked_by, asked, asked_as};
+ghost use Rattle.filing_session.specs.LineRequests.{class_of, plan_of, script_of, global_of, active_of, inactive_of, image_of, file_of, try_of, begin_of, turn_of, finish_of, hold_of, release_of, due_of, destroy_of, quit_of, officer_request, capture_request, request_by_name, request_of, request_view};
 ghost use Rattle.filing_session.specs.WordsLeft.{words_left};
 
 use crate::dates::read_day;
@@ -75,7 +75,7 @@ pub enum Request<'a> {
 
 /// Reads the arguments of `CLASS`.
 fn read_class<'a>(mut words: Words<'a>) -> Request<'a>
-    ensures { asked_as result ≡ class_of (words_left words.entry) }
+    ensures { request_view result ≡ class_of (words_left words.entry) }
 {
     let (Some(path), None) = (words.next(), words.next()) else {
         return Request::BadWord;
@@ -85,7 +85,7 @@ fn read_class<'a>(mut words: Words<'a>) -> Request<'a>
 
 /// Reads the arguments of `PLAN`.
 fn read_plan<'a>(mut words: Words<'a>) -> Request<'a>
-    ensures { asked_as result ≡ plan_of (words_left words.entry) }
+    ensures { request_view result ≡ plan_of (words_left words.entry) }
 {
     let (Some(text), None) = (words.next(), words.next()) else {
         return Request::BadWord;
@@ -98,7 +98,7 @@ fn read_plan<'a>(mut words: Words<'a>) -> Request<'a>
 
 /// Reads the arguments of `SCRIPT`.
 fn read_script<'a>(mut words: Words<'a>) -> Request<'a>
-    ensures { asked_as result ≡ script_of (words_left words.entry) }
+    ensures { request_view result ≡ script_of (words_left words.entry) }
 {
     let (Some(officer), Some(name), Some(text), None) = (
         words.next(),
@@ -119,7 +119,7 @@ fn read_script<'a>(mut words: Words<'a>) -> Request<'a>
 
 /// Reads the arguments of `GLOBAL`.
 fn read_global<'a>(mut words: Words<'a>) -> Request<'a>
-    ensures { asked_as result ≡ global_of (words_left words.entry) }
+    ensures { request_view result ≡ global_of (words_left words.entry) }
 {
     let (Some(name), Some(text), None) = (words.next(), words.next(), words.next()) else {
         return Request::BadWord;
@@ -132,7 +132,7 @@ fn read_global<'a>(mut words: Words<'a>) -> Request<'a>
 
 /// Reads the arguments of `ACTIVE`.
 fn read_active<'a>(mut words: Words<'a>) -> Request<'a>
-    ensures { asked_as result ≡ active_of (words_left words.entry) }
+    ensures { request_view result ≡ active_of (words_left words.entry) }
 {
     let (Some(officer), Some(name), None) = (words.next(), words.next(), words.next()) else {
         return Request::BadWord;
@@ -146,7 +146,7 @@ fn read_active<'a>(mut words: Words<'a>) -> Request<'a>
 
 /// Reads the arguments of `INACTIVE`.
 fn read_inactive<'a>(mut words: Words<'a>) -> Request<'a>
-    ensures { asked_as result ≡ inactive_of (words_left words.entry) }
+    ensures { request_view result ≡ inactive_of (words_left words.entry) }
 {
     let (Some(officer), None) = (words.next(), words.next()) else {
         return Request::BadWord;
@@ -160,7 +160,7 @@ fn read_inactive<'a>(mut words: Words<'a>) -> Request<'a>
 
 /// Reads the arguments of `IMAGE`.
 fn read_image<'a>(mut words: Words<'a>) -> Request<'a>
-    ensures { asked_as result ≡ image_of (words_left words.entry) }
+    ensures { request_view result ≡ image_of (words_left words.entry) }
 {
     let (Some(officer), Some(image), None) = (words.next(), words.next(), words.next()) else {
         return Request::BadWord;
@@ -173,7 +173,7 @@ fn read_image<'a>(mut words: Words<'a>) -> Request<'a>
 
 /// Reads the arguments of `FILE`.
 fn read_file<'a>(mut words: Words<'a>) -> Request<'a>
-    ensures { asked_as result ≡ file_of (words_left words.entry) }
+    ensures { request_view result ≡ file_of (words_left words.entry) }
 {
     let (Some(script), Some(message), None) = (words.next(), words.next(), words.next()) else {
         return Request::BadWord;
@@ -186,7 +186,7 @@ fn read_file<'a>(mut words: Words<'a>) -> Request<'a>
 
 /// Reads the arguments of `TRY`.
 fn read_try<'a>(mut words: Words<'a>) -> Request<'a>
-    ensures { asked_as result ≡ try_of (words_left words.entry) }
+    ensures { request_view result ≡ try_of (words_left words.entry) }
 {
     let (Some(image), Some(message), None) = (words.next(), words.next(), words.next()) else {
         return Request::BadWord;
@@ -199,7 +199,7 @@ fn read_try<'a>(mut words: Words<'a>) -> Request<'a>
 
 /// Reads the arguments of `BEGIN`.
 fn read_begin<'a>(mut words: Words<'a>) -> Request<'a>
-    ensures { asked_as result ≡ begin_of (words_left words.entry) }
+    ensures { request_view result ≡ begin_of (words_left words.entry) }
 {
     let (Some(officer), Some(moment), Some(message), None) = (
         words.next(),
@@ -220,7 +220,7 @@ fn read_begin<'a>(mut words: Words<'a>) -> Request<'a>
 
 /// Reads the arguments of `TURN`.
 fn read_turn<'a>(mut words: Words<'a>) -> Request<'a>
-    ensures { asked_as result ≡ turn_of (words_left words.entry) }
+    ensures { request_view result ≡ turn_of (words_left words.entry) }
 {
     let (Some(ticket), Some(count), None) = (words.next(), words.next(), words.next()) else {
         return Request::BadWord;
@@ -233,7 +233,7 @@ fn read_turn<'a>(mut words: Words<'a>) -> Request<'a>
 
 /// Reads the arguments of `FINISH`.
 fn read_finish<'a>(mut words: Words<'a>) -> Request<'a>
-    ensures { asked_as result ≡ finish_of (words_left words.entry) }
+    ensures { request_view result ≡ finish_of (words_left words.entry) }
 {
     let (Some(ticket), None) = (words.next(), words.next()) else {
         return Request::BadWord;
@@ -246,7 +246,7 @@ fn read_finish<'a>(mut words: Words<'a>) -> Request<'a>
 
 /// Reads the arguments of `HOLD`.
 fn read_hold<'a>(mut words: Words<'a>) -> Request<'a>
-    ensures { asked_as result ≡ hold_of (words_left words.entry) }
+    ensures { request_view result ≡ hold_of (words_left words.entry) }
 {
     let (Some(name), Some(number), None) = (words.next(), words.next(), words.next()) else {
         return Request::BadWord;
@@ -259,7 +259,7 @@ fn read_hold<'a>(mut words: Words<'a>) -> Request<'a>
 
 /// Reads the arguments of `RELEASE`.
 fn read_release<'a>(mut words: Words<'a>) -> Request<'a>
-    ensures { asked_as result ≡ release_of (words_left words.entry) }
+    ensures { request_view result ≡ release_of (words_left words.entry) }
 {
     let (Some(name), Some(number), None) = (words.next(), words.next(), words.next()) else {
         return Request::BadWord;
@@ -272,7 +272,7 @@ fn read_release<'a>(mut words: Words<'a>) -> Request<'a>
 
 /// Reads the arguments of `DUE`.
 fn read_due<'a>(mut words: Words<'a>) -> Request<'a>
-    ensures { asked_as result ≡ due_of (words_left words.entry) }
+    ensures { request_view result ≡ due_of (words_left words.entry) }
 {
     let (Some(date), None) = (words.next(), words.next()) else {
         return Request::BadWord;
@@ -285,7 +285,7 @@ fn read_due<'a>(mut words: Words<'a>) -> Request<'a>
 
 /// Reads the arguments of `DESTROY`.
 fn read_destroy<'a>(mut words: Words<'a>) -> Request<'a>
-    ensures { asked_as result ≡ destroy_of (words_left words.entry) }
+    ensures { request_view result ≡ destroy_of (words_left words.entry) }
 {
     let (Some(number), Some(date), None) = (words.next(), words.next(), words.next()) else {
         return Request::BadWord;
@@ -298,7 +298,7 @@ fn read_destroy<'a>(mut words: Words<'a>) -> Request<'a>
 
 /// Reads the arguments of `QUIT`, which has none.
 fn read_quit<'a>(mut words: Words<'a>) -> Request<'a>
-    ensures { asked_as result ≡ quit_of (words_left words.entry) }
+    ensures { request_view result ≡ quit_of (words_left words.entry) }
 {
     match words.next() {
         None => Request::Quit,
@@ -308,7 +308,7 @@ fn read_quit<'a>(mut words: Words<'a>) -> Request<'a>
 
 /// Reads the arguments of a command of classes, plans, scripts or officers; `Unknown` for any other name.
 fn request_of_officers<'a>(name: &[u8], words: Words<'a>) -> Request<'a>
-    ensures { asked_as result ≡ asked_of_officers name.now (words_left words.entry) }
+    ensures { request_view result ≡ officer_request name.now (words_left words.entry) }
 {
     if name == b"CLASS".as_slice() {
         read_class(words)
@@ -331,7 +331,7 @@ fn request_of_officers<'a>(name: &[u8], words: Words<'a>) -> Request<'a>
 
 /// As `request_of_officers`, and the commands of dry runs and captures too.
 fn request_of_captures<'a>(name: &[u8], words: Words<'a>) -> Request<'a>
-    ensures { asked_as result ≡ asked_of_captures name.now (words_left words.entry) }
+    ensures { request_view result ≡ capture_request name.now (words_left words.entry) }
 {
     if name == b"FILE".as_slice() {
         read_file(words)
@@ -350,7 +350,7 @@ fn request_of_captures<'a>(name: &[u8], words: Words<'a>) -> Request<'a>
 
 /// As `request_of_captures`, and all other commands too.
 fn request_by<'a>(name: &[u8], words: Words<'a>) -> Request<'a>
-    ensures { asked_as result ≡ asked_by name.now (words_left words.entry) }
+    ensures { request_view result ≡ request_by_name name.now (words_left words.entry) }
 {
     if name == b"HOLD".as_slice() {
         read_hold(words)
@@ -369,9 +369,9 @@ fn request_by<'a>(name: &[u8], words: Words<'a>) -> Request<'a>
 
 /// Reads what a command line asks. The line comes without its LF. A line that is no command is `Unknown` (70) or
 /// `BadWord` (71).
-#[tactic(auto, unfolding(crate::specs::Asked::asked))]
+#[tactic(auto, unfolding(crate::specs::LineRequests::request_of))]
 pub fn read_request(line: &[u8]) -> Request<'_>
-    ensures { asked_as result ≡ asked line.now }
+    ensures { request_view result ≡ request_of line.now }
 {
     let mut words = Words::new(line);
     match words.next() {

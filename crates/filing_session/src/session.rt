@@ -6,7 +6,7 @@ ghost use Rattle.filing_session.specs.Session.{session_in, ending_octets, left_b
 ghost use Rattle.filing_session.specs.Streams.{Rises, GivesUp, TellsTroubles, TriesOn};
 ghost use Rattle.filing_session.specs.Written.{Writes};
 
-use crate::items::{Ending, Said, next};
+use crate::items::{Reaction, SessionEnd, next};
 use crate::lines::LineBuffer;
 use crate::reply::write_reply;
 use crate::stream::{Sink, Source, write_all};
@@ -29,18 +29,18 @@ pub enum ServeFault {
 }
 
 /// What is written at the end.
-fn ending_text(ending: Ending) -> &'static str
+fn ending_text(ending: SessionEnd) -> &'static str
     ensures { result.now ≡ ending_octets ending }
 {
     match ending {
-        Ending::CutShort => "refused 72\nend\n",
-        Ending::LongLine => "refused 73\nend\n",
-        Ending::Quit | Ending::Ended | Ending::Limit => "end\n",
+        SessionEnd::CutShort => "refused 72\nend\n",
+        SessionEnd::LongLine => "refused 73\nend\n",
+        SessionEnd::Quit | SessionEnd::Ended | SessionEnd::Limit => "end\n",
     }
 }
 
 /// Writes the last lines of a session.
-fn write_ending<K: Sink>(sink: &mut K, ending: Ending) -> Result<(), ServeFault>
+fn write_ending<K: Sink>(sink: &mut K, ending: SessionEnd) -> Result<(), ServeFault>
     ensures written { K.tells → Writes result (K.written sink.old) (ending_octets ending) (K.written sink.new) }
     ensures read { result ≢ Err ServeFault.Read }
     ensures troubles { TellsTroubles K.failures K.interruptions K.most_interruptions result sink.old sink.new }
@@ -95,17 +95,17 @@ pub fn serve<S: Source, K: Sink, R: Registry>(
 {
     let mut line = LineBuffer::new();
     for _ in 0..COMMANDS {
-        let Ok(said) = next(alloc, source, registry, &mut line) else {
+        let Ok(reaction) = next(alloc, source, registry, &mut line) else {
             return Err(ServeFault::Read);
         };
-        match said {
-            Said::Reply(reply) => {
+        match reaction {
+            Reaction::Reply(reply) => {
                 if write_reply(sink, &reply).is_err() {
                     return Err(ServeFault::Write);
                 }
             }
-            Said::End(ending) => return write_ending(sink, ending),
+            Reaction::End(ending) => return write_ending(sink, ending),
         }
     }
-    write_ending(sink, Ending::Limit)
+    write_ending(sink, SessionEnd::Limit)
 }

@@ -6,7 +6,7 @@
 //! `output`.
 
 ghost use Rattle.std.specs.Prelude.{◌≡◌, ℕ, List, ◌+◌, ◌<◌, ◌≤◌, ◌++◌, ◌∷◌, [], length, take, drop, IfOk, OnErr, IfSome, IfNone, true, Ok, None, max, flat_map};
-ghost use Rattle.filing_session.specs.Streams.{Counts, tells_end, fails_to_read, fails_to_write, is_interrupted, moved, CountsInARow, TellsEnd, TellsTroubles};
+ghost use Rattle.filing_session.specs.Streams.{Counts, tells_end, fails_to_read, fails_to_write, is_interrupted, transfer_length, CountsInARow, TellsEnd, TellsTroubles};
 ghost use Rattle.filing_session.specs.Written.{Writes};
 
 /// Why a call moved no octet.
@@ -45,7 +45,7 @@ pub trait Source {
         ensures within { IfOk result (λ n. n ≤ length room.old) }
         ensures octets { tells →
             IfOk result (λ n. (n ≤ length (left self.old)) × (take n room.new ≡ take n (left self.old))) }
-        ensures left { tells → left self.new ≡ drop (moved result) (left self.old) }
+        ensures left { tells → left self.new ≡ drop (transfer_length result) (left self.old) }
         ensures end { tells → tells_end (length room.old) result ≡ true → left self.old ≡ [] }
         ensures failures { Counts (fails_to_read result) (failures self.old) (failures self.new) }
         ensures interruptions { CountsInARow (is_interrupted result) (interruptions self.old) (interruptions self.new) }
@@ -75,7 +75,7 @@ pub trait Sink {
     /// Takes octets from the front of `octets`, and answers how many.
     fn write(&mut self, octets: &[u8]) -> Result<usize, Trouble>
         ensures within { IfOk result (λ n. n ≤ length octets.now) }
-        ensures written { tells → written self.new ≡ written self.old ++ take (moved result) octets.now }
+        ensures written { tells → written self.new ≡ written self.old ++ take (transfer_length result) octets.now }
         ensures failures { Counts (fails_to_write (length octets.now) result) (failures self.old) (failures self.new) }
         ensures interruptions { CountsInARow (is_interrupted result) (interruptions self.old) (interruptions self.new) }
         ensures most { most_interruptions self.new ≡ max (most_interruptions self.old) (interruptions self.new) };

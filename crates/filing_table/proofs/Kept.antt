@@ -9,11 +9,14 @@ use Rattle.filing_image.specs.declared.instruction.Operation.{Operation}
 use Rattle.filing_image.specs.declared.instruction.Operation.TheVariants.{PushTrue, PushFalse, Not, Values, Join, Match, Pop, Exists, Size, Number, Less, Jump, JumpIf, JumpUnless, Marked, Mark, File, Keep, Discard, Stop, Fault, Call, Return}
 use Rattle.filing_image.specs.Program.{Program, parts, instruction_of, version_of}
 use Rattle.filing_image.specs.Spelling.{IsOfVersion, last_operation}
+use Rattle.class_paths.specs.Paths.{insert_path}
+use Rattle.sieve_meaning.specs.declared.outcome.Outcome.{Outcome}
+use Rattle.sieve_meaning.specs.declared.run_fault.RunFault.{RunFault}
+use Rattle.sieve_meaning.specs.declared.run_fault.RunFault.TheVariants.{ClassNotOpen}
+use Rattle.sieve_meaning.specs.RunFaults.{fault_of}
 use Rattle.sieve_meaning.specs.Case.{Facts}
-use Rattle.sieve_meaning.specs.Outcome.{Outcome}
-use Rattle.sieve_meaning.specs.Paths.{insert_path}
 use Rattle.sieve_meaning.specs.Truth.{has_field}
-use Rattle.filing_table.specs.Machine.{Entry, T, L, N, State, Run, At, Over, Trap, with_stack, values_of, compared, with_named, only_if, file, on_stack, at_place, step, after_steps}
+use Rattle.filing_table.specs.Machine.{Entry, T, L, N, State, Run, At, Over, Trap, with_stack, values_of, comparison_holds, with_named, only_if, file, on_stack, at_place, step, after_steps}
 use Rattle.filing_table.specs.Ends.{HasOutcome}
 use Rattle.filing_table.specs.VersionOne as one
 
@@ -54,7 +57,7 @@ only_is true x y same = same
 only_is false x y same = refl
 
 file_is : (c : Facts) (s : State) (a : ℕ) (path : List ℕ) → forgotten (file c s a path) ≡ one.file c (forget s) a path
-file_is c s a path = chosen (c.is_open path) (At (record s { place = s.place + 1; filed = insert_path path s.filed; cancelled = s.cancelled || nat_eq a 0 })) (Over (Some 1) s)
+file_is c s a path = chosen (c.is_open path) (At (record s { place = s.place + 1; filed = insert_path path s.filed; cancelled = s.cancelled || nat_eq a 0 })) (Over (Some ClassNotOpen) s)
 
 module _ (p : Program) (c : Facts) where
   acts : (o : Operation) (s : State) (es : List Entry) → IsOld o → forgotten (on_stack p c o s es) ≡ one.on_stack p c o (forget s) es
@@ -76,7 +79,7 @@ module _ (p : Program) (c : Facts) where
   acts (Match a b) s (T t ∷ es) old = refl
   acts (Match a b) s (N n ∷ es) old = refl
   acts (Match a b) s (L xs ∷ es) old =
-      let es' : List ℕ → List Entry = λ key. T (list_any (compared a key) xs) ∷ L xs ∷ es in
+      let es' : List ℕ → List Entry = λ key. T (list_any (comparison_holds a key) xs) ∷ L xs ∷ es in
       only_is (nat_le a 5) (with_named (slice_get p.texts b) (λ key. with_stack s (es' key))) (one.with_named (slice_get p.texts b) (λ key. one.with_stack (forget s) (es' key))) (named_stack (slice_get p.texts b) s es')
   acts Pop s [] old = refl
   acts Pop s (e ∷ es) old = stack_is s es
@@ -105,7 +108,7 @@ module _ (p : Program) (c : Facts) where
   acts Keep s es old = refl
   acts Discard s es old = refl
   acts Stop s es old = refl
-  acts (Fault a) s es old = only_is (nat_le 2 a && nat_le a 5) (Over (Some a) s) (one.Over (Some a) (forget s)) refl
+  acts (Fault a) s es old = only_is (nat_le 2 a) (with_named (fault_of a) (λ fault. Over (Some fault) s)) (one.with_named (fault_of a) (λ fault. one.Over (Some fault) (forget s))) (named_is (fault_of a) (λ fault. Over (Some fault) s) (λ fault. one.Over (Some fault) (forget s)) (λ fault. refl))
   acts (Call b) s es old = absurd old
   acts Return s es old = absurd old
 
@@ -146,9 +149,9 @@ module _ (p : Program) (c : Facts) where
     at_back (Over f s) t e = absurd cc
     at_back Trap t e = absurd cc
 
-    over_back : (r : Run) (f : Option ℕ) (t : one.State) → forgotten r ≡ one.Over f t → (s : State) × (r ≡ Over f s) × (forget s ≡ t)
+    over_back : (r : Run) (f : Option RunFault) (t : one.State) → forgotten r ≡ one.Over f t → (s : State) × (r ≡ Over f s) × (forget s ≡ t)
     over_back (At s) f t e = absurd cc
-    over_back (Over g s) f t e = let same : g ≡ f = cc in (s, ap (λ (x : Option ℕ). Over x s) same, cc)
+    over_back (Over g s) f t e = let same : g ≡ f = cc in (s, ap (λ (x : Option RunFault). Over x s) same, cc)
     over_back Trap f t e = absurd cc
 
     outcome_to : (n : ℕ) (o : Outcome) → HasOutcome p c n o → one.HasOutcome p c n o

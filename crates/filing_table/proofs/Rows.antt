@@ -5,9 +5,11 @@ use Rattle.std.specs.Str.{bytes_eq}
 use Rattle.filing_image.specs.declared.instruction.Operation.{Operation}
 use Rattle.filing_image.specs.declared.instruction.Operation.TheVariants.{PushTrue, PushFalse, Not, Values, Join, Match, Pop, Exists, Size, Number, Less, Jump, JumpIf, JumpUnless, Marked, Mark, File, Keep, Discard, Stop, Fault, Call, Return}
 use Rattle.filing_image.specs.Program.{Program}
+use Rattle.class_paths.specs.Path.{unfiled}
+use Rattle.sieve_meaning.specs.declared.outcome.Outcome.{Outcome}
+use Rattle.sieve_meaning.specs.declared.run_fault.RunFault.TheVariants.{ClassNotOpen, ScriptMissing, NestingTooDeep, TooHeavy}
 use Rattle.sieve_meaning.specs.Case.{Facts, Field}
 use Rattle.sieve_meaning.specs.Matching.{items_from, suffixes, equals, contains, covers}
-use Rattle.sieve_meaning.specs.Outcome.{Outcome, unfiled}
 use Rattle.filing_table.specs.Machine.{Entry, T, L, Run, At, Over, Trap, after_steps}
 use Rattle.filing_table.specs.Ends.{outcome_left}
 
@@ -33,9 +35,10 @@ abbrev place_of : Run → ℕ
 place_of (At s) = s.place
 place_of _ = 99
 
+-- a run that has not ended has an outcome of no run
 abbrev captured : Run → Outcome
 captured (Over f s) = outcome_left f s
-captured _ = record { classes = []; fault = Some 99 }
+captured _ = record { classes = []; fault = Some TooHeavy }
 
 truths : stack_after (PushTrue ∷ PushFalse ∷ Not ∷ []) 3 ≡ T true ∷ T true ∷ []
 truths = refl
@@ -109,8 +112,8 @@ filed = refl
 copied : captured (after_steps (program (File 1 2 ∷ Stop ∷ [])) facts 2) ≡ record { classes = codes "a" ∷ unfiled ∷ []; fault = None }
 copied = refl
 
--- a class that is not open is fault 1, and what was filed before it is not captured
-not_open : captured (after_steps (program (File 1 2 ∷ File 0 3 ∷ Stop ∷ [])) facts 2) ≡ record { classes = unfiled ∷ []; fault = Some 1 }
+-- a class that is not open is a fault, and what was filed before it is not captured
+not_open : captured (after_steps (program (File 1 2 ∷ File 0 3 ∷ Stop ∷ [])) facts 2) ≡ record { classes = unfiled ∷ []; fault = Some ClassNotOpen }
 not_open = refl
 
 kept : captured (after_steps (program (Discard ∷ Keep ∷ Stop ∷ [])) facts 3) ≡ record { classes = unfiled ∷ []; fault = None }
@@ -119,7 +122,7 @@ kept = refl
 discarded : captured (after_steps (program (Discard ∷ Stop ∷ [])) facts 2) ≡ record { classes = []; fault = None }
 discarded = refl
 
-fault : captured (after_steps (program (Fault 4 ∷ [])) facts 1) ≡ record { classes = unfiled ∷ []; fault = Some 4 }
+fault : captured (after_steps (program (Fault 4 ∷ [])) facts 1) ≡ record { classes = unfiled ∷ []; fault = Some NestingTooDeep }
 fault = refl
 
 -- an ended run stays as it is
@@ -224,10 +227,10 @@ first_fault = refl
 sixth_fault : after_steps (program (Fault 6 ∷ [])) facts 1 ≡ Trap
 sixth_fault = refl
 
-second_fault : captured (after_steps (program (Fault 2 ∷ [])) facts 1) ≡ record { classes = unfiled ∷ []; fault = Some 2 }
+second_fault : captured (after_steps (program (Fault 2 ∷ [])) facts 1) ≡ record { classes = unfiled ∷ []; fault = Some ScriptMissing }
 second_fault = refl
 
-fifth_fault : captured (after_steps (program (Fault 5 ∷ [])) facts 1) ≡ record { classes = unfiled ∷ []; fault = Some 5 }
+fifth_fault : captured (after_steps (program (Fault 5 ∷ [])) facts 1) ≡ record { classes = unfiled ∷ []; fault = Some TooHeavy }
 fifth_fault = refl
 
 -- a place is outside the code

@@ -1,3 +1,4 @@
 pub mod Machine
+pub mod Comparison
 pub mod Ends
 pub mod VersionOne

@@ -1,16 +1,21 @@
--- The table machine before there were procedures, word for word. No other definition cites it. It stands here so that a
--- law can say that each version 1 program still runs so. One line is new: calls and returns, which version 1 does not
--- have, are traps. The entries, the values of a field name and the comparisons are those of `Machine`.
-use Rattle.std.specs.Prelude.{◌≡◌, ℕ, zero, suc, ◌+◌, ◌<◌, List, [], ◌∷◌, ◌++◌, length, Bool, true, false, not, ◌&&◌, ◌||◌, nat_lt, nat_le, nat_eq, if◌then◌else◌, Option, Some, None, slice_get, slice_set, slice_index_or, replicate}
+-- The table machine before there were procedures, word for word, but that a fault has a name where it had a number. No
+-- other definition cites it. It stands here so that a law can say that each version 1 program still runs so. One line is
+-- new: calls and returns, which version 1 does not have, are traps. The entries, the values of a field name and the
+-- comparisons are those of `Machine`.
+use Rattle.std.specs.Prelude.{◌≡◌, ℕ, zero, suc, ◌+◌, ◌<◌, List, [], ◌∷◌, ◌++◌, length, Bool, true, false, not, ◌||◌, nat_lt, nat_le, nat_eq, if◌then◌else◌, Option, Some, None, slice_get, slice_set, slice_index_or, replicate}
 use Rattle.std.specs.List.{list_any}
 use Rattle.filing_image.specs.declared.instruction.Operation.{Operation}
 use Rattle.filing_image.specs.declared.instruction.Operation.TheVariants.{PushTrue, PushFalse, Not, Values, Join, Match, Pop, Exists, Size, Number, Less, Jump, JumpIf, JumpUnless, Marked, Mark, File, Keep, Discard, Stop, Fault}
 use Rattle.filing_image.specs.Program.{Program}
+use Rattle.class_paths.specs.Paths.{Paths, insert_path}
+use Rattle.sieve_meaning.specs.declared.outcome.Outcome.{Outcome}
+use Rattle.sieve_meaning.specs.declared.run_fault.RunFault.{RunFault}
+use Rattle.sieve_meaning.specs.declared.run_fault.RunFault.TheVariants.{ClassNotOpen}
+use Rattle.sieve_meaning.specs.RunFaults.{fault_of}
 use Rattle.sieve_meaning.specs.Case.{Facts}
 use Rattle.sieve_meaning.specs.Truth.{has_field}
-use Rattle.sieve_meaning.specs.Paths.{Paths, insert_path}
-use Rattle.sieve_meaning.specs.Outcome.{Outcome, outcome_at}
-use Rattle.filing_table.specs.Machine.{Entry, T, L, N, values_of, compared}
+use Rattle.sieve_meaning.specs.Outcome.{outcome_at}
+use Rattle.filing_table.specs.Machine.{Entry, T, L, N, values_of, comparison_holds}
 
 -- the state of a run: place is the program counter, and the topmost entry of the stack comes first
 pub record State : Type 0 where
@@ -26,7 +31,7 @@ pub record State : Type 0 where
 -- where a run is: before an instruction, at its end with or without a fault, or trapped
 pub data Run : Type 0 where
   At : State → Run
-  Over : Option ℕ → State → Run
+  Over : Option RunFault → State → Run
   Trap : Run
 
 -- at place 0, with nothing done
@@ -37,7 +42,7 @@ start = record { place = 0; stack = []; filed = []; kept = false; cancelled = fa
 abbrev pub with_stack : State → List Entry → Run
 with_stack s stack = if nat_lt 32 (length stack) then Trap else At (record s { place = s.place + 1; stack = stack })
 
--- goes on with the text or number that an operand names; a trap where there is none
+-- goes on with the text, number or fault that an operand names; a trap where there is none
 abbrev pub with_named : {A : Type 0} → Option A → (A → Run) → Run
 with_named None go = Trap
 with_named (Some x) go = go x
@@ -49,13 +54,13 @@ only_if b r = if b then r else Trap
 abbrev pub jump : State → List Entry → Bool → ℕ → Run
 jump s rest go b = At (record s { place = if go then b else s.place + 1; stack = rest })
 
--- files under a path where it is open, and ends with fault 1 where it is not; 0 cancels the implicit keep, and 1 is a
+-- files under a path where it is open, and ends with a fault where it is not; 0 cancels the implicit keep, and 1 is a
 -- copy (RFC 3894, section 3)
 abbrev pub file : Facts → State → ℕ → List ℕ → Run
 file c s a path =
     if c.is_open path
     then At (record s { place = s.place + 1; filed = insert_path path s.filed; cancelled = s.cancelled || nat_eq a 0 })
-    else Over (Some 1) s
+    else Over (Some ClassNotOpen) s
 
 -- what an instruction does, by its operands and the stack
 abbrev pub on_stack : Program → Facts → Operation → State → List Entry → Run
@@ -68,7 +73,7 @@ on_stack p c Join s (L ys ∷ L xs ∷ es) = with_stack s (L (xs ++ ys) ∷ es)
 on_stack p c Join s _ = Trap
 on_stack p c (Match a b) s (L xs ∷
     es) = only_if (nat_le a 5)
-    (with_named (slice_get p.texts b) (λ key. with_stack s (T (list_any (compared a key) xs) ∷ L xs ∷ es)))
+    (with_named (slice_get p.texts b) (λ key. with_stack s (T (list_any (comparison_holds a key) xs) ∷ L xs ∷ es)))
 on_stack p c (Match a b) s _ = Trap
 on_stack p c Pop s (e ∷ es) = with_stack s es
 on_stack p c Pop s _ = Trap
@@ -89,7 +94,7 @@ on_stack p c (File a b) s es = only_if (nat_le a 1) (with_named (slice_get p.tex
 on_stack p c Keep s es = At (record s { place = s.place + 1; kept = true })
 on_stack p c Discard s es = At (record s { place = s.place + 1; cancelled = true })
 on_stack p c Stop s es = Over None s
-on_stack p c (Fault a) s es = only_if (nat_le 2 a && nat_le a 5) (Over (Some a) s)
+on_stack p c (Fault a) s es = only_if (nat_le 2 a) (with_named (fault_of a) (λ fault. Over (Some fault) s))
 on_stack p c _ s es = Trap
 
 abbrev pub act : Program → Facts → Operation → State → Run
@@ -111,14 +116,14 @@ after_steps p c zero = At start
 after_steps p c (suc n) = step p c (after_steps p c n)
 
 -- The run of the program in the case ends with its nth step, with this fault or with none, in this state.
-pub record Ends (p : Program) (c : Facts) (n : ℕ) (fault : Option ℕ) (s : State) : Type 0 where
+pub record Ends (p : Program) (c : Facts) (n : ℕ) (fault : Option RunFault) (s : State) : Type 0 where
   pub over : after_steps p c n ≡ Over fault s
   pub going : (k : ℕ) → k < n → (t : State) × (after_steps p c k ≡ At t)
 
 -- the outcome of a run that ended in this state, with this fault or with none
-abbrev pub outcome_left : Option ℕ → State → Outcome
+abbrev pub outcome_left : Option RunFault → State → Outcome
 outcome_left fault s = outcome_at fault s.filed s.kept s.cancelled
 
 -- The run of the program in the case ends with its nth step, with this outcome.
 abbrev pub HasOutcome : Program → Facts → ℕ → Outcome → Type 0
-HasOutcome p c n o = (fault : Option ℕ) × (s : State) × Ends p c n fault s × (outcome_left fault s ≡ o)
+HasOutcome p c n o = (fault : Option RunFault) × (s : State) × Ends p c n fault s × (outcome_left fault s ≡ o)

@@ -4,7 +4,7 @@ ghost use Rattle.std.specs.Prelude.{ℕ, ◌≡◌, ◌↔◌, None};
 ghost use Rattle.filing_image.specs.Program.{Program, parts};
 ghost use Rattle.filing_image.specs.Spelling.{IsOfVersion};
 ghost use Rattle.sieve_meaning.specs.Case.{Facts};
-ghost use Rattle.sieve_meaning.specs.Outcome.{Outcome};
+ghost use Rattle.sieve_meaning.specs.declared.outcome.Outcome.{Outcome};
 ghost use Rattle.filing_table.specs.Ends.{HasOutcome};
 ghost use Rattle.filing_table.specs.VersionOne as one;
 

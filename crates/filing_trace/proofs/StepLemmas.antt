@@ -1,28 +1,30 @@
 -- One more step that is recorded.
-use Rattle.std.proofs.Common.{◌≡◌, ℕ, zero, suc, ◌+◌, true, List, [], ◌∷◌, ◌++◌, length, Option, Some, None, IfSome, is_some, slice_get, refl, sym, ap, subst, ◌∙◌, arith}
+use Rattle.std.proofs.Common.{◌≡◌, ℕ, zero, suc, ◌+◌, true, List, [], ◌∷◌, ◌++◌, length, Some, IfSome, is_some, slice_get, refl, sym, ap, subst, ◌∙◌, arith}
 use Rattle.std.specs.Option.{unwrap_or}
 use Rattle.filing_image.specs.Program.{Program}
 use Rattle.sieve_meaning.specs.Case.{Facts}
 use Rattle.filing_table.specs.Machine.{State, after_steps}
 use Rattle.filing_machine.specs.Runs.{Stored, Stands}
-use Rattle.filing_machine.specs.Seen.{state, run_at}
+use Rattle.filing_machine.specs.declared.state.Progress.{Progress}
+use Rattle.filing_machine.specs.declared.state.Progress.TheVariants.{Going, Ended}
+use Rattle.filing_machine.specs.StateViews.{state, run_at}
 use Rattle.filing_machine.specs.Tops.{top_of_stack}
 use Rattle.filing_trace.specs.declared.steps.Step.{Step}
-use Rattle.filing_trace.specs.Told.{standing, finds, is_found_by, IsTold}
+use Rattle.filing_trace.specs.StepRecords.{state_of, finds, is_found_by, IsStepRecord}
 
-standing_at : (end : Option (Option ℕ)) (s : State) → standing (run_at end s) ≡ s
-standing_at None s = refl
-standing_at (Some fault) s = refl
+standing_at : (progress : Progress) (s : State) → state_of (run_at progress s) ≡ s
+standing_at Going s = refl
+standing_at (Ended fault) s = refl
 
 -- where a machine is in its run
-here : (p : Program) (c : Facts) (m : Stored) → Stands p c m → standing (after_steps p c m.steps) ≡ state c m.at
-here p c m stands = ap standing (sym stands.on_run) ∙ standing_at m.end (state c m.at)
+here : (p : Program) (c : Facts) (m : Stored) → Stands p c m → state_of (after_steps p c m.steps) ≡ state c m.at
+here p c m stands = ap state_of (sym stands.on_run) ∙ standing_at m.progress (state c m.at)
 
 -- what is read from the machine before a step and after it
-pub step_is_told : (p : Program) (c : Facts) (m n : Stored) (x : Step) → Stands p c m → Stands p c n → n.steps ≡ m.steps + 1 → x.place ≡ m.at.place → x.top ≡ top_of_stack (state c n.at).stack → is_some x.matched ≡ finds p (state c m.at) → IfSome x.matched (λ f. is_found_by p c m.at.place f ≡ true) → IsTold p c m.steps x
+pub step_is_told : (p : Program) (c : Facts) (m n : Stored) (x : Step) → Stands p c m → Stands p c n → n.steps ≡ m.steps + 1 → x.place ≡ m.at.place → x.top ≡ top_of_stack (state c n.at).stack → is_some x.matched ≡ finds p (state c m.at) → IfSome x.matched (λ f. is_found_by p c m.at.place f ≡ true) → IsStepRecord p c m.steps x
 step_is_told p c m n x before after one place top found matched = record {
   place = place ∙ ap (λ (s : State). s.place) (sym (here p c m before));
-  top = top ∙ ap (λ (s : State). top_of_stack s.stack) (sym (here p c n after)) ∙ ap (λ k. top_of_stack (standing (after_steps p c k)).stack) one;
+  top = top ∙ ap (λ (s : State). top_of_stack s.stack) (sym (here p c n after)) ∙ ap (λ k. top_of_stack (state_of (after_steps p c k)).stack) one;
   found = found ∙ ap (finds p) (sym (here p c m before));
   matched = let P : ℕ → Type 0 = λ at. IfSome x.matched (λ f. is_found_by p c at f ≡ true) in subst P (sym place) matched;
 }

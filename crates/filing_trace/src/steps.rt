@@ -3,15 +3,15 @@
 ghost use Rattle.std.specs.Prelude.{◌≡◌, ℕ, length, slice_get, option_copied, Some, true, is_some, IfOk, IfSome};
 ghost use Rattle.std.specs.List.{AllByRecursion};
 ghost use Rattle.filing_table.specs.Ends.{HasOutcome};
-ghost use Rattle.filing_machine.specs.Runs.{answer};
-ghost use Rattle.filing_machine.specs.Seen.{state, InCase};
-ghost use Rattle.filing_trace.specs.Told.{finds, is_found_by, IsTold};
+ghost use Rattle.filing_machine.specs.StateViews.{state, InCase};
+ghost use Rattle.filing_trace.specs.StepRecords.{finds, is_found_by, IsStepRecord};
 ghost use Rattle.filing_trace.specs.declared.steps.Step.{Step as StepOf};
 
 use filing_case::Case;
 use filing_image::{Image, Operation};
-use filing_machine::{Machine, Outcome, Top};
+use filing_machine::{Machine, Top};
 use filing_verify::Verified;
+use sieve_meaning::Outcome;
 use std::alloc::{AllocError, Global};
 
 /// The record of one step of a run.
@@ -30,7 +30,7 @@ pub struct Step {
 #[derive(Drop)]
 pub struct Trace {
     pub outcome: Outcome,
-    /// The steps, the first one first: as many as `outcome` says.
+    /// The steps of the run, the first one first.
     pub steps: Vec<Step>,
 }
 
@@ -68,10 +68,10 @@ fn matched_field<C: Case>(image: &Image, case: &C, machine: &Machine) -> Option<
 /// Runs a program in a case to its end, as `filing_machine::run` does and with the same outcome, and records each step.
 /// The only error is a refused allocation.
 pub fn trace_run<C: Case>(alloc: Global, program: &Verified, case: &C) -> Result<Trace, AllocError>
-    ensures outcome { IfOk result (λ t. HasOutcome program.now (C.facts case.now) t.outcome.steps (answer t.outcome)) }
-    ensures whole { IfOk result (λ t. length t.steps.items ≡ t.outcome.steps) }
+    ensures outcome { IfOk result (λ t.
+        HasOutcome program.now (C.facts case.now) (length t.steps.items) t.outcome) }
     ensures told { IfOk result (λ t. (k : ℕ) (s : StepOf) → slice_get t.steps.items k ≡ Some s →
-        IsTold program.now (C.facts case.now) k s) }
+        IsStepRecord program.now (C.facts case.now) k s) }
 {
     let mut machine = Machine::start(alloc, program)?;
     let mut steps = Vec::new(alloc);

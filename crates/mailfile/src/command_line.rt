@@ -12,12 +12,12 @@ pub enum LineFault {
     /// A word is not UTF-8.
     NotText,
     /// What `clap` reports: help, what is wrong with a word, or that there is no memory.
-    Told(Error),
+    Message(Error),
 }
 
 impl From<AllocError> for LineFault {
     fn from(error: AllocError) -> LineFault {
-        LineFault::Told(Error::from(error))
+        LineFault::Message(Error::from(error))
     }
 }
 
@@ -50,13 +50,13 @@ fn command<'a>(alloc: Global) -> Result<Command<'a>, AllocError> {
         .arg(store)
 }
 
-/// Reads the command line. The error is `NotText` where a word is not UTF-8, and `Told` for help, a wrong word or no
+/// Reads the command line. The error is `NotText` where a word is not UTF-8, and `Message` for help, a wrong word or no
 /// memory.
 pub fn read_command_line<R: Env + Alloc<A = Global>>(rt: &R) -> Result<CommandLine, LineFault> {
     let words = read_words(rt)?;
     let matches = match command(rt.alloc())?.try_get_matches_from(words.as_slice()) {
         Ok(matches) => matches,
-        Err(error) => return Err(LineFault::Told(error)),
+        Err(error) => return Err(LineFault::Message(error)),
     };
     let store = match matches.get_str("store") {
         Some(path) => Some(String::from_str(rt.alloc(), path)?),

@@ -76,7 +76,7 @@ fn end_without_store(rt: &HostRuntime) -> ExitCode {
 
 /// Ends without a session: prints what `clap` reports, which for `--help` is no fault.
 fn end_without_session(rt: &HostRuntime, fault: &LineFault) -> ExitCode {
-    let LineFault::Told(error) = fault else {
+    let LineFault::Message(error) = fault else {
         return ExitCode::from(STATUS_USAGE);
     };
     let _ = error.print(rt);

@@ -4,8 +4,8 @@ use crate::failure::Failure;
 use crate::files::write_line;
 use class_plan::{Plan, day_of, schedule_text};
 use filing_image::{Image, Operation};
-use filing_machine::Outcome;
 use filing_trace::Trace;
+use sieve_meaning::Outcome;
 use std::alloc::{AllocError, Global};
 use std::str;
 
@@ -62,7 +62,8 @@ fn keeping_step(image: &Image, run: &Trace) -> Option<usize> {
 /// Why a message is in a class: a fault, or the step that filed or kept it, or that no command did.
 fn reason(alloc: Global, image: &Image, run: &Trace, path: &[u8]) -> Result<String, AllocError> {
     if let Some(fault) = run.outcome.fault {
-        return format!(in alloc; "fault {fault}");
+        let number = fault.number();
+        return format!(in alloc; "fault {number}");
     }
     if let Some(told) = filing_step(alloc, image, run, path)? {
         return Ok(told);
@@ -119,7 +120,8 @@ pub fn show_classes(
 pub fn show_outcome(rt: &HostRuntime, outcome: &Outcome) -> Result<(), Failure> {
     let alloc = rt.alloc();
     if let Some(fault) = outcome.fault {
-        write_line(rt, format!(in alloc; "fault {fault}")?)?;
+        let number = fault.number();
+        write_line(rt, format!(in alloc; "fault {number}")?)?;
     }
     if outcome.classes.as_slice().is_empty() {
         return write_line(rt, String::from_str(alloc, "discarded")?);

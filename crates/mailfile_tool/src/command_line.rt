@@ -13,7 +13,7 @@ pub fn words(rt: &HostRuntime) -> Result<Vec<String>, Failure> {
         Err(error) if error.kind() == ErrorKind::OutOfMemory => Err(Failure::NoMemory),
         Err(_) => {
             let text = String::from_str(rt.alloc(), "a word of the command line is not UTF-8")?;
-            Err(Failure::Told(text))
+            Err(Failure::Message(text))
         }
     }
 }

@@ -11,7 +11,7 @@ pub enum Failure {
     Closed,
     NoMemory,
     /// Reported in these words.
-    Told(String),
+    Message(String),
 }
 
 /// What is wrong with a file.
@@ -27,7 +27,7 @@ impl Failure {
     /// A failure that is reported in these words.
     pub fn told(alloc: Global, words: &str) -> Failure {
         match String::from_str(alloc, words) {
-            Ok(text) => Failure::Told(text),
+            Ok(text) => Failure::Message(text),
             Err(_) => Failure::NoMemory,
         }
     }
@@ -35,7 +35,7 @@ impl Failure {
     /// A failure at a file or a stream, reported with its path and the reason.
     pub fn at<T: Display>(alloc: Global, path: &str, reason: &T) -> Failure {
         match format!(in alloc; "{path}: {reason}") {
-            Ok(text) => Failure::Told(text),
+            Ok(text) => Failure::Message(text),
             Err(_) => Failure::NoMemory,
         }
     }

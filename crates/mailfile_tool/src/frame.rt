@@ -80,11 +80,11 @@ fn frame_line<R: BufRead>(rt: &HostRuntime, line: &[u8], reader: &mut R) -> Resu
 
 /// A failure with the number of the line at which it came.
 fn at_line(alloc: Global, number: u64, failure: Failure) -> Failure {
-    let Failure::Told(text) = failure else {
+    let Failure::Message(text) = failure else {
         return failure;
     };
     match format!(in alloc; "line {number}: {text}") {
-        Ok(text) => Failure::Told(text),
+        Ok(text) => Failure::Message(text),
         Err(_) => Failure::NoMemory,
     }
 }

@@ -67,7 +67,7 @@ fn tell_failure(rt: &HostRuntime, failure: &Failure) -> ExitCode {
             let _ = eprintln!(rt; "mailfile-tool: out of memory");
             ExitCode::from(STATUS_FAILURE)
         }
-        Failure::Told(text) => {
+        Failure::Message(text) => {
             let _ = eprintln!(rt; "mailfile-tool: {text}");
             ExitCode::from(STATUS_FAILURE)
         }

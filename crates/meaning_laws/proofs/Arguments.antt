@@ -1,26 +1,24 @@
 -- The arguments of a form, as the meaning reads them.
 use Rattle.std.proofs.Common.{◌≡◌, ℕ, Bool, true, false, List, [], ◌∷◌, Option, Some, None, refl, sym, ap, subst, ◌∙◌, ◌⊎◌, inl, inr}
-use Rattle.std.specs.Prelude.{◌||◌, ◌&&◌, not, codes, if◌then◌else◌}
+use Rattle.std.specs.Prelude.{◌||◌, ◌&&◌, codes, if◌then◌else◌}
 use Rattle.std.specs.List.{list_any, list_all}
 use Rattle.std.specs.Str.{bytes_eq, str_to_ascii_lowercase}
 use Rattle.std.proofs.lemmas.Slice.Eq.{bytes_eq-Decides}
-use Rattle.std.proofs.lemmas.Bool.{true≢false, both_ways, cases_Bool, or_parts, or_left, or_right, and_from, not-false}
-use Rattle.sieve_syntax.specs.Arguments.{first_of}
+use Rattle.std.proofs.lemmas.Bool.{true≢false, cases_Bool, or_parts, or_left, or_right, and_from, not-false}
 use Rattle.sieve_syntax.specs.Tree.{InnerTests}
 use Rattle.sieve_syntax.specs.declared.tree.StringList.{StringList}
 use Rattle.sieve_syntax.specs.declared.tree.StringList.TheVariants as string_list
 use Rattle.sieve_syntax.specs.declared.tree.Argument.{Argument}
 use Rattle.sieve_syntax.specs.declared.tree.Argument.TheVariants as arguments
-use Rattle.sieve_check.specs.declared.table.TagKind.{TagKind}
 use Rattle.sieve_check.specs.declared.table.TagKind.TheVariants as kinds
 use Rattle.sieve_check.specs.Tables.{TagWord, WordForm, comparator_table, size_form}
 use Rattle.sieve_check.specs.Lookup.{same_name, same_text, tag_named}
 use Rattle.sieve_check.specs.Pieces.{PieceWord, tagged, positional, string_first, comparator_pieces, tag_pieces, pieces, positional_arguments}
 use Rattle.sieve_check.specs.Rules.{is_unknown_tag, tag_after, has_kind, lacks_string, is_unknown_comparator}
 use Rattle.sieve_check.specs.Shapes.{HasForm}
-use Rattle.sieve_meaning.specs.Reading.{is_tag, has_tag, string_lists}
+use Rattle.sieve_meaning.specs.Reading.{has_tag, string_lists}
 use Rattle.sieve_meaning.specs.Words.{same_word}
-use Rattle.meaning_laws.specs.Read.{is_tag_of, numbers_in, comparators_in, is_comparator, HasArguments}
+use Rattle.meaning_laws.specs.ReadingLaw.{is_tag_of, numbers_in, comparators_in, is_comparator, HasArguments}
 
 pub lower_is : (a b : List ℕ) → same_name a b ≡ true → str_to_ascii_lowercase a ≡ str_to_ascii_lowercase b
 unfolding same_name

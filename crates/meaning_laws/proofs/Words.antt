@@ -16,17 +16,17 @@ use Rattle.sieve_check.specs.Lookup.{same_name, row_where}
 use Rattle.sieve_check.specs.Lookup as lookup
 use Rattle.sieve_check.specs.Pieces.{pieces, positional_arguments}
 use Rattle.sieve_check.specs.Rules as rules
-use Rattle.sieve_check.specs.Shapes.{TakesEach, HasTests, HasEnding, HasForm, HasTestRow, TestShape, InnerShape, RowShape, HasCommandRow, CommandShape, EndingShape, CommandsShape}
+use Rattle.sieve_check.specs.Shapes.{TakesEach, HasEnding, HasForm, TestShape, InnerShape, RowShape, HasCommandRow, CommandShape, EndingShape, CommandsShape}
 use Rattle.sieve_check.specs.Tables as tables
-use Rattle.sieve_check.specs.Tables.{WordForm, TagWord, size_form}
+use Rattle.sieve_check.specs.Tables.{WordForm, size_form}
 use Rattle.sieve_check.proofs.Shaped.{shape_law}
 use Rattle.sieve_meaning.specs.declared.words.CommandWord.{CommandWord}
 use Rattle.sieve_meaning.specs.declared.words.CommandWord.TheVariants as commands
 use Rattle.sieve_meaning.specs.declared.words.TestWord.{TestWord}
 use Rattle.sieve_meaning.specs.declared.words.TestWord.TheVariants as tests
 use Rattle.sieve_meaning.specs.Words.{command_word, test_word}
-use Rattle.meaning_laws.specs.Read.{header_tags, size_tags, fileinto_tags, include_tags, numbers_in, HasArguments, HasNone, HasString, HasOneTest, HasTestList, HasBlock, TestReads, TestIsRead, InnerIsRead, RowIsRead, CommandReads, is_branch, Follows, word_of, CommandIsRead, EndingIsRead, CommandsAreRead, ReadLaw}
-use Rattle.meaning_laws.proofs.Arguments.{lower_is, AreRead, lists_of, form_read, limit_there}
+use Rattle.meaning_laws.specs.ReadingLaw.{header_tags, size_tags, fileinto_tags, include_tags, HasArguments, HasString, TestReads, TestIsRead, InnerIsRead, RowIsRead, CommandReads, is_branch, Follows, CommandIsRead, EndingIsRead, CommandsAreRead, ReadLaw}
+use Rattle.meaning_laws.proofs.Arguments.{lower_is, AreRead, form_read, limit_there}
 
 -- WORDS
 

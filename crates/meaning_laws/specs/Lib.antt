@@ -1,1 +1,1 @@
-pub mod Read
+pub mod ReadingLaw

@@ -1,6 +1,6 @@
 //! The law, as the contract of a function that does nothing.
 
-ghost use Rattle.meaning_laws.specs.Read.{ReadLaw};
+ghost use Rattle.meaning_laws.specs.ReadingLaw.{ReadLaw};
 
 /// In a script that the checker does not refuse, each name is one that has a meaning. Its tags, strings, numbers,
 /// comparators, tests and block are those that its meaning reads, and no others (RFC 5228, sections 3 to 5; RFC 3894;

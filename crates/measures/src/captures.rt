@@ -139,17 +139,24 @@ impl Times {
         answered: 0,
     };
 
-    /// The times with another round, over two databases.
+    /// The times with another round, over two databases. Session and store take turns at coming first, so that a disk
+    /// that is slow for a while weighs on both.
     fn with_round<S: Alter + Drop>(
         self,
         rt: &(impl Clock + AllocGlobal),
+        round: u32,
         first: Connection<S>,
         second: Connection<S>,
         session: &[u8],
         message: &[u8],
     ) -> Result<Times> {
-        let (spent, answered) = session_time(rt, first, session)?;
-        let plain = store_time(rt, second, message)?;
+        let ((spent, answered), plain) = if round % 2 == 0 {
+            let spent = session_time(rt, first, session)?;
+            (spent, store_time(rt, second, message)?)
+        } else {
+            let plain = store_time(rt, second, message)?;
+            (session_time(rt, first, session)?, plain)
+        };
         Ok(Times {
             session: self.session.min(spent),
             store: self.store.min(plain),
@@ -165,10 +172,10 @@ fn times_in_memory(
     message: &[u8],
 ) -> Result<Times> {
     let mut times = Times::NONE;
-    for _ in 0..rounds {
+    for round in 0..rounds {
         let first = Connection::open_in_memory(rt.alloc())?;
         let second = Connection::open_in_memory(rt.alloc())?;
-        times = times.with_round(rt, first, second, session, message)?;
+        times = times.with_round(rt, round, first, second, session, message)?;
     }
     Ok(times)
 }
@@ -187,7 +194,7 @@ fn times_in_files(
         let other = format!(in rt.alloc(); "{path}-store-{round}.db")?;
         let first = Connection::open_with_sums(rt, name.as_str())?;
         let second = Connection::open_with_sums(rt, other.as_str())?;
-        times = times.with_round(rt, first, second, session, message)?;
+        times = times.with_round(rt, round, first, second, session, message)?;
     }
     Ok(times)
 }

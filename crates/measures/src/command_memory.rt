@@ -112,8 +112,8 @@ impl Texts {
             return None;
         }
         let case = WholeCase::from_message(alloc, &self.message, BTreeSet::new(alloc)).ok()?;
-        let outcome = run(alloc, &program, &case).ok()?;
-        Some(outcome.steps)
+        let ended = run(alloc, &program, &case).ok()?;
+        Some(ended.steps)
     }
 }
 

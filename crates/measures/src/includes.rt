@@ -13,6 +13,12 @@ const FRONT: &str = "require \"include\";\r\n";
 /// How many `if`s enclose an include.
 const IFS: usize = 31;
 
+/// The scripts below a main one, by which its includes weigh up to 60,000.
+pub const FOUR_LEVELS: [&str; 4] = ["b", "c", "d", "e"];
+
+/// The same with one more, by which the includes need procedures.
+pub const FIVE_LEVELS: [&str; 5] = ["b", "c", "d", "e", "f"];
+
 /// How many scripts there may be in a location.
 const SCRIPTS: u8 = 32;
 
@@ -76,21 +82,23 @@ fn all_of(alloc: Global) -> Result<String, AllocError> {
 }
 
 impl Texts {
-    /// Five scripts, of which each but the last has ten includes of the next; the last is empty.
-    pub fn of_ten(alloc: Global) -> Result<Texts, AllocError> {
+    /// A script with ten includes of the first of these, each of which has ten of the next; the last is empty.
+    pub fn of_ten(alloc: Global, names: &[&'static str]) -> Result<Texts, AllocError> {
         let mut others = Vec::new(alloc);
-        for (name, next) in [("b", "c"), ("c", "d"), ("d", "e")] {
+        for (name, next) in names.iter().zip(names.iter().skip(1)) {
             others.push(Included {
                 location: Location::Personal,
                 name: String::from_str(alloc, name)?,
                 text: ten_of(alloc, next)?,
             })?;
         }
-        others.push(Included {
-            location: Location::Personal,
-            name: String::from_str(alloc, "e")?,
-            text: String::new(alloc),
-        })?;
+        if let Some(last) = names.last() {
+            others.push(Included {
+                location: Location::Personal,
+                name: String::from_str(alloc, last)?,
+                text: String::new(alloc),
+            })?;
+        }
         Ok(Texts {
             main: ten_of(alloc, "b")?,
             others,

@@ -4,7 +4,7 @@ use crate::filings::{
     INVOICE_SCRIPT, fields_of_cases, judged, message, octets_answered, script_of_tests,
     session_of_classes, session_of_filings, weight_of, weights_of,
 };
-use crate::includes::Texts;
+use crate::includes::{FIVE_LEVELS, FOUR_LEVELS, Texts};
 use crate::inputs::{image_of_code, image_of_steps, image_of_texts, repeated};
 use crate::plans::{class_path, plan_text, schedules, taken_over};
 use crate::settings::Setting;
@@ -75,6 +75,8 @@ pub enum Measure {
     Way(Stage),
     /// `compile` of a script of weight 48,885, of ten includes a script over four levels.
     TenIncludes,
+    /// `compile` of a script of weight 488,885, of ten includes a script over five levels, to procedures.
+    SharedIncludes,
     /// `compile` of a script of weight 49,793, of eight scripts that include each other inside `if`s.
     IncludesInIfs,
     /// `compile` of a script that is too heavy, of sixty-four scripts that include each other.
@@ -203,7 +205,8 @@ impl Measure {
             Measure::HalfScript => script_of_tests(alloc, octets / 2, 1_000),
             Measure::LongScript => script_of_tests(alloc, octets, 2_000),
             Measure::Way(stage) => stage.input(alloc, octets),
-            Measure::TenIncludes => Texts::of_ten(alloc)?.joined(alloc),
+            Measure::TenIncludes => Texts::of_ten(alloc, &FOUR_LEVELS)?.joined(alloc),
+            Measure::SharedIncludes => Texts::of_ten(alloc, &FIVE_LEVELS)?.joined(alloc),
             Measure::IncludesInIfs => Texts::of_ifs(alloc)?.joined(alloc),
             Measure::AllIncludes => Texts::of_all(alloc)?.joined(alloc),
             Measure::Filings => session_of_filings(alloc, octets),
@@ -259,9 +262,10 @@ impl Measure {
             Measure::ShortScript => Ok(weights_of(alloc, input, TIMES)),
             Measure::HalfScript | Measure::LongScript => Ok(weight_of(alloc, input)),
             Measure::Way(stage) => setting.stage(alloc, stage, input),
-            Measure::TenIncludes | Measure::IncludesInIfs | Measure::AllIncludes => {
-                Ok(setting.weight(alloc))
-            }
+            Measure::TenIncludes
+            | Measure::SharedIncludes
+            | Measure::IncludesInIfs
+            | Measure::AllIncludes => { Ok(setting.weight(alloc)) }
             Measure::Filings | Measure::Classes => octets_answered(alloc, input),
             _ => Ok(parts_that_may_run(alloc, input)),
         }

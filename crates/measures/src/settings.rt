@@ -1,7 +1,7 @@
 //! What measures work on beside their inputs.
 
 use crate::filings::{INVOICE_SCRIPT, case_of, compiled, judged, message};
-use crate::includes::{Linked, Texts};
+use crate::includes::{FIVE_LEVELS, FOUR_LEVELS, Linked, Texts};
 use crate::measures::Measure;
 use crate::plans::{MAX_CLASSES, plan_of};
 use crate::stages::{Results, Stage};
@@ -38,7 +38,8 @@ impl Setting {
             _ => None,
         };
         let linked = match measure {
-            Measure::TenIncludes => Texts::of_ten(alloc)?.linked(alloc),
+            Measure::TenIncludes => Texts::of_ten(alloc, &FOUR_LEVELS)?.linked(alloc),
+            Measure::SharedIncludes => Texts::of_ten(alloc, &FIVE_LEVELS)?.linked(alloc),
             Measure::IncludesInIfs => Texts::of_ifs(alloc)?.linked(alloc),
             Measure::AllIncludes => Texts::of_all(alloc)?.linked(alloc),
             _ => None,
@@ -64,8 +65,8 @@ impl Setting {
         };
         let mut steps = 0usize;
         for _ in 0..runs {
-            let outcome = run(alloc, program, case)?;
-            steps = steps.wrapping_add(outcome.steps as usize);
+            let ended = run(alloc, program, case)?;
+            steps = steps.wrapping_add(ended.steps as usize);
         }
         Ok(steps)
     }

@@ -74,8 +74,8 @@ impl Results {
         let (Some(program), Some(case)) = (&self.program, &self.case) else {
             return Ok(0);
         };
-        let outcome = run(alloc, program, case)?;
-        Ok(outcome.steps as usize)
+        let ended = run(alloc, program, case)?;
+        Ok(ended.steps as usize)
     }
 }
 

@@ -16,7 +16,7 @@ outcome_of_ending : (e : Ending) (f : Filing) → outcome_of (ending_at e f) ≡
 outcome_of_ending endings.GoesOn f = refl
 outcome_of_ending endings.Returns f = refl
 outcome_of_ending endings.Stops f = refl
-outcome_of_ending (endings.Faults n) f = refl
+outcome_of_ending (endings.Faults fault) f = refl
 
 -- a run that began with nothing done
 pub outcome_of_run : (facts : Facts) (lib : Library) (known_as : Option (List ℕ)) (tree : CommandTrees) (chain : List ScriptName) (e : Ending) (f g : Filing) → chain ≡ main_names known_as → g.filed ≡ [] → g.kept ≡ false → g.cancelled ≡ false → map script_of g.entered.items ≡ main_names known_as → ending_at e f ≡ runs_from facts (included facts lib 7 chain) false tree (filing_of g) → outcome_at (fault_of e) f.filed f.kept f.cancelled ≡ outcome_of (meaning facts lib known_as (program_of tree))

@@ -17,7 +17,7 @@ use Rattle.sieve_meaning.specs.Meaning.{Included, run, run_branches, and_then}
 use Rattle.sieve_meaning.specs.Program.{Include}
 use Rattle.plain_evaluator.specs.Runs.{runs_from, IsNoIf, PlainlyEnds, BranchLeads, Leads, commands_in}
 use Rattle.sieve_meaning.specs.Branching.{part_of}
-use Rattle.sieve_meaning.specs.declared.branches.Part.TheVariants.{Branch, Otherwise, Plain}
+use Rattle.sieve_meaning.specs.declared.branches.BranchPart.TheVariants.{Branch, Otherwise, Plain}
 
 pub include_ends : (facts : Facts) (inc : Included) (word : CommandWord) (args : List Argument) (i : Include) (f : meaning.Filing) (e : meaning.Ending) → word ≡ words.Include → i ≡ include_of args → e ≡ inc i f → PlainlyEnds facts inc word args f e
 include_ends facts inc word args i f e is asks told t inner rest more = rw (is, told, asks) refl

@@ -1,18 +1,18 @@
 -- The case of a message, as it is given to the evaluator.
 use Rattle.std.specs.Prelude.{ℕ, List, Bool, map}
+use Rattle.class_paths.specs.Paths.{Paths}
 use Rattle.sieve_meaning.specs.Case.{Facts, Field}
-use Rattle.sieve_meaning.specs.Paths.{Paths}
 use Rattle.filing_case.specs.Message.{is_among}
 use Rattle.plain_evaluator.specs.declared.case.BorrowedCase.{BorrowedCase}
 use Rattle.plain_evaluator.specs.declared.case.BorrowedField.{BorrowedField}
 
 -- a field with its value
-abbrev pub lent : BorrowedField → Field
-lent f = record { name = f.name.now; value = f.value.items }
+abbrev pub field_of : BorrowedField → Field
+field_of f = record { name = f.name.now; value = f.value.items }
 
 -- what a run can learn of a message, where a function answers which paths are open
 abbrev pub facts_by : {P : Type 0} → (P → List ℕ → Bool) → BorrowedCase P → Facts
-facts_by opens c = record { size = c.size; fields = map lent c.fields.items; is_open = opens c.paths }
+facts_by opens c = record { size = c.size; fields = map field_of c.fields.items; is_open = opens c.paths }
 
 -- what a case means whose open classes are those of a set
 abbrev pub facts_of : BorrowedCase Paths → Facts

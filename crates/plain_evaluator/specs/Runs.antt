@@ -2,15 +2,17 @@
 use Rattle.std.specs.Prelude.{◌≡◌, ℕ, zero, suc, List, ◌∷◌, map, Bool, true, false, codes, if◌then◌else◌, Option, Some, None}
 use Rattle.sieve_syntax.specs.Tree.{CommandTree, command, CommandTrees, no_commands, command_then, EndingTree, semicolon, block}
 use Rattle.sieve_syntax.specs.declared.tree.Argument.{Argument}
+use Rattle.sieve_meaning.specs.declared.run_fault.RunFault.{RunFault}
+use Rattle.sieve_meaning.specs.declared.run_fault.RunFault.TheVariants.{ScriptMissing, NestingTooDeep}
 use Rattle.sieve_meaning.specs.Case.{Facts}
 use Rattle.sieve_meaning.specs.declared.words.CommandWord.{CommandWord}
 use Rattle.sieve_meaning.specs.declared.words.CommandWord.TheVariants as words
 use Rattle.sieve_meaning.specs.Program.{Include, Test, Commands, Branches}
 use Rattle.sieve_meaning.specs.Truth.{truth}
 use Rattle.sieve_meaning.specs.Reading.{only_in, block_in, command_named, program_of, branches_of, string_lists, first_string, has_tag}
-use Rattle.sieve_meaning.specs.Meaning.{ScriptName, script_named, Library, Included, included, run, run_branches, and_then, filing, ended, entering}
+use Rattle.sieve_meaning.specs.Meaning.{ScriptName, script_named, Library, Included, included, run, run_branches, and_then, filing, ending_of_include, entering}
 use Rattle.sieve_meaning.specs.Meaning as meaning
-use Rattle.script_library.specs.Lent.{scripts_of}
+use Rattle.script_library.specs.BorrowedShelves.{scripts_of}
 use Rattle.script_library.specs.Libraries.{library_of}
 use Rattle.plain_evaluator.specs.Case.{facts_of}
 use Rattle.sieve_meaning.specs.Scripts.{script_of}
@@ -27,30 +29,30 @@ abbrev pub ending_at : Ending → Filing → meaning.Ending
 ending_at endings.GoesOn f = meaning.GoesOn (filing_of f)
 ending_at endings.Returns f = meaning.Returns (filing_of f)
 ending_at endings.Stops f = meaning.Stops (filing_of f)
-ending_at (endings.Faults n) f = meaning.Faults n (filing_of f)
+ending_at (endings.Faults fault) f = meaning.Faults fault (filing_of f)
 
--- the number of the fault that a run ended in
-abbrev pub fault_of : Ending → Option ℕ
+-- the fault that a run ended with
+abbrev pub fault_of : Ending → Option RunFault
 fault_of endings.GoesOn = None
 fault_of endings.Returns = None
 fault_of endings.Stops = None
-fault_of (endings.Faults n) = Some n
+fault_of (endings.Faults fault) = Some fault
 
 -- what an `include` does in a scope where the number of further scripts that may be active is given (RFC 6609, section
 -- 3.2)
 abbrev pub includes_at : ℕ → Scope → Included
 includes_at left s = included (facts_of s.case.now) (library_of (scripts_of s.shelves)) left (map script_of s.chain.now)
 
--- a script that an include enters after the active ones; without a further level it is fault 4
-abbrev pub entered : Facts → Library → ℕ → (chain : List ScriptName) → Include → Commands → meaning.Filing →
+-- a script that an include enters after the active ones; without a further level it is a fault
+abbrev pub entry_ending : Facts → Library → ℕ → (chain : List ScriptName) → Include → Commands → meaning.Filing →
     meaning.Ending
-entered facts lib zero chain i script f = meaning.Faults 4 f
-entered facts lib (suc left) chain i script f = ended
+entry_ending facts lib zero chain i script f = meaning.Faults NestingTooDeep f
+entry_ending facts lib (suc left) chain i script f = ending_of_include
     (run facts (included facts lib left (script_named i ∷ chain)) script (entering (script_named i) f))
 
--- an include whose script is missing: nothing where it is optional (RFC 6609, section 3.2), otherwise fault 2
-abbrev pub missing : (optional : Bool) → meaning.Filing → meaning.Ending
-missing optional f = if optional then meaning.GoesOn f else meaning.Faults 2 f
+-- an include whose script is missing: nothing where it is optional (RFC 6609, section 3.2), otherwise a fault
+abbrev pub missing_ending : (optional : Bool) → meaning.Filing → meaning.Ending
+missing_ending optional f = if optional then meaning.GoesOn f else meaning.Faults ScriptMissing f
 
 -- commands run in order; an `elsif` or `else` at their front is open where no test of the branches before it was true,
 -- and is otherwise passed over

@@ -6,20 +6,21 @@ ghost use Rattle.plain_evaluator.specs.Case.{facts_of};
 ghost use Rattle.plain_evaluator.specs.Runs.{ending_at, filing_of, runs_from, commands_in, filing_into, includes_at, IsNoIf, PlainlyEnds, BranchLeads, Leads};
 
 use crate::case::BorrowedCase;
+use crate::entry::Entry;
 use crate::filing::{Ending, Filing};
 use crate::includes::run_include;
-use crate::level::Level;
 use crate::scope::Scope;
 use crate::truth::is_only_true;
+use class_paths::Paths;
 use filing_case::Case;
-use sieve_meaning::branches::{Part, part_in};
+use sieve_meaning::branches::{BranchPart, part_in};
 use sieve_meaning::reading::{first_string, has_tag, include};
-use sieve_meaning::{CommandWord, Paths, command_word};
+use sieve_meaning::{CommandWord, RunFault, command_word};
 use sieve_syntax::{Argument, Command, Ending as CommandEnding};
 use std::alloc::{AllocError, Global};
 
 /// `fileinto` (RFC 5228, section 4.1): adds the path, and cancels the implicit keep unless `:copy` is given (RFC 3894).
-/// Fault 1 where the path is not open.
+/// It is a fault where the path is not open.
 fn file_into(
     alloc: Global,
     case: &BorrowedCase<'_, Paths>,
@@ -31,7 +32,7 @@ fn file_into(
 {
     let path = first_string(arguments);
     if !case.is_open(path) {
-        return Ok(Ending::Faults(1));
+        return Ok(Ending::Faults(RunFault::ClassNotOpen));
     }
     filing.filed.insert(alloc, path)?;
     if !has_tag(arguments, b"copy") {
@@ -41,7 +42,7 @@ fn file_into(
 }
 
 /// A command that is no branch, and has no block.
-fn run_plain<'a, L: Level>(
+fn run_plain<'a, L: Entry>(
     alloc: Global,
     scope: &Scope<'_, '_, 'a>,
     word: CommandWord,
@@ -75,7 +76,7 @@ fn run_plain<'a, L: Level>(
 
 /// Runs the block that a command ends with.
 #[cycle(running)]
-fn run_block<'a, L: Level>(
+fn run_block<'a, L: Entry>(
     alloc: Global,
     scope: &Scope<'_, '_, 'a>,
     ending: &'a CommandEnding,
@@ -93,7 +94,7 @@ fn run_block<'a, L: Level>(
 
 /// Runs an `if`, or an `elsif` that is open. Answers whether the branches after it are open.
 #[cycle(running)]
-fn run_branch<'a, L: Level>(
+fn run_branch<'a, L: Entry>(
     alloc: Global,
     scope: &Scope<'_, '_, 'a>,
     command: &'a Command,
@@ -111,7 +112,7 @@ fn run_branch<'a, L: Level>(
 
 /// Runs one command. Answers whether the branches after it are open.
 #[cycle(running)]
-fn run_command<'a, L: Level>(
+fn run_command<'a, L: Entry>(
     alloc: Global,
     scope: &Scope<'_, '_, 'a>,
     command: &'a Command,
@@ -123,15 +124,15 @@ fn run_command<'a, L: Level>(
 {
     let word = command_word(command.name.as_slice());
     match part_in(word, is_open) {
-        Part::Branch => {
+        BranchPart::Branch => {
             let (ending, opens) = run_branch::<L>(alloc, scope, command, filing)?;
             Ok((ending, opens))
         }
-        Part::Otherwise => {
+        BranchPart::Otherwise => {
             let ending = run_block::<L>(alloc, scope, &command.ending, filing)?;
             Ok((ending, false))
         }
-        Part::Plain => {
+        BranchPart::Plain => {
             let ending = run_plain::<L>(alloc, scope, word, command.arguments.as_slice(), filing)?;
             Ok((ending, false))
         }
@@ -140,7 +141,7 @@ fn run_command<'a, L: Level>(
 
 /// Runs commands in order as long as each goes on.
 #[cycle(running)]
-pub fn run<'a, L: Level>(
+pub fn run<'a, L: Entry>(
     alloc: Global,
     scope: &Scope<'_, '_, 'a>,
     commands: &'a Vec<Command>,

@@ -3,7 +3,8 @@
 ghost use Rattle.std.specs.Prelude.{◌≡◌};
 ghost use Rattle.plain_evaluator.specs.Runs.{fault_of};
 
-use sieve_meaning::{Paths, ScriptName};
+use class_paths::Paths;
+use sieve_meaning::{RunFault, ScriptName};
 
 /// What a run has done so far.
 #[derive(Drop)]
@@ -23,13 +24,13 @@ pub enum Ending {
     Returns,
     /// `stop` (RFC 5228, section 3.3).
     Stops,
-    /// A fault with its number.
-    Faults(u8),
+    /// The run ends with a fault.
+    Faults(RunFault),
 }
 
 impl Ending {
-    /// The number of the fault, if there is one.
-    pub fn fault(self) -> Option<u8>
+    /// The fault, if there is one.
+    pub fn fault(self) -> Option<RunFault>
         ensures { result ≡ fault_of self }
     {
         match self {

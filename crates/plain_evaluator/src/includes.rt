@@ -3,14 +3,14 @@
 ghost use Rattle.std.specs.Prelude.{◌≡◌, ◌&&◌, IfOk, map};
 ghost use Rattle.std.specs.List.{list_any};
 ghost use Rattle.sieve_meaning.specs.Meaning.{is_among as is_among_of, same_script};
-ghost use Rattle.sieve_meaning.specs.Scripts.{asked, script_of};
-ghost use Rattle.plain_evaluator.specs.Runs.{ending_at, filing_of, includes_at, missing as missing_of};
+ghost use Rattle.sieve_meaning.specs.Scripts.{include_view, script_of};
+ghost use Rattle.plain_evaluator.specs.Runs.{ending_at, filing_of, includes_at, missing_ending as missing_of};
 ghost use Rattle.plain_evaluator.specs.declared.filing.Filing.{Filing};
 
+use crate::entry::Entry;
 use crate::filing::{Ending, Filing};
-use crate::level::Level;
 use crate::scope::Scope;
-use sieve_meaning::{Include, ScriptName};
+use sieve_meaning::{Include, RunFault, ScriptName};
 use std::alloc::{AllocError, Global};
 
 fn is_among(names: &[ScriptName<'_>], script: &ScriptName<'_>) -> bool
@@ -26,28 +26,28 @@ fn is_passed(include: &Include<'_>, entered: &[ScriptName<'_>]) -> bool
     include.is_once && is_among(entered, &include.script)
 }
 
-/// An include of a missing script: nothing where it is optional, otherwise fault 2.
+/// An include of a missing script: nothing where it is optional, otherwise a fault.
 fn missing(is_optional: bool) -> Ending
     ensures { (f : Filing) → ending_at result f ≡ missing_of is_optional (filing_of f) }
 {
     if is_optional {
         Ending::GoesOn
     } else {
-        Ending::Faults(2)
+        Ending::Faults(RunFault::ScriptMissing)
     }
 }
 
 /// Runs an include (RFC 6609, section 3.2), judged in this order. Under `:once` it does nothing where its script was
-/// entered before. A missing script is fault 2, or nothing under `:optional`; an active one is fault 3. Any other is
+/// entered before. A missing script is a fault, or nothing under `:optional`; an active one is a fault. Any other is
 /// entered.
-pub fn run_include<'a, L: Level>(
+pub fn run_include<'a, L: Entry>(
     alloc: Global,
     scope: &Scope<'_, '_, 'a>,
     include: &Include<'a>,
     filing: &mut Filing<'a>,
 ) -> Result<Ending, AllocError>
     ensures { IfOk result (λ e. ending_at e filing.new ≡
-        includes_at L.depth scope.now (asked include.now) (filing_of filing.old)) }
+        includes_at L.depth scope.now (include_view include.now) (filing_of filing.old)) }
 {
     if is_passed(include, filing.entered.as_slice()) {
         return Ok(Ending::GoesOn);
@@ -59,7 +59,7 @@ pub fn run_include<'a, L: Level>(
         return Ok(missing(include.is_optional));
     };
     if is_among(scope.chain, &include.script) {
-        return Ok(Ending::Faults(3));
+        return Ok(Ending::Faults(RunFault::RecursiveInclude));
     }
     L::enter(alloc, scope, include, script.script(), filing)
 }

@@ -1,25 +1,20 @@
 //! The levels at which scripts are included.
 
-ghost use Rattle.std.specs.Prelude.{◌≡◌, ◌∷◌, IfOk, suc, zero};
-ghost use Rattle.sieve_meaning.specs.Meaning.{ended as ended_of};
+ghost use Rattle.std.specs.Prelude.{◌≡◌, ◌∷◌, IfOk};
+ghost use Rattle.sieve_meaning.specs.Meaning.{ending_of_include as ended_of};
 ghost use Rattle.plain_evaluator.specs.Runs.{ending_at};
 ghost use Rattle.plain_evaluator.specs.declared.filing.Filing.{Filing};
 
 use crate::commands::run;
+use crate::entry::Entry;
 use crate::filing::{Ending, Filing};
-use crate::level::Level;
 use crate::scope::Scope;
-use sieve_meaning::{Include, ScriptName};
+use sieve_meaning::{Above, Deepest, Include, RunFault, ScriptName};
 use sieve_syntax::Script;
 use std::alloc::{AllocError, Global};
-use std::marker::PhantomData;
 
-/// No further script may be active: to enter one is fault 4.
-pub struct Deepest {}
-
-impl Level for Deepest {
-    ghost depth = { zero };
-
+/// No further script may be active: to enter one is a fault.
+impl Entry for Deepest {
     fn enter<'a>(
         _alloc: Global,
         _scope: &Scope<'_, '_, 'a>,
@@ -27,13 +22,8 @@ impl Level for Deepest {
         _script: &'a Script,
         _filing: &mut Filing<'a>,
     ) -> Result<Ending, AllocError> {
-        Ok(Ending::Faults(4))
+        Ok(Ending::Faults(RunFault::NestingTooDeep))
     }
-}
-
-/// One more script may be active than at the level below.
-pub struct Above<L> {
-    below: PhantomData<L>,
 }
 
 /// The active scripts with one more in front, the innermost.
@@ -60,9 +50,8 @@ fn ended(ending: Ending) -> Ending
     }
 }
 
-impl<L: Level> Level for Above<L> {
-    ghost depth = { suc L.depth };
-
+/// One more script may be active than at the level below: it is run at that level.
+impl<L: Entry> Entry for Above<L> {
     fn enter<'a>(
         alloc: Global,
         scope: &Scope<'_, '_, 'a>,
@@ -81,6 +70,3 @@ impl<L: Level> Level for Above<L> {
         Ok(ended(ending))
     }
 }
-
-/// Seven scripts may be active besides the main one.
-pub type Levels = Above<Above<Above<Above<Above<Above<Above<Deepest>>>>>>>;

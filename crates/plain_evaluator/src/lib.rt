@@ -3,19 +3,19 @@
 //! `filing_machine`; with this crate a program can compare the two.
 //!
 //! In `specs/`, `Case` says what a case means, and `Runs` what each part of a run has to answer. The modules from the
-//! bottom: `case` (the message), `truth` (tests), `filing` and `scope` (what a run keeps), `level`, `includes`,
+//! bottom: `case` (the message), `truth` (tests), `filing` and `scope` (what a run keeps), `entry`, `includes`,
 //! `commands`, `levels`, `outcome`.
 #![tactic(auto)]
 
 mod case;
 mod commands;
+mod entry;
 mod filing;
 mod includes;
-mod level;
 mod levels;
 mod outcome;
 mod scope;
 mod truth;
 
 pub use case::{BorrowedCase, BorrowedField};
-pub use outcome::{Outcome, evaluate};
+pub use outcome::evaluate;

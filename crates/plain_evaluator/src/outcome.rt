@@ -1,7 +1,7 @@
 //! The evaluator's call.
 
 ghost use Rattle.std.specs.Prelude.{◌≡◌, IfOk, map, option_map};
-ghost use Rattle.script_library.specs.Lent.{scripts_of};
+ghost use Rattle.script_library.specs.BorrowedShelves.{scripts_of};
 ghost use Rattle.script_library.specs.Libraries.{library_of};
 ghost use Rattle.sieve_syntax.specs.View.{tree_of};
 ghost use Rattle.sieve_meaning.specs.Reading.{program_of};
@@ -9,37 +9,30 @@ ghost use Rattle.sieve_meaning.specs.Meaning.{main_names, meaning};
 ghost use Rattle.sieve_meaning.specs.Outcome.{outcome_at, outcome_of};
 ghost use Rattle.plain_evaluator.specs.Case.{facts_of};
 ghost use Rattle.plain_evaluator.specs.Runs.{fault_of};
-ghost use Rattle.plain_evaluator.specs.Outcomes.{outcome_view};
 ghost use Rattle.sieve_meaning.specs.Scripts.{script_of};
 
 use crate::case::BorrowedCase;
 use crate::commands::run;
 use crate::filing::{Ending, Filing};
-use crate::levels::Levels;
 use crate::scope::Scope;
+use class_paths::Paths;
 use script_library::Shelves;
-use sieve_meaning::{Location, Paths, ScriptName, captured_classes};
+use sieve_meaning::{Levels, Location, Outcome, ScriptName, outcome_at_end};
 use sieve_syntax::Script;
 use std::alloc::{AllocError, Global};
 
-/// What a script captures a message in.
-#[derive(Drop)]
-pub struct Outcome {
-    /// The classes, in byte order.
-    pub classes: Paths,
-    /// The number of the fault, if the run ended in one. 1: a class that is not open. 2: an include of a missing
-    /// script. 3: an include of an active one. 4: an include where eight scripts are active.
-    pub fault: Option<u8>,
-}
-
 /// The outcome of a run, from its end and from what it has done.
 fn captured(alloc: Global, ending: Ending, filing: &Filing<'_>) -> Result<Outcome, AllocError>
-    ensures { IfOk result (λ o. outcome_view o ≡
+    ensures { IfOk result (λ o. o ≡
         outcome_at (fault_of ending) filing.now.filed filing.now.kept filing.now.cancelled) }
 {
-    let fault = ending.fault();
-    let classes = captured_classes(alloc, fault, &filing.filed, filing.kept, filing.cancelled)?;
-    Ok(Outcome { classes, fault })
+    outcome_at_end(
+        alloc,
+        ending.fault(),
+        &filing.filed,
+        filing.kept,
+        filing.cancelled,
+    )
 }
 
 /// The main script's personal name, if it has one.
@@ -69,7 +62,7 @@ pub fn evaluate<'a>(
     shelves: Shelves<'a>,
     case: &BorrowedCase<'_, Paths>,
 ) -> Result<Outcome, AllocError>
-    ensures { IfOk result (λ o. outcome_view o ≡
+    ensures { IfOk result (λ o. o ≡
         outcome_of (meaning (facts_of case.now) (library_of (scripts_of shelves.entry))
         (option_map (λ s. s.now) known_as.entry) (program_of (tree_of main.now)))) }
 {

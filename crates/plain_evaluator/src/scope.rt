@@ -1,8 +1,9 @@
 //! Where a run stands.
 
 use crate::case::BorrowedCase;
+use class_paths::Paths;
 use script_library::Shelves;
-use sieve_meaning::{Paths, ScriptName};
+use sieve_meaning::ScriptName;
 
 /// What stays the same for all commands of a running script.
 #[derive(Clone, Copy, Drop)]

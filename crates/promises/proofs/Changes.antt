@@ -2,10 +2,10 @@
 use Rattle.std.proofs.Common.{◌≡◌, ◌+◌, ◌<◌, ◌++◌, [], ◌∷◌, ℕ, List, length, refl, ap, ◌∙◌, sym, inl, inr, Bool, true, false, Option, Some, None}
 use Rattle.std.specs.Prelude.{◌⊎◌, ◌==◌, if◌then◌else◌, nat_le, MatchBool}
 use Rattle.record_store.specs.Archive.{Archive}
-use Rattle.filing_commands.specs.Answers.{Answer, done, captured, begun, running, ended, filed, listed, refused}
+use Rattle.filing_commands.specs.Answers.{Answer, done, dry_run, begun, running, ended, captured, listed, refused}
 use Rattle.filing_commands.specs.Office.{Office, PlainCommand, OfficeRule, OfficeStep}
-use Rattle.filing_commands.specs.Pinning.{Stood}
-use Rattle.filing_commands.specs.Standing.{Command, plain, begin, turn, finish, Flight, Standing, Step, BeginStep, TurnStep, FinishStep, FinishWhole, Files, IsPinned, flight_of, grant, without, filing, begin_refusal, stood_at, turned}
+use Rattle.filing_commands.specs.Pinning.{BeginState}
+use Rattle.filing_commands.specs.Standing.{Command, plain, begin, turn, finish, Flight, Standing, Step, BeginStep, TurnStep, FinishStep, FinishWhole, Files, IsPinned, flight_of, grant, without, after_finish, begin_refusal, begin_state, turn_answer}
 use Rattle.promises.specs.Beginnings.{tickets_given}
 use Rattle.promises.specs.Turns.{Grants, TurnGrants}
 
@@ -49,7 +49,7 @@ pub record BeginsOne (s : Standing) (c : Command) (a : Answer) (new : Standing) 
   pub answer : a ≡ begun flight.ticket flight.pinned.budget
   pub allowed : begin_refusal (length s.flights) s.last moment (length message) ≡ None
   pub pinned : IsPinned flight
-  pub stood : flight.stood ≡ stood_at s.office officer moment message
+  pub at_begin : flight.at_begin ≡ begin_state s.office officer moment message
   pub fresh : flight.granted ≡ 0
   pub next : flight.ticket ≡ s.last + 1
   pub flights : new.flights ≡ s.flights ++ flight ∷ []
@@ -68,13 +68,13 @@ refused_none a n at e answers = rw e refl
 
 rule_none : (s : Office) (c : PlainCommand) (a : Answer) (new : Office) → OfficeRule s c a new → GivesNone a
 rule_none s c done new h answers = refl
-rule_none s c (captured o) new h answers = refl
+rule_none s c (dry_run o) new h answers = refl
 rule_none s c (listed lines) new h answers = refl
 rule_none s c (refused n at) new h answers = refl
 rule_none s c (begun t b) new h answers = absurd h
 rule_none s c (running k) new h answers = absurd h
 rule_none s c (ended k) new h answers = absurd h
-rule_none s c (filed f lines) new h answers = absurd h
+rule_none s c (captured f lines) new h answers = absurd h
 
 office_none : (s : Office) (c : PlainCommand) (a : Answer) (new : Office) → OfficeStep s c a new → GivesNone a
 office_none s c a new (inl h) = rule_none s c a new h
@@ -100,7 +100,7 @@ begin_change s officer moment message (begun t b) new h = inr (inr (inr (record 
   answer = λ i. begun ((h.ticket ∙ sym h.next) i) (h.budget i);
   allowed = h.allowed;
   pinned = h.pinned;
-  stood = h.stood;
+  at_begin = h.at_begin;
   fresh = h.fresh;
   next = h.next;
   flights = ap (λ (x : Standing). x.flights) h.leaves;
@@ -108,10 +108,10 @@ begin_change s officer moment message (begun t b) new h = inr (inr (inr (record 
 })))
 begin_change s officer moment message (refused n at) new h = stays s _ (refused n at) new h.0 (λ t. refl) (λ answers. refl)
 begin_change s officer moment message done new h = absurd h
-begin_change s officer moment message (captured o) new h = absurd h
+begin_change s officer moment message (dry_run o) new h = absurd h
 begin_change s officer moment message (running k) new h = absurd h
 begin_change s officer moment message (ended k) new h = absurd h
-begin_change s officer moment message (filed f ls) new h = absurd h
+begin_change s officer moment message (captured f ls) new h = absurd h
 begin_change s officer moment message (listed ls) new h = absurd h
 
 -- ---- turns
@@ -131,14 +131,14 @@ no_ticket_grants t k a u e = go (t == u)
     go true = rw e refl
     go false = refl
 
-turned_grants : (f : Flight) (k : ℕ) (a : Answer) → a ≡ turned f (f.granted + k) → TurnGrants k a k
+turned_grants : (f : Flight) (k : ℕ) (a : Answer) → a ≡ turn_answer f (f.granted + k) → TurnGrants k a k
 turned_grants f k a e = go (nat_le f.run_length (f.granted + k)) e
   where
     go : (b : Bool) → a ≡ (if b then ended f.run_length else running (f.granted + k)) → TurnGrants k a k
     go true is = rw is refl
     go false is = rw is refl
 
-turned_none : (f : Flight) (k : ℕ) (a : Answer) → a ≡ turned f k → GivesNone a
+turned_none : (f : Flight) (k : ℕ) (a : Answer) → a ≡ turn_answer f k → GivesNone a
 turned_none f k a e answers = go (nat_le f.run_length k) e
   where
     go : (b : Bool) → a ≡ (if b then ended f.run_length else running k) → tickets_given (a ∷ answers) ≡ tickets_given answers
@@ -173,35 +173,35 @@ turn_change s t k (Some f) a new is (inr h) = inr (inl (record {
 
 -- ---- finishes
 
-files_change : (s : Standing) (t : ℕ) (stood : Stood) (a : Answer) (b : Archive) (new : Standing) → Files s.office.archive stood a b → new ≡ filing s t a b → Change s (finish t) a new
-files_change s t stood (filed fault lines) b new h e = inr (inr (inl (record {
+files_change : (s : Standing) (t : ℕ) (at_begin : BeginState) (a : Answer) (b : Archive) (new : Standing) → Files s.office.archive at_begin a b → new ≡ after_finish s t a b → Change s (finish t) a new
+files_change s t at_begin (captured fault lines) b new h e = inr (inr (inl (record {
   ticket = t;
   flights = ap (λ (x : Standing). x.flights) e;
   last = ap (λ (x : Standing). x.last) e;
   grants = λ u. refl;
   given = λ answers. refl;
 })))
-files_change s t stood (refused n at) b new h e = inl (record {
+files_change s t at_begin (refused n at) b new h e = inl (record {
   flights = ap (λ (x : Standing). x.flights) e;
   last = ap (λ (x : Standing). x.last) e;
   grants = λ u. refl;
   given = λ answers. refl;
 })
-files_change s t stood done b new h e = absurd h
-files_change s t stood (captured o) b new h e = absurd h
-files_change s t stood (begun x y) b new h e = absurd h
-files_change s t stood (running k) b new h e = absurd h
-files_change s t stood (ended k) b new h e = absurd h
-files_change s t stood (listed ls) b new h e = absurd h
+files_change s t at_begin done b new h e = absurd h
+files_change s t at_begin (dry_run o) b new h e = absurd h
+files_change s t at_begin (begun x y) b new h e = absurd h
+files_change s t at_begin (running k) b new h e = absurd h
+files_change s t at_begin (ended k) b new h e = absurd h
+files_change s t at_begin (listed ls) b new h e = absurd h
 
-whole_change : (s : Standing) (t : ℕ) (early : Bool) (stood : Stood) (a : Answer) (new : Standing) → FinishWhole s t early stood a new → Change s (finish t) a new
-whole_change s t true stood a new h = stays s _ a new h.1 (λ u. refl) (refused_none a 92 None h.0)
-whole_change s t false stood a new (inl h) = files_change s t stood a h.0 new h.1 h.2
-whole_change s t false stood a new (inr h) = stays s _ a new h.3 (λ u. refl) (refused_none a h.0 None h.2)
+whole_change : (s : Standing) (t : ℕ) (early : Bool) (at_begin : BeginState) (a : Answer) (new : Standing) → FinishWhole s t early at_begin a new → Change s (finish t) a new
+whole_change s t true at_begin a new h = stays s _ a new h.1 (λ u. refl) (refused_none a 92 None h.0)
+whole_change s t false at_begin a new (inl h) = files_change s t at_begin a h.0 new h.1 h.2
+whole_change s t false at_begin a new (inr h) = stays s _ a new h.3 (λ u. refl) (refused_none a h.0 None h.2)
 
 finish_change : (s : Standing) (t : ℕ) (f : Option Flight) (a : Answer) (new : Standing) → FinishStep s t f a new → Change s (finish t) a new
 finish_change s t None a new h = stays s _ a new h.1 (λ u. refl) (refused_none a 91 None h.0)
-finish_change s t (Some f) a new h = whole_change s t _ f.stood a new h
+finish_change s t (Some f) a new h = whole_change s t _ f.at_begin a new h
 
 pub step_change : (s : Standing) (c : Command) (a : Answer) (new : Standing) → Step s c a new → Change s c a new
 unfolding Step

@@ -3,7 +3,9 @@ use Rattle.std.proofs.Common.{◌≡◌, ◌≢◌, ℕ, List, [], refl, arith, 
 use Rattle.std.proofs.lemmas.Bool.{cases_lt}
 use Rattle.sieve_meaning.specs.Case.{Facts}
 use Rattle.sieve_meaning.specs.Meaning.{Library}
-use Rattle.sieve_meaning.specs.Outcome.{Outcome, outcome, outcome_at}
+use Rattle.sieve_meaning.specs.declared.outcome.Outcome.{Outcome}
+use Rattle.sieve_meaning.specs.declared.run_fault.RunFault.TheVariants as run_faults
+use Rattle.sieve_meaning.specs.Outcome.{outcome, outcome_at}
 use Rattle.sieve_meaning.specs.Program.{Commands}
 use Rattle.filing_image.specs.Program.{Program}
 use Rattle.filing_table.specs.Machine.{Trap, after_steps}
@@ -46,7 +48,7 @@ refused_for_memory octets p n h k =
 
 script_ends : (heavy : Bool) (lib : Library) (name : List ℕ) (s : Commands) (p : Program) (c : Facts) → is_too_heavy lib (Some name) s ≡ heavy → PinsScript heavy lib name s p → EndsWithinBudget p c (outcome c lib (Some name) s)
 script_ends true lib name s p c e h =
-    let heavy : Outcome = outcome_at (Some 5) [] false false in
+    let heavy : Outcome = outcome_at (Some run_faults.TooHeavy) [] false false in
     let one : EndsWithinBudget one_fault c heavy = record { steps = 1; within = omega arith; outcome = fault_ends c } in
     let here : EndsWithinBudget p c heavy = subst (λ (q : Program). EndsWithinBudget q c heavy) (sym h) one in
     subst (λ (o : Outcome). EndsWithinBudget p c o) (sym (heavy_outcome c lib (Some name) s e)) here

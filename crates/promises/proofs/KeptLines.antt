@@ -73,8 +73,8 @@ equal_states s t items others answers replies x y same h k e =
 module _ {D : Type 0} (clean : D → Type 0) (stands : D → Standing → Type 0) where
   pub equal_lines : (s t : Standing) (old new first last : D) (items others : List Item) (answers replies : List Answer) → forget s ≡ forget t → IsSession clean stands s old items answers new → IsSession clean stands t first others replies last → kept_items items answers ≡ kept_items others replies → AllAlike (kept_replies items answers) (kept_replies others replies) × LeaveTheSame stands new last
   equal_lines s t old new first last items others answers replies same h k e =
-      let one = (run_refines clean stands items answers old new h.run h.is_clean).1 s h.stood in
-      let two = (run_refines clean stands others replies first last k.run k.is_clean).1 t k.stood in
+      let one = (run_refines clean stands items answers old new h.run h.is_clean).1 s h.at_begin in
+      let two = (run_refines clean stands others replies first last k.run k.is_clean).1 t k.at_begin in
       let equal = equal_states s t items others answers replies one.to two.to same one.is_one two.is_one e in
       (equal.0, record { first = one.to; second = two.to; first_stands = one.there; second_stands = two.there; same = equal.1 })
 
@@ -87,5 +87,5 @@ module _ {D : Type 0} (clean : D → Type 0) (stands : D → Standing → Type 0
         replies = b.0;
         first = a.2;
         second = b.2;
-        equal = equal_lines s t old new first last asked.items other.items a.0 b.0 same (record { stood = h.stood; run = a.1; is_clean = h.is_clean }) (record { stood = k.stood; run = b.1; is_clean = k.is_clean });
+        equal = equal_lines s t old new first last asked.items other.items a.0 b.0 same (record { at_begin = h.at_begin; run = a.1; is_clean = h.is_clean }) (record { at_begin = k.at_begin; run = b.1; is_clean = k.is_clean });
       }

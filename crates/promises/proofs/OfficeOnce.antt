@@ -3,6 +3,7 @@ use Rattle.std.proofs.Common.{◌≡◌, ◌≢◌, [], ℕ, List, refl, arith, 
 use Rattle.std.specs.Prelude.{if◌then◌else◌}
 use Rattle.sieve_meaning.specs.Program.{Commands}
 use Rattle.sieve_meaning.specs.Reading.{program_of}
+use Rattle.sieve_meaning.specs.declared.outcome.Outcome.{Outcome}
 use Rattle.sieve_meaning.specs.Outcome as meaning
 use Rattle.class_plan.specs.declared.faults.PlanFault.TheVariants.{PathDropped}
 use Rattle.class_plan.specs.Faults as plan
@@ -13,8 +14,8 @@ use Rattle.filing_table.specs.Ends.{HasOutcome}
 use Rattle.filing_table.proofs.Once.{one_outcome}
 use Rattle.record_store.specs.Archive.{Archive, Line, revise}
 use Rattle.record_store.specs.declared.fault.StoreFault.{StoreFault}
-use Rattle.filing_commands.specs.Answers.{Answer, done, captured, begun, running, ended, filed, listed, refused}
-use Rattle.filing_commands.specs.Office.{Office, PlainCommand, OfficeRule, Settles, Captures, Lists, Refuses, IsFiled, IsMade, IsRefused, IsTried, add_class, set_plan, set_script, set_global, activate, deactivate, set_image, file, try_image, hold, release, due, destroy, with_globals, with_officer, with_scripts, setting}
+use Rattle.filing_commands.specs.Answers.{Answer, done, dry_run, begun, running, ended, captured, listed, refused}
+use Rattle.filing_commands.specs.Office.{Office, PlainCommand, OfficeRule, Settles, Captures, Lists, Refuses, IsFiled, IsMade, IsRefused, IsTried, add_class, set_plan, set_script, set_global, activate, deactivate, set_image, file, try_image, hold, release, due, destroy, with_globals, with_officer, with_scripts, with_active}
 use Rattle.filing_commands.specs.Parts.{IsKept, IsPlanOf, RefusesPlan, RefusesToKeep}
 use Rattle.filing_commands.specs.Pinning.{image}
 use Rattle.filing_commands.specs.Scripts.{library, put_script}
@@ -103,7 +104,7 @@ settles_once s (set_script officer name text) x y h k =
 settles_once s (set_global name text) x y h k = h.2 ∙ ap (with_globals s) (kept_once s.globals h.0 k.0 name text h.1 k.1) ∙ sym k.2
 settles_once s (activate officer name) x y h k = h.1 ∙ sym k.1
 settles_once s (deactivate officer) x y h k = h ∙ sym k
-settles_once s (set_image officer octets) x y h k = h.2 ∙ ap (λ p. setting s officer (image p)) (one_image octets h.0 k.0 h.1.is_image k.1.is_image) ∙ sym k.2
+settles_once s (set_image officer octets) x y h k = h.2 ∙ ap (λ p. with_active s officer (image p)) (one_image octets h.0 k.0 h.1.is_image k.1.is_image) ∙ sym k.2
 settles_once s (hold name r) x y h k = made_once s _ x y h k
 settles_once s (release name r) x y h k = made_once s _ x y h k
 settles_once s (destroy r day) x y h k = made_once s _ x y h k
@@ -128,18 +129,18 @@ settles_or s (due day) x n h k e = h
 
 -- ---- dry runs
 
-filed_once : (s : Office) (script message : List ℕ) (o q : meaning.Outcome) → IsFiled s script message o → IsFiled s script message q → o ≡ q
+filed_once : (s : Office) (script message : List ℕ) (o q : Outcome) → IsFiled s script message o → IsFiled s script message q → o ≡ q
 filed_once s script message o q h k =
     let facts = case_of message (is_open_in s.archive.plan) in
     h.outcome ∙ ap (λ t. meaning.outcome facts (library [] s.globals) None (program_of t)) (one_script script h.tree k.tree h.good k.good) ∙ sym k.outcome
 
-tried_once : (s : Office) (octets message : List ℕ) (o q : meaning.Outcome) → IsTried s octets message o → IsTried s octets message q → o ≡ q
+tried_once : (s : Office) (octets message : List ℕ) (o q : Outcome) → IsTried s octets message o → IsTried s octets message q → o ≡ q
 tried_once s octets message o q h k =
     let facts = case_of message (is_open_in s.archive.plan) in
     let P : Program → Type 0 = λ p. HasOutcome p facts h.steps o in
     one_outcome k.program facts h.steps k.steps o q (subst P (one_image octets h.program k.program h.good.is_image k.good.is_image) h.outcome) k.outcome
 
-captures_once : (s : Office) (c : PlainCommand) (o q : meaning.Outcome) → Captures s c o → Captures s c q → o ≡ q
+captures_once : (s : Office) (c : PlainCommand) (o q : Outcome) → Captures s c o → Captures s c q → o ≡ q
 captures_once s (file script message) o q h k = filed_once s script message o q h k
 captures_once s (try_image octets message) o q h k = tried_once s octets message o q h k
 captures_once s (add_class path) o q h k = absurd h
@@ -154,7 +155,7 @@ captures_once s (release name r) o q h k = absurd h
 captures_once s (due day) o q h k = absurd h
 captures_once s (destroy r day) o q h k = absurd h
 
-captures_or : (s : Office) (c : PlainCommand) (o : meaning.Outcome) (n : ℕ) → Captures s c o → Refuses s c n → n ≢ 99 → ⊥
+captures_or : (s : Office) (c : PlainCommand) (o : Outcome) (n : ℕ) → Captures s c o → Refuses s c n → n ≢ 99 → ⊥
 captures_or s (file script message) o n h (inl k) e = script_or script h.tree n h.good k
 captures_or s (file script message) o n h (inr k) e = omega (arith, k.long, h.short)
 captures_or s (try_image octets message) o n h (inl k) e = image_or octets h.program n h.good k e
@@ -171,7 +172,7 @@ captures_or s (release name r) o n h k e = h
 captures_or s (due day) o n h k e = h
 captures_or s (destroy r day) o n h k e = h
 
-settles_captures : (s : Office) (c : PlainCommand) (x : Office) (o : meaning.Outcome) → Settles s c x → Captures s c o → ⊥
+settles_captures : (s : Office) (c : PlainCommand) (x : Office) (o : Outcome) → Settles s c x → Captures s c o → ⊥
 settles_captures s (file script message) x o h k = h
 settles_captures s (try_image octets message) x o h k = h
 settles_captures s (add_class path) x o h k = k
@@ -192,7 +193,7 @@ settles_captures s (destroy r day) x o h k = k
 record IsToldAlone (s : Office) (c : PlainCommand) (lines : List Line) : Type 0 where
   once : (others : List Line) → Lists s c others → lines ≡ others
   unsettled : (x : Office) → Settles s c x → ⊥
-  uncaptured : (o : meaning.Outcome) → Captures s c o → ⊥
+  uncaptured : (o : Outcome) → Captures s c o → ⊥
   unrefused : (n : ℕ) → Refuses s c n → ⊥
 
 told_alone : (s : Office) (c : PlainCommand) (lines : List Line) → Lists s c lines → IsToldAlone s c lines
@@ -240,26 +241,26 @@ no_99 n at e x = true_false (sym (ap (λ y. is_passing (refused y at)) x) ∙ e)
 
 pub office_once : (s : Office) (c : PlainCommand) (a b : Answer) (x y : Office) → OfficeRule s c a x → OfficeRule s c b y → is_passing a ≡ false → is_passing b ≡ false → AreAlike a b × (x ≡ y)
 office_once s c done done x y h k d e = (refl, settles_once s c x y h k)
-office_once s c done (captured q) x y h k d e = absurd (settles_captures s c x q h k.1)
+office_once s c done (dry_run q) x y h k d e = absurd (settles_captures s c x q h k.1)
 office_once s c done (listed ms) x y h k d e = absurd ((told_alone s c ms k.1).unsettled x h)
 office_once s c done (refused n at) x y h k d e = absurd (settles_or s c x n h k.2 (no_99 n at e))
-office_once s c (captured o) done x y h k d e = absurd (settles_captures s c y o k h.1)
-office_once s c (captured o) (captured q) x y h k d e = (ap captured (captures_once s c o q h.1 k.1), h.0 ∙ sym k.0)
-office_once s c (captured o) (listed ms) x y h k d e = absurd ((told_alone s c ms k.1).uncaptured o h.1)
-office_once s c (captured o) (refused n at) x y h k d e = absurd (captures_or s c o n h.1 k.2 (no_99 n at e))
+office_once s c (dry_run o) done x y h k d e = absurd (settles_captures s c y o k h.1)
+office_once s c (dry_run o) (dry_run q) x y h k d e = (ap dry_run (captures_once s c o q h.1 k.1), h.0 ∙ sym k.0)
+office_once s c (dry_run o) (listed ms) x y h k d e = absurd ((told_alone s c ms k.1).uncaptured o h.1)
+office_once s c (dry_run o) (refused n at) x y h k d e = absurd (captures_or s c o n h.1 k.2 (no_99 n at e))
 office_once s c (listed ls) done x y h k d e = absurd ((told_alone s c ls h.1).unsettled y k)
-office_once s c (listed ls) (captured q) x y h k d e = absurd ((told_alone s c ls h.1).uncaptured q k.1)
+office_once s c (listed ls) (dry_run q) x y h k d e = absurd ((told_alone s c ls h.1).uncaptured q k.1)
 office_once s c (listed ls) (listed ms) x y h k d e = (ap listed ((told_alone s c ls h.1).once ms k.1), h.0 ∙ sym k.0)
 office_once s c (listed ls) (refused n at) x y h k d e = absurd ((told_alone s c ls h.1).unrefused n k.2)
 office_once s c (refused m at) done x y h k d e = absurd (settles_or s c y m k h.2 (no_99 m at d))
-office_once s c (refused m at) (captured q) x y h k d e = absurd (captures_or s c q m k.1 h.2 (no_99 m at d))
+office_once s c (refused m at) (dry_run q) x y h k d e = absurd (captures_or s c q m k.1 h.2 (no_99 m at d))
 office_once s c (refused m at) (listed ms) x y h k d e = absurd ((told_alone s c ms k.1).unrefused m h.2)
 office_once s c (refused m at) (refused n on) x y h k d e = (refuses_once s c m n h.2 k.2 (no_99 m at d) (no_99 n on e), h.0 ∙ sym k.0)
 office_once s c (begun t n) b x y h k d e = absurd h
 office_once s c (running n) b x y h k d e = absurd h
 office_once s c (ended n) b x y h k d e = absurd h
-office_once s c (filed f ls) b x y h k d e = absurd h
+office_once s c (captured f ls) b x y h k d e = absurd h
 office_once s c a (begun t n) x y h k d e = absurd k
 office_once s c a (running n) x y h k d e = absurd k
 office_once s c a (ended n) x y h k d e = absurd k
-office_once s c a (filed f ls) x y h k d e = absurd k
+office_once s c a (captured f ls) x y h k d e = absurd k

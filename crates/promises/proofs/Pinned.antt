@@ -1,7 +1,7 @@
 -- The run of what is pinned ends with the outcome of the capture alone, within the budget.
 use Rattle.std.proofs.Common.{◌≡◌, ◌≤◌, ℕ}
 use Rattle.sieve_meaning.specs.Case.{Facts}
-use Rattle.sieve_meaning.specs.Outcome.{Outcome}
+use Rattle.sieve_meaning.specs.declared.outcome.Outcome.{Outcome}
 use Rattle.filing_image.specs.Program.{Program}
 use Rattle.filing_verify.specs.Well.{IsWell}
 use Rattle.filing_table.specs.Ends.{HasOutcome}
@@ -23,8 +23,8 @@ steps_within p c n o w h =
 pub budget_holds : (p : Program) (c : Facts) (n : ℕ) (o : Outcome) → IsWell p → HasOutcome p c n o → EndsWithinBudget p c o
 budget_holds p c n o w h = record { steps = n; within = steps_within p c n o w h; outcome = h }
 
-pub within_budget : (f : Flight) → IsPinned f → (f.run_length ≤ f.pinned.budget) × (f.pinned.budget ≡ budget_of f.stood)
-within_budget f h = (steps_within f.pinned (case_in f.stood) f.run_length h.length.0 h.well h.length.1, pins_budget f.stood f.pinned h.pins)
+pub within_budget : (f : Flight) → IsPinned f → (f.run_length ≤ f.pinned.budget) × (f.pinned.budget ≡ budget_of f.at_begin)
+within_budget f h = (steps_within f.pinned (case_in f.at_begin) f.run_length h.length.0 h.well h.length.1, pins_budget f.at_begin f.pinned h.pins)
 
-pub alone : (f : Flight) (n : ℕ) (o : Outcome) → IsPinned f → HasOutcome f.pinned (case_in f.stood) n o → IsAlone f.stood o × (n ≡ f.run_length)
-alone f n o h k = (pinned_alone f.stood f.pinned n o h.pins k, one_step f.pinned (case_in f.stood) n f.run_length o h.length.0 k h.length.1)
+pub alone : (f : Flight) (n : ℕ) (o : Outcome) → IsPinned f → HasOutcome f.pinned (case_in f.at_begin) n o → IsAlone f.at_begin o × (n ≡ f.run_length)
+alone f n o h k = (pinned_alone f.at_begin f.pinned n o h.pins k, one_step f.pinned (case_in f.at_begin) n f.run_length o h.length.0 k h.length.1)

@@ -6,25 +6,28 @@ use Rattle.std.proofs.lemmas.Bool.Decides.{nat_tests}
 use Rattle.std.proofs.lemmas.List.{append-nil}
 use Rattle.std.proofs.lemmas.List.Elements.{All-from_recursion, recursion_from_All, All-contains_itself, Contains-push}
 use Rattle.sqlite_keyed.specs.Lists.{sort_by, insert_sorted}
+use Rattle.class_paths.specs.Paths.{Paths}
 use Rattle.class_plan.specs.Plans.{is_open_in}
 use Rattle.sieve_meaning.specs.Case.{Facts}
 use Rattle.sieve_meaning.specs.Program.{Commands}
-use Rattle.sieve_meaning.specs.Paths.{Paths}
 use Rattle.sieve_meaning.specs.Meaning.{Ending, GoesOn, Returns, Stops, Faults, Library, meaning}
-use Rattle.sieve_meaning.specs.Outcome.{Outcome, outcome, outcome_at, outcome_of}
+use Rattle.sieve_meaning.specs.declared.outcome.Outcome.{Outcome}
+use Rattle.sieve_meaning.specs.declared.run_fault.RunFault.{RunFault}
+use Rattle.sieve_meaning.specs.declared.run_fault.RunFault.TheVariants as run_faults
+use Rattle.sieve_meaning.specs.Outcome.{outcome, outcome_at, outcome_of}
 use Rattle.sieve_meaning.specs.TooHeavy.{is_too_heavy}
 use Rattle.filing_case.specs.Message.{case_of}
 use Rattle.filing_image.specs.Program.{Program}
 use Rattle.filing_table.specs.Ends.{HasOutcome}
 use Rattle.record_tables.specs.Rows.{Record}
-use Rattle.record_store.specs.Archive.{Archive, Line, capture, captured, captured_lines, due_list, due_of, has_room, is_by, is_due, is_held, line_cmp, line_of, new_records, next_number, past_all, records_of}
+use Rattle.record_store.specs.Archive.{Archive, Line, capture, after_capture, captured_lines, due_list, due_of, has_room, is_by, is_due, is_held, line_cmp, line_of, new_records, next_number, past_all, records_of}
 use Rattle.record_store.specs.declared.fault.StoreFault.{StoreFault}
 use Rattle.record_store.specs.declared.fault.StoreFault.TheVariants.{Full}
-use Rattle.filing_commands.specs.Answers.{filed, listed, refused}
+use Rattle.filing_commands.specs.Answers.{captured, listed, refused}
 use Rattle.filing_commands.specs.Answers as answers
 use Rattle.filing_commands.specs.Office.{Office, IsFiled, IsTried, due, file, try_image}
 use Rattle.filing_commands.specs.Parts.{IsGoodImage}
-use Rattle.filing_commands.specs.Pinning.{Stood, Chosen, nothing, script, image_of, GivesOutcome, IsAlone, case_in}
+use Rattle.filing_commands.specs.Pinning.{BeginState, Chosen, nothing, script, image_of, GivesOutcome, IsAlone, case_in}
 use Rattle.filing_commands.specs.Standing.{plain, finish, Flight, Standing, Step, FinishWhole, Files, flight_of}
 use Rattle.promises.specs.Records.{EndsWithinBudget, FilesAlone, IsDueBy, IsDueLine, IsFaultAlone, IsLineOf, IsMadeWhole}
 use Rattle.promises.proofs.Pinned.{budget_holds}
@@ -32,25 +35,25 @@ use Rattle.promises.proofs.Refusals.{finish_of}
 
 -- ---- a fault in the default class alone
 
-some_fault : (n : ℕ) → ◌≡◌ {A = Option ℕ} None (Some n) → ⊥
-some_fault n e = cc
+some_fault : (fault : RunFault) → ◌≡◌ {A = Option RunFault} None (Some fault) → ⊥
+some_fault fault e = cc
 
-fault_alone_at : (fault : Option ℕ) (filed_in : Paths) (kept cancelled : Bool) → IsFaultAlone (outcome_at fault filed_in kept cancelled)
-fault_alone_at (Some m) filed_in kept cancelled n e = refl
-fault_alone_at None filed_in kept cancelled n e = absurd (some_fault n e)
+fault_alone_at : (fault : Option RunFault) (filed_in : Paths) (kept cancelled : Bool) → IsFaultAlone (outcome_at fault filed_in kept cancelled)
+fault_alone_at (Some fault) filed_in kept cancelled other e = refl
+fault_alone_at None filed_in kept cancelled other e = absurd (some_fault other e)
 
 fault_alone_of : (e : Ending) → IsFaultAlone (outcome_of e)
 fault_alone_of (GoesOn f) = fault_alone_at None f.filed f.kept f.cancelled
 fault_alone_of (Returns f) = fault_alone_at None f.filed f.kept f.cancelled
 fault_alone_of (Stops f) = fault_alone_at None f.filed f.kept f.cancelled
-fault_alone_of (Faults m f) = fault_alone_at (Some m) f.filed f.kept f.cancelled
+fault_alone_of (Faults fault f) = fault_alone_at (Some fault) f.filed f.kept f.cancelled
 
 pub meaning_fault_alone : (facts : Facts) (lib : Library) (known_as : Option (List ℕ)) (main : Commands) → IsFaultAlone (outcome facts lib known_as main)
 unfolding outcome
 meaning_fault_alone facts lib known_as main = go (is_too_heavy lib known_as main)
   where
-    go : (heavy : Bool) → IsFaultAlone (if heavy then outcome_at (Some 5) [] false false else outcome_of (meaning facts lib known_as main))
-    go true = fault_alone_at (Some 5) [] false false
+    go : (heavy : Bool) → IsFaultAlone (if heavy then outcome_at (Some run_faults.TooHeavy) [] false false else outcome_of (meaning facts lib known_as main))
+    go true = fault_alone_at (Some run_faults.TooHeavy) [] false false
     go false = fault_alone_of (meaning facts lib known_as main)
 
 run_fault_alone : (p : Program) (c : Facts) (n : ℕ) (o : Outcome) → HasOutcome p c n o → IsFaultAlone o
@@ -61,25 +64,25 @@ chosen_fault_alone nothing lib facts o h = subst IsFaultAlone (sym h) (fault_alo
 chosen_fault_alone (script name s) lib facts o h = subst IsFaultAlone (sym h) (meaning_fault_alone facts lib (Some name) s)
 chosen_fault_alone (image_of p) lib facts o h = run_fault_alone p facts h.0 o h.1
 
-alone_fault_alone : (s : Stood) (o : Outcome) → IsAlone s o → IsFaultAlone o
+alone_fault_alone : (s : BeginState) (o : Outcome) → IsAlone s o → IsFaultAlone o
 alone_fault_alone s o h = chosen_fault_alone s.program s.library (case_in s) o h
 
 -- ---- dry runs
 
-pub file_says : (s : Standing) (script_text message : List ℕ) (o : Outcome) (new : Standing) → Step s (plain (file script_text message)) (answers.captured o) new → IsFiled s.office script_text message o × IsFaultAlone o × (new ≡ s)
+pub file_says : (s : Standing) (script_text message : List ℕ) (o : Outcome) (new : Standing) → Step s (plain (file script_text message)) (answers.dry_run o) new → IsFiled s.office script_text message o × IsFaultAlone o × (new ≡ s)
 unfolding Step
 file_says s script_text message o new (b, inl h, e) =
     (h.1, subst IsFaultAlone (sym h.1.outcome) (meaning_fault_alone _ _ None _), e ∙ ap (λ x. record s { office = x }) h.0)
-file_says s script_text message o new (b, inr h, e) = absurd (let other : answers.captured o ≡ refused h.0 None = h.2 in cc)
+file_says s script_text message o new (b, inr h, e) = absurd (let other : answers.dry_run o ≡ refused h.0 None = h.2 in cc)
 
 tried_within : (s : Office) (octets message : List ℕ) (o : Outcome) → IsTried s octets message o → (p : Program) × IsGoodImage octets p × EndsWithinBudget p (case_of message (is_open_in s.archive.plan)) o
 tried_within s octets message o h = (h.program, h.good, budget_holds h.program (case_of message (is_open_in s.archive.plan)) h.steps o h.good.well h.outcome)
 
-pub try_says : (s : Standing) (octets message : List ℕ) (o : Outcome) (new : Standing) → Step s (plain (try_image octets message)) (answers.captured o) new → ((p : Program) × IsGoodImage octets p × EndsWithinBudget p (case_of message (is_open_in s.office.archive.plan)) o) × IsFaultAlone o × (new ≡ s)
+pub try_says : (s : Standing) (octets message : List ℕ) (o : Outcome) (new : Standing) → Step s (plain (try_image octets message)) (answers.dry_run o) new → ((p : Program) × IsGoodImage octets p × EndsWithinBudget p (case_of message (is_open_in s.office.archive.plan)) o) × IsFaultAlone o × (new ≡ s)
 unfolding Step
 try_says s octets message o new (b, inl h, e) =
     (tried_within s.office octets message o h.1, run_fault_alone h.1.program _ h.1.steps o h.1.outcome, e ∙ ap (λ x. record s { office = x }) h.0)
-try_says s octets message o new (b, inr h, e) = absurd (let other : answers.captured o ≡ refused h.0 None = h.2 in cc)
+try_says s octets message o new (b, inr h, e) = absurd (let other : answers.dry_run o ≡ refused h.0 None = h.2 in cc)
 
 -- ---- records of a capture
 
@@ -125,8 +128,8 @@ lines_told : (a : Archive) (rs : List Record) → AllZip (IsLineOf a.plan) rs (m
 lines_told a [] = tt
 lines_told a (r ∷ rs) = (record { number = refl; class = refl; due = refl }, lines_told a rs)
 
-made_whole : (a : Archive) (stood : Stood) (o : Outcome) (paths : List (List ℕ)) → o.classes ≡ paths → IsMadeWhole a stood o (captured_lines a stood.day paths) (captured a stood.message stood.day paths)
-made_whole a stood o [] e = record {
+made_whole : (a : Archive) (at_begin : BeginState) (o : Outcome) (paths : List (List ℕ)) → o.classes ≡ paths → IsMadeWhole a at_begin o (captured_lines a at_begin.day paths) (after_capture a at_begin.message at_begin.day paths)
+made_whole a at_begin o [] e = record {
   records = [];
   added = sym (append-nil a.records);
   classes = sym e;
@@ -138,51 +141,51 @@ made_whole a stood o [] e = record {
   plan = refl;
   holds = refl;
 }
-made_whole a stood o (q ∷ qs) e =
+made_whole a at_begin o (q ∷ qs) e =
     let n = next_number a in
-    let stored = Contains-push a.messages (record { number = n; body = stood.message }) in
+    let stored = Contains-push a.messages (record { number = n; body = at_begin.message }) in
     record {
-      records = new_records a stood.day (q ∷ qs);
+      records = new_records a at_begin.day (q ∷ qs);
       added = refl;
-      classes = classes_of n n stood.day (q ∷ qs) ∙ sym e;
-      days = each_new (λ (r : Record). r.day ≡ stood.day) n n stood.day (q ∷ qs) (λ m p. refl);
-      live = each_new (λ (r : Record). r.destroyed ≡ false) n n stood.day (q ∷ qs) (λ m p. refl);
-      numbers = All-from_recursion (λ (r : Record). All (λ (x : Record). x.number < r.number) a.records) (new_records a stood.day (q ∷ qs)) (new_above a.records n n stood.day (q ∷ qs) (past_each 1 a.records));
-      messages = each_new (IsStored (captured a stood.message stood.day (q ∷ qs)) stood.message) n n stood.day (q ∷ qs) (λ m p. stored);
-      told = lines_told a (new_records a stood.day (q ∷ qs));
+      classes = classes_of n n at_begin.day (q ∷ qs) ∙ sym e;
+      days = each_new (λ (r : Record). r.day ≡ at_begin.day) n n at_begin.day (q ∷ qs) (λ m p. refl);
+      live = each_new (λ (r : Record). r.destroyed ≡ false) n n at_begin.day (q ∷ qs) (λ m p. refl);
+      numbers = All-from_recursion (λ (r : Record). All (λ (x : Record). x.number < r.number) a.records) (new_records a at_begin.day (q ∷ qs)) (new_above a.records n n at_begin.day (q ∷ qs) (past_each 1 a.records));
+      messages = each_new (IsStored (after_capture a at_begin.message at_begin.day (q ∷ qs)) at_begin.message) n n at_begin.day (q ∷ qs) (λ m p. stored);
+      told = lines_told a (new_records a at_begin.day (q ∷ qs));
       plan = refl;
       holds = refl;
     }
 
-capture_is : (a : Archive) (body : List ℕ) (day : ℕ) (paths : List (List ℕ)) (new : Archive) → capture a body day paths ≡ Ok new → captured a body day paths ≡ new
+capture_is : (a : Archive) (body : List ℕ) (day : ℕ) (paths : List (List ℕ)) (new : Archive) → capture a body day paths ≡ Ok new → after_capture a body day paths ≡ new
 capture_is a body day paths new e = go (has_room a paths) e
   where
-    go : (room : Bool) → ◌≡◌ {A = Result Archive StoreFault} (if room then Ok (captured a body day paths) else Err Full) (Ok new) → captured a body day paths ≡ new
+    go : (room : Bool) → ◌≡◌ {A = Result Archive StoreFault} (if room then Ok (after_capture a body day paths) else Err Full) (Ok new) → after_capture a body day paths ≡ new
     go true is = cc
     go false is = absurd cc
 
-files_whole : (a : Archive) (stood : Stood) (fault : Option ℕ) (lines : List Line) (new : Archive) → Files a stood (filed fault lines) new → FilesAlone a stood fault lines new
-files_whole a stood fault lines new h =
-    let made = made_whole a stood h.0 h.0.classes refl in
-    let P : Archive → Type 0 = λ x. IsMadeWhole a stood h.0 (captured_lines a stood.day h.0.classes) x in
-    let Q : List Line → Type 0 = λ x. IsMadeWhole a stood h.0 x new in
+files_whole : (a : Archive) (at_begin : BeginState) (fault : Option RunFault) (lines : List Line) (new : Archive) → Files a at_begin (captured fault lines) new → FilesAlone a at_begin fault lines new
+files_whole a at_begin fault lines new h =
+    let made = made_whole a at_begin h.0 h.0.classes refl in
+    let P : Archive → Type 0 = λ x. IsMadeWhole a at_begin h.0 (captured_lines a at_begin.day h.0.classes) x in
+    let Q : List Line → Type 0 = λ x. IsMadeWhole a at_begin h.0 x new in
     record {
       outcome = h.0;
       alone = h.1;
-      fault_alone = alone_fault_alone stood h.0 h.1;
+      fault_alone = alone_fault_alone at_begin h.0 h.1;
       told = h.2;
-      whole = subst Q (sym h.4) (subst P (capture_is a stood.message stood.day h.0.classes new h.3) made);
+      whole = subst Q (sym h.4) (subst P (capture_is a at_begin.message at_begin.day h.0.classes new h.3) made);
     }
 
-finish_whole : (s : Standing) (t : ℕ) (early : Bool) (stood : Stood) (fault : Option ℕ) (lines : List Line) (new : Standing) → FinishWhole s t early stood (filed fault lines) new → FilesAlone s.office.archive stood fault lines new.office.archive
-finish_whole s t true stood fault lines new h = absurd (let other : filed fault lines ≡ refused 92 None = h.0 in cc)
-finish_whole s t false stood fault lines new (inl h) =
-    let P : Archive → Type 0 = λ x. FilesAlone s.office.archive stood fault lines x in
-    subst P (ap (λ (x : Standing). x.office.archive) (sym h.2)) (files_whole s.office.archive stood fault lines h.0 h.1)
-finish_whole s t false stood fault lines new (inr h) = absurd (let other : filed fault lines ≡ refused h.0 None = h.2 in cc)
+finish_whole : (s : Standing) (t : ℕ) (early : Bool) (at_begin : BeginState) (fault : Option RunFault) (lines : List Line) (new : Standing) → FinishWhole s t early at_begin (captured fault lines) new → FilesAlone s.office.archive at_begin fault lines new.office.archive
+finish_whole s t true at_begin fault lines new h = absurd (let other : captured fault lines ≡ refused 92 None = h.0 in cc)
+finish_whole s t false at_begin fault lines new (inl h) =
+    let P : Archive → Type 0 = λ x. FilesAlone s.office.archive at_begin fault lines x in
+    subst P (ap (λ (x : Standing). x.office.archive) (sym h.2)) (files_whole s.office.archive at_begin fault lines h.0 h.1)
+finish_whole s t false at_begin fault lines new (inr h) = absurd (let other : captured fault lines ≡ refused h.0 None = h.2 in cc)
 
-pub finish_says : (s : Standing) (t : ℕ) (f : Flight) (fault : Option ℕ) (lines : List Line) (new : Standing) → Step s (finish t) (filed fault lines) new → flight_of t s.flights ≡ Some f → FilesAlone s.office.archive f.stood fault lines new.office.archive
-finish_says s t f fault lines new h e = finish_whole s t _ f.stood fault lines new (finish_of s t (filed fault lines) new f h e)
+pub finish_says : (s : Standing) (t : ℕ) (f : Flight) (fault : Option RunFault) (lines : List Line) (new : Standing) → Step s (finish t) (captured fault lines) new → flight_of t s.flights ≡ Some f → FilesAlone s.office.archive f.at_begin fault lines new.office.archive
+finish_says s t f fault lines new h e = finish_whole s t _ f.at_begin fault lines new (finish_of s t (captured fault lines) new f h e)
 
 -- ---- due lists
 

@@ -4,11 +4,11 @@ use Rattle.std.specs.Prelude.{◌⊎◌, ◌↔◌, if◌then◌else◌, nat_le,
 use Rattle.std.specs.Option.{option_map}
 use Rattle.std.proofs.lemmas.Bool.Decides.{nat_tests}
 use Rattle.record_store.specs.Archive.{Archive}
-use Rattle.filing_commands.specs.Answers.{Answer, done, captured, begun, running, ended, filed, listed, refused}
+use Rattle.filing_commands.specs.Answers.{Answer, done, dry_run, begun, running, ended, captured, listed, refused}
 use Rattle.filing_commands.specs.Limits.{greatest_message, last_moment, last_ticket, most_in_flight}
 use Rattle.filing_commands.specs.Office.{IsTrouble}
-use Rattle.filing_commands.specs.Pinning.{Stood}
-use Rattle.filing_commands.specs.Standing.{begin, turn, finish, Flight, Standing, Step, BeginStep, TurnStep, FinishStep, FinishWhole, Files, flight_of, begin_refusal, turned}
+use Rattle.filing_commands.specs.Pinning.{BeginState}
+use Rattle.filing_commands.specs.Standing.{begin, turn, finish, Flight, Standing, Step, BeginStep, TurnStep, FinishStep, FinishWhole, Files, flight_of, begin_refusal, turn_answer}
 use Rattle.promises.specs.Beginnings.{MayBegin}
 use Rattle.promises.specs.Turns.{TellsTurns}
 use Rattle.promises.proofs.TicketLemmas.{granted_more, of_grant}
@@ -22,7 +22,7 @@ none_some x e = cc
 
 -- ---- turns
 
-turned_refused : (f : Flight) (k n : ℕ) → turned f k ≡ refused n None → ⊥
+turned_refused : (f : Flight) (k n : ℕ) → turn_answer f k ≡ refused n None → ⊥
 turned_refused f k n e = go (nat_le f.run_length k) e
   where
     go : (b : Bool) → (if b then ended f.run_length else running k) ≡ refused n None → ⊥
@@ -38,7 +38,7 @@ pub no_ticket_to_turn : (s : Standing) (t count : ℕ) (a : Answer) (new : Stand
 unfolding Step
 no_ticket_to_turn s t count a new h = turn_91 s t count (flight_of t s.flights) a new h
 
-turned_tells : (f : Flight) (k : ℕ) → TellsTurns k f.run_length (turned f k)
+turned_tells : (f : Flight) (k : ℕ) → TellsTurns k f.run_length (turn_answer f k)
 turned_tells f k = go (nat_le f.run_length k) refl
   where
     go : (b : Bool) → nat_le f.run_length k ≡ b → TellsTurns k f.run_length (if b then ended f.run_length else running k)
@@ -60,23 +60,23 @@ turns_told s t count a new f h e = turn_tells s t count (flight_of t s.flights) 
 
 -- ---- finishes
 
-files_87 : (a : Archive) (stood : Stood) (r : Answer) (new : Archive) (m : ℕ) → Files a stood r new → r ≡ refused m None → m ≡ 87
-files_87 a stood (refused n at) new m h e = sym (one_number n m at None e) ∙ h.0
-files_87 a stood (filed fault lines) new m h e = absurd cc
-files_87 a stood done new m h e = absurd h
-files_87 a stood (captured o) new m h e = absurd h
-files_87 a stood (begun t b) new m h e = absurd h
-files_87 a stood (running k) new m h e = absurd h
-files_87 a stood (ended k) new m h e = absurd h
-files_87 a stood (listed lines) new m h e = absurd h
+files_87 : (a : Archive) (at_begin : BeginState) (r : Answer) (new : Archive) (m : ℕ) → Files a at_begin r new → r ≡ refused m None → m ≡ 87
+files_87 a at_begin (refused n at) new m h e = sym (one_number n m at None e) ∙ h.0
+files_87 a at_begin (captured fault lines) new m h e = absurd cc
+files_87 a at_begin done new m h e = absurd h
+files_87 a at_begin (dry_run o) new m h e = absurd h
+files_87 a at_begin (begun t b) new m h e = absurd h
+files_87 a at_begin (running k) new m h e = absurd h
+files_87 a at_begin (ended k) new m h e = absurd h
+files_87 a at_begin (listed lines) new m h e = absurd h
 
 -- the numbers by which a capture that has come to its end is not filed
 abbrev IsUnfiled : ℕ → Type 0
 IsUnfiled m = (m ≡ 87) ⊎ IsTrouble m
 
-whole_number : (s : Standing) (t : ℕ) (stood : Stood) (a : Answer) (new : Standing) (m : ℕ) → FinishWhole s t false stood a new → a ≡ refused m None → IsUnfiled m
-whole_number s t stood a new m (inl h) e = inl (files_87 s.office.archive stood a h.0 m h.1 e)
-whole_number s t stood a new m (inr h) e = inr (subst IsTrouble (one_number h.0 m None None (sym h.2 ∙ e)) h.1)
+whole_number : (s : Standing) (t : ℕ) (at_begin : BeginState) (a : Answer) (new : Standing) (m : ℕ) → FinishWhole s t false at_begin a new → a ≡ refused m None → IsUnfiled m
+whole_number s t at_begin a new m (inl h) e = inl (files_87 s.office.archive at_begin a h.0 m h.1 e)
+whole_number s t at_begin a new m (inr h) e = inr (subst IsTrouble (one_number h.0 m None None (sym h.2 ∙ e)) h.1)
 
 not_91 : IsUnfiled 91 → ⊥
 not_91 (inl e) = omega (arith, e)
@@ -88,29 +88,29 @@ not_92 (inl e) = omega (arith, e)
 not_92 (inr (inl e)) = omega (arith, e)
 not_92 (inr (inr e)) = omega (arith, e)
 
-whole_91 : (s : Standing) (t : ℕ) (early : Bool) (stood : Stood) (a : Answer) (new : Standing) → FinishWhole s t early stood a new → a ≡ refused 91 None → ⊥
-whole_91 s t true stood a new h e = let same = one_number 92 91 None None (sym h.0 ∙ e) in omega (arith, same)
-whole_91 s t false stood a new h e = not_91 (whole_number s t stood a new 91 h e)
+whole_91 : (s : Standing) (t : ℕ) (early : Bool) (at_begin : BeginState) (a : Answer) (new : Standing) → FinishWhole s t early at_begin a new → a ≡ refused 91 None → ⊥
+whole_91 s t true at_begin a new h e = let same = one_number 92 91 None None (sym h.0 ∙ e) in omega (arith, same)
+whole_91 s t false at_begin a new h e = not_91 (whole_number s t at_begin a new 91 h e)
 
 finish_91 : (s : Standing) (t : ℕ) (f : Option Flight) (a : Answer) (new : Standing) → FinishStep s t f a new → (a ≡ refused 91 None) ↔ (f ≡ None)
 finish_91 s t None a new h = (λ _. refl, λ _. h.0)
-finish_91 s t (Some f) a new h = (λ e. absurd (whole_91 s t _ f.stood a new h e), λ e. absurd (none_some f (sym e)))
+finish_91 s t (Some f) a new h = (λ e. absurd (whole_91 s t _ f.at_begin a new h e), λ e. absurd (none_some f (sym e)))
 
 pub no_ticket_to_finish : (s : Standing) (t : ℕ) (a : Answer) (new : Standing) → Step s (finish t) a new → (a ≡ refused 91 None) ↔ (flight_of t s.flights ≡ None)
 unfolding Step
 no_ticket_to_finish s t a new h = finish_91 s t (flight_of t s.flights) a new h
 
-whole_92 : (s : Standing) (t m n : ℕ) (early : Bool) (stood : Stood) (a : Answer) (new : Standing) → nat_lt m n ≡ early → FinishWhole s t early stood a new → (a ≡ refused 92 None) ↔ (m < n)
-whole_92 s t m n true stood a new is h = (λ _. grind (arith, nat_tests, is), λ _. h.0)
-whole_92 s t m n false stood a new is h = (λ e. absurd (not_92 (whole_number s t stood a new 92 h e)), λ lt. absurd (grind (arith, nat_tests, is, lt)))
+whole_92 : (s : Standing) (t m n : ℕ) (early : Bool) (at_begin : BeginState) (a : Answer) (new : Standing) → nat_lt m n ≡ early → FinishWhole s t early at_begin a new → (a ≡ refused 92 None) ↔ (m < n)
+whole_92 s t m n true at_begin a new is h = (λ _. grind (arith, nat_tests, is), λ _. h.0)
+whole_92 s t m n false at_begin a new is h = (λ e. absurd (not_92 (whole_number s t at_begin a new 92 h e)), λ lt. absurd (grind (arith, nat_tests, is, lt)))
 
 -- a finish of a capture in flight, in terms of that capture
-pub finish_of : (s : Standing) (t : ℕ) (a : Answer) (new : Standing) (f : Flight) → Step s (finish t) a new → flight_of t s.flights ≡ Some f → FinishWhole s t (nat_lt f.granted f.run_length) f.stood a new
+pub finish_of : (s : Standing) (t : ℕ) (a : Answer) (new : Standing) (f : Flight) → Step s (finish t) a new → flight_of t s.flights ≡ Some f → FinishWhole s t (nat_lt f.granted f.run_length) f.at_begin a new
 unfolding Step
 finish_of s t a new f h e = let P : Option Flight → Type 0 = λ x. FinishStep s t x a new in subst P e h
 
 pub too_early : (s : Standing) (t : ℕ) (a : Answer) (new : Standing) (f : Flight) → Step s (finish t) a new → flight_of t s.flights ≡ Some f → (a ≡ refused 92 None) ↔ (f.granted < f.run_length)
-too_early s t a new f h e = whole_92 s t f.granted f.run_length _ f.stood a new refl (finish_of s t a new f h e)
+too_early s t a new f h e = whole_92 s t f.granted f.run_length _ f.at_begin a new refl (finish_of s t a new f h e)
 
 -- ---- beginnings
 
@@ -172,10 +172,10 @@ refused_with s officer moment message (begun t b) new n h e = absurd (none_some 
 refused_with s officer moment message (refused m at) new n (same, no_place, inl h) e = λ i. refused (some_is m n (sym h ∙ e) i) (no_place i)
 refused_with s officer moment message (refused m at) new n (same, no_place, inr h) e = absurd (none_some n (sym h.0 ∙ e))
 refused_with s officer moment message done new n h e = absurd h
-refused_with s officer moment message (captured o) new n h e = absurd h
+refused_with s officer moment message (dry_run o) new n h e = absurd h
 refused_with s officer moment message (running k) new n h e = absurd h
 refused_with s officer moment message (ended k) new n h e = absurd h
-refused_with s officer moment message (filed f ls) new n h e = absurd h
+refused_with s officer moment message (captured f ls) new n h e = absurd h
 refused_with s officer moment message (listed ls) new n h e = absurd h
 
 verdict_of : (s : Standing) (officer : List ℕ) (moment : ℕ) (message : List ℕ) (a : Answer) (new : Standing) (n : ℕ) → BeginStep s officer moment message a new → a ≡ refused n None → n ≢ 99 → begin_refusal (length s.flights) s.last moment (length message) ≡ Some n
@@ -183,10 +183,10 @@ verdict_of s officer moment message (refused m at) new n (same, no_place, inl h)
 verdict_of s officer moment message (refused m at) new n (same, no_place, inr h) e d = absurd (d (sym (one_number m n at None e) ∙ h.1))
 verdict_of s officer moment message (begun t b) new n h e d = absurd cc
 verdict_of s officer moment message done new n h e d = absurd h
-verdict_of s officer moment message (captured o) new n h e d = absurd h
+verdict_of s officer moment message (dry_run o) new n h e d = absurd h
 verdict_of s officer moment message (running k) new n h e d = absurd h
 verdict_of s officer moment message (ended k) new n h e d = absurd h
-verdict_of s officer moment message (filed f ls) new n h e d = absurd h
+verdict_of s officer moment message (captured f ls) new n h e d = absurd h
 verdict_of s officer moment message (listed ls) new n h e d = absurd h
 
 not_99 : (n : ℕ) → n < 99 → n ≢ 99

@@ -1,7 +1,7 @@
 -- Rows of sessions.
 use Rattle.std.proofs.Common.{◌≡◌, [], ◌∷◌, ℕ, List, None, refl, arith, inl, inr}
 use Rattle.record_store.specs.Archive.{Line}
-use Rattle.filing_commands.specs.Answers.{begun, running, ended, filed, refused}
+use Rattle.filing_commands.specs.Answers.{begun, running, ended, captured, refused}
 use Rattle.filing_commands.specs.Office.{PlainCommand}
 use Rattle.filing_commands.specs.Standing.{plain, begin, turn, finish}
 use Rattle.promises.specs.Alike.{AreAlike}
@@ -15,15 +15,15 @@ module _ (officer message : List ℕ) (c : PlainCommand) (lines : List Line) whe
   mixed_kept :
       kept_commands
       (begin officer 0 message ∷ begin officer 9 message ∷ turn 1 5 ∷ plain c ∷ finish 1 ∷ turn 2 8 ∷ finish 2 ∷ turn 1 4 ∷ finish 1 ∷ finish 1 ∷ plain c ∷ [])
-      (begun 1 9 ∷ begun 2 8 ∷ running 5 ∷ refused 99 None ∷ refused 92 None ∷ ended 8 ∷ filed None lines ∷ ended 9 ∷ refused 89 None ∷ filed None lines ∷ refused 54 None ∷ [])
+      (begun 1 9 ∷ begun 2 8 ∷ running 5 ∷ refused 99 None ∷ refused 92 None ∷ ended 8 ∷ captured None lines ∷ ended 9 ∷ refused 89 None ∷ captured None lines ∷ refused 54 None ∷ [])
       ≡ begin officer 0 message ∷ begin officer 9 message ∷ finish 2 ∷ finish 1 ∷ plain c ∷ []
   mixed_kept = refl
 
   mixed_answers :
       kept_answers
       (begin officer 0 message ∷ begin officer 9 message ∷ turn 1 5 ∷ plain c ∷ finish 1 ∷ turn 2 8 ∷ finish 2 ∷ turn 1 4 ∷ finish 1 ∷ finish 1 ∷ plain c ∷ [])
-      (begun 1 9 ∷ begun 2 8 ∷ running 5 ∷ refused 99 None ∷ refused 92 None ∷ ended 8 ∷ filed None lines ∷ ended 9 ∷ refused 89 None ∷ filed None lines ∷ refused 54 None ∷ [])
-      ≡ begun 1 9 ∷ begun 2 8 ∷ filed None lines ∷ filed None lines ∷ refused 54 None ∷ []
+      (begun 1 9 ∷ begun 2 8 ∷ running 5 ∷ refused 99 None ∷ refused 92 None ∷ ended 8 ∷ captured None lines ∷ ended 9 ∷ refused 89 None ∷ captured None lines ∷ refused 54 None ∷ [])
+      ≡ begun 1 9 ∷ begun 2 8 ∷ captured None lines ∷ captured None lines ∷ refused 54 None ∷ []
   mixed_answers = refl
 
 no_trees_alike : AreAlike (refused 20 None) (refused 21 None)

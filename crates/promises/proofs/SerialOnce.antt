@@ -3,13 +3,13 @@ use Rattle.std.proofs.Common.{◌≡◌, [], ◌∷◌, ℕ, List, refl, ap, ◌
 use Rattle.std.specs.Prelude.{if◌then◌else◌}
 use Rattle.sieve_meaning.specs.Meaning.{Library}
 use Rattle.sieve_meaning.specs.Case.{Facts}
-use Rattle.sieve_meaning.specs.Outcome.{Outcome}
+use Rattle.sieve_meaning.specs.declared.outcome.Outcome.{Outcome}
 use Rattle.filing_table.proofs.Once.{one_outcome}
 use Rattle.record_store.specs.Archive.{Archive, capture, captured_lines}
 use Rattle.record_store.specs.declared.fault.StoreFault.TheVariants.{Full}
-use Rattle.filing_commands.specs.Answers.{Answer, done, captured, begun, running, ended, filed, listed, refused}
+use Rattle.filing_commands.specs.Answers.{Answer, done, dry_run, begun, running, ended, captured, listed, refused}
 use Rattle.filing_commands.specs.Office.{with_archive}
-use Rattle.filing_commands.specs.Pinning.{Stood, IsAlone, GivesOutcome, Chosen, nothing, script, image_of, case_in}
+use Rattle.filing_commands.specs.Pinning.{BeginState, IsAlone, GivesOutcome, Chosen, nothing, script, image_of, case_in}
 use Rattle.filing_commands.specs.Standing.{Command, plain, begin, turn, finish, Standing, Files, is_refusal}
 use Rattle.promises.specs.Alike.{AreAlike, AllAlike}
 use Rattle.promises.specs.Runs.{Run}
@@ -23,7 +23,7 @@ outcome_once nothing lib facts o q h k = h ∙ sym k
 outcome_once (script name s) lib facts o q h k = h ∙ sym k
 outcome_once (image_of p) lib facts o q h k = one_outcome p facts h.0 k.0 o q h.1 k.1
 
-pub alone_once : (s : Stood) (o q : Outcome) → IsAlone s o → IsAlone s q → o ≡ q
+pub alone_once : (s : BeginState) (o q : Outcome) → IsAlone s o → IsAlone s q → o ≡ q
 alone_once s o q h k = outcome_once s.program s.library (case_in s) o q h k
 
 ok_is : {A E : Type 0} (x y : A) → ◌≡◌ {A = Result A E} (Ok x) (Ok y) → x ≡ y
@@ -34,11 +34,11 @@ ok_err x y e = cc
 
 -- ---- a capture is whole, or there is no room for it
 
-capture_once : (a : Archive) (stood : Stood) (o q : Outcome) (x y : Archive) → o ≡ q → capture a stood.message stood.day o.classes ≡ Ok x → capture a stood.message stood.day q.classes ≡ Ok y → x ≡ y
-capture_once a stood o q x y e h k = ok_is x y (sym h ∙ ap (λ (z : Outcome). capture a stood.message stood.day z.classes) e ∙ k)
+capture_once : (a : Archive) (at_begin : BeginState) (o q : Outcome) (x y : Archive) → o ≡ q → capture a at_begin.message at_begin.day o.classes ≡ Ok x → capture a at_begin.message at_begin.day q.classes ≡ Ok y → x ≡ y
+capture_once a at_begin o q x y e h k = ok_is x y (sym h ∙ ap (λ (z : Outcome). capture a at_begin.message at_begin.day z.classes) e ∙ k)
 
-full_or : (a : Archive) (stood : Stood) (o q : Outcome) (x : Archive) → o ≡ q → capture a stood.message stood.day o.classes ≡ Ok x → capture a stood.message stood.day q.classes ≡ Err Full → ⊥
-full_or a stood o q x e h k = ok_err x Full (sym h ∙ ap (λ (z : Outcome). capture a stood.message stood.day z.classes) e ∙ k)
+full_or : (a : Archive) (at_begin : BeginState) (o q : Outcome) (x : Archive) → o ≡ q → capture a at_begin.message at_begin.day o.classes ≡ Ok x → capture a at_begin.message at_begin.day q.classes ≡ Err Full → ⊥
+full_or a at_begin o q x e h k = ok_err x Full (sym h ∙ ap (λ (z : Outcome). capture a at_begin.message at_begin.day z.classes) e ∙ k)
 
 -- two answers say the same, and leave the same
 record AreOne (r q : Answer) (x y : Archive) : Type 0 where
@@ -46,27 +46,27 @@ record AreOne (r q : Answer) (x y : Archive) : Type 0 where
   archives : x ≡ y
   refusals : is_refusal r ≡ is_refusal q
 
-files_once : (a : Archive) (stood : Stood) (r q : Answer) (x y : Archive) → Files a stood r x → Files a stood q y → AreOne r q x y
-files_once a stood (filed f ls) (filed g ms) x y h k =
-    let e = alone_once stood h.0 k.0 h.1 k.1 in
+files_once : (a : Archive) (at_begin : BeginState) (r q : Answer) (x y : Archive) → Files a at_begin r x → Files a at_begin q y → AreOne r q x y
+files_once a at_begin (captured f ls) (captured g ms) x y h k =
+    let e = alone_once at_begin h.0 k.0 h.1 k.1 in
     let faults : f ≡ g = h.2 ∙ ap (λ (o : Outcome). o.fault) e ∙ sym k.2 in
-    let lines : ls ≡ ms = h.4 ∙ ap (λ (o : Outcome). captured_lines a stood.day o.classes) e ∙ sym k.4 in
-    record { alike = λ i. filed (faults i) (lines i); archives = capture_once a stood h.0 k.0 x y e h.3 k.3; refusals = refl }
-files_once a stood (filed f ls) (refused n at) x y h k = absurd (full_or a stood h.0 k.3.0 x (alone_once stood h.0 k.3.0 h.1 k.3.1) h.3 k.3.2)
-files_once a stood (refused m at) (filed g ms) x y h k = absurd (full_or a stood k.0 h.3.0 y (alone_once stood k.0 h.3.0 k.1 h.3.1) k.3 h.3.2)
-files_once a stood (refused m at) (refused n on) x y h k = record { alike = inl (h.0 ∙ sym k.0); archives = h.2 ∙ sym k.2; refusals = refl }
-files_once a stood done q x y h k = absurd h
-files_once a stood (captured o) q x y h k = absurd h
-files_once a stood (begun t n) q x y h k = absurd h
-files_once a stood (running n) q x y h k = absurd h
-files_once a stood (ended n) q x y h k = absurd h
-files_once a stood (listed ls) q x y h k = absurd h
-files_once a stood r done x y h k = absurd k
-files_once a stood r (captured o) x y h k = absurd k
-files_once a stood r (begun t n) x y h k = absurd k
-files_once a stood r (running n) x y h k = absurd k
-files_once a stood r (ended n) x y h k = absurd k
-files_once a stood r (listed ls) x y h k = absurd k
+    let lines : ls ≡ ms = h.4 ∙ ap (λ (o : Outcome). captured_lines a at_begin.day o.classes) e ∙ sym k.4 in
+    record { alike = λ i. captured (faults i) (lines i); archives = capture_once a at_begin h.0 k.0 x y e h.3 k.3; refusals = refl }
+files_once a at_begin (captured f ls) (refused n at) x y h k = absurd (full_or a at_begin h.0 k.3.0 x (alone_once at_begin h.0 k.3.0 h.1 k.3.1) h.3 k.3.2)
+files_once a at_begin (refused m at) (captured g ms) x y h k = absurd (full_or a at_begin k.0 h.3.0 y (alone_once at_begin k.0 h.3.0 k.1 h.3.1) k.3 h.3.2)
+files_once a at_begin (refused m at) (refused n on) x y h k = record { alike = inl (h.0 ∙ sym k.0); archives = h.2 ∙ sym k.2; refusals = refl }
+files_once a at_begin done q x y h k = absurd h
+files_once a at_begin (dry_run o) q x y h k = absurd h
+files_once a at_begin (begun t n) q x y h k = absurd h
+files_once a at_begin (running n) q x y h k = absurd h
+files_once a at_begin (ended n) q x y h k = absurd h
+files_once a at_begin (listed ls) q x y h k = absurd h
+files_once a at_begin r done x y h k = absurd k
+files_once a at_begin r (dry_run o) x y h k = absurd k
+files_once a at_begin r (begun t n) x y h k = absurd k
+files_once a at_begin r (running n) x y h k = absurd k
+files_once a at_begin r (ended n) x y h k = absurd k
+files_once a at_begin r (listed ls) x y h k = absurd k
 
 -- ---- one answer to each command
 
@@ -79,16 +79,16 @@ begin_once s officer moment message (begun t m) (refused n at) x y h k = absurd 
 begin_once s officer moment message (refused m at) (begun u n) x y h k = absurd (none_some _ m k.allowed h.2)
 begin_once s officer moment message (refused m at) (refused n on) x y h k = (inl (some_is m n (sym h.2 ∙ k.2)), h.0 ∙ sym k.0)
 begin_once s officer moment message done q x y h k = absurd h
-begin_once s officer moment message (captured o) q x y h k = absurd h
+begin_once s officer moment message (dry_run o) q x y h k = absurd h
 begin_once s officer moment message (running n) q x y h k = absurd h
 begin_once s officer moment message (ended n) q x y h k = absurd h
-begin_once s officer moment message (filed f ls) q x y h k = absurd h
+begin_once s officer moment message (captured f ls) q x y h k = absurd h
 begin_once s officer moment message (listed ls) q x y h k = absurd h
 begin_once s officer moment message r done x y h k = absurd k
-begin_once s officer moment message r (captured o) x y h k = absurd k
+begin_once s officer moment message r (dry_run o) x y h k = absurd k
 begin_once s officer moment message r (running n) x y h k = absurd k
 begin_once s officer moment message r (ended n) x y h k = absurd k
-begin_once s officer moment message r (filed f ls) x y h k = absurd k
+begin_once s officer moment message r (captured f ls) x y h k = absurd k
 begin_once s officer moment message r (listed ls) x y h k = absurd k
 
 refused_alike : (a b : Answer) (n : ℕ) → a ≡ refused n None → b ≡ refused n None → AreAlike a b
@@ -97,10 +97,10 @@ refused_alike a b n h k = rw (h, k) (inl refl)
 given_up_once : (s : Serial) (t : ℕ) (p q : Bool) (x y : Archive) → p ≡ q → x ≡ y → ◌≡◌ {A = Serial} (record { office = with_archive s.office x; tickets = if p then s.tickets else without_ticket t s.tickets; last = s.last }) (record { office = with_archive s.office y; tickets = if q then s.tickets else without_ticket t s.tickets; last = s.last })
 given_up_once s t p q x y e f = λ i. record { office = with_archive s.office (f i); tickets = if e i then s.tickets else without_ticket t s.tickets; last = s.last }
 
-finish_once : (s : Serial) (t : ℕ) (stood : Option Stood) (a b : Answer) (x y : Serial) → SerialFinish s t stood a x → SerialFinish s t stood b y → AreAlike a b × (x ≡ y)
+finish_once : (s : Serial) (t : ℕ) (at_begin : Option BeginState) (a b : Answer) (x y : Serial) → SerialFinish s t at_begin a x → SerialFinish s t at_begin b y → AreAlike a b × (x ≡ y)
 finish_once s t None a b x y h k = (refused_alike a b 91 h.0 k.0, h.1 ∙ sym k.1)
-finish_once s t (Some stood) a b x y h k =
-    let f = files_once s.office.archive stood a b h.0 k.0 h.1 k.1 in
+finish_once s t (Some at_begin) a b x y h k =
+    let f = files_once s.office.archive at_begin a b h.0 k.0 h.1 k.1 in
     (f.alike, h.2 ∙ given_up_once s t (is_refusal a) (is_refusal b) h.0 k.0 f.refusals f.archives ∙ sym k.2)
 
 pub step_once : (s : Serial) (c : Command) (a b : Answer) (x y : Serial) → is_struck c a ≡ false → is_struck c b ≡ false → SerialStep s c a x → SerialStep s c b y → AreAlike a b × (x ≡ y)

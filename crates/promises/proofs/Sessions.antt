@@ -9,10 +9,10 @@ use Rattle.sieve_meaning.specs.Meaning.{Library}
 use Rattle.sieve_meaning.specs.TooHeavy.{script_budget}
 use Rattle.filing_image.specs.Program.{Program}
 use Rattle.record_store.specs.Archive.{Archive}
-use Rattle.filing_commands.specs.Answers.{Answer, done, captured, begun, running, ended, filed, listed, refused}
+use Rattle.filing_commands.specs.Answers.{Answer, done, dry_run, begun, running, ended, captured, listed, refused}
 use Rattle.filing_commands.specs.Office.{Office, PlainCommand, OfficeRule, OfficeStep, GivesUp, IsTrouble, add_class, set_plan, set_script, set_global, activate, deactivate, set_image, file, try_image, hold, release, due, destroy, with_archive}
-use Rattle.filing_commands.specs.Pinning.{Stood, Chosen, nothing, script, image_of, Pins, PinsChosen, PinsScript, budget_of, budget_by}
-use Rattle.filing_commands.specs.Standing.{Command, plain, begin, turn, finish, Flight, Standing, Step, BeginStep, TurnStep, FinishStep, FinishWhole, Files, flight_of, grant, without, granting, filing, begin_refusal, stood_at}
+use Rattle.filing_commands.specs.Pinning.{BeginState, Chosen, nothing, script, image_of, Pins, PinsChosen, PinsScript, budget_of, budget_by}
+use Rattle.filing_commands.specs.Standing.{Command, plain, begin, turn, finish, Flight, Standing, Step, BeginStep, TurnStep, FinishStep, FinishWhole, Files, flight_of, grant, without, with_turns, after_finish, begin_refusal, begin_state}
 use Rattle.promises.specs.Runs.{Run}
 use Rattle.promises.specs.Serial.{Serial, SerialStep, SerialRun, Ticket, next_ticket, ticket_of, stood_of, without_ticket, is_passing, is_struck, kept_commands, kept_answers, forget}
 
@@ -24,7 +24,7 @@ without_shows : (t : ℕ) (fs : List Flight) → map ticket_of (without t fs) �
 without_shows t [] = refl
 without_shows t (f ∷ fs) = let rest = without_shows t fs in grind (arith, nat_tests, rest)
 
-stood_shows : (t : ℕ) (fs : List Flight) → stood_of t (map ticket_of fs) ≡ option_map (λ f. f.stood) (flight_of t fs)
+stood_shows : (t : ℕ) (fs : List Flight) → stood_of t (map ticket_of fs) ≡ option_map (λ f. f.at_begin) (flight_of t fs)
 stood_shows t [] = refl
 stood_shows t (f ∷ fs) = let rest = stood_shows t fs in grind (arith, nat_tests, rest)
 
@@ -39,7 +39,7 @@ chosen_budget nothing lib p h = ap (λ (q : Program). q.budget) h
 chosen_budget (script name c) lib p h = pinned_budget _ lib name c p h
 chosen_budget (image_of q) lib p h = ap (λ (q : Program). q.budget) h
 
-pub pins_budget : (s : Stood) (p : Program) → Pins s p → p.budget ≡ budget_of s
+pub pins_budget : (s : BeginState) (p : Program) → Pins s p → p.budget ≡ budget_of s
 pins_budget s p h = chosen_budget s.program s.library p h
 
 -- ---- steps
@@ -81,7 +81,7 @@ gives_up s (destroy r day) n h = passing_trouble n None h
 
 rule_follows : (s : Standing) (c : PlainCommand) (a : Answer) (b : Office) (new : Standing) → OfficeRule s.office c a b → new ≡ record s { office = b } → Follows (is_struck (plain c) a) (forget s) (plain c) a (forget new)
 rule_follows s c done b new h e = (b, h, ap forget e)
-rule_follows s c (captured o) b new h e = (b, h, ap forget e)
+rule_follows s c (dry_run o) b new h e = (b, h, ap forget e)
 rule_follows s c (listed ls) b new h e = (b, h, ap forget e)
 rule_follows s c (refused n at) b new h e =
     let same : new ≡ s = e ∙ ap (λ o. record s { office = o }) h.0 in
@@ -89,7 +89,7 @@ rule_follows s c (refused n at) b new h e =
 rule_follows s c (begun t n) b new h e = absurd h
 rule_follows s c (running k) b new h e = absurd h
 rule_follows s c (ended k) b new h e = absurd h
-rule_follows s c (filed f ls) b new h e = absurd h
+rule_follows s c (captured f ls) b new h e = absurd h
 
 plain_follows : (s : Standing) (c : PlainCommand) (a : Answer) (b : Office) (new : Standing) → OfficeStep s.office c a b → new ≡ record s { office = b } → Follows (is_struck (plain c) a) (forget s) (plain c) a (forget new)
 plain_follows s c a b new (inl h) e = rule_follows s c a b new h e
@@ -102,14 +102,14 @@ counted s = length-map s.flights ticket_of
 
 begin_follows : (s : Standing) (officer : List ℕ) (moment : ℕ) (message : List ℕ) (a : Answer) (new : Standing) → BeginStep s officer moment message a new → Follows (is_struck (begin officer moment message) a) (forget s) (begin officer moment message) a (forget new)
 begin_follows s officer moment message (begun t b) new h =
-    let stood = stood_at s.office officer moment message in
+    let at_begin = begin_state s.office officer moment message in
     let ticket : Ticket = next_ticket (forget s) officer moment message in
-    let one : ticket_of h.flight ≡ ticket = λ i. record { number = h.next i; stood = h.stood i } in
+    let one : ticket_of h.flight ≡ ticket = λ i. record { number = h.next i; at_begin = h.at_begin i } in
     let more : map ticket_of (s.flights ++ h.flight ∷ []) ≡ (forget s).tickets ++ ticket ∷ [] = map-append ticket_of s.flights _ ∙ ap (λ p. (forget s).tickets ++ p ∷ []) one in
     record {
       allowed = ap (λ n. begin_refusal n s.last moment (length message)) (counted s) ∙ h.allowed;
       ticket = h.ticket;
-      budget = h.budget ∙ pins_budget h.flight.stood h.flight.pinned h.pinned.pins ∙ ap budget_of h.stood;
+      budget = h.budget ∙ pins_budget h.flight.at_begin h.flight.pinned h.pinned.pins ∙ ap budget_of h.at_begin;
       leaves = ap forget h.leaves ∙ ap (λ ts. record { office = s.office; tickets = ts; last = s.last + 1 }) more;
     }
 begin_follows s officer moment message (refused n at) new (same, no_place, inl h) =
@@ -117,13 +117,13 @@ begin_follows s officer moment message (refused n at) new (same, no_place, inl h
 begin_follows s officer moment message (refused n at) new (same, no_place, inr h) =
     struck _ (forget s) (begin officer moment message) (refused n at) (forget new) (passing_99 n at h.1) (ap forget same)
 begin_follows s officer moment message done new h = absurd h
-begin_follows s officer moment message (captured o) new h = absurd h
+begin_follows s officer moment message (dry_run o) new h = absurd h
 begin_follows s officer moment message (running k) new h = absurd h
 begin_follows s officer moment message (ended k) new h = absurd h
-begin_follows s officer moment message (filed f ls) new h = absurd h
+begin_follows s officer moment message (captured f ls) new h = absurd h
 begin_follows s officer moment message (listed ls) new h = absurd h
 
-granting_same : (s : Standing) (t k : ℕ) → forget (granting s t k) ≡ forget s
+granting_same : (s : Standing) (t k : ℕ) → forget (with_turns s t k) ≡ forget s
 granting_same s t k = ap (λ ts. record { office = s.office; tickets = ts; last = s.last }) (grant_shows t k s.flights)
 
 turn_follows : (s : Standing) (t k : ℕ) (f : Option Flight) (a : Answer) (new : Standing) → TurnStep s t k f a new → forget new ≡ forget s
@@ -131,31 +131,31 @@ turn_follows s t k None a new h = ap forget h.1
 turn_follows s t k (Some f) a new (inl h) = ap forget h.1 ∙ granting_same s t k
 turn_follows s t k (Some f) a new (inr h) = ap forget h.1.2 ∙ granting_same s t h.1.0
 
-files_follow : (s : Standing) (t : ℕ) (stood : Stood) (a : Answer) (b : Archive) (new : Standing) → stood_of t (forget s).tickets ≡ Some stood → Files s.office.archive stood a b → new ≡ filing s t a b → Follows (is_struck (finish t) a) (forget s) (finish t) a (forget new)
-files_follow s t stood (filed fault ls) b new e h en =
+files_follow : (s : Standing) (t : ℕ) (at_begin : BeginState) (a : Answer) (b : Archive) (new : Standing) → stood_of t (forget s).tickets ≡ Some at_begin → Files s.office.archive at_begin a b → new ≡ after_finish s t a b → Follows (is_struck (finish t) a) (forget s) (finish t) a (forget new)
+files_follow s t at_begin (captured fault ls) b new e h en =
     rw e (b, h, ap forget en ∙ ap (λ ts. record { office = with_archive s.office b; tickets = ts; last = s.last }) (without_shows t s.flights))
-files_follow s t stood (refused n at) b new e h en =
+files_follow s t at_begin (refused n at) b new e h en =
     let same : new ≡ s = en ∙ ap (λ x. record s { office = with_archive s.office x }) h.2 in
     let whole : SerialStep (forget s) (finish t) (refused n at) (forget new) = rw e (b, h, ap forget en) in
     either _ (forget s) (finish t) (refused n at) (forget new) (ap forget same) whole
-files_follow s t stood done b new e h en = absurd h
-files_follow s t stood (captured o) b new e h en = absurd h
-files_follow s t stood (begun x y) b new e h en = absurd h
-files_follow s t stood (running k) b new e h en = absurd h
-files_follow s t stood (ended k) b new e h en = absurd h
-files_follow s t stood (listed ls) b new e h en = absurd h
+files_follow s t at_begin done b new e h en = absurd h
+files_follow s t at_begin (dry_run o) b new e h en = absurd h
+files_follow s t at_begin (begun x y) b new e h en = absurd h
+files_follow s t at_begin (running k) b new e h en = absurd h
+files_follow s t at_begin (ended k) b new e h en = absurd h
+files_follow s t at_begin (listed ls) b new e h en = absurd h
 
-whole_follows : (s : Standing) (t : ℕ) (early : Bool) (stood : Stood) (a : Answer) (new : Standing) → stood_of t (forget s).tickets ≡ Some stood → FinishWhole s t early stood a new → Follows (is_struck (finish t) a) (forget s) (finish t) a (forget new)
-whole_follows s t true stood a new e h = struck _ (forget s) (finish t) a (forget new) (ap (is_struck (finish t)) h.0) (ap forget h.1)
-whole_follows s t false stood a new e (inl h) = files_follow s t stood a h.0 new e h.1 h.2
-whole_follows s t false stood a new e (inr h) = struck _ (forget s) (finish t) a (forget new) (ap (is_struck (finish t)) h.2 ∙ passing_trouble h.0 None h.1) (ap forget h.3)
+whole_follows : (s : Standing) (t : ℕ) (early : Bool) (at_begin : BeginState) (a : Answer) (new : Standing) → stood_of t (forget s).tickets ≡ Some at_begin → FinishWhole s t early at_begin a new → Follows (is_struck (finish t) a) (forget s) (finish t) a (forget new)
+whole_follows s t true at_begin a new e h = struck _ (forget s) (finish t) a (forget new) (ap (is_struck (finish t)) h.0) (ap forget h.1)
+whole_follows s t false at_begin a new e (inl h) = files_follow s t at_begin a h.0 new e h.1 h.2
+whole_follows s t false at_begin a new e (inr h) = struck _ (forget s) (finish t) a (forget new) (ap (is_struck (finish t)) h.2 ∙ passing_trouble h.0 None h.1) (ap forget h.3)
 
 finish_follows : (s : Standing) (t : ℕ) (f : Option Flight) (a : Answer) (new : Standing) → flight_of t s.flights ≡ f → FinishStep s t f a new → Follows (is_struck (finish t) a) (forget s) (finish t) a (forget new)
 finish_follows s t None a new e h =
-    let none : stood_of t (forget s).tickets ≡ None = stood_shows t s.flights ∙ ap (option_map (λ x. x.stood)) e in
+    let none : stood_of t (forget s).tickets ≡ None = stood_shows t s.flights ∙ ap (option_map (λ x. x.at_begin)) e in
     rw h.0 (rw none (refl, ap forget h.1))
 finish_follows s t (Some f) a new e h =
-    whole_follows s t _ f.stood a new (stood_shows t s.flights ∙ ap (option_map (λ x. x.stood)) e) h
+    whole_follows s t _ f.at_begin a new (stood_shows t s.flights ∙ ap (option_map (λ x. x.at_begin)) e) h
 
 -- a step of the session is one of the serial session, or does nothing to it
 pub step_follows : (s : Standing) (c : Command) (a : Answer) (new : Standing) → Step s c a new → Follows (is_struck c a) (forget s) c a (forget new)

@@ -5,7 +5,7 @@ use Rattle.std.specs.Option.{option_map}
 use Rattle.std.proofs.lemmas.Bool.Decides.{nat_tests}
 use Rattle.record_store.specs.Archive.{Archive}
 use Rattle.filing_commands.specs.Answers.{Answer, begun}
-use Rattle.filing_commands.specs.Standing.{Command, begin, Flight, Standing, Step, flight_of, grant, without, opening, stood_at}
+use Rattle.filing_commands.specs.Standing.{Command, begin, Flight, Standing, Step, flight_of, grant, without, opening, begin_state}
 use Rattle.promises.specs.Beginnings.{HasBegun}
 use Rattle.promises.specs.Runs.{Run}
 use Rattle.promises.specs.Turns.{Grants, AllGrant}
@@ -34,7 +34,7 @@ record IsCarried (s : Standing) (c : Command) (a : Answer) (t : ℕ) (f : Flight
   old : Flight
   there : flight_of t s.flights ≡ Some old
   ticket : old.ticket ≡ f.ticket
-  stood : f.stood ≡ old.stood
+  at_begin : f.at_begin ≡ old.at_begin
   pinned : old.pinned ≡ f.pinned
   turns : ℕ
   grants : Grants t c a turns
@@ -47,7 +47,7 @@ record IsBegun (s : Standing) (c : Command) (a : Answer) (t : ℕ) (f : Flight) 
   message : List ℕ
   command : c ≡ begin officer moment message
   answer : a ≡ begun f.ticket f.pinned.budget
-  stood : f.stood ≡ stood_at s.office officer moment message
+  at_begin : f.at_begin ≡ begin_state s.office officer moment message
   fresh : f.granted ≡ 0
   is_next : t ≡ s.last + 1
 
@@ -55,7 +55,7 @@ abbrev Source : Standing → Command → Answer → (t : ℕ) → Flight → Typ
 Source s c a t f = IsCarried s c a t f ⊎ IsBegun s c a t f
 
 carried : (s : Standing) (c : Command) (a : Answer) (t : ℕ) (f : Flight) → flight_of t s.flights ≡ Some f → Grants t c a 0 → Source s c a t f
-carried s c a t f e g = inl (record { old = f; there = e; ticket = refl; stood = refl; pinned = refl; turns = 0; grants = g; sum = omega arith })
+carried s c a t f e g = inl (record { old = f; there = e; ticket = refl; at_begin = refl; pinned = refl; turns = 0; grants = g; sum = omega arith })
 
 from_stays : (s : Standing) (c : Command) (a : Answer) (new : Standing) (t : ℕ) (f : Flight) → Stays s c a new → flight_of t new.flights ≡ Some f → Source s c a t f
 from_stays s c a new t f h e = carried s c a t f (ap (flight_of t) (sym h.flights) ∙ e) (h.grants t)
@@ -86,7 +86,7 @@ from_grant s c a new t f h e = go (h.ticket == t) refl (h.grants t)
           old = h.flight;
           there = there;
           ticket = ap (λ (x : Flight). x.ticket) (sym more);
-          stood = ap (λ (x : Flight). x.stood) more;
+          at_begin = ap (λ (x : Flight). x.at_begin) more;
           pinned = ap (λ (x : Flight). x.pinned) (sym more);
           turns = h.turns;
           grants = g;
@@ -119,7 +119,7 @@ from_beginning s c a new t f h e = go (flight_of t s.flights) refl
           message = h.message;
           command = h.command;
           answer = h.answer ∙ ap (λ (x : Flight). begun x.ticket x.pinned.budget) same;
-          stood = ap (λ (x : Flight). x.stood) (sym same) ∙ h.stood;
+          at_begin = ap (λ (x : Flight). x.at_begin) (sym same) ∙ h.at_begin;
           fresh = ap (λ (x : Flight). x.granted) (sym same) ∙ h.fresh;
           is_next = sym (same_number h.flight.ticket t is) ∙ h.next;
         })
@@ -167,7 +167,7 @@ record IsCarriedThrough (s : Standing) (cs : List Command) (answers : List Answe
   old : Flight
   there : flight_of t s.flights ≡ Some old
   ticket : old.ticket ≡ f.ticket
-  stood : f.stood ≡ old.stood
+  at_begin : f.at_begin ≡ old.at_begin
   pinned : old.pinned ≡ f.pinned
   turns : ℕ
   grants : AllGrant t cs answers turns
@@ -190,7 +190,7 @@ through s mid c a cs answers t f h (inl k) = inl (record {
   old = k.old;
   there = k.there;
   ticket = k.ticket ∙ h.ticket;
-  stood = h.stood ∙ k.stood;
+  at_begin = h.at_begin ∙ k.at_begin;
   pinned = k.pinned ∙ h.pinned;
   turns = k.turns + h.turns;
   grants = all_grant t c a cs answers k.turns h.turns (k.turns + h.turns) k.grants h.grants refl;
@@ -210,7 +210,7 @@ through s mid c a cs answers t f h (inr k) = inr (record {
     told = ap (λ x. x ∷ answers) (k.answer ∙ (λ i. begun (h.ticket i) ((h.pinned i).budget)));
     state = s;
     run = refl;
-    stood = h.stood ∙ k.stood;
+    at_begin = h.at_begin ∙ k.at_begin;
   };
   grants = all_grant t c a cs answers 0 h.turns f.granted (begin_grants_none t c a k.officer k.moment k.message k.command) h.grants (omega (arith, h.sum, k.fresh));
 })
@@ -229,7 +229,7 @@ begun_later s mid c a cs answers f step h = record {
   told = ap (λ x. a ∷ x) h.told;
   state = h.state;
   run = (mid, step, h.run);
-  stood = h.stood;
+  at_begin = h.at_begin;
 }
 
 run_source : (s : Standing) (cs : List Command) (answers : List Answer) (new : Standing) (t : ℕ) (f : Flight) → AreInOrder s → Run s cs answers new → flight_of t new.flights ≡ Some f → RunSource s cs answers t f
@@ -237,7 +237,7 @@ run_source s [] [] new t f k h e = inl (record {
   old = f;
   there = ap (λ (x : Standing). flight_of t x.flights) (sym h) ∙ e;
   ticket = refl;
-  stood = refl;
+  at_begin = refl;
   pinned = refl;
   turns = 0;
   grants = refl;

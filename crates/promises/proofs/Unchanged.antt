@@ -1,11 +1,12 @@
 -- What a refusal leaves as it was, and that a whole capture gives its ticket up.
 use Rattle.std.proofs.Common.{◌≡◌, ◌≢◌, ◌+◌, ◌∷◌, [], ℕ, List, arith, ap, ◌∙◌, sym, subst, inl, inr, Bool, true, false, Option, Some, None}
 use Rattle.std.specs.Prelude.{if◌then◌else◌, nat_le}
-use Rattle.record_store.specs.Archive.{Archive, Line}
-use Rattle.filing_commands.specs.Answers.{Answer, running, ended, filed, refused}
+use Rattle.record_store.specs.Archive.{Line}
+use Rattle.sieve_meaning.specs.declared.run_fault.RunFault.{RunFault}
+use Rattle.filing_commands.specs.Answers.{Answer, running, ended, captured, refused}
 use Rattle.filing_commands.specs.Office.{Office, PlainCommand, OfficeStep, with_archive}
-use Rattle.filing_commands.specs.Pinning.{Stood}
-use Rattle.filing_commands.specs.Standing.{Command, plain, begin, turn, finish, Flight, Standing, Step, TurnStep, FinishStep, FinishWhole, Files, filing, flight_of, opening, turned, without}
+use Rattle.filing_commands.specs.Pinning.{BeginState}
+use Rattle.filing_commands.specs.Standing.{Command, plain, begin, turn, finish, Flight, Standing, Step, TurnStep, FinishStep, FinishWhole, flight_of, opening, turn_answer, without}
 use Rattle.promises.specs.Runs.{IsReached, Run}
 use Rattle.promises.specs.Serial.{forget}
 use Rattle.promises.proofs.Sessions.{step_follows}
@@ -15,7 +16,7 @@ use Rattle.promises.proofs.TicketLemmas.{of_without}
 one_number : (m n : ℕ) (at on : Option ℕ) → refused m at ≡ refused n on → m ≡ n
 one_number m n at on e = cc
 
-turned_refused : (f : Flight) (k n : ℕ) (at : Option ℕ) → refused n at ≡ turned f k → ⊥
+turned_refused : (f : Flight) (k n : ℕ) (at : Option ℕ) → refused n at ≡ turn_answer f k → ⊥
 turned_refused f k n at e = go (nat_le f.run_length k) e
   where
     go : (b : Bool) → refused n at ≡ (if b then ended f.run_length else running k) → ⊥
@@ -33,14 +34,14 @@ turn_unchanged s t k None n at new other h = h.1
 turn_unchanged s t k (Some f) n at new other (inl h) = absurd (turned_refused f (f.granted + k) n at h.0)
 turn_unchanged s t k (Some f) n at new other (inr h) = absurd (other (one_number n 99 at None h.0))
 
-whole_unchanged : (s : Standing) (t : ℕ) (early : Bool) (stood : Stood) (n : ℕ) (at : Option ℕ) (new : Standing) → FinishWhole s t early stood (refused n at) new → new ≡ s
-whole_unchanged s t true stood n at new h = h.1
-whole_unchanged s t false stood n at new (inl h) = h.2 ∙ ap (λ x. record s { office = with_archive s.office x }) h.1.2
-whole_unchanged s t false stood n at new (inr h) = h.3
+whole_unchanged : (s : Standing) (t : ℕ) (early : Bool) (at_begin : BeginState) (n : ℕ) (at : Option ℕ) (new : Standing) → FinishWhole s t early at_begin (refused n at) new → new ≡ s
+whole_unchanged s t true at_begin n at new h = h.1
+whole_unchanged s t false at_begin n at new (inl h) = h.2 ∙ ap (λ x. record s { office = with_archive s.office x }) h.1.2
+whole_unchanged s t false at_begin n at new (inr h) = h.3
 
 finish_unchanged : (s : Standing) (t : ℕ) (f : Option Flight) (n : ℕ) (at : Option ℕ) (new : Standing) → FinishStep s t f (refused n at) new → new ≡ s
 finish_unchanged s t None n at new h = h.1
-finish_unchanged s t (Some f) n at new h = whole_unchanged s t _ f.stood n at new h
+finish_unchanged s t (Some f) n at new h = whole_unchanged s t _ f.at_begin n at new h
 
 pub refused_unchanged : (s : Standing) (c : Command) (n : ℕ) (at : Option ℕ) (new : Standing) → Step s c (refused n at) new → n ≢ 99 → new ≡ s
 unfolding Step
@@ -64,20 +65,20 @@ run_in_order s (c ∷ cs) (a ∷ answers) new h k = run_in_order h.0 cs answers 
 run_in_order s [] (a ∷ answers) new h k = absurd h
 run_in_order s (c ∷ cs) [] new h k = absurd h
 
-whole_leaves : (s : Standing) (t : ℕ) (early : Bool) (stood : Stood) (fault : Option ℕ) (lines : List Line) (new : Standing) → FinishWhole s t early stood (filed fault lines) new → new.flights ≡ without t s.flights
-whole_leaves s t true stood fault lines new h = absurd (let other : filed fault lines ≡ refused 92 None = h.0 in cc)
-whole_leaves s t false stood fault lines new (inl h) = ap (λ (x : Standing). x.flights) h.2
-whole_leaves s t false stood fault lines new (inr h) = absurd (let other : filed fault lines ≡ refused h.0 None = h.2 in cc)
+whole_leaves : (s : Standing) (t : ℕ) (early : Bool) (at_begin : BeginState) (fault : Option RunFault) (lines : List Line) (new : Standing) → FinishWhole s t early at_begin (captured fault lines) new → new.flights ≡ without t s.flights
+whole_leaves s t true at_begin fault lines new h = absurd (let other : captured fault lines ≡ refused 92 None = h.0 in cc)
+whole_leaves s t false at_begin fault lines new (inl h) = ap (λ (x : Standing). x.flights) h.2
+whole_leaves s t false at_begin fault lines new (inr h) = absurd (let other : captured fault lines ≡ refused h.0 None = h.2 in cc)
 
-finish_leaves : (s : Standing) (t : ℕ) (f : Option Flight) (fault : Option ℕ) (lines : List Line) (new : Standing) → FinishStep s t f (filed fault lines) new → new.flights ≡ without t s.flights
-finish_leaves s t None fault lines new h = absurd (let other : filed fault lines ≡ refused 91 None = h.0 in cc)
-finish_leaves s t (Some f) fault lines new h = whole_leaves s t _ f.stood fault lines new h
+finish_leaves : (s : Standing) (t : ℕ) (f : Option Flight) (fault : Option RunFault) (lines : List Line) (new : Standing) → FinishStep s t f (captured fault lines) new → new.flights ≡ without t s.flights
+finish_leaves s t None fault lines new h = absurd (let other : captured fault lines ≡ refused 91 None = h.0 in cc)
+finish_leaves s t (Some f) fault lines new h = whole_leaves s t _ f.at_begin fault lines new h
 
-filed_leaves : (s : Standing) (t : ℕ) (fault : Option ℕ) (lines : List Line) (new : Standing) → Step s (finish t) (filed fault lines) new → new.flights ≡ without t s.flights
+filed_leaves : (s : Standing) (t : ℕ) (fault : Option RunFault) (lines : List Line) (new : Standing) → Step s (finish t) (captured fault lines) new → new.flights ≡ without t s.flights
 unfolding Step
 filed_leaves s t fault lines new h = finish_leaves s t (flight_of t s.flights) fault lines new h
 
-pub given_up : (s : Standing) (t : ℕ) (fault : Option ℕ) (lines : List Line) (new : Standing) → IsReached s → Step s (finish t) (filed fault lines) new → flight_of t new.flights ≡ None
+pub given_up : (s : Standing) (t : ℕ) (fault : Option RunFault) (lines : List Line) (new : Standing) → IsReached s → Step s (finish t) (captured fault lines) new → flight_of t new.flights ≡ None
 given_up s t fault lines new reached h =
     let order = run_in_order (opening reached.archive) reached.commands reached.answers s reached.run (omega arith) in
     ap (flight_of t) (filed_leaves s t fault lines new h) ∙ of_without 0 s.last t s.flights order

@@ -1,8 +1,8 @@
 -- Where a capture in flight began.
 use Rattle.std.specs.Prelude.{◌≡◌, ℕ, ◌+◌, ◌≤◌, List, [], ◌∷◌, ◌++◌, length}
-use Rattle.filing_commands.specs.Answers.{Answer, done, captured, begun, running, ended, filed, listed, refused}
+use Rattle.filing_commands.specs.Answers.{Answer, done, dry_run, begun, running, ended, captured, listed, refused}
 use Rattle.filing_commands.specs.Limits.{greatest_message, last_moment}
-use Rattle.filing_commands.specs.Standing.{Command, begin, Flight, Standing, stood_at}
+use Rattle.filing_commands.specs.Standing.{Command, begin, Flight, Standing, begin_state}
 use Rattle.promises.specs.Runs.{Run}
 
 -- One of the commands, with these answers, was a BEGIN that gave the ticket and answered the budget of what is pinned.
@@ -19,7 +19,7 @@ pub record HasBegun (old : Standing) (commands : List Command) (answers : List A
   pub told : answers ≡ earlier_answers ++ begun f.ticket f.pinned.budget ∷ later_answers
   pub state : Standing
   pub run : Run old earlier earlier_answers state
-  pub stood : f.stood ≡ stood_at state.office officer moment message
+  pub at_begin : f.at_begin ≡ begin_state state.office officer moment message
 
 -- a BEGIN is refused neither for its moment (94) nor for its message (95)
 abbrev pub MayBegin : (moment : ℕ) → (message : List ℕ) → Type 0
@@ -30,10 +30,10 @@ abbrev pub tickets_given : List Answer → List ℕ
 tickets_given [] = []
 tickets_given (begun t b ∷ answers) = t ∷ tickets_given answers
 tickets_given (done ∷ answers) = tickets_given answers
-tickets_given (captured o ∷ answers) = tickets_given answers
+tickets_given (dry_run o ∷ answers) = tickets_given answers
 tickets_given (running k ∷ answers) = tickets_given answers
 tickets_given (ended k ∷ answers) = tickets_given answers
-tickets_given (filed fault lines ∷ answers) = tickets_given answers
+tickets_given (captured fault lines ∷ answers) = tickets_given answers
 tickets_given (listed lines ∷ answers) = tickets_given answers
 tickets_given (refused n at ∷ answers) = tickets_given answers
 

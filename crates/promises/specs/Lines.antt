@@ -30,13 +30,13 @@ kept_replies (i ∷ items) [] = []
 module _ {D : Type 0} (clean : D → Type 0) (stands : D → Standing → Type 0) where
   -- a registry that represents a state gives these answers to lines, and is clean afterwards
   pub record IsSession (s : Standing) (old : D) (items : List Item) (answers : List Answer) (new : D) : Type 0 where
-    pub stood : stands old s
+    pub at_begin : stands old s
     pub run : session.Run (Calls clean stands) old items answers new
     pub is_clean : clean new
 
   -- a registry that represents a state serves a session, and is clean afterwards
   pub record IsServedFrom (s : Standing) (old : D) (asked : Session) (before written : List ℕ) (new : D) : Type 0 where
-    pub stood : stands old s
+    pub at_begin : stands old s
     pub served : session.IsServed (Calls clean stands) asked old before written new
     pub is_clean : clean new
 

@@ -1,19 +1,21 @@
 -- What captures and due lists say about records.
 use Rattle.std.specs.Prelude.{◌≡◌, ℕ, ◌<◌, ◌≤◌, List, [], ◌∷◌, ◌++◌, map, false, Option, Some, All, Contains}
 use Rattle.std.specs.List.{AllZip}
+use Rattle.class_paths.specs.Path.{unfiled}
 use Rattle.class_plan.specs.Plans.{Listing}
 use Rattle.class_plan.specs.Calendar.{due_on}
+use Rattle.sieve_meaning.specs.declared.outcome.Outcome.{Outcome}
+use Rattle.sieve_meaning.specs.declared.run_fault.RunFault.{RunFault}
 use Rattle.sieve_meaning.specs.Case.{Facts}
-use Rattle.sieve_meaning.specs.Outcome.{Outcome, unfiled}
 use Rattle.filing_image.specs.Program.{Program}
 use Rattle.filing_table.specs.Ends.{HasOutcome}
 use Rattle.record_tables.specs.Rows.{Record}
 use Rattle.record_store.specs.Archive.{Archive, Line, is_held}
-use Rattle.filing_commands.specs.Pinning.{Stood, IsAlone}
+use Rattle.filing_commands.specs.Pinning.{BeginState, IsAlone}
 
 -- a capture that ended in a fault is in the default class alone
 abbrev pub IsFaultAlone : Outcome → Type 0
-IsFaultAlone o = (n : ℕ) → o.fault ≡ Some n → o.classes ≡ unfiled ∷ []
+IsFaultAlone o = (fault : RunFault) → o.fault ≡ Some fault → o.classes ≡ unfiled ∷ []
 
 -- the run of the program in the case ends within its budget, with this outcome
 pub record EndsWithinBudget (p : Program) (c : Facts) (o : Outcome) : Type 0 where
@@ -31,26 +33,26 @@ pub record IsLineOf (plan : Listing) (r : Record) (l : Line) : Type 0 where
 -- A capture of what stood made a live record for each of its classes, and no other. Each is of the message, with the
 -- day that stood, and is numbered above all earlier ones. The lines report them in order. Plan and holds are as they
 -- were.
-pub record IsMadeWhole (old : Archive) (stood : Stood) (o : Outcome) (lines : List Line) (new : Archive) : Type 0 where
+pub record IsMadeWhole (old : Archive) (at_begin : BeginState) (o : Outcome) (lines : List Line) (new : Archive) : Type 0 where
   pub records : List Record
   pub added : new.records ≡ old.records ++ records
   pub classes : map (λ (r : Record). r.path) records ≡ o.classes
-  pub days : All (λ (r : Record). r.day ≡ stood.day) records
+  pub days : All (λ (r : Record). r.day ≡ at_begin.day) records
   pub live : All (λ (r : Record). r.destroyed ≡ false) records
   pub numbers : All (λ (r : Record). All (λ (x : Record). x.number < r.number) old.records) records
-  pub messages : All (λ (r : Record). Contains new.messages (record { number = r.message; body = stood.message })) records
+  pub messages : All (λ (r : Record). Contains new.messages (record { number = r.message; body = at_begin.message })) records
   pub told : AllZip (IsLineOf old.plan) records lines
   pub plan : new.plan ≡ old.plan
   pub holds : new.holds ≡ old.holds
 
 -- what a finish answers and leaves: the records of the outcome of the capture alone, whose fault it answers
-pub record FilesAlone (old : Archive) (stood : Stood) (fault : Option ℕ) (lines : List Line)
+pub record FilesAlone (old : Archive) (at_begin : BeginState) (fault : Option RunFault) (lines : List Line)
     (new : Archive) : Type 0 where
   pub outcome : Outcome
-  pub alone : IsAlone stood outcome
+  pub alone : IsAlone at_begin outcome
   pub fault_alone : IsFaultAlone outcome
   pub told : fault ≡ outcome.fault
-  pub whole : IsMadeWhole old stood outcome lines new
+  pub whole : IsMadeWhole old at_begin outcome lines new
 
 -- a live record without a hold, whose class's period ends by the day
 pub record IsDueBy (a : Archive) (day : ℕ) (r : Record) : Type 0 where

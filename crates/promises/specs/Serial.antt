@@ -3,14 +3,14 @@
 use Rattle.std.specs.Prelude.{◌≡◌, ℕ, ◌+◌, List, [], ◌∷◌, ◌++◌, length, map, Bool, true, false, ◌==◌, ◌||◌, if◌then◌else◌, Option, Some, None}
 use Rattle.record_store.specs.Archive.{Archive}
 use Rattle.filing_commands.specs.Answers.{Answer, begun, refused}
-use Rattle.filing_commands.specs.Pinning.{Stood, budget_of}
+use Rattle.filing_commands.specs.Pinning.{BeginState, budget_of}
 use Rattle.filing_commands.specs.Office.{Office, OfficeRule, with_archive}
-use Rattle.filing_commands.specs.Standing.{Command, plain, begin, turn, finish, Flight, Standing, begin_refusal, stood_at, Files, is_refusal}
+use Rattle.filing_commands.specs.Standing.{Command, plain, begin, turn, finish, Flight, Standing, begin_refusal, begin_state, Files, is_refusal}
 
 -- a capture that has begun, with what stood at its beginning
 pub record Ticket : Type 0 where
   pub number : ℕ
-  pub stood : Stood
+  pub at_begin : BeginState
 
 pub record Serial : Type 0 where
   pub office : Office
@@ -20,15 +20,15 @@ pub record Serial : Type 0 where
 
 -- a state without turns and machines
 abbrev pub ticket_of : Flight → Ticket
-ticket_of f = record { number = f.ticket; stood = f.stood }
+ticket_of f = record { number = f.ticket; at_begin = f.at_begin }
 
 abbrev pub forget : Standing → Serial
 forget s = record { office = s.office; tickets = map ticket_of s.flights; last = s.last }
 
 -- what stood at the beginning of the first capture of this ticket
-abbrev pub stood_of : ℕ → List Ticket → Option Stood
+abbrev pub stood_of : ℕ → List Ticket → Option BeginState
 stood_of t [] = None
-stood_of t (x ∷ xs) = if x.number == t then Some x.stood else stood_of t xs
+stood_of t (x ∷ xs) = if x.number == t then Some x.at_begin else stood_of t xs
 
 -- the tickets without that one
 abbrev pub without_ticket : ℕ → List Ticket → List Ticket
@@ -37,14 +37,14 @@ without_ticket t (x ∷ xs) = if x.number == t then xs else x ∷ without_ticket
 
 -- the next ticket, with what stands
 abbrev pub next_ticket : Serial → (officer : List ℕ) → (moment : ℕ) → (message : List ℕ) → Ticket
-next_ticket s officer moment message = record { number = s.last + 1; stood = stood_at s.office officer moment message }
+next_ticket s officer moment message = record { number = s.last + 1; at_begin = begin_state s.office officer moment message }
 
 -- a capture begins under the next ticket, and what stands is noted
 pub record IsNoted (s : Serial) (officer : List ℕ) (moment : ℕ) (message : List ℕ) (t b : ℕ)
     (new : Serial) : Type 0 where
   pub allowed : begin_refusal (length s.tickets) s.last moment (length message) ≡ None
   pub ticket : t ≡ s.last + 1
-  pub budget : b ≡ budget_of (stood_at s.office officer moment message)
+  pub budget : b ≡ budget_of (begin_state s.office officer moment message)
   pub leaves : new ≡ record { office = s.office; tickets = s.tickets ++ next_ticket s officer moment message ∷ []; last = s.last + 1 }
 
 abbrev pub SerialBegin : Serial → (officer : List ℕ) → (moment : ℕ) → (message : List ℕ) → Answer → Serial → Type 0
@@ -57,9 +57,9 @@ SerialBegin s officer moment message _ new = ⊥
 abbrev pub giving_up : Serial → (t : ℕ) → Answer → Archive → Serial
 giving_up s t a b = record { office = with_archive s.office b; tickets = if is_refusal a then s.tickets else without_ticket t s.tickets; last = s.last }
 
-abbrev pub SerialFinish : Serial → (t : ℕ) → Option Stood → Answer → Serial → Type 0
+abbrev pub SerialFinish : Serial → (t : ℕ) → Option BeginState → Answer → Serial → Type 0
 SerialFinish s t None a new = (a ≡ refused 91 None) × (new ≡ s)
-SerialFinish s t (Some stood) a new = (b : Archive) × Files s.office.archive stood a b × (new ≡ giving_up s t a b)
+SerialFinish s t (Some at_begin) a new = (b : Archive) × Files s.office.archive at_begin a b × (new ≡ giving_up s t a b)
 
 -- a command of the serial session, an answer that it may have, and the state that it leaves
 abbrev pub SerialStep : Serial → Command → Answer → Serial → Type 0

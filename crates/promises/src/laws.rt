@@ -1,7 +1,7 @@
 //! Laws of whole sessions, each the contract of a function without code.
 
 ghost use Rattle.std.specs.Prelude.{◌≡◌, ◌≢◌, ◌≤◌, ℕ, List, Option, Some, All};
-ghost use Rattle.sieve_meaning.specs.Outcome.{Outcome};
+ghost use Rattle.sieve_meaning.specs.declared.outcome.Outcome.{Outcome};
 ghost use Rattle.filing_table.specs.Ends.{HasOutcome};
 ghost use Rattle.record_store.specs.Archive.{Archive};
 ghost use Rattle.filing_commands.specs.Answers.{Answer, refused};
@@ -47,13 +47,13 @@ pub fn refusals_change_nothing()
 /// - the run of what is pinned takes at most as many steps as the budget that BEGIN answered;
 /// - it ends with the outcome of the capture alone.
 pub fn captures_are_pinned()
-    ensures stood { (archive : Archive) (commands : List Command) (answers : List Answer) (s : Standing) (t : ℕ)
+    ensures at_begin { (archive : Archive) (commands : List Command) (answers : List Answer) (s : Standing) (t : ℕ)
         (f : Flight)
         → Run (opening archive) commands answers s → flight_of t s.flights ≡ Some f →
         HasBegun (opening archive) commands answers f }
     ensures pinned { (s : Standing) → IsReached s → All IsPinned s.flights }
     ensures budget { (f : Flight) → IsPinned f → (f.run_length ≤ f.pinned.budget) ×
-        (f.pinned.budget ≡ budget_of f.stood) }
-    ensures alone { (f : Flight) (n : ℕ) (o : Outcome) → IsPinned f → HasOutcome f.pinned (case_in f.stood) n o
-        → IsAlone f.stood o × (n ≡ f.run_length) }
+        (f.pinned.budget ≡ budget_of f.at_begin) }
+    ensures alone { (f : Flight) (n : ℕ) (o : Outcome) → IsPinned f → HasOutcome f.pinned (case_in f.at_begin) n o
+        → IsAlone f.at_begin o × (n ≡ f.run_length) }
 {}

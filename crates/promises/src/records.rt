@@ -1,12 +1,13 @@
 //! Laws of what the commands answer about captures and records, each the contract of a function without code.
 
 ghost use Rattle.std.specs.Prelude.{◌≡◌, ℕ, List, Option, Some, All};
-ghost use Rattle.sieve_meaning.specs.Outcome.{Outcome};
+ghost use Rattle.sieve_meaning.specs.declared.outcome.Outcome.{Outcome};
+ghost use Rattle.sieve_meaning.specs.declared.run_fault.RunFault.{RunFault};
 ghost use Rattle.class_plan.specs.Plans.{is_open_in};
 ghost use Rattle.filing_image.specs.Program.{Program};
 ghost use Rattle.filing_case.specs.Message.{case_of};
 ghost use Rattle.record_store.specs.Archive.{Line, due_list};
-ghost use Rattle.filing_commands.specs.Answers.{Answer, captured, filed, listed};
+ghost use Rattle.filing_commands.specs.Answers.{Answer, dry_run, captured, listed};
 ghost use Rattle.filing_commands.specs.Parts.{IsGoodImage};
 ghost use Rattle.filing_commands.specs.Office.{IsFiled, due, file, try_image};
 ghost use Rattle.filing_commands.specs.Standing.{Flight, Standing, Step, finish, flight_of, plain};
@@ -17,10 +18,10 @@ ghost use Rattle.promises.specs.Records.{FilesAlone, IsDueLine, IsFaultAlone, En
 /// fault is the default class alone. Neither command changes anything.
 pub fn dry_runs_store_nothing()
     ensures file { (s : Standing) (script message : List ℕ) (o : Outcome) (new : Standing)
-        → Step s (plain (file script message)) (captured o) new → IsFiled s.office script message o × IsFaultAlone o ×
+        → Step s (plain (file script message)) (dry_run o) new → IsFiled s.office script message o × IsFaultAlone o ×
         (new ≡ s) }
     ensures trial { (s : Standing) (octets message : List ℕ) (o : Outcome) (new : Standing)
-        → Step s (plain (try_image octets message)) (captured o) new
+        → Step s (plain (try_image octets message)) (dry_run o) new
         → ((p : Program) × IsGoodImage octets p ×
         EndsWithinBudget p (case_of message (is_open_in s.office.archive.plan)) o)
         × IsFaultAlone o × (new ≡ s) }
@@ -30,9 +31,9 @@ pub fn dry_runs_store_nothing()
 /// A capture that ended in a fault is in the default class alone. Each line that is answered gives one of the records
 /// and its due day. That day comes the period of the record's class after the day of the capture, in the plan as it is.
 pub fn finished_captures_are_whole()
-    ensures { (s : Standing) (t : ℕ) (f : Flight) (fault : Option ℕ) (lines : List Line) (new : Standing)
-        → Step s (finish t) (filed fault lines) new → flight_of t s.flights ≡ Some f
-        → FilesAlone s.office.archive f.stood fault lines new.office.archive }
+    ensures { (s : Standing) (t : ℕ) (f : Flight) (fault : Option RunFault) (lines : List Line) (new : Standing)
+        → Step s (finish t) (captured fault lines) new → flight_of t s.flights ≡ Some f
+        → FilesAlone s.office.archive f.at_begin fault lines new.office.archive }
 {}
 
 /// DUE answers the due list of the day, and changes nothing. Each line is that of a live record without a hold whose

@@ -1,8 +1,9 @@
 //! Laws of turns and tickets, each the contract of a function without code.
 
 ghost use Rattle.std.specs.Prelude.{◌≡◌, ◌≤◌, ◌<◌, ◌↔◌, ℕ, List, length, Option, Some, None};
+ghost use Rattle.sieve_meaning.specs.declared.run_fault.RunFault.{RunFault};
 ghost use Rattle.record_store.specs.Archive.{Archive, Line};
-ghost use Rattle.filing_commands.specs.Answers.{Answer, filed, refused};
+ghost use Rattle.filing_commands.specs.Answers.{Answer, captured, refused};
 ghost use Rattle.filing_commands.specs.Limits.{last_ticket, most_in_flight};
 ghost use Rattle.filing_commands.specs.Standing.{Command, Flight, Standing, Step, begin, finish, flight_of, opening, turn};
 ghost use Rattle.promises.specs.Beginnings.{tickets_given, AreNumbersUpTo, MayBegin};
@@ -37,8 +38,8 @@ pub fn tickets_are_looked_up_exactly()
         → Step s (turn t count) a new → (a ≡ refused 91 None) ↔ (flight_of t s.flights ≡ None) }
     ensures finish { (s : Standing) (t : ℕ) (a : Answer) (new : Standing)
         → Step s (finish t) a new → (a ≡ refused 91 None) ↔ (flight_of t s.flights ≡ None) }
-    ensures given_up { (s : Standing) (t : ℕ) (fault : Option ℕ) (lines : List Line) (new : Standing)
-        → IsReached s → Step s (finish t) (filed fault lines) new → flight_of t new.flights ≡ None }
+    ensures given_up { (s : Standing) (t : ℕ) (fault : Option RunFault) (lines : List Line) (new : Standing)
+        → IsReached s → Step s (finish t) (captured fault lines) new → flight_of t new.flights ≡ None }
 {}
 
 /// In a session that begins with an archive:

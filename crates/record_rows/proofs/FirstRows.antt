@@ -15,8 +15,8 @@ use Rattle.record_tables.specs.declared.rows.ClassRow.{ClassRow}
 use Rattle.record_tables.specs.Changes.{Listed, Rule}
 use Rattle.record_tables.specs.Typed.{listed_of}
 use Rattle.record_rows.specs.Rules.{rule_at, with_own, own_rules, rules_of, listed_row, classes_of, HasRows}
-use Rattle.record_rows.specs.Merge.{schedule_in, merged}
-use Rattle.record_rows.specs.Texts.{text_row, HasTexts, cleared, with_text, text_rules, rules_of_texts}
+use Rattle.record_rows.specs.Merge.{schedule_in, merge}
+use Rattle.record_rows.specs.Texts.{text_row, HasTexts, without_schedule, with_text, text_rules, rules_of_texts}
 use Rattle.record_rows.proofs.Merged.{schedule_back, merged-rows}
 
 -- ---- from the texts of a plan
@@ -29,7 +29,7 @@ rules_are : (R : List Row) (rows : List Row) → AllByRecursion (IsClass R) rows
 rules_are R [] h = refl
 rules_are R (r ∷ rs) h = ap (with_text r.path (option_map text_of r.schedule)) (rules_are R rs h.1) ∙ with_text_is r.path r.schedule (own_rules rs) h.0.range
 
-classes_are : (rows : List Row) → map cleared (map text_row rows) ≡ map listed_row rows
+classes_are : (rows : List Row) → map without_schedule (map text_row rows) ≡ map listed_row rows
 classes_are [] = refl
 classes_are (r ∷ rs) = ap (λ z. listed_row r ∷ z) (classes_are rs)
 
@@ -39,8 +39,8 @@ texts-rules p root classes plan h =
     let rest : text_rules (map text_row p.rows) ≡ Some (own_rules p.rows) = rules_are p.rows p.rows (recursion_from_All (IsClass p.rows) p.rows plan.classes) in
     (λ i. rules_of_texts (sym h.same_root i) (sym h.same_classes i)) ∙ rw (text-reads p.root plan.root, rest) refl
 
-pub texts-classes : (p : Listing) (root : List ℕ) (classes : List Listed) → HasTexts p root classes → map cleared classes ≡ classes_of p
-texts-classes p root classes h = ap (map cleared) (sym h.same_classes) ∙ classes_are p.rows
+pub texts-classes : (p : Listing) (root : List ℕ) (classes : List Listed) → HasTexts p root classes → map without_schedule classes ≡ classes_of p
+texts-classes p root classes h = ap (map without_schedule) (sym h.same_classes) ∙ classes_are p.rows
 
 -- ---- and back
 
@@ -75,9 +75,9 @@ parsed_all : (cs : List Listed) (rs : List Rule) → text_rules cs ≡ Some rs �
 parsed_all [] rs h = let same : [] ≡ rs = cc in record { rules = same; texts = refl }
 parsed_all (c ∷ cs) rs h = parsed_one c.path c.is_open c.schedule cs rs (λ more e. parsed_all cs more e) h
 
-cleared_are : (cs : List Listed) → map listed_row (map parsed cs) ≡ map cleared cs
+cleared_are : (cs : List Listed) → map listed_row (map parsed cs) ≡ map without_schedule cs
 cleared_are [] = refl
-cleared_are (c ∷ cs) = ap (λ z. cleared c ∷ z) (cleared_are cs)
+cleared_are (c ∷ cs) = ap (λ z. without_schedule c ∷ z) (cleared_are cs)
 
 listed_paths : (rows : List Row) → map (λ (l : Listed). l.path) (map listed_row rows) ≡ paths_of rows
 listed_paths [] = refl
@@ -87,10 +87,10 @@ listed_paths (r ∷ rs) = ap (λ z. r.path ∷ z) (listed_paths rs)
 same_rows : (xs ys : List Row) → IsStrictlySortedBy (slice_cmp nat_cmp) (paths_of xs) → map listed_row xs ≡ map listed_row ys → own_rules xs ≡ own_rules ys → xs ≡ ys
 same_rows xs ys sorted listed rules =
     let paths : paths_of xs ≡ paths_of ys = sym (listed_paths xs) ∙ ap (map (λ (l : Listed). l.path)) listed ∙ listed_paths ys in
-    sym (merged-rows xs sorted) ∙ (λ i. merged (rules i) (listed i)) ∙ merged-rows ys (subst (IsStrictlySortedBy (slice_cmp nat_cmp)) paths sorted)
+    sym (merged-rows xs sorted) ∙ (λ i. merge (rules i) (listed i)) ∙ merged-rows ys (subst (IsStrictlySortedBy (slice_cmp nat_cmp)) paths sorted)
 
 back_with : (found : Option Schedule) (rest : Option (List Rule)) (p : Listing) (root : List ℕ) (classes : List Listed) (R : List Rule) → schedule_of_bytes root ≡ found → text_rules classes ≡ rest
-    → IsPlan p → rules_of_texts root classes ≡ Some R → HasRows p R (map cleared classes) → HasTexts p root classes
+    → IsPlan p → rules_of_texts root classes ≡ Some R → HasRows p R (map without_schedule classes) → HasTexts p root classes
 back_with None rest p root classes R e f plan h has = let k : None ≡ Some R = rw e at h in absurd (cc)
 back_with (Some s) None p root classes R e f plan h has = let k : None ≡ Some R = rw (e, f) at h in absurd (cc)
 back_with (Some s) (Some rs) p root classes R e f plan h has =
@@ -104,12 +104,12 @@ back_with (Some s) (Some rs) p root classes R e f plan h has =
     record { same_root = ap text_of first ∙ text-read root s e; same_classes = ap (map text_row) rows ∙ read.texts }
 
 -- a plan of the rows of version 2 is that of the texts
-pub rules-texts : (p : Listing) (root : List ℕ) (classes : List Listed) (R : List Rule) → IsPlan p → rules_of_texts root classes ≡ Some R → HasRows p R (map cleared classes) → HasTexts p root classes
+pub rules-texts : (p : Listing) (root : List ℕ) (classes : List Listed) (R : List Rule) → IsPlan p → rules_of_texts root classes ≡ Some R → HasRows p R (map without_schedule classes) → HasTexts p root classes
 rules-texts p root classes R plan h has = back_with (schedule_of_bytes root) (text_rules classes) p root classes R refl refl plan h has
 
-pub listed-cleared : (cs : List ClassRow) → map (λ c. cleared (listed_of c)) cs ≡ map cleared (map listed_of cs)
+pub listed-cleared : (cs : List ClassRow) → map (λ c. without_schedule (listed_of c)) cs ≡ map without_schedule (map listed_of cs)
 listed-cleared [] = refl
-listed-cleared (c ∷ cs) = ap (λ z. cleared (listed_of c) ∷ z) (listed-cleared cs)
+listed-cleared (c ∷ cs) = ap (λ z. without_schedule (listed_of c) ∷ z) (listed-cleared cs)
 
 -- ---- the loop over the classes
 

@@ -13,7 +13,7 @@ use Rattle.record_tables.specs.declared.rows.HoldRow.{HoldRow}
 use Rattle.record_tables.specs.Rows.{Record}
 use Rattle.record_tables.specs.Reads.{Named}
 use Rattle.record_tables.specs.Typed.{record_of, named_of}
-use Rattle.record_rows.specs.Judged.{is_named, is_live, is_one_of, IsSound, AreRows}
+use Rattle.record_rows.specs.SoundRows.{is_named, is_live, is_one_of, IsSound, AreRows}
 use Rattle.record_rows.specs.Tests.{is_sound, rises_from, rises_after}
 use Rattle.record_rows.proofs.Sorted.{rises-sorted, sorted-rises, holds-sorted, sorted-holds, sorted-same}
 

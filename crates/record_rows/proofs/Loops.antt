@@ -9,7 +9,7 @@ use Rattle.record_tables.specs.declared.rows.ScheduleRow.{ScheduleRow}
 use Rattle.record_tables.specs.declared.rows.ClassRow.{ClassRow}
 use Rattle.record_tables.specs.Typed.{rule_of, named_of, listed_of}
 use Rattle.record_rows.specs.Rules.{listed_row, told_listed}
-use Rattle.record_rows.specs.Merge.{own_in, rest_in, merged}
+use Rattle.record_rows.specs.Merge.{own_in, rest_in, merge}
 use Rattle.record_rows.specs.Tests.{rises_after}
 use Rattle.record_rows.proofs.Merged.{merged-more}
 
@@ -49,10 +49,10 @@ left-within rules place next at h = omega arith
 pub merged-next : (ps : List Part) (p : Part) (rules : List ScheduleRow) (place next : ℕ) (o : Option Schedule) (cs : List ClassRow) (i : ℕ) (d : ClassRow) (whole : List Row) → i < length cs
     → o ≡ own_in (map rule_of (drop place rules)) (get_or cs i d).path.items → rest_in o (map rule_of (drop place rules)) ≡ map rule_of (drop next rules)
     → part_row p ≡ record { path = (get_or cs i d).path.items; is_open = (get_or cs i d).is_open; schedule = o }
-    → map part_row ps ++ merged (map rule_of (drop place rules)) (map listed_of (drop i cs)) ≡ whole → map part_row (ps ++ p ∷ []) ++ merged (map rule_of (drop next rules)) (map listed_of (drop (i + 1) cs)) ≡ whole
+    → map part_row ps ++ merge (map rule_of (drop place rules)) (map listed_of (drop i cs)) ≡ whole → map part_row (ps ++ p ∷ []) ++ merge (map rule_of (drop next rules)) (map listed_of (drop (i + 1) cs)) ≡ whole
 merged-next ps p rules place next o cs i d whole h own tail same so =
     merged-more ps p (map rule_of (drop place rules)) (map rule_of (drop next rules)) (listed_of (get_or cs i d)) (map listed_of (drop (i + 1) cs)) o whole own tail same
-    (ap (λ z. map part_row ps ++ merged (map rule_of (drop place rules)) (map listed_of z)) (sym (drop_more cs i d h)) ∙ so)
+    (ap (λ z. map part_row ps ++ merge (map rule_of (drop place rules)) (map listed_of z)) (sym (drop_more cs i d h)) ∙ so)
 
 -- ---- classes as a plan answers them
 

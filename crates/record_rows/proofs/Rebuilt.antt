@@ -14,7 +14,7 @@ use Rattle.record_tables.specs.declared.rows.ClassRow.{ClassRow}
 use Rattle.record_tables.specs.Changes.{Listed, Rule}
 use Rattle.record_tables.specs.Typed.{rule_of, listed_of}
 use Rattle.record_rows.specs.Rules.{rule_at, own_rules, rules_of, listed_row, classes_of, HasRows, same_rule, same_class, told_listed}
-use Rattle.record_rows.specs.Merge.{schedule_in, merged}
+use Rattle.record_rows.specs.Merge.{schedule_in, merge}
 use Rattle.record_rows.proofs.Loops.{told-are}
 use Rattle.record_rows.proofs.Merged.{schedule_back, merged-rows}
 use Rattle.record_rows.proofs.Pairs.{pairs-decide}
@@ -95,8 +95,8 @@ same-root p rules root own classes cut h =
     let head : rule_at [] p.root ≡ rule_of root = cc in
     ap schedule_in (sym head) ∙ schedule_back [] p.root
 
-pub same-parts : (p : Listing) (rules : List ScheduleRow) (root : ScheduleRow) (own : List ScheduleRow) (classes : List Listed) → IsPlan p → rules ≡ root ∷ own → HasRows p (map rule_of rules) classes → merged (map rule_of own) classes ≡ p.rows
+pub same-parts : (p : Listing) (rules : List ScheduleRow) (root : ScheduleRow) (own : List ScheduleRow) (classes : List Listed) → IsPlan p → rules ≡ root ∷ own → HasRows p (map rule_of rules) classes → merge (map rule_of own) classes ≡ p.rows
 same-parts p rules root own classes plan cut h =
     let whole : rule_at [] p.root ∷ own_rules p.rows ≡ rule_of root ∷ map rule_of own = h.same_rules ∙ ap (map rule_of) cut in
     let tail : own_rules p.rows ≡ map rule_of own = cc in
-    (λ i. merged (sym tail i) (sym h.same_classes i)) ∙ merged-rows p.rows plan.in_order
+    (λ i. merge (sym tail i) (sym h.same_classes i)) ∙ merged-rows p.rows plan.in_order

@@ -1,14 +1,14 @@
 -- The definitions on worked rows.
 use Rattle.std.proofs.Common.{◌≡◌, true, false, List, [], ◌∷◌, codes, Some, None, refl}
+use Rattle.class_paths.specs.Path.{unfiled}
 use Rattle.class_plan.specs.declared.schedules.Unit.TheVariants.{Months, Years}
 use Rattle.class_plan.specs.declared.schedules.Action.TheVariants.{Review, Destroy}
 use Rattle.class_plan.specs.declared.schedules.Schedule.TheVariants.{After}
 use Rattle.class_plan.specs.Plans.{Listing, open_row}
-use Rattle.class_plan.specs.Paths.{unfiled}
 use Rattle.record_tables.specs.Rows.{Record}
 use Rattle.record_rows.specs.Rules.{rules_of, classes_of}
-use Rattle.record_rows.specs.Merge.{merged}
-use Rattle.record_rows.specs.Judged.{is_named, is_live}
+use Rattle.record_rows.specs.Merge.{merge}
+use Rattle.record_rows.specs.SoundRows.{is_named, is_live}
 
 -- a plan of `tax`, destroyed after a year, of `tax/audit`, closed, without a schedule of its own, and of `unfiled`
 worked : Listing
@@ -28,7 +28,7 @@ classes_are : classes_of worked ≡ record { path = codes "tax"; is_open = true;
 unfolding worked
 classes_are = refl
 
-merged_is : merged (record { path = codes "tax"; count = 1; unit = 3; action = 3; year_end = 1 } ∷ []) (classes_of worked) ≡ worked.rows
+merged_is : merge (record { path = codes "tax"; count = 1; unit = 3; action = 3; year_end = 1 } ∷ []) (classes_of worked) ≡ worked.rows
 unfolding worked
 merged_is = refl
 

@@ -9,7 +9,7 @@ use Rattle.std.specs.Cmp.Lexicographic.{slice_cmp}
 use Rattle.std.specs.List.{AllByRecursion}
 use Rattle.std.specs.List.Sorted.{IsStrictlySortedBy}
 use Rattle.record_tables.specs.Reads.{Named}
-use Rattle.record_rows.specs.Judged.{is_one_of, hold_cmp}
+use Rattle.record_rows.specs.SoundRows.{is_one_of, hold_cmp}
 use Rattle.record_rows.specs.Tests.{rises_from, rises_over, rises_after, hold_rises}
 
 all_weaker : {A : Type 0} (P Q : A → Type 0) → ((a : A) → P a → Q a) → (xs : List A) → AllByRecursion P xs → AllByRecursion Q xs

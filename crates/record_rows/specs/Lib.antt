@@ -1,5 +1,5 @@
 pub mod Rules
 pub mod Merge
-pub mod Judged
+pub mod SoundRows
 pub mod Tests
 pub mod Texts

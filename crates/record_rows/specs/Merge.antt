@@ -33,6 +33,6 @@ rest_in None rs = rs
 rest_in (Some s) rs = drop 1 rs
 
 -- the classes, each with the schedule of its path where that comes next
-abbrev pub merged : List Rule → List Listed → List Row
-merged rs [] = []
-merged rs (c ∷ cs) = record { path = c.path; is_open = c.is_open; schedule = own_in rs c.path } ∷ merged (rest_in (own_in rs c.path) rs) cs
+abbrev pub merge : List Rule → List Listed → List Row
+merge rs [] = []
+merge rs (c ∷ cs) = record { path = c.path; is_open = c.is_open; schedule = own_in rs c.path } ∷ merge (rest_in (own_in rs c.path) rs) cs

@@ -22,8 +22,8 @@ HasNoTexts root classes = (p : Listing) → IsPlan p → HasTexts p root classes
 -- ---- the same rows in version 2
 
 -- the row of a class, whose schedule has a row of its own
-abbrev pub cleared : Listed → Listed
-cleared c = record { path = c.path; is_open = c.is_open; schedule = None }
+abbrev pub without_schedule : Listed → Listed
+without_schedule c = record { path = c.path; is_open = c.is_open; schedule = None }
 
 -- the row of the schedule of a class's text, if it has one, before others; None where the text is no schedule's
 abbrev pub with_text : List ℕ → Option (List ℕ) → Option (List Rule) → Option (List Rule)

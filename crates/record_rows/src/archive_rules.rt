@@ -6,7 +6,7 @@ ghost use Rattle.std.specs.List.Sorted.{IsStrictlySortedBy};
 ghost use Rattle.std.specs.Ordering.{nat_cmp};
 ghost use Rattle.std.specs.Str.{bytes_eq};
 ghost use Rattle.record_tables.specs.Typed.{record_of, named_of};
-ghost use Rattle.record_rows.specs.Judged.{is_named, is_live, is_one_of, AreRows};
+ghost use Rattle.record_rows.specs.SoundRows.{is_named, is_live, is_one_of, AreRows};
 ghost use Rattle.record_rows.specs.Tests.{is_sound, rises_from, rises_after, hold_rises};
 
 use class_plan::Plan;

@@ -2,7 +2,7 @@
 ghost use Rattle.std.specs.Prelude.{◌≡◌, IfOk, IfSome, IfNone, [], ◌∷◌, map, option_map};
 ghost use Rattle.record_tables.specs.Typed.{rule_of, listed_of};
 ghost use Rattle.record_rows.specs.Rules.{rule_at};
-ghost use Rattle.record_rows.specs.Texts.{HasTexts, HasNoTexts, cleared, text_rules, rules_of_texts};
+ghost use Rattle.record_rows.specs.Texts.{HasTexts, HasNoTexts, without_schedule, text_rules, rules_of_texts};
 
 use crate::plans::plan_of_rows;
 use crate::rules::rule_row;
@@ -59,7 +59,7 @@ pub fn classes_without_texts(
     alloc: Global,
     classes: &[ClassRow],
 ) -> Result<Vec<ClassRow>, AllocError>
-    ensures { IfOk result (λ v. map listed_of v.items ≡ map (λ c. cleared (listed_of c)) classes.now) }
+    ensures { IfOk result (λ v. map listed_of v.items ≡ map (λ c. without_schedule (listed_of c)) classes.now) }
 {
     let mut rows = Vec::with_capacity(alloc, classes.len())?;
     for class in classes {

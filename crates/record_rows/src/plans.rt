@@ -6,7 +6,7 @@ ghost use Rattle.class_plan.specs.Plans.{IsPlan};
 ghost use Rattle.class_plan.specs.Parts.{part_row};
 ghost use Rattle.record_tables.specs.Typed.{rule_of, listed_of};
 ghost use Rattle.record_rows.specs.Rules.{HasRows, HasNoPlan, same_rule, same_class, told_listed};
-ghost use Rattle.record_rows.specs.Merge.{unit_at, action_at, schedule_in, own_in, merged};
+ghost use Rattle.record_rows.specs.Merge.{unit_at, action_at, schedule_in, own_in, merge};
 
 use crate::rules::rules_of;
 use class_plan::{Action, Plan, PlanFault, Schedule, Unit};
@@ -71,7 +71,7 @@ fn parts_of(
     rules: &[ScheduleRow],
     classes: &[ClassRow],
 ) -> Result<Vec<(Vec<u8>, bool, Option<Schedule>)>, AllocError>
-    ensures { IfOk result (λ v. map part_row v.items ≡ merged (map rule_of rules.now) (map listed_of classes.now)) }
+    ensures { IfOk result (λ v. map part_row v.items ≡ merge (map rule_of rules.now) (map listed_of classes.now)) }
 {
     let mut parts = Vec::with_capacity(alloc, classes.len())?;
     let mut place = 0;

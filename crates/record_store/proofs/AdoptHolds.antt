@@ -1,5 +1,5 @@
 -- Holds in order, and sums over lists that have the same elements.
-use Rattle.std.proofs.Common.{◌≡◌, ◌+◌, ◌==◌, ◌&&◌, ◌||◌, ◌<◌, ℕ, ℤ, pos, Bool, true, false, cond, List, [], ◌∷◌, map, Ordering, Less, Equal, Greater, int_cmp, nat_cmp, is_eq, refl, sym, ap, subst, ◌∙◌, arith, IsPermutation}
+use Rattle.std.proofs.Common.{◌≡◌, ◌+◌, ◌==◌, ◌&&◌, ◌||◌, ◌<◌, ℕ, pos, Bool, true, false, cond, List, [], ◌∷◌, map, Ordering, Less, Equal, Greater, int_cmp, nat_cmp, is_eq, refl, sym, ap, subst, ◌∙◌, arith, IsPermutation}
 use Rattle.std.proofs.lemmas.Int.{ints}
 use Rattle.std.proofs.lemmas.Bool.Decides.{nat_tests}
 use Rattle.std.proofs.lemmas.Cmp.{int_cmp_total, nat_list_cmp_total, on_total, then_total}
@@ -12,12 +12,11 @@ use Rattle.std.specs.Str.{bytes_eq}
 use Rattle.std.specs.List.{AllByRecursion}
 use Rattle.std.specs.List.Sorted.{IsStrictlySortedBy}
 use Rattle.sqlite_trees.specs.Tree.{IsAscending}
-use Rattle.sqlite_keyed.specs.Lists.{sort_by}
 use Rattle.sqlite_keyed.proofs.ListLemmas.{ascending-map, ascending_weaker, map-map, along_permutation}
 use Rattle.sqlite_keyed.proofs.SortLemmas.{IsPermutation-sort_by}
 use Rattle.record_tables.specs.Rows.{Tables}
 use Rattle.record_tables.specs.Reads.{Named, named, named_cmp, AreNamed}
-use Rattle.record_rows.specs.Judged.{hold_cmp}
+use Rattle.record_rows.specs.SoundRows.{hold_cmp}
 use Rattle.record_store.specs.Archive.{Archive, Hold, is_hold}
 use Rattle.record_store.specs.Adoption.{named_hold, sorted_holds}
 use Rattle.record_store.specs.Counts.{tally}

@@ -1,10 +1,10 @@
 -- Which version's rows a layout may have.
-use Rattle.std.proofs.Common.{◌≡◌, ◌≢◌, ◌⊎◌, inl, inr, sym, ◌∙◌, subst}
+use Rattle.std.proofs.Common.{◌≡◌, ◌≢◌, ◌⊎◌, inl, inr, ◌∙◌, subst}
 use Rattle.sqlite.specs.Schema.{Schema}
 use Rattle.sqlite.specs.Effect.{Database}
 use Rattle.record_tables.specs.Tables.{no_schema, first_schema, dated_schema, IsArchiveSchema, HasCommonTables}
 use Rattle.record_tables.specs.declared.layout.Layout.{Layout}
-use Rattle.record_tables.specs.declared.layout.Layout.TheVariants.{Empty, First, FirstWithDues, Second, Other}
+use Rattle.record_tables.specs.declared.layout.Layout.TheVariants.{Empty, First, FirstWithDues, Second}
 use Rattle.std.proofs.Common.{List}
 use Rattle.record_tables.specs.Rows.{Tables}
 use Rattle.record_tables.specs.Changes.{Listed, Rule}

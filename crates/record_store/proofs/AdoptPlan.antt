@@ -7,19 +7,19 @@ use Rattle.std.specs.List.Sorted.{IsStrictlySortedBy}
 use Rattle.std.specs.Cmp.Lexicographic.{slice_cmp}
 use Rattle.sqlite_trees.specs.Tree.{IsAscending}
 use Rattle.sqlite_keyed.proofs.ListLemmas.{map-map}
+use Rattle.class_paths.specs.Path.{is_path}
 use Rattle.class_plan.specs.declared.schedules.Unit.TheVariants.{Days, Months, Years}
 use Rattle.class_plan.specs.declared.schedules.Action.{Action}
 use Rattle.class_plan.specs.declared.schedules.Action.TheVariants.{Review, Transfer, Destroy}
 use Rattle.class_plan.specs.declared.schedules.Schedule.{Schedule}
 use Rattle.class_plan.specs.declared.schedules.Schedule.TheVariants.{Permanent, After}
-use Rattle.class_plan.specs.Paths.{is_path}
 use Rattle.class_plan.specs.Schedules.{IsInRange, IsInRangeIfAny}
 use Rattle.class_plan.specs.Plans.{Row, Listing, IsPlan, IsClass, paths_of}
 use Rattle.record_tables.specs.Rows.{Tables}
 use Rattle.record_tables.specs.Changes.{Listed, Rule}
-use Rattle.record_tables.specs.Reads.{listed, rule, paired, AreListed, AreRules, Pair, ArePaired, FitsRule}
+use Rattle.record_tables.specs.Reads.{listed, rule, paired, AreListed, AreRules, ArePaired, FitsRule}
 use Rattle.record_rows.specs.Rules.{rule_at, with_own, own_rules, rules_of, listed_row, classes_of, flag, action_number}
-use Rattle.record_rows.specs.Merge.{schedule_in, merged}
+use Rattle.record_rows.specs.Merge.{schedule_in, merge}
 use Rattle.record_rows.specs.Texts.{text_row, HasTexts}
 use Rattle.record_rows.proofs.FirstRows.{texts-rules, texts-classes}
 use Rattle.record_store.specs.Adoption.{first_pairs}
@@ -123,7 +123,7 @@ listed_paths rows = map-map (λ (l : Listed). l.path) listed_row rows
 same_rows : (xs ys : List Row) → IsStrictlySortedBy path_cmp (paths_of xs) → map listed_row xs ≡ map listed_row ys → own_rules xs ≡ own_rules ys → xs ≡ ys
 same_rows xs ys sorted same rules =
     let paths : paths_of xs ≡ paths_of ys = sym (listed_paths xs) ∙ ap (map (λ (l : Listed). l.path)) same ∙ listed_paths ys in
-    sym (merged-rows xs sorted) ∙ (λ i. merged (rules i) (same i)) ∙ merged-rows ys (subst (IsStrictlySortedBy path_cmp) paths sorted)
+    sym (merged-rows xs sorted) ∙ (λ i. merge (rules i) (same i)) ∙ merged-rows ys (subst (IsStrictlySortedBy path_cmp) paths sorted)
 
 pub one_plan : (p q : Listing) → IsPlan p → rules_of p ≡ rules_of q → classes_of p ≡ classes_of q → p ≡ q
 one_plan p q is rules classes =

@@ -1,30 +1,25 @@
 -- The accepted rows are those of an archive, and what a store keeps beside them.
-use Rattle.std.proofs.Common.{◌≡◌, ◌+◌, ◌-◌, ◌==◌, ◌&&◌, ◌||◌, ◌<◌, ◌≤◌, ◌^◌, ◌⊎◌, inl, inr, ℕ, max, Bool, true, false, not, cond, List, [], ◌∷◌, map, filter, Option, Some, None, is_some, unwrap_or, refl, sym, ap, subst, ◌∙◌, arith, IsPermutation}
+use Rattle.std.proofs.Common.{◌≡◌, ◌+◌, ◌-◌, ◌==◌, ◌&&◌, ◌||◌, ◌<◌, ◌≤◌, ◌^◌, ◌⊎◌, inl, inr, ℕ, max, Bool, true, false, not, cond, List, [], ◌∷◌, map, refl, sym, ap, subst, ◌∙◌, arith}
 use Rattle.std.proofs.lemmas.Bool.{cases_Bool}
 use Rattle.std.proofs.lemmas.Bool.Decides.{nat_tests}
 use Rattle.std.proofs.lemmas.List.Elements.{All-weaker, All-from_recursion, recursion_from_All}
 use Rattle.std.proofs.lemmas.List.Sorted.{All-permutation}
-use Rattle.std.specs.List.{AllByRecursion, All, list_any}
-use Rattle.std.specs.List.Sorted.{IsStrictlySortedBy}
-use Rattle.std.specs.Ordering.{nat_cmp}
+use Rattle.std.specs.List.{AllByRecursion, list_any}
 use Rattle.sqlite_trees.specs.Tree.{IsAscending}
 use Rattle.sqlite_keyed.proofs.ListLemmas.{all_map, all_unmap}
-use Rattle.class_plan.specs.Plans.{Listing, IsPlan}
-use Rattle.class_plan.specs.Calendar.{due_on}
-use Rattle.record_tables.specs.Rows.{Message, Record, Due}
-use Rattle.record_tables.specs.Changes.{AreAscending}
+use Rattle.class_plan.specs.Plans.{Listing}
+use Rattle.record_tables.specs.Rows.{Message, Record}
 use Rattle.record_tables.specs.Reads.{Named, FitsRecord, FitsNumber, FitsHold}
 use Rattle.record_tables.specs.Typed.{record_of, named_of, due_of as due_at}
 use Rattle.record_tables.specs.declared.rows.HoldRow.{HoldRow}
 use Rattle.record_tables.specs.declared.rows.RecordRow.{RecordRow}
-use Rattle.record_rows.specs.Judged as judged
-use Rattle.record_rows.specs.Judged.{is_one_of, IsSound, AreRows}
-use Rattle.record_store.specs.Archive.{Archive, Hold, IsArchive, IsRecord, is_live, is_named, has_message, has_number, due_of, past_all, is_hold}
+use Rattle.record_rows.specs.SoundRows as judged
+use Rattle.record_rows.specs.SoundRows.{is_one_of, IsSound, AreRows}
+use Rattle.record_store.specs.Archive.{Archive, Hold, IsArchive, IsRecord, is_live, is_named, has_message, has_number, past_all}
 use Rattle.record_store.specs.Adoption.{TellsRows, IsOverview, IsJudged, IsKeyed, named_hold, sorted_holds}
 use Rattle.record_store.specs.Revisions.{dues_in}
-use Rattle.record_store.specs.Captures.{due_before}
 use Rattle.record_store.specs.Counts.{count_at, tally}
-use Rattle.record_store.specs.Stores.{has_due, due_row, due_rows, hold_count, live_count}
+use Rattle.record_store.specs.Stores.{hold_count, live_count}
 use Rattle.record_store.specs.declared.overview.ArchiveRows.{ArchiveRows}
 use Rattle.record_store.specs.declared.overview.Overview.{Overview}
 use Rattle.record_store.proofs.AdoptHolds.{holds_permuted, holds_sorted, numbers_sorted, numbers_rise, tally-map, tally-permutation}

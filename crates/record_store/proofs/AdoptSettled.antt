@@ -1,5 +1,5 @@
 -- What transactions make of the rows that were found, and the store over them.
-use Rattle.std.proofs.Common.{◌≡◌, ◌-◌, ◌+◌, ◌≤◌, ℕ, List, [], ◌∷◌, map, pos, inl, inr, refl, sym, ap, subst, ◌∙◌, arith, false, IsTrue, IsErrAnd, Result, Err}
+use Rattle.std.proofs.Common.{◌≡◌, ◌-◌, ◌+◌, ◌≤◌, ℕ, List, [], ◌∷◌, pos, inl, refl, sym, ap, subst, ◌∙◌, arith, false, IsErrAnd, Result, Err}
 use Rattle.std.proofs.lemmas.Result.{err_from_is_err_and}
 use Rattle.sqlite.specs.Store.{Ghosts}
 use Rattle.sqlite.specs.Schema.{Schema}
@@ -17,10 +17,10 @@ use Rattle.record_tables.specs.Layouts.{IsLaid, IsMoved}
 use Rattle.record_tables.specs.Reads.{Pair}
 use Rattle.record_tables.specs.Steps.{CommitsNothingOf}
 use Rattle.record_rows.specs.Rules.{rules_of, classes_of}
-use Rattle.record_store.specs.Archive.{Archive, IsArchive, empty_archive}
+use Rattle.record_store.specs.Archive.{Archive, IsArchive}
 use Rattle.record_store.specs.Adoption.{FindsSecond, FindsFirst, FindsNothing, IsOverview, IsKeyed, LeavesArchive, first_pairs}
 use Rattle.record_store.specs.Counts.{count_at}
-use Rattle.record_store.specs.Stores.{StoresArchive, StandsFor, due_rows, hold_count, live_count}
+use Rattle.record_store.specs.Stores.{StoresArchive, StandsFor, due_rows}
 use Rattle.record_store.specs.declared.overview.Overview.{Overview}
 use Rattle.record_store.specs.declared.store.Store.{Store}
 use Rattle.record_store.proofs.StoreLemmas.{listed-numbered, rules-numbered, same_list, stores_laid}

@@ -12,10 +12,10 @@ use Rattle.class_plan.specs.Calendar.{due_on}
 use Rattle.record_tables.specs.Rows.{Tables, Message, Record, Due}
 use Rattle.record_tables.specs.Changes.{Puts, Turns, AreAscending, IsPastMessages, IsPastRecords, IsPastDues, with_message, with_record, with_due}
 use Rattle.record_tables.proofs.Loops.{puts_then, puts_as, nothing_yet}
-use Rattle.record_store.specs.Archive.{Archive, Hold, Line, IsArchive, IsRecord, is_live, is_named, has_message, has_number, next_number, past_all, records_of, new_records, captured, line_of}
+use Rattle.record_store.specs.Archive.{Archive, Hold, Line, IsArchive, IsRecord, is_live, is_named, has_message, has_number, next_number, past_all, records_of, new_records, after_capture, line_of}
 use Rattle.record_store.specs.Counts.{only_at, tally}
 use Rattle.record_store.proofs.HoldLemmas.{tally-append}
-use Rattle.record_store.specs.Captures.{with_records, with_more_dues, with_captured, AreAfter, ArePast, lines_of, due_before, dues_told}
+use Rattle.record_store.specs.Captures.{with_records, with_more_dues, with_captured, AreAfter, ArePast, lines_of, due_before, dues_of_lines}
 use Rattle.record_store.specs.Stores.{StoresArchive, has_due, due_row, due_rows, live_count}
 
 -- ---- lists that ascend
@@ -86,16 +86,16 @@ due-append : (n : ℕ) (o : Option ℕ) (xs ys : List Due) → due_before n o (x
 due-append n None xs ys = refl
 due-append n (Some d) xs ys = refl
 
-dues-push : (ls : List Line) (l : Line) → dues_told (ls ++ l ∷ []) ≡ dues_told ls ++ due_before l.number l.due []
+dues-push : (ls : List Line) (l : Line) → dues_of_lines (ls ++ l ∷ []) ≡ dues_of_lines ls ++ due_before l.number l.due []
 dues-push [] l = refl
-dues-push (x ∷ ls) l = ap (due_before x.number x.due) (dues-push ls l) ∙ due-append x.number x.due (dues_told ls) (due_before l.number l.due [])
+dues-push (x ∷ ls) l = ap (due_before x.number x.due) (dues-push ls l) ∙ due-append x.number x.due (dues_of_lines ls) (due_before l.number l.due [])
 
 -- one more line's due day, if it has one
 pub dues_next : {W : Type 0} (view : W → Line) (ws : List W) (w : W) (i : ℕ) (so_far new : List Due) → i < length ws → w ≡ get_or ws i w
-    → so_far ≡ dues_told (map view (take i ws)) → new ≡ so_far ++ due_before (view w).number (view w).due [] → new ≡ dues_told (map view (take (i + 1) ws))
+    → so_far ≡ dues_of_lines (map view (take i ws)) → new ≡ so_far ++ due_before (view w).number (view w).due [] → new ≡ dues_of_lines (map view (take (i + 1) ws))
 dues_next view ws w i so_far new low is before one =
     one ∙ ap (λ l. l ++ due_before (view w).number (view w).due []) before ∙ sym (dues-push (map view (take i ws)) (view w))
-    ∙ ap dues_told (sym (ap (map view) (take_more ws i w low) ∙ map-append view (take i ws) _ ∙ ap (λ x. map view (take i ws) ++ view x ∷ []) (sym is)))
+    ∙ ap dues_of_lines (sym (ap (map view) (take_more ws i w low) ∙ map-append view (take i ws) _ ∙ ap (λ x. map view (take i ws) ++ view x ∷ []) (sym is)))
 
 -- ---- records, one after another
 
@@ -161,7 +161,7 @@ past-new n m day (q ∷ qs) =
     let count : (n + 1) + length qs ≡ n + length (q ∷ qs) = omega arith in
     ap (λ k. past_all k (records_of (n + 1) m day qs)) top ∙ past-new (n + 1) m day qs ∙ count
 
-pub next_after : (a : Archive) (body : List ℕ) (day : ℕ) (q : List ℕ) (qs : List (List ℕ)) → next_number (captured a body day (q ∷ qs)) ≡ next_number a + length (q ∷ qs)
+pub next_after : (a : Archive) (body : List ℕ) (day : ℕ) (q : List ℕ) (qs : List (List ℕ)) → next_number (after_capture a body day (q ∷ qs)) ≡ next_number a + length (q ∷ qs)
 next_after a body day q qs = past-append 1 a.records (new_records a day (q ∷ qs)) ∙ past-new (next_number a) (next_number a) day (q ∷ qs)
 
 -- the lines of new records
@@ -170,15 +170,15 @@ lines_are a n m day [] = refl
 lines_are a n m day (q ∷ qs) = ap (λ l. record { number = n; path = q; due = due_on a.plan q day } ∷ l) (lines_are a (n + 1) m day qs)
 
 -- the due days of new records
-dues_are : (a : Archive) (n m day : ℕ) (qs : List (List ℕ)) → map (due_row a) (filter (has_due a) (records_of n m day qs)) ≡ dues_told (lines_of a.plan n day qs)
+dues_are : (a : Archive) (n m day : ℕ) (qs : List (List ℕ)) → map (due_row a) (filter (has_due a) (records_of n m day qs)) ≡ dues_of_lines (lines_of a.plan n day qs)
 dues_are a n m day [] = refl
 dues_are a n m day (q ∷ qs) = go (due_on a.plan q day) refl (dues_are a (n + 1) m day qs)
   where
     new : Record
     new = record { number = n; message = m; path = q; day = day; destroyed = false }
 
-    go : (o : Option ℕ) → due_on a.plan q day ≡ o → map (due_row a) (filter (has_due a) (records_of (n + 1) m day qs)) ≡ dues_told (lines_of a.plan (n + 1) day qs)
-        → map (due_row a) (cond (is_some o) (new ∷ filter (has_due a) (records_of (n + 1) m day qs)) (filter (has_due a) (records_of (n + 1) m day qs))) ≡ due_before n o (dues_told (lines_of a.plan (n + 1) day qs))
+    go : (o : Option ℕ) → due_on a.plan q day ≡ o → map (due_row a) (filter (has_due a) (records_of (n + 1) m day qs)) ≡ dues_of_lines (lines_of a.plan (n + 1) day qs)
+        → map (due_row a) (cond (is_some o) (new ∷ filter (has_due a) (records_of (n + 1) m day qs)) (filter (has_due a) (records_of (n + 1) m day qs))) ≡ due_before n o (dues_of_lines (lines_of a.plan (n + 1) day qs))
     go None is more = more
     go (Some d) is more = (λ i. record { number = n; day = unwrap_or (is i) 0 } ∷ more i)
 
@@ -237,7 +237,7 @@ new_rise : (n m day : ℕ) (qs : List (List ℕ)) → IsAscending (λ (x y : Rec
 new_rise n m day [] = tt
 new_rise n m day (q ∷ qs) = (all_weaker (λ (r : Record). ((n + 1) ≤ r.number) × (r.number < (n + 1) + length qs)) (λ (r : Record). n < r.number) (λ r h. omega (arith, h.0)) (records_of (n + 1) m day qs) (below_all (n + 1) m day qs), new_rise (n + 1) m day qs)
 
-records_rise : (a : Archive) → IsArchive a → (body : List ℕ) (day : ℕ) (q : List ℕ) (qs : List (List ℕ)) → IsAscending (λ (x y : Record). x.number < y.number) (captured a body day (q ∷ qs)).records
+records_rise : (a : Archive) → IsArchive a → (body : List ℕ) (day : ℕ) (q : List ℕ) (qs : List (List ℕ)) → IsAscending (λ (x y : Record). x.number < y.number) (after_capture a body day (q ∷ qs)).records
 records_rise a is body day q qs =
     let n = next_number a in
     asc_append (λ (x y : Record). x.number < y.number) a.records (new_records a day (q ∷ qs)) is.in_order (new_rise n n day (q ∷ qs))
@@ -245,10 +245,10 @@ records_rise a is body day q qs =
     (λ x low. all_weaker (λ (y : Record). (n ≤ y.number) × (y.number < n + length (q ∷ qs))) (λ (y : Record). x.number < y.number) (λ y h. omega (arith, low, h.0)) (new_records a day (q ∷ qs)) (below_all n n day (q ∷ qs))) a.records (past 1 a.records))
 
 pub captured_is_archive : (a : Archive) (body : List ℕ) (day : ℕ) (q : List ℕ) (qs : List (List ℕ)) → IsArchive a → day ≤ 84005 → next_number a + length (q ∷ qs) ≤ 2 ^ 32 → All (λ p. has a.plan.rows p ≡ true) (q ∷ qs)
-    → IsArchive (captured a body day (q ∷ qs))
+    → IsArchive (after_capture a body day (q ∷ qs))
 captured_is_archive a body day q qs is low room classes =
     let n = next_number a in
-    let b = captured a body day (q ∷ qs) in
+    let b = after_capture a body day (q ∷ qs) in
     let new : Message = record { number = n; body = body } in
     let there : has_message b.messages n ≡ true = any_right (λ (m : Message). m.number == n) a.messages (new ∷ []) (ap (λ b. b || false) (same_number n)) in
     let one : 1 ≤ n = least 1 a.records in
@@ -302,14 +302,14 @@ count_new k n day m (q ∷ qs) = go (m == n) refl (count_new (k + 1) n day m qs)
     go false is more = let none : cond {A = ℕ} (n == m) 1 0 ≡ 0 = ap (λ b. cond {A = ℕ} b 1 0) (other ∙ is) in omega (arith, none, more)
 
 -- the live records of each message after a capture
-pub count_captured : (a : Archive) (body : List ℕ) (day : ℕ) (q : List ℕ) (qs : List (List ℕ)) → IsArchive a → (m : ℕ) → live_count (captured a body day (q ∷ qs)) m - 1 ≡ (live_count a m - 1) + only_at (next_number a) (length qs) m
+pub count_captured : (a : Archive) (body : List ℕ) (day : ℕ) (q : List ℕ) (qs : List (List ℕ)) → IsArchive a → (m : ℕ) → live_count (after_capture a body day (q ∷ qs)) m - 1 ≡ (live_count a m - 1) + only_at (next_number a) (length qs) m
 count_captured a body day q qs is m =
     let n = next_number a in
-    let whole : live_count (captured a body day (q ∷ qs)) m ≡ live_count a m + only_at n (length (q ∷ qs)) m =
+    let whole : live_count (after_capture a body day (q ∷ qs)) m ≡ live_count a m + only_at n (length (q ∷ qs)) m =
     tally-append (λ (r : Record). is_live r && (r.message == m)) a.records (new_records a day (q ∷ qs)) ∙ ap (λ k. live_count a m + k) (count_new n n day m (q ∷ qs)) in
     go (m == n) refl whole
   where
-    go : (b : Bool) → (m == next_number a) ≡ b → live_count (captured a body day (q ∷ qs)) m ≡ live_count a m + cond b (length (q ∷ qs)) 0 → live_count (captured a body day (q ∷ qs)) m - 1 ≡ (live_count a m - 1) + cond b (length qs) 0
+    go : (b : Bool) → (m == next_number a) ≡ b → live_count (after_capture a body day (q ∷ qs)) m ≡ live_count a m + cond b (length (q ∷ qs)) 0 → live_count (after_capture a body day (q ∷ qs)) m - 1 ≡ (live_count a m - 1) + cond b (length qs) 0
     go true e whole =
         let same : m ≡ next_number a = grind arith in
         let none : live_count a m ≡ 0 = none_live a.records m (subst (λ k. AllByRecursion (λ (r : Record). r.message < k) a.records) (sym same) (messages_past a is)) in
@@ -319,13 +319,13 @@ count_captured a body day q qs is m =
 -- ---- the tables
 
 pub stores_captured : (a : Archive) (body : List ℕ) (day : ℕ) (q : List ℕ) (qs : List (List ℕ)) → IsArchive a → (was db : Database) → StoresArchive was a
-    → Turns was db (ArePast (next_number a) (dues_told (lines_of a.plan (next_number a) day (q ∷ qs)))) (with_captured (record { number = next_number a; body = body }) (new_records a day (q ∷ qs)) (dues_told (lines_of a.plan (next_number a) day (q ∷ qs))))
-    → StoresArchive db (captured a body day (q ∷ qs))
+    → Turns was db (ArePast (next_number a) (dues_of_lines (lines_of a.plan (next_number a) day (q ∷ qs)))) (with_captured (record { number = next_number a; body = body }) (new_records a day (q ∷ qs)) (dues_of_lines (lines_of a.plan (next_number a) day (q ∷ qs))))
+    → StoresArchive db (after_capture a body day (q ∷ qs))
 stores_captured a body day q qs is was db s turns =
     let n = next_number a in
-    let b = captured a body day (q ∷ qs) in
+    let b = after_capture a body day (q ∷ qs) in
     let rs = new_records a day (q ∷ qs) in
-    let ds = dues_told (lines_of a.plan n day (q ∷ qs)) in
+    let ds = dues_of_lines (lines_of a.plan n day (q ∷ qs)) in
     let new : Message = record { number = n; body = body } in
     let dues : due_rows a ++ ds ≡ due_rows b =
     ap (λ l. due_rows a ++ l) (sym (dues_are a n n day (q ∷ qs))) ∙ sym (map-append (due_row a) (filter (has_due a) a.records) (filter (has_due a) rs))

@@ -8,8 +8,8 @@ use Rattle.sqlite.specs.Held.{Held, state}
 use Rattle.sqlite.proofs.StateLemmas.{survives_weaker}
 use Rattle.record_tables.specs.Rows.{Due}
 use Rattle.record_tables.specs.Changes.{Turns}
-use Rattle.record_store.specs.Archive.{Archive, Line, next_number, records_of, captured, captured_lines, capture, has_room}
-use Rattle.record_store.specs.Captures.{with_captured, ArePast, lines_of, dues_told}
+use Rattle.record_store.specs.Archive.{Archive, Line, next_number, records_of, after_capture, captured_lines, capture, has_room}
+use Rattle.record_store.specs.Captures.{with_captured, ArePast, lines_of, dues_of_lines}
 use Rattle.record_store.specs.Counts.{count_at, only_at}
 use Rattle.record_store.specs.Stores.{StandsFor, StoresArchive, AreClasses, Becomes, Leaves, LeavesMade}
 use Rattle.record_store.specs.declared.fault.StoreFault.{StoreFault}
@@ -24,7 +24,7 @@ pub record Given {S : Type 0} (store : Store S) (d n : ℕ) (ps : List (List ℕ
   pub first : n ≡ store.next
   pub classes : AreClasses store.plan ps
   pub day : d ≤ 84005
-  pub dues : ds ≡ dues_told (lines_of store.plan n d ps)
+  pub dues : ds ≡ dues_of_lines (lines_of store.plan n d ps)
 
 abbrev Captures : Database → Database → List ℕ → ℕ → ℕ → List (List ℕ) → List Due → Type 0
 Captures was db body day n ps ds = Turns was db (ArePast n ds) (with_captured (record { number = n; body = body }) (records_of n n day ps) ds)
@@ -33,17 +33,17 @@ module _ {S : Type 0} (g : Ghosts S) (old : Store S) (a : Archive) (s : StandsFo
   numbered : n ≡ next_number a
   numbered = given.first ∙ s.next
 
-  by_plan : ds ≡ dues_told (lines_of a.plan (next_number a) day ps)
-  by_plan = given.dues ∙ (λ i. dues_told (lines_of (s.plan i) (numbered i) day ps))
+  by_plan : ds ≡ dues_of_lines (lines_of a.plan (next_number a) day ps)
+  by_plan = given.dues ∙ (λ i. dues_of_lines (lines_of (s.plan i) (numbered i) day ps))
 
   room_is : next_number a + length ps ≤ 2 ^ 32
   room_is = omega (arith, given.room, numbered)
 
-  turns_so : (was db : Database) (body : List ℕ) → Captures was db body day n ps ds → Captures was db body day (next_number a) ps (dues_told (lines_of a.plan (next_number a) day ps))
+  turns_so : (was db : Database) (body : List ℕ) → Captures was db body day n ps ds → Captures was db body day (next_number a) ps (dues_of_lines (lines_of a.plan (next_number a) day ps))
   turns_so was db body turns = subst (λ l. Captures was db body day (next_number a) ps l) by_plan (subst (λ k. Captures was db body day k ps ds) numbered turns)
 
 pub keeps_captured : {S : Type 0} (g : Ghosts S) (old : Store S) (a : Archive) → StandsFor g old a → (body : List ℕ) (day n : ℕ) (ps : List (List ℕ)) (ds : List Due) → Given old day n ps ds
-    → (was db : Database) → StoresArchive was a → Captures was db body day n ps ds → StoresArchive db (captured a body day ps)
+    → (was db : Database) → StoresArchive was a → Captures was db body day n ps ds → StoresArchive db (after_capture a body day ps)
 keeps_captured g old a s body day n [] ds given was db kept turns = absurd (omega (arith, given.some))
 keeps_captured g old a s body day n (q ∷ qs) ds given was db kept turns =
     stores_captured a body day q qs s.archive was db kept (turns_so g old a s day n (q ∷ qs) ds given was db body turns)
@@ -53,13 +53,13 @@ pub stands_captured : {S : Type 0} (g : Ghosts S) (old new : Store S) (a : Archi
     → ((m : ℕ) → count_at new.held m ≡ count_at old.held m) → ((m : ℕ) → count_at new.others m ≡ count_at old.others m + only_at n (length ps - 1) m)
     → (HasCleanDisk (state g new.conn) → HasCleanDisk (state g old.conn)) → (HasCleanDisk (state g new.conn) → IsTrue (state g new.conn).is_open → IsTrue (state g old.conn).is_open)
     → (HasCleanDisk (state g new.conn) → Captures (state g old.conn).now (state g new.conn).now body day n ps ds)
-    → StandsFor g new (captured a body day ps)
+    → StandsFor g new (after_capture a body day ps)
 stands_captured g old new a s body day n [] ds given idle plan next held others falls opened turns = absurd (omega (arith, given.some))
 stands_captured g old new a s body day n (q ∷ qs) ds given idle plan next held others falls opened turns =
     let same = numbered g old a s day n (q ∷ qs) ds given in
     let classes = subst (λ p. AreClasses p (q ∷ qs)) s.plan given.classes in
     let further : length (q ∷ qs) - 1 ≡ length qs = omega arith in
-    stands_turned g old new a (captured a body day (q ∷ qs)) (ArePast n ds) (with_captured (record { number = n; body = body }) (records_of n n day (q ∷ qs)) ds) s
+    stands_turned g old new a (after_capture a body day (q ∷ qs)) (ArePast n ds) (with_captured (record { number = n; body = body }) (records_of n n day (q ∷ qs)) ds) s
     (captured_is_archive a body day q qs s.archive given.day (room_is g old a s day n (q ∷ qs) ds given) classes.classes) idle (plan ∙ s.plan)
     (next ∙ ap (λ k. k + length (q ∷ qs)) same ∙ sym (next_after a body day q qs))
     (λ m. held m ∙ s.held m)
@@ -67,13 +67,13 @@ stands_captured g old new a s body day n (q ∷ qs) ds given idle plan next held
     falls opened turns (λ was db kept turn. keeps_captured g old a s body day n (q ∷ qs) ds given was db kept turn)
 
 abbrev Holds : Archive → List ℕ → ℕ → List (List ℕ) → Type 0
-Holds a body day ps = ◌≡◌ {A = Result Archive StoreFault} (Ok (captured a body day ps)) (Ok (captured a body day ps))
+Holds a body day ps = ◌≡◌ {A = Result Archive StoreFault} (Ok (after_capture a body day ps)) (Ok (after_capture a body day ps))
 
 pub leaves_captured : {S : Type 0} (g : Ghosts S) (old : Store S) (new : Held S) (a : Archive) → StandsFor g old a → (body : List ℕ) (day n : ℕ) (ps : List (List ℕ)) (ds : List Due) → Given old day n ps ds
     → Survives (state g old.conn) (state g new) (λ (trees : Trees). (db : Database) × Captures (state g old.conn).now db body day n ps ds × (trees ≡ db.trees))
-    → Survives (state g old.conn) (state g new) (λ (trees : Trees). (db : Database) × (IsTrue (state g old.conn).is_open → Holds a body day ps → StoresArchive db (captured a body day ps)) × (trees ≡ db.trees))
+    → Survives (state g old.conn) (state g new) (λ (trees : Trees). (db : Database) × (IsTrue (state g old.conn).is_open → Holds a body day ps → StoresArchive db (after_capture a body day ps)) × (trees ≡ db.trees))
 leaves_captured g old new a s body day n ps ds given made =
-    leaves_turned g old new a (captured a body day ps) (Holds a body day ps) (ArePast n ds) (with_captured (record { number = n; body = body }) (records_of n n day ps) ds) s
+    leaves_turned g old new a (after_capture a body day ps) (Holds a body day ps) (ArePast n ds) (with_captured (record { number = n; body = body }) (records_of n n day ps) ds) s
     (λ was db kept legal turn. keeps_captured g old a s body day n ps ds given was db kept turn) made
 
 -- ---- the command
@@ -86,16 +86,16 @@ pub has_no_room : (a : Archive) (ps : List (List ℕ)) → 0 < length ps → 2 ^
 has_no_room a [] some h = absurd (omega arith)
 has_no_room a (q ∷ qs) some h = grind arith
 
-pub is_captured : (a : Archive) (body : List ℕ) (day : ℕ) (ps : List (List ℕ)) → has_room a ps ≡ true → capture a body day ps ≡ Ok (captured a body day ps)
+pub is_captured : (a : Archive) (body : List ℕ) (day : ℕ) (ps : List (List ℕ)) → has_room a ps ≡ true → capture a body day ps ≡ Ok (after_capture a body day ps)
 is_captured a body day ps h = rw h refl
 
 pub obeys_captured : {S : Type 0} (g : Ghosts S) (new : Store S) (a : Archive) (body : List ℕ) (day : ℕ) (ps : List (List ℕ)) (lines : List Line) → next_number a + length ps ≤ 2 ^ 32
-    → StandsFor g new (captured a body day ps) → lines ≡ lines_of a.plan (next_number a) day ps → Becomes g new (capture a body day ps) × (lines ≡ captured_lines a day ps)
+    → StandsFor g new (after_capture a body day ps) → lines ≡ lines_of a.plan (next_number a) day ps → Becomes g new (capture a body day ps) × (lines ≡ captured_lines a day ps)
 obeys_captured g new a body day ps lines room s told =
     (subst (Becomes g new) (sym (is_captured a body day ps (has_its_room a ps room))) s, told ∙ sym (lines_are a (next_number a) (next_number a) day ps))
 
 pub leaves_command : {S : Type 0} (g : Ghosts S) (old new : Store S) (body : List ℕ) (day : ℕ) (ps : List (List ℕ)) → old.next + length ps ≤ 2 ^ 32
-    → LeavesMade g old new (λ a. Ok (captured a body day ps)) (λ a. captured a body day ps) → Leaves g old new (λ a. capture a body day ps)
+    → LeavesMade g old new (λ a. Ok (after_capture a body day ps)) (λ a. after_capture a body day ps) → Leaves g old new (λ a. capture a body day ps)
 leaves_command g old new body day ps room made a s is_open =
     survives_weaker (state g old.conn) (state g new.conn) _ _
-    (λ clean trees left. (left.0, captured a body day ps, is_captured a body day ps (has_its_room a ps (omega (arith, room, s.next))), left.1 is_open refl, left.2)) (made a s)
+    (λ clean trees left. (left.0, after_capture a body day ps, is_captured a body day ps (has_its_room a ps (omega (arith, room, s.next))), left.1 is_open refl, left.2)) (made a s)

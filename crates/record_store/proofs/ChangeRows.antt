@@ -1,10 +1,10 @@
 -- Destructions, revisions and added classes of small archives, computed.
 use Rattle.std.proofs.Common.{◌≡◌, ℕ, true, false, List, [], ◌∷◌, Some, Ok, Err, codes, refl}
+use Rattle.class_paths.specs.Path.{is_path, unfiled}
 use Rattle.class_plan.specs.declared.schedules.Action.TheVariants.{Destroy, Review}
 use Rattle.class_plan.specs.declared.schedules.Unit.TheVariants.{Days}
 use Rattle.class_plan.specs.declared.schedules.Schedule.TheVariants.{Permanent, After}
 use Rattle.class_plan.specs.declared.faults.PlanFault.TheVariants as plan_fault
-use Rattle.class_plan.specs.Paths.{is_path, unfiled}
 use Rattle.class_plan.specs.Plans.{Listing, open_row}
 use Rattle.record_tables.specs.Rows.{Record, Message}
 use Rattle.record_store.specs.Archive as archive

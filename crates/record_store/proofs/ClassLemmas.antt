@@ -1,5 +1,5 @@
 -- A class that is added: its row, and the due days, which stay.
-use Rattle.std.proofs.Common.{◌≡◌, ℕ, Bool, true, false, cond, ◌&&◌, ◌||◌, List, [], ◌∷◌, ◌++◌, map, filter, Option, Some, None, is_some, option_map, option_and_then, unwrap_or, Ordering, Less, Equal, Greater, nat_cmp, is_eq, Ok, refl, sym, ap, subst, ◌∙◌, arith, rules, true≢false, IsPermutation}
+use Rattle.std.proofs.Common.{◌≡◌, ℕ, Bool, true, false, cond, ◌&&◌, ◌||◌, List, [], ◌∷◌, ◌++◌, map, filter, Option, Some, None, is_some, option_map, option_and_then, unwrap_or, Ordering, Less, Equal, Greater, nat_cmp, is_eq, Ok, refl, sym, ap, subst, ◌∙◌, rules, true≢false, IsPermutation}
 use Rattle.std.specs.Str.{bytes_eq}
 use Rattle.std.specs.List.{AllByRecursion, All}
 use Rattle.std.specs.Cmp.Lexicographic.{slice_cmp}
@@ -12,15 +12,15 @@ use Rattle.sqlite.specs.Store.{Ghosts}
 use Rattle.sqlite.specs.Effect.{Database}
 use Rattle.sqlite.specs.Held.{state}
 use Rattle.sqlite.proofs.StateLemmas.{survives_weaker}
-use Rattle.class_plan.specs.Changes.{added, with_class}
+use Rattle.class_paths.specs.Path.{ancestors}
+use Rattle.class_plan.specs.Changes.{addition, with_class}
 use Rattle.class_plan.specs.Calendar.{due_on, due_by}
-use Rattle.class_plan.specs.Paths.{ancestors}
-use Rattle.class_plan.specs.Plans.{Row, Listing, IsPlan, found, has, put, open_row, own_at, first_own, schedule_at}
+use Rattle.class_plan.specs.Plans.{Row, Listing, IsPlan, row_at, has, with_row, open_row, own_at, first_own, schedule_at}
 use Rattle.class_plan.proofs.Put.{placed, put-cons, has-put, say-put}
 use Rattle.class_plan.proofs.Removed.{head_other, tail_other, added-new}
 use Rattle.record_tables.specs.Rows.{Record}
 use Rattle.record_tables.specs.Changes as tables
-use Rattle.record_tables.specs.Changes.{Listed, Rule, Turns, Always}
+use Rattle.record_tables.specs.Changes.{Listed}
 use Rattle.record_tables.specs.Reads.{listed}
 use Rattle.record_rows.specs.Rules.{rule_at, own_rules, with_own, listed_row}
 use Rattle.record_store.specs.Archive.{Archive, IsArchive, IsRecord, due_of, is_live, add_class, plan_answer}
@@ -34,21 +34,21 @@ use Rattle.record_store.specs.declared.store.Store.{Store}
 not_equal : (r x : Row) → bytes_eq r.path x.path ≡ false → Equal ≡ slice_cmp nat_cmp r.path x.path → ⊥
 not_equal r x apart e = true≢false (ap is_eq e ∙ is_eq-slice_cmp r.path x.path ∙ apart)
 
-put_permutes : (r : Row) (xs : List Row) → has xs r.path ≡ false → IsPermutation (xs ++ r ∷ []) (put r xs)
+put_permutes : (r : Row) (xs : List Row) → has xs r.path ≡ false → IsPermutation (xs ++ r ∷ []) (with_row r xs)
 put_permutes r [] h = IsPermutation-refl (r ∷ [])
 put_permutes r (x ∷ xs) h = subst (IsPermutation ((x ∷ xs) ++ r ∷ [])) (sym (put-cons r x xs)) (go (slice_cmp nat_cmp r.path x.path) refl (put_permutes r xs (tail_other r.path x xs h)))
   where
-    go : (o : Ordering) → o ≡ slice_cmp nat_cmp r.path x.path → IsPermutation (xs ++ r ∷ []) (put r xs) → IsPermutation ((x ∷ xs) ++ r ∷ []) (placed o r x xs)
+    go : (o : Ordering) → o ≡ slice_cmp nat_cmp r.path x.path → IsPermutation (xs ++ r ∷ []) (with_row r xs) → IsPermutation ((x ∷ xs) ++ r ∷ []) (placed o r x xs)
     go Less e more = IsPermutation-to_front (x ∷ xs) r
     go Equal e more = absurd (not_equal r x (head_other r.path x xs h) e)
-    go Greater e more = IsPermutation-cons x (xs ++ r ∷ []) (put r xs) more
+    go Greater e more = IsPermutation-cons x (xs ++ r ∷ []) (with_row r xs) more
 
 -- an open class without a schedule adds no row of one
-rules_stay : (path : List ℕ) (xs : List Row) → has xs path ≡ false → own_rules (put (open_row path) xs) ≡ own_rules xs
+rules_stay : (path : List ℕ) (xs : List Row) → has xs path ≡ false → own_rules (with_row (open_row path) xs) ≡ own_rules xs
 rules_stay path [] h = refl
 rules_stay path (x ∷ xs) h = ap own_rules (put-cons (open_row path) x xs) ∙ go (slice_cmp nat_cmp path x.path) refl (rules_stay path xs (tail_other path x xs h))
   where
-    go : (o : Ordering) → o ≡ slice_cmp nat_cmp path x.path → own_rules (put (open_row path) xs) ≡ own_rules xs → own_rules (placed o (open_row path) x xs) ≡ own_rules (x ∷ xs)
+    go : (o : Ordering) → o ≡ slice_cmp nat_cmp path x.path → own_rules (with_row (open_row path) xs) ≡ own_rules xs → own_rules (placed o (open_row path) x xs) ≡ own_rules (x ∷ xs)
     go Less e more = refl
     go Equal e more = absurd (not_equal (open_row path) x (head_other path x xs h) e)
     go Greater e more = ap (with_own x.path x.schedule) more
@@ -63,25 +63,25 @@ same_path : (q r : List ℕ) → bytes_eq q r ≡ true → q ≡ r
 same_path q r h = search rules
 
 none_at : (rows : List Row) (path : List ℕ) → has rows path ≡ false → own_at rows path ≡ None
-none_at rows path h = go (found path rows) h
+none_at rows path h = go (row_at path rows) h
   where
     go : (o : Option Row) → is_some o ≡ false → option_and_then (λ (r : Row). r.schedule) o ≡ None
     go None h = refl
     go (Some r) h = absurd (true≢false h)
 
-own_same : (path : List ℕ) (xs : List Row) → has xs path ≡ false → (y : List ℕ) → own_at (put (open_row path) xs) y ≡ own_at xs y
+own_same : (path : List ℕ) (xs : List Row) → has xs path ≡ false → (y : List ℕ) → own_at (with_row (open_row path) xs) y ≡ own_at xs y
 own_same path xs h y =
-    own_say (found y (put (open_row path) xs)) ∙ say-put (λ (r : Row). r.schedule) None y (open_row path) xs ∙ go (bytes_eq y path) refl
+    own_say (row_at y (with_row (open_row path) xs)) ∙ say-put (λ (r : Row). r.schedule) None y (open_row path) xs ∙ go (bytes_eq y path) refl
   where
-    go : (b : Bool) → bytes_eq y path ≡ b → cond b None (unwrap_or (option_map (λ (r : Row). r.schedule) (found y xs)) None) ≡ own_at xs y
+    go : (b : Bool) → bytes_eq y path ≡ b → cond b None (unwrap_or (option_map (λ (r : Row). r.schedule) (row_at y xs)) None) ≡ own_at xs y
     go true e = sym (ap (own_at xs) (same_path y path e) ∙ none_at xs path h)
-    go false e = sym (own_say (found y xs))
+    go false e = sym (own_say (row_at y xs))
 
 first_same : (p : Listing) (path : List ℕ) → has p.rows path ≡ false → (qs : List (List ℕ)) → first_own (with_class p path) qs ≡ first_own p qs
 first_same p path h [] = refl
 first_same p path h (q ∷ qs) = λ i. unwrap_or (own_same path p.rows h q i) (first_same p path h qs i)
 
-has_more : (path : List ℕ) (xs : List Row) (y : List ℕ) → has xs y ≡ true → has (put (open_row path) xs) y ≡ true
+has_more : (path : List ℕ) (xs : List Row) (y : List ℕ) → has xs y ≡ true → has (with_row (open_row path) xs) y ≡ true
 has_more path xs y h = has-put y (open_row path) xs ∙ ap (λ b. bytes_eq y path || b) h ∙ or_true (bytes_eq y path)
   where
     or_true : (b : Bool) → (b || true) ≡ true
@@ -132,9 +132,9 @@ pub stores_added : (a : Archive) (path : List ℕ) → IsArchive a → has a.pla
 stores_added a path is h was db s turns =
     let made = turns.stored s.tables s.stored s.keyed tt in
     let new : Listed = listed_row (open_row path) in
-    let classes : IsPermutation (map listed s.tables.classes ++ new ∷ []) (map listed_row (put (open_row path) a.plan.rows)) =
+    let classes : IsPermutation (map listed s.tables.classes ++ new ∷ []) (map listed_row (with_row (open_row path) a.plan.rows)) =
     IsPermutation-trans _ _ _ (IsPermutation-append_left (new ∷ []) _ _ s.keeps.classes)
-    (subst (λ l. IsPermutation l (map listed_row (put (open_row path) a.plan.rows))) (map-append listed_row a.plan.rows (open_row path ∷ [])) (IsPermutation-map listed_row _ _ (put_permutes (open_row path) a.plan.rows h))) in
+    (subst (λ l. IsPermutation l (map listed_row (with_row (open_row path) a.plan.rows))) (map-append listed_row a.plan.rows (open_row path ∷ [])) (IsPermutation-map listed_row _ _ (put_permutes (open_row path) a.plan.rows h))) in
     record {
       tables = tables.with_class path true None s.tables;
       stored = made.0;
@@ -144,7 +144,7 @@ stores_added a path is h was db s turns =
         records = s.keeps.records;
         holds = s.keeps.holds;
         settings = s.keeps.settings;
-        classes = subst (λ l. IsPermutation l (map listed_row (put (open_row path) a.plan.rows))) (sym (map-append listed s.tables.classes _)) classes;
+        classes = subst (λ l. IsPermutation l (map listed_row (with_row (open_row path) a.plan.rows))) (sym (map-append listed s.tables.classes _)) classes;
         schedules = subst (IsPermutation _) (ap (λ l. rule_at [] a.plan.root ∷ l) (sym (rules_stay path a.plan.rows h))) s.keeps.schedules;
       };
       dues = s.dues ∙ dues_stay a path is h;
@@ -152,9 +152,9 @@ stores_added a path is h was db s turns =
 
 -- ---- the command
 
-module _ (a : Archive) (p q : Listing) (path : List ℕ) (same : p ≡ a.plan) (made : added p path ≡ Ok q) where
-  by_archive : added a.plan path ≡ Ok q
-  by_archive = subst (λ l. added l path ≡ Ok q) same made
+module _ (a : Archive) (p q : Listing) (path : List ℕ) (same : p ≡ a.plan) (made : addition p path ≡ Ok q) where
+  by_archive : addition a.plan path ≡ Ok q
+  by_archive = subst (λ l. addition l path ≡ Ok q) same made
 
   news : (q ≡ with_class a.plan path) × (has a.plan.rows path ≡ false)
   news = added-new a.plan q path by_archive
@@ -175,7 +175,7 @@ module _ (a : Archive) (p q : Listing) (path : List ℕ) (same : p ≡ a.plan) (
   pub same_dues : IsArchive a → All (λ (r : Record). due_on q r.path r.day ≡ due_on p r.path r.day) a.records
   same_dues is = λ i d low. due_of_each _ (is.records i d low)
 
-pub leaves_added : {S : Type 0} (g : Ghosts S) (old new : Store S) (path : List ℕ) (q : Listing) → added old.plan path ≡ Ok q
+pub leaves_added : {S : Type 0} (g : Ghosts S) (old new : Store S) (path : List ℕ) (q : Listing) → addition old.plan path ≡ Ok q
     → LeavesMade g old new (λ a. Ok (with_plan a q)) (λ a. with_plan a q) → Leaves g old new (λ a. add_class a path)
 leaves_added g old new path q made left a s is_open =
     survives_weaker (state g old.conn) (state g new.conn) _ _ (λ clean trees it. (it.0, with_plan a q, is_added a old.plan q path s.plan made, it.1 is_open refl, it.2)) (left a s)

@@ -17,7 +17,7 @@ use Rattle.record_tables.specs.Rows.{Record, Due}
 use Rattle.record_tables.specs.Reads as reads
 use Rattle.record_tables.specs.DueRecords.{DueRecord, due_record, is_of, with_records}
 use Rattle.record_store.specs.Archive.{Line, Archive, Hold, IsArchive, line_of, due_of, is_due, is_by, is_live, is_held, line_cmp, due_list}
-use Rattle.record_store.specs.Dues.{told, due_records}
+use Rattle.record_store.specs.Dues.{due_line, due_records}
 use Rattle.record_store.specs.Stores.{has_due, due_row, due_rows, hold_count}
 
 module _ {X : Type 0} (cmp : X → X → Ordering) (total : IsTotalOrder cmp) where
@@ -166,7 +166,7 @@ there_is true false None day h = absurd (true≢false (sym h))
 there_is false held None day h = absurd (true≢false (sym h))
 
 -- THE DUE LIST: the lines of the due records up to a day, in their order, without those that are held
-pub due_list_is : (a : Archive) → IsArchive a → (day : ℕ) → map told (filter (λ d. not (is_held a d.number)) (due_records a day)) ≡ due_list a day
+pub due_list_is : (a : Archive) → IsArchive a → (day : ℕ) → map due_line (filter (λ d. not (is_held a d.number)) (due_records a day)) ≡ due_list a day
 due_list_is a is day =
     let D = due_row a in
     let E : Record → DueRecord = λ r. due_record (D r) r in
@@ -190,15 +190,15 @@ due_list_is a is day =
     ∙ filter_same _ (is_due a day) (λ r. tests_are (is_live r) (is_held a r.number) (due_of a r) day) R in
     let Z = filter (is_due a day) R in
     let order : c ≡ (λ r s. line_cmp (line_of a r) (line_of a s)) = λ i r s. ordering_then (cmp_is (D r).day (D s).day i) (cmp_is r.number s.number i) in
-    let lines : AllByRecursion (λ r. told (E r) ≡ line_of a r) (sort_by c Z) =
-    all-sort c total (λ r. told (E r) ≡ line_of a r) Z
-    (all_found (λ r. told (E r) ≡ line_of a r) (is_due a day) R
+    let lines : AllByRecursion (λ r. due_line (E r) ≡ line_of a r) (sort_by c Z) =
+    all-sort c total (λ r. due_line (E r) ≡ line_of a r) Z
+    (all_found (λ r. due_line (E r) ≡ line_of a r) (is_due a day) R
     (λ r due. λ i. record { number = r.number; path = r.path; due = there_is (is_live r) (is_held a r.number) (due_of a r) day due i })) in
-    ap (λ l. map told (filter (λ d. not (is_held a d.number)) (with_records R (sort_by reads.due_cmp l)))) first
-    ∙ ap (λ l. map told (filter (λ d. not (is_held a d.number)) (with_records R l))) second
-    ∙ ap (λ l. map told (filter (λ d. not (is_held a d.number)) l)) third
-    ∙ ap (map told) (filter-map (λ d. not (is_held a d.number)) E (sort_by c X1) ∙ ap (map E) (fourth ∙ ap (sort_by c) all))
-    ∙ map-map told E (sort_by c Z)
+    ap (λ l. map due_line (filter (λ d. not (is_held a d.number)) (with_records R (sort_by reads.due_cmp l)))) first
+    ∙ ap (λ l. map due_line (filter (λ d. not (is_held a d.number)) (with_records R l))) second
+    ∙ ap (λ l. map due_line (filter (λ d. not (is_held a d.number)) l)) third
+    ∙ ap (map due_line) (filter-map (λ d. not (is_held a d.number)) E (sort_by c X1) ∙ ap (map E) (fourth ∙ ap (sort_by c) all))
+    ∙ map-map due_line E (sort_by c Z)
     ∙ map_same_on _ (line_of a) (sort_by c Z) lines
     ∙ ap (λ k. map (line_of a) (sort_by k Z)) order
     ∙ sym (sort_by-map line_cmp (line_of a) Z)
@@ -235,7 +235,7 @@ unheld_are a counts are = filter_same _ _ (λ d. unheld_is a d.number (counts d.
 -- ---- one due record after another
 
 abbrev pub lines_told : {V : Type 0} → (DueRecord → Bool) → (V → DueRecord) → List V → List Line
-lines_told p f vs = map told (filter p (map f vs))
+lines_told p f vs = map due_line (filter p (map f vs))
 
 pub is_zero : (k : ℕ) → k ≡ 0 → (k == 0) ≡ true
 is_zero k h = grind arith
@@ -245,16 +245,16 @@ is_not_zero zero h = absurd (h refl)
 is_not_zero (suc k) h = positive k
 
 module _ {L V : Type 0} (view : L → Line) (f : V → DueRecord) (p : DueRecord → Bool) where
-  pub line_more : (lines : List L) (l : L) (v : V) (rest : List V) → view l ≡ told (f v) → p (f v) ≡ true
+  pub line_more : (lines : List L) (l : L) (v : V) (rest : List V) → view l ≡ due_line (f v) → p (f v) ≡ true
       → map view (lines ++ l ∷ []) ++ lines_told p f rest ≡ map view lines ++ lines_told p f (v ∷ rest)
   line_more lines l v rest is kept =
       ap (λ k. k ++ lines_told p f rest) (map-append view lines (l ∷ [])) ∙ append_assoc (map view lines) (view l ∷ []) (lines_told p f rest)
       ∙ ap (λ x. map view lines ++ x ∷ lines_told p f rest) is
-      ∙ sym (ap (λ b. map view lines ++ map told (cond b (f v ∷ filter p (map f rest)) (filter p (map f rest)))) kept)
+      ∙ sym (ap (λ b. map view lines ++ map due_line (cond b (f v ∷ filter p (map f rest)) (filter p (map f rest)))) kept)
 
 module _ {V : Type 0} (f : V → DueRecord) (p : DueRecord → Bool) where
   pub line_none : (v : V) (rest : List V) → p (f v) ≡ false → lines_told p f rest ≡ lines_told p f (v ∷ rest)
-  line_none v rest out = sym (ap (λ b. map told (cond b (f v ∷ filter p (map f rest)) (filter p (map f rest)))) out)
+  line_none v rest out = sym (ap (λ b. map due_line (cond b (f v ∷ filter p (map f rest)) (filter p (map f rest)))) out)
 
 pub no_items : {X : Type 0} (xs : List X) (n : ℕ) → n ≡ length xs → n ≡ 0 → xs ≡ []
 no_items [] n is none = refl

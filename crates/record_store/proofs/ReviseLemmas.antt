@@ -38,7 +38,7 @@ has_kept K (x ∷ rows) q h all = go (bytes_eq q x.path) refl h (has_kept K rows
     both true false e = absurd cc
     both false b e = absurd cc
 
-    go : (b : Bool) → bytes_eq q x.path ≡ b → is_some (cond b (Some x) (plans.found q rows)) ≡ true
+    go : (b : Bool) → bytes_eq q x.path ≡ b → is_some (cond b (Some x) (plans.row_at q rows)) ≡ true
         → (has rows q ≡ true → list_all (λ (r : plans.Row). K r.path) rows ≡ true → K q ≡ true) → K q ≡ true
     go true e found more = subst (λ z. K z ≡ true) (sym (same_path q x.path e)) (both (K x.path) _ all).0
     go false e found more = more found (both (K x.path) _ all).1

@@ -1,10 +1,10 @@
 -- A worked session, by the definitions.
 use Rattle.std.proofs.Common.{◌≡◌, ℕ, [], ◌∷◌, Some, Ok, Err, codes, refl, true, false}
+use Rattle.class_paths.specs.Path.{unfiled}
 use Rattle.class_plan.specs.declared.schedules.Unit.TheVariants.{Months, Years}
 use Rattle.class_plan.specs.declared.schedules.Action.TheVariants.{Destroy}
 use Rattle.class_plan.specs.declared.schedules.Schedule.TheVariants.{Permanent, After}
 use Rattle.class_plan.specs.Plans.{Listing, open_row}
-use Rattle.class_plan.specs.Paths.{unfiled}
 use Rattle.jiff_core.specs.Calendar.{days_from_civil, day_count, days_of_years, days_of_months}
 use Rattle.record_store.specs.declared.fault.StoreFault.TheVariants as fault
 use Rattle.class_plan.specs.Calendar.{civil, due_on, due_by}

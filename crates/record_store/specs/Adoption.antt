@@ -17,7 +17,7 @@ use Rattle.record_tables.specs.Changes.{Listed, Rule}
 use Rattle.record_tables.specs.Reads.{Named, Pair, listed, paired, named_cmp, ArePaired, AreListed, AreRules}
 use Rattle.record_tables.specs.Typed.{record_of, named_of, listed_of, rule_of, due_of}
 use Rattle.record_tables.specs.Steps.{IsIdle, Falls, IsStill, CommitsNothingOf}
-use Rattle.record_rows.specs.Judged.{AreRows}
+use Rattle.record_rows.specs.SoundRows.{AreRows}
 use Rattle.record_rows.specs.Rules.{rules_of, classes_of}
 use Rattle.record_rows.specs.Texts.{text_row}
 use Rattle.record_store.specs.Archive.{Archive, Hold, IsArchive, empty_archive, is_hold, next_number}

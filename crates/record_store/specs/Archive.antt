@@ -11,7 +11,7 @@ use Rattle.class_plan.specs.declared.faults.PlanFault.TheVariants.{PathDropped}
 use Rattle.class_plan.specs.declared.schedules.Action.TheVariants.{Destroy}
 use Rattle.class_plan.specs.declared.schedules.Schedule.{Schedule}
 use Rattle.class_plan.specs.declared.schedules.Schedule.TheVariants.{After}
-use Rattle.class_plan.specs.Changes.{added}
+use Rattle.class_plan.specs.Changes.{addition}
 use Rattle.class_plan.specs.Plans.{Listing, IsPlan, first_plan, has, keeps, schedule_at}
 use Rattle.record_tables.specs.Rows.{Message, Record}
 use Rattle.class_plan.specs.Calendar.{due_on}
@@ -97,9 +97,9 @@ abbrev pub new_records : Archive → ℕ → List (List ℕ) → List Record
 new_records a day paths = records_of (next_number a) (next_number a) day paths
 
 -- one message and a record for each path; nothing where there is no path
-abbrev pub captured : Archive → List ℕ → ℕ → List (List ℕ) → Archive
-captured a body day [] = a
-captured a body day (q ∷ qs) = record a { messages = a.messages ++ record { number = next_number a; body = body } ∷ []; records = a.records ++ new_records a day (q ∷ qs) }
+abbrev pub after_capture : Archive → List ℕ → ℕ → List (List ℕ) → Archive
+after_capture a body day [] = a
+after_capture a body day (q ∷ qs) = record a { messages = a.messages ++ record { number = next_number a; body = body } ∷ []; records = a.records ++ new_records a day (q ∷ qs) }
 
 -- a capture needs its numbers to be at most 4,294,967,295
 abbrev pub has_room : Archive → List (List ℕ) → Bool
@@ -107,7 +107,7 @@ has_room a [] = true
 has_room a (q ∷ qs) = nat_le (next_number a + length (q ∷ qs)) (2 ^ 32)
 
 abbrev pub capture : Archive → List ℕ → ℕ → List (List ℕ) → Result Archive StoreFault
-capture a body day paths = if has_room a paths then Ok (captured a body day paths) else Err fault.Full
+capture a body day paths = if has_room a paths then Ok (after_capture a body day paths) else Err fault.Full
 
 -- what a capture answers: a line for each new record
 abbrev pub captured_lines : Archive → ℕ → List (List ℕ) → List Line
@@ -178,7 +178,7 @@ plan_answer a (Ok p) = Ok (record a { plan = p })
 plan_answer a (Err f) = Err (fault.Plan f)
 
 abbrev pub add_class : Archive → List ℕ → Result Archive StoreFault
-add_class a q = plan_answer a (added a.plan q)
+add_class a q = plan_answer a (addition a.plan q)
 
 abbrev pub revise : Archive → Listing → Result Archive StoreFault
 revise a p = if keeps a.plan p then Ok (record a { plan = p }) else Err (fault.Plan PathDropped)

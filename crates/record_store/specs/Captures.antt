@@ -35,9 +35,9 @@ due_before n None ds = ds
 due_before n (Some day) ds = record { number = n; day = day } ∷ ds
 
 -- the due days of lines
-abbrev pub dues_told : List Line → List Due
-dues_told [] = []
-dues_told (l ∷ ls) = due_before l.number l.due (dues_told ls)
+abbrev pub dues_of_lines : List Line → List Due
+dues_of_lines [] = []
+dues_of_lines (l ∷ ls) = due_before l.number l.due (dues_of_lines ls)
 
 -- the due date, if there is one, has a day number of 1970 to 9999
 abbrev pub HasDueDay : code.Line → Type 0

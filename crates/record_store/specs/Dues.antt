@@ -11,5 +11,5 @@ abbrev pub due_records : Archive → ℕ → List DueRecord
 due_records a day = with_records a.records (sort_by due_cmp (filter (is_by day) (due_rows a)))
 
 -- the line of a record that is due
-abbrev pub told : DueRecord → Line
-told d = record { number = d.number; path = d.path; due = Some d.day }
+abbrev pub due_line : DueRecord → Line
+due_line d = record { number = d.number; path = d.path; due = Some d.day }

@@ -8,7 +8,7 @@ ghost use Rattle.class_plan.specs.Calendar.{number_of_day, due_on};
 ghost use Rattle.record_tables.specs.Typed.{due_of};
 ghost use Rattle.record_store.specs.Archive as archive;
 ghost use Rattle.record_store.specs.Archive.{Archive};
-ghost use Rattle.record_store.specs.Captures.{HasDueDay, lines_of, dues_told, due_before};
+ghost use Rattle.record_store.specs.Captures.{HasDueDay, lines_of, dues_of_lines, due_before};
 ghost use Rattle.record_store.specs.Stores.{StandsFor, AreClasses, Obeys, Leaves, LeavesMade, Falls, line_view, is_trouble};
 
 use crate::fault::StoreFault;
@@ -49,7 +49,7 @@ fn push_due(dues: &mut Vec<DueRow>, line: &Line) -> Result<(), AllocError>
 /// The due days of lines.
 fn due_rows(alloc: Global, lines: &[Line]) -> Result<Vec<DueRow>, AllocError>
     requires { All HasDueDay lines.now }
-    ensures { IfOk result (λ v. map due_of v.items ≡ dues_told (map line_view lines.now)) }
+    ensures { IfOk result (λ v. map due_of v.items ≡ dues_of_lines (map line_view lines.now)) }
 {
     let mut dues = Vec::new(alloc);
     for line in lines {
@@ -104,15 +104,15 @@ impl<S: Alter> Store<S> {
         requires classes { AreClasses self.old.plan (map (λ p. p.items) paths.now) }
         requires day { day ≤ 84005 }
         requires dues { map due_of dues.now ≡
-            dues_told (lines_of self.old.plan first day (map (λ p. p.items) paths.now)) }
+            dues_of_lines (lines_of self.old.plan first day (map (λ p. p.items) paths.now)) }
         ensures ok { OnOk result ((a : Archive) → StandsFor S.Store self.old a →
-            StandsFor S.Store self.new (archive.captured a body.now day (map (λ p. p.items) paths.now))) }
+            StandsFor S.Store self.new (archive.after_capture a body.now day (map (λ p. p.items) paths.now))) }
         ensures err { OnErr result ((a : Archive) → StandsFor S.Store self.old a → StandsFor S.Store self.new a) }
         ensures trouble { IfErr result (λ f. is_trouble f ≡ true) }
         ensures falls { Falls S.Store self.old self.new }
         ensures crash { LeavesMade S.Store self.old self.new
-            (λ a. Ok (archive.captured a body.now day (map (λ p. p.items) paths.now)))
-            (λ a. archive.captured a body.now day (map (λ p. p.items) paths.now)) }
+            (λ a. Ok (archive.after_capture a body.now day (map (λ p. p.items) paths.now)))
+            (λ a. archive.after_capture a body.now day (map (λ p. p.items) paths.now)) }
     {
         if !self.conn.is_autocommit() {
             return Err(StoreFault::BUSY);

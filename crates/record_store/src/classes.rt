@@ -3,7 +3,7 @@
 ghost use Rattle.std.specs.Prelude.{◌≡◌, true, false, Ok, Err, IfErr, OnOk, OnErr};
 ghost use Rattle.std.specs.List.{All};
 ghost use Rattle.class_plan.specs.Calendar.{due_on};
-ghost use Rattle.class_plan.specs.Changes.{added};
+ghost use Rattle.class_plan.specs.Changes.{addition};
 ghost use Rattle.class_plan.specs.Plans.{IsPlan};
 ghost use Rattle.record_tables.specs.Steps.{CommitsWhole, Makes, IsUndone, WasOpen};
 ghost use Rattle.record_store.specs.Archive as archive;
@@ -35,9 +35,9 @@ fn put_class<S: Alter>(conn: &mut Connection<S>, path: &[u8]) -> Result<(), Erro
 
 /// Adds an open class to a plan; refused with 52, 53, 54 or 56.
 fn plan_class(plan: &mut Plan, path: &[u8]) -> Result<(), StoreFault>
-    ensures ok { OnOk result (added plan.old path.now ≡ Ok plan.new) }
+    ensures ok { OnOk result (addition plan.old path.now ≡ Ok plan.new) }
     ensures err { IfErr result (λ f. is_trouble f ≡ false → (a : Archive) →
-        archive.plan_answer a (added plan.old path.now) ≡ Err f) }
+        archive.plan_answer a (addition plan.old path.now) ≡ Err f) }
     ensures unchanged { OnErr result (plan.new ≡ plan.old) }
     ensures plans { IsPlan plan.old × IsPlan plan.new }
 {

@@ -6,7 +6,7 @@ ghost use Rattle.class_plan.specs.Calendar.{number_of_day};
 ghost use Rattle.record_tables.specs.DueRecords.{due_record_of};
 ghost use Rattle.record_store.specs.Archive.{Archive, due_list};
 ghost use Rattle.record_store.specs.Counts.{count_at};
-ghost use Rattle.record_store.specs.Dues.{due_records, told};
+ghost use Rattle.record_store.specs.Dues.{due_records, due_line};
 ghost use Rattle.record_store.specs.Stores.{StandsFor, Tells, LeavesAll, Falls, line_view, is_trouble};
 
 use crate::captures::number_of;
@@ -19,7 +19,7 @@ use record_tables::rows::DueRecordRow;
 use sqlite::Alter;
 
 fn line_of(due: DueRecordRow) -> Result<Line, StoreFault>
-    ensures line { IfOk result (λ l. line_view l ≡ told (due_record_of due)) }
+    ensures line { IfOk result (λ l. line_view l ≡ due_line (due_record_of due)) }
     ensures trouble { IfErr result (λ f. is_trouble f ≡ true) }
 {
     let Some(date) = date_of(i64::from(due.day)) else {
@@ -51,7 +51,7 @@ impl<S: Alter> Store<S> {
     /// The lines of the records that no hold keeps.
     fn unheld_lines(&self, due: Vec<DueRecordRow>) -> Result<Vec<Line>, StoreFault>
         ensures lines { IfOk result (λ lines. map line_view lines.items ≡
-            map told (filter (λ d. count_at self.now.held d.number == 0) (map due_record_of due.items))) }
+            map due_line (filter (λ d. count_at self.now.held d.number == 0) (map due_record_of due.items))) }
         ensures trouble { IfErr result (λ f. is_trouble f ≡ true) }
     {
         let mut lines = Vec::new(self.alloc);

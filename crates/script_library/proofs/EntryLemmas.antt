@@ -8,7 +8,7 @@ use Rattle.std.proofs.lemmas.List.Quantifiers.{position-Some}
 use Rattle.std.proofs.lemmas.Option.{slice_get-map, slice_get_read}
 use Rattle.script_library.specs.declared.shelf.Entry.{Entry}
 use Rattle.script_library.specs.Entries.{entry_of}
-use Rattle.script_library.specs.Libraries.{NamedScript, is_named, named, place_of, put, IsLocation, HasNoRoom, IsFoundIn, most_scripts}
+use Rattle.script_library.specs.Libraries.{NamedScript, is_named, script_under, with_entry, IsLocation, HasNoRoom, IsFoundIn, most_scripts}
 use Rattle.script_library.proofs.LocationLemmas.{position_or_len-map, placed, missing, there, same_name, put_there, put_last, named_put, location_there, location_last}
 
 pub position-map : {X Y : Type 0} (f : X → Y) (p : Y → Bool) (xs : List X) → position p (map f xs) ≡ position (λ x. p (f x)) xs
@@ -20,10 +20,10 @@ module _ (name : List ℕ) (es : List NamedScript) where
   abbrev Missing : Type 0
   Missing = position (is_named name) es ≡ None
 
-  pub script_missing : Missing → None ≡ named name es
+  pub script_missing : Missing → None ≡ script_under name es
   script_missing h = sym (missing name es h)
 
-  pub not_there : Missing → IsSome (named name es) → ⊥
+  pub not_there : Missing → IsSome (script_under name es) → ⊥
   not_there h some = cc (script_missing h, some)
 
 module _ (name : List ℕ) (items : List Entry) (es : List NamedScript) (view : map entry_of items ≡ es) where
@@ -47,11 +47,11 @@ module _ (name : List ℕ) (items : List Entry) (es : List NamedScript) (view : 
       there name es i (entry_of e) h (ap (λ l. slice_get l i) (sym view) ∙ slice_get-map entry_of items i ∙ ap (option_map entry_of) (slice_get_read items (length items) i e refl (inside_items i h) is))
 
   -- what a look-up finds
-  pub script_at : (i : ℕ) (e : Entry) → At i → e ≡ get_or items i e → Some e.script.value.script ≡ named name es
+  pub script_at : (i : ℕ) (e : Entry) → At i → e ≡ get_or items i e → Some e.script.value.script ≡ script_under name es
   script_at i e h is = sym (ap (option_map (λ (x : NamedScript). x.script)) (found_at i e h is))
 
   -- in the place of the one that has the name
-  pub replaced : (i : ℕ) (e x : Entry) → At i → e ≡ get_or items i e → x.name.items ≡ e.name.items → map entry_of (set items i x) ≡ put (with_script x) es
+  pub replaced : (i : ℕ) (e x : Entry) → At i → e ≡ get_or items i e → x.name.items ≡ e.name.items → map entry_of (set items i x) ≡ with_entry (with_script x) es
   replaced i e x h is same =
       let at = placed (is_named name) es i h in
       let named_so : entry_of x ≡ with_script x = ap (λ (n : List ℕ). record { name = n; script = x.script.value.script }) (same ∙ name_at i e h is) in
@@ -59,7 +59,7 @@ module _ (name : List ℕ) (items : List Entry) (es : List NamedScript) (view : 
       map-set entry_of items i x ∙ ap (λ l. set l i (entry_of x)) view ∙ ap (set es i) named_so ∙ ap (λ n. set es n (with_script x)) (sym at.0) ∙ sym (put_there (with_script x) es inside)
 
   pub found_replaced : (i : ℕ) (e x : Entry) → At i → e ≡ get_or items i e → x.name.items ≡ e.name.items → IsFoundIn (with_script x) es (map entry_of (set items i x))
-  found_replaced i e x h is same n = ap (named n) (replaced i e x h is same) ∙ named_put (with_script x) n es
+  found_replaced i e x h is same n = ap (script_under n) (replaced i e x h is same) ∙ named_put (with_script x) n es
 
   pub location_replaced : (i : ℕ) (e x : Entry) → At i → e ≡ get_or items i e → x.name.items ≡ e.name.items → IsLocation (map entry_of items) → IsLocation (map entry_of (set items i x))
   location_replaced i e x h is same l =
@@ -71,13 +71,13 @@ module _ (name : List ℕ) (items : List Entry) (es : List NamedScript) (view : 
   has_room i e h is full = cc (script_at i e h is, full.missing)
 
   -- after all others
-  pub added : (x : Entry) → Missing name es → x.name.items ≡ name → map entry_of (items ++ x ∷ []) ≡ put (with_script x) es
+  pub added : (x : Entry) → Missing name es → x.name.items ≡ name → map entry_of (items ++ x ∷ []) ≡ with_entry (with_script x) es
   added x h same =
       let named_so : entry_of x ≡ with_script x = ap (λ (n : List ℕ). record { name = n; script = x.script.value.script }) same in
       map-append entry_of items (x ∷ []) ∙ ap (λ l. l ++ entry_of x ∷ []) view ∙ ap (λ (z : NamedScript). es ++ z ∷ []) named_so ∙ sym (put_last (with_script x) es (sym (script_missing name es h)))
 
   pub found_added : (x : Entry) → Missing name es → x.name.items ≡ name → IsFoundIn (with_script x) es (map entry_of (items ++ x ∷ []))
-  found_added x h same n = ap (named n) (added x h same) ∙ named_put (with_script x) n es
+  found_added x h same n = ap (script_under n) (added x h same) ∙ named_put (with_script x) n es
 
   pub location_added : (x : Entry) → Missing name es → x.name.items ≡ name → length items < most_scripts → IsLocation (map entry_of items) → IsLocation (map entry_of (items ++ x ∷ []))
   location_added x h same few l =

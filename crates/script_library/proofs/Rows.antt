@@ -3,7 +3,7 @@ use Rattle.std.proofs.Common.{◌≡◌, ℕ, List, [], ◌∷◌, true, false, 
 use Rattle.sieve_syntax.specs.declared.tree.Script.{Script}
 use Rattle.sieve_syntax.specs.View.{tree_of}
 use Rattle.sieve_meaning.specs.Reading.{program_of}
-use Rattle.script_library.specs.Libraries.{NamedScript, Scripts, named, put, library_of}
+use Rattle.script_library.specs.Libraries.{NamedScript, Scripts, script_under, with_entry, library_of}
 
 abbrev entry : List ℕ → Script → NamedScript
 entry name s = record { name = name; script = s }
@@ -19,15 +19,15 @@ abbrev three : (a b c : Script) → Scripts
 three a b c = record { personal = entry spam a ∷ entry lists b ∷ []; global = entry lists c ∷ [] }
 
 -- a new name comes after the others
-put_new : (a b c : Script) → put (entry (codes "new") c) (three a b c).personal ≡ entry spam a ∷ entry lists b ∷ entry (codes "new") c ∷ []
+put_new : (a b c : Script) → with_entry (entry (codes "new") c) (three a b c).personal ≡ entry spam a ∷ entry lists b ∷ entry (codes "new") c ∷ []
 put_new a b c = refl
 
 -- a script is replaced in its place
-put_again : (a b c : Script) → put (entry spam c) (three a b c).personal ≡ entry spam c ∷ entry lists b ∷ []
+put_again : (a b c : Script) → with_entry (entry spam c) (three a b c).personal ≡ entry spam c ∷ entry lists b ∷ []
 put_again a b c = refl
 
 -- names are compared octet by octet
-named_exactly : (a b c : Script) → named (codes "Lists") (three a b c).personal ≡ None
+named_exactly : (a b c : Script) → script_under (codes "Lists") (three a b c).personal ≡ None
 named_exactly a b c = refl
 
 -- the same name in both locations

@@ -1,3 +1,3 @@
 pub mod Libraries
 pub mod Entries
-pub mod Lent
+pub mod BorrowedShelves

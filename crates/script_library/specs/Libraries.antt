@@ -24,27 +24,27 @@ abbrev pub entries_code : Coded (List NamedScript)
 entries_code = coded_list (code_by (List ℕ × Script) (coded× (coded_list coded_ℕ) kept.the_row.coded) (λ e. (e.name, e.script)) (λ p. record { name = p.0; script = p.1 }) (λ _. refl))
 
 -- the script at a name; a location is a map from names to scripts, given as the list of its entries
-abbrev pub named : List ℕ → List NamedScript → Option Script
-named name es = option_map (λ e. e.script) (find (is_named name) es)
+abbrev pub script_under : List ℕ → List NamedScript → Option Script
+script_under name es = option_map (λ e. e.script) (find (is_named name) es)
 
 -- how many entries stand before the one with the name
 abbrev pub place_of : List ℕ → List NamedScript → ℕ
 place_of name es = position_or_len (is_named name) es
 
 -- the location with this script at its name: in the place of the one that has the name, or after all others
-abbrev pub put : NamedScript → List NamedScript → List NamedScript
-put x [] = x ∷ []
-put x (e ∷ es) = if is_named x.name e then x ∷ es else e ∷ put x es
+abbrev pub with_entry : NamedScript → List NamedScript → List NamedScript
+with_entry x [] = x ∷ []
+with_entry x (e ∷ es) = if is_named x.name e then x ∷ es else e ∷ with_entry x es
 
 -- the script is found at its name, and at each other name the one that was found before
 abbrev pub IsFoundIn : NamedScript → (old new : List NamedScript) → Type 0
 IsFoundIn x old new = (name : List ℕ) →
-    named name new ≡ (if bytes_eq x.name name then Some x.script else named name old)
+    script_under name new ≡ (if bytes_eq x.name name then Some x.script else script_under name old)
 
 -- no name occurs twice
 abbrev pub EachOnce : List NamedScript → Type 0
 EachOnce [] = Unit {0}
-EachOnce (e ∷ es) = (named e.name es ≡ None) × EachOnce es
+EachOnce (e ∷ es) = (script_under e.name es ≡ None) × EachOnce es
 
 -- the most scripts of a location
 abbrev pub most_scripts : ℕ
@@ -58,7 +58,7 @@ pub record IsLocation (es : List NamedScript) : Type 0 where
 -- a new name in a location that has thirty-two
 pub record HasNoRoom (es : List NamedScript) (name : List ℕ) : Type 0 where
   pub full : length es ≡ most_scripts
-  pub missing : named name es ≡ None
+  pub missing : script_under name es ≡ None
 
 -- the scripts of both locations
 pub record Scripts : Type 0 where
@@ -82,7 +82,7 @@ location_of false l = l.personal
 -- what an include finds (RFC 6609, section 3.2): a global name among the global scripts, another among the personal
 -- ones
 abbrev pub library_of : Scripts → Library
-library_of l = record { find = λ s. option_map (λ x. program_of (tree_of x)) (named s.name (location_of s.global l)) }
+library_of l = record { find = λ s. option_map (λ x. program_of (tree_of x)) (script_under s.name (location_of s.global l)) }
 
 -- the numbers of the faults
 abbrev pub library_number : LibraryFault → ℕ

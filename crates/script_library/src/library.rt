@@ -3,8 +3,8 @@
 ghost use Rattle.std.specs.Prelude.{◌≡◌, ◌↔◌, Err, IsOk, IsSome, OnOk, OnErr, option_map};
 ghost use Rattle.sieve_meaning.specs.Meaning.{no_library};
 ghost use Rattle.sieve_meaning.specs.Scripts.{is_global};
-ghost use Rattle.script_library.specs.Lent.{scripts_of};
-ghost use Rattle.script_library.specs.Libraries.{named, put, location_of, library_of, no_scripts, HasNoRoom, IsFoundIn};
+ghost use Rattle.script_library.specs.BorrowedShelves.{scripts_of};
+ghost use Rattle.script_library.specs.Libraries.{script_under, with_entry, location_of, library_of, no_scripts, HasNoRoom, IsFoundIn};
 ghost use Rattle.script_library.specs.declared.fault.LibraryFault.TheVariants.{Full};
 
 use crate::fault::LibraryFault;
@@ -50,10 +50,10 @@ impl Library {
     /// exactly where the name is new and thirty-two scripts are there, and with `NoMemory` (99) only for a new name.
     /// The library is then unchanged.
     pub fn set_personal(&mut self, name: &[u8], script: Rc<Checked>) -> Result<(), LibraryFault>
-        ensures ok { OnOk result (self.new ≡ record self.old { personal = put (record { name = name.now; script = script.value.script }) self.old.personal }) }
+        ensures ok { OnOk result (self.new ≡ record self.old { personal = with_entry (record { name = name.now; script = script.value.script }) self.old.personal }) }
         ensures found { OnOk result (IsFoundIn (record { name = name.now; script = script.value.script }) self.old.personal self.new.personal) }
         ensures full { result ≡ Err Full ↔ HasNoRoom self.old.personal name.now }
-        ensures replaced { IsSome (named name.now self.old.personal) → IsOk result }
+        ensures replaced { IsSome (script_under name.now self.old.personal) → IsOk result }
         ensures err { OnErr result (self.new ≡ self.old) }
     {
         self.personal.put(name, script)
@@ -63,10 +63,10 @@ impl Library {
     /// (96) exactly where the name is new and thirty-two scripts are there, and with `NoMemory` (99) only for a new
     /// name. The library is then unchanged.
     pub fn set_global(&mut self, name: &[u8], script: Rc<Checked>) -> Result<(), LibraryFault>
-        ensures ok { OnOk result (self.new ≡ record self.old { global = put (record { name = name.now; script = script.value.script }) self.old.global }) }
+        ensures ok { OnOk result (self.new ≡ record self.old { global = with_entry (record { name = name.now; script = script.value.script }) self.old.global }) }
         ensures found { OnOk result (IsFoundIn (record { name = name.now; script = script.value.script }) self.old.global self.new.global) }
         ensures full { result ≡ Err Full ↔ HasNoRoom self.old.global name.now }
-        ensures replaced { IsSome (named name.now self.old.global) → IsOk result }
+        ensures replaced { IsSome (script_under name.now self.old.global) → IsOk result }
         ensures err { OnErr result (self.new ≡ self.old) }
     {
         self.global.put(name, script)
@@ -74,7 +74,7 @@ impl Library {
 
     /// The script at a name of a location, if there is one. Names are compared octet by octet.
     pub fn get(&self, location: Location, name: &[u8]) -> Option<&Checked>
-        ensures { option_map (λ c. c.now.script) result ≡ named name.now (location_of (is_global location) self.now) }
+        ensures { option_map (λ c. c.now.script) result ≡ script_under name.now (location_of (is_global location) self.now) }
     {
         self.shelves().get(location, name)
     }

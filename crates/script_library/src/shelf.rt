@@ -2,7 +2,7 @@
 
 ghost use Rattle.std.specs.Prelude.{◌≡◌, ◌↔◌, ◌<◌, [], Err, IsOk, IsSome, IfSome, OnOk, OnErr, length, option_map, position, slice_get};
 ghost use Rattle.script_library.specs.Entries.{entry_of};
-ghost use Rattle.script_library.specs.Libraries.{named, place_of, put, is_named, IsLocation, HasNoRoom, IsFoundIn};
+ghost use Rattle.script_library.specs.Libraries.{script_under, place_of, with_entry, is_named, IsLocation, HasNoRoom, IsFoundIn};
 ghost use Rattle.script_library.specs.declared.fault.LibraryFault.TheVariants.{Full};
 
 use crate::fault::LibraryFault;
@@ -78,7 +78,7 @@ impl Shelf {
 
     /// The script of a name, if there is one, with its place among the scripts, counted from 0.
     pub fn find(&self, name: &[u8]) -> Option<(usize, &Checked)>
-        ensures script { option_map (λ f. f.1.now.script) result ≡ named name.now self.now }
+        ensures script { option_map (λ f. f.1.now.script) result ≡ script_under name.now self.now }
         ensures place { IfSome result (λ f. f.0 ≡ place_of name.now self.now) }
         ensures inside { IfSome result (λ f. f.0 < length self.now) }
         ensures location { IsLocation self.now }
@@ -102,7 +102,7 @@ impl Shelf {
 
     /// The script of a name, if there is one. Names are compared octet by octet.
     pub fn get(&self, name: &[u8]) -> Option<&Checked>
-        ensures { option_map (λ c. c.now.script) result ≡ named name.now self.now }
+        ensures { option_map (λ c. c.now.script) result ≡ script_under name.now self.now }
     {
         match self.find(name) {
             Some((_, script)) => Some(script),
@@ -114,10 +114,10 @@ impl Shelf {
     /// name is new and thirty-two scripts are there, and with `NoMemory` (99) only for a new name. The shelf is then
     /// unchanged.
     pub fn put(&mut self, name: &[u8], script: Rc<Checked>) -> Result<(), LibraryFault>
-        ensures ok { OnOk result (self.new ≡ put (record { name = name.now; script = script.value.script }) self.old) }
+        ensures ok { OnOk result (self.new ≡ with_entry (record { name = name.now; script = script.value.script }) self.old) }
         ensures found { OnOk result (IsFoundIn (record { name = name.now; script = script.value.script }) self.old self.new) }
         ensures full { result ≡ Err Full ↔ HasNoRoom self.old name.now }
-        ensures replaced { IsSome (named name.now self.old) → IsOk result }
+        ensures replaced { IsSome (script_under name.now self.old) → IsOk result }
         ensures err { OnErr result (self.new ≡ self.old) }
     {
         if let Some(place) = self.place(name) {

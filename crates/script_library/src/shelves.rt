@@ -2,8 +2,8 @@
 
 ghost use Rattle.std.specs.Prelude.{◌≡◌, option_map};
 ghost use Rattle.sieve_meaning.specs.Scripts.{is_global};
-ghost use Rattle.script_library.specs.Lent.{scripts_of};
-ghost use Rattle.script_library.specs.Libraries.{named, location_of};
+ghost use Rattle.script_library.specs.BorrowedShelves.{scripts_of};
+ghost use Rattle.script_library.specs.Libraries.{script_under, location_of};
 
 use crate::shelf::Shelf;
 use sieve_check::Checked;
@@ -31,7 +31,7 @@ impl<'a> Shelves<'a> {
     /// The script at a name of a location, if there is one.
     pub fn get(self, location: Location, name: &[u8]) -> Option<&'a Checked>
         ensures { option_map (λ c. c.now.script) result ≡
-            named name.now (location_of (is_global location) (scripts_of self.entry)) }
+            script_under name.now (location_of (is_global location) (scripts_of self.entry)) }
     {
         self.shelf(location).get(name)
     }

@@ -4,27 +4,27 @@ use Rattle.std.specs.List.{list_any, cons_option}
 use Rattle.std.proofs.lemmas.List.{get_or_default}
 use Rattle.sieve_meaning.specs.Program.{Commands}
 use Rattle.sieve_meaning.specs.Meaning.{ScriptName, is_among, Library}
-use Rattle.sieve_meaning.specs.Procedures.{holds_if_there, once, included_names, Procedure, is_shared, entered_if, entered, called_by}
+use Rattle.sieve_meaning.specs.Procedures.{holds_if_there, once, included_names, Procedure, is_shared, entered_if, entry, called_by}
 use Rattle.sieve_meaning.specs.Scripts.{script_of}
 use Rattle.sieve_meaning.specs.declared.scripts.ScriptName as code
 use Rattle.sieve_meaning.proofs.ProcedureLemmas.{AllOf, IsEntered, shared_along, all_entered, are_entered}
-use Rattle.script_procedures.specs.Included.{is_there}
-use Rattle.script_procedures.specs.Made.{procedure_of, with_procedure, with_procedures, entered_by}
+use Rattle.script_procedures.specs.IncludedScripts.{is_there}
+use Rattle.script_procedures.specs.ProcedureCode.{procedure_of, with_procedure, with_procedures, entered_by}
 use Rattle.script_procedures.specs.declared.procedure.Procedure as made
 use Rattle.script_procedures.proofs.OnceLemmas.{filter_all, puts, puts_once}
 
 module _ (lib : Library) (left : ℕ) (chain : List ScriptName) (s : ScriptName) where
-  pub active_entered : is_among chain s ≡ true → entered lib left chain s ≡ None
+  pub active_entered : is_among chain s ≡ true → entry lib left chain s ≡ None
   active_entered h = ap (λ (b : Bool). entered_if (lib.find s) b left (s ∷ chain)) h ∙ by (lib.find s)
     where
       by : (o : Option Commands) → entered_if o true left (s ∷ chain) ≡ None
       by None = refl
       by (Some x) = refl
 
-  pub missing_entered : lib.find s ≡ None → entered lib left chain s ≡ None
+  pub missing_entered : lib.find s ≡ None → entry lib left chain s ≡ None
   missing_entered h = ap (λ (o : Option Commands). entered_if o (is_among chain s) left (s ∷ chain)) h
 
-  pub there_entered : (x : Commands) → lib.find s ≡ Some x → is_among chain s ≡ false → entered lib left chain s ≡ Some (record { script = x; left = left; chain = s ∷ chain })
+  pub there_entered : (x : Commands) → lib.find s ≡ Some x → is_among chain s ≡ false → entry lib left chain s ≡ Some (record { script = x; left = left; chain = s ∷ chain })
   there_entered x at out = ap (λ (o : Option Commands). entered_if o (is_among chain s) left (s ∷ chain)) at ∙ ap (λ (b : Bool). entered_if (Some x) b left (s ∷ chain)) out
 
 module _ (lib : Library) (ps : List Procedure) (o : Option Procedure) where
@@ -77,7 +77,7 @@ module _ (lib : Library) where
 
   module _ (left : ℕ) (chain : List ScriptName) where
     abbrev enters : List ScriptName → List Procedure
-    enters names = filter_map (entered lib left chain) names
+    enters names = filter_map (entry lib left chain) names
 
     -- what is not there is not entered
     pub there_alone : (names : List ScriptName) → enters (filter (is_there lib) names) ≡ enters names
@@ -90,23 +90,23 @@ module _ (lib : Library) where
             ∙ rest ∙ ap (λ (o : Option Procedure). cons_option o (enters ss)) (sym (missing_entered lib left chain s at))
         by (Some x) at rest =
             ap (λ (o : Option Commands). enters (cond (holds_if_there o (λ script. true)) (s ∷ filter (is_there lib) ss) (filter (is_there lib) ss))) at
-            ∙ ap (cons_option (entered lib left chain s)) rest
+            ∙ ap (cons_option (entry lib left chain s)) rest
 
     module _ (ps all : List Procedure) (names : List code.ScriptName) (i : ℕ) (name : code.ScriptName) (below : i < length names) (is : name ≡ get_or names i name) (before : with_procedures lib ps (enters (map script_of (drop i names))) ≡ all) where
       abbrev one_more : List Procedure
-      one_more = with_procedure lib ps (entered lib left chain (script_of name))
+      one_more = with_procedure lib ps (entry lib left chain (script_of name))
 
       -- after one more name
       pub name_turn : with_procedures lib one_more (enters (map script_of (drop (i + 1) names))) ≡ all
       name_turn =
-          sym (with_option ps (entered lib left chain (script_of name)) (enters (map script_of (drop (i + 1) names))))
+          sym (with_option ps (entry lib left chain (script_of name)) (enters (map script_of (drop (i + 1) names))))
           ∙ ap (λ (ns : List code.ScriptName). with_procedures lib ps (enters (map script_of ns))) (sym (drop_item names i name below is)) ∙ before
 
       full_then : (room : ℕ) → room < length one_more → room < length all
       full_then room full = let more = longer one_more (enters (map script_of (drop (i + 1) names))) in omega (arith, full, more, ap length name_turn)
 
     pub name_full : (ps all : List Procedure) (names : List code.ScriptName) (i : ℕ) (d : code.ScriptName) → i < length names → with_procedures lib ps (enters (map script_of (drop i names))) ≡ all
-        → (room : ℕ) → room < length (with_procedure lib ps (entered lib left chain (script_of (get_or names i d)))) → room < length all
+        → (room : ℕ) → room < length (with_procedure lib ps (entry lib left chain (script_of (get_or names i d)))) → room < length all
     name_full ps all names i d below before room full = full_then ps all names i (get_or names i d) below (get_or_default names i d (get_or names i d) below) before room full
 
   abbrev enter_all : List Procedure → List Procedure
@@ -139,7 +139,7 @@ module _ (lib : Library) where
   same_entered left [] h = refl
   same_entered left (p ∷ ps) h =
       let e : p.left - 1 ≡ left = omega (arith, h.0) in
-      ap (λ (n : ℕ). filter_map (entered lib n p.chain) (included_names p.script) ++ enter_all ps) e ∙ ap (λ (qs : List Procedure). filter_map (entered lib left p.chain) (included_names p.script) ++ qs) (same_entered left ps h.1)
+      ap (λ (n : ℕ). filter_map (entry lib n p.chain) (included_names p.script) ++ enter_all ps) e ∙ ap (λ (qs : List Procedure). filter_map (entry lib left p.chain) (included_names p.script) ++ qs) (same_entered left ps h.1)
 
   pub called_are : (left : ℕ) (ps : List Procedure) → AllOf (λ p. p.left ≡ suc left) ps → with_procedures lib [] (enter_all ps) ≡ called_by lib left ps
   called_are left ps h =

@@ -7,7 +7,7 @@ use Rattle.sieve_meaning.specs.Meaning.{Library, ScriptName, script_named, same_
 use Rattle.sieve_meaning.specs.Procedures.{includes_of, includes_in, branch_includes}
 use Rattle.sieve_meaning.proofs.SharingLemmas.{same_is}
 use Rattle.sieve_meaning.proofs.ProcedureLemmas.{AllOf}
-use Rattle.script_procedures.specs.Included.{is_there, names_there, with_included, with_one, with_branches}
+use Rattle.script_procedures.specs.IncludedScripts.{is_there, names_there, with_included, with_one, with_branches}
 use Rattle.script_procedures.proofs.OnceLemmas.{puts, puts_append, puts_once}
 
 pub any_map : {A B : Type 0} (p : B → Bool) (f : A → B) (xs : List A) → list_any p (map f xs) ≡ list_any (λ x. p (f x)) xs

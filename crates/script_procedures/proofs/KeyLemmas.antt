@@ -12,9 +12,9 @@ use Rattle.script_library.specs.Libraries.{Scripts, library_of}
 use Rattle.script_procedures.specs.declared.slot_set.SlotSet.{SlotSet}
 use Rattle.script_procedures.specs.declared.key.Key.{Key}
 use Rattle.script_procedures.specs.Sets.{has}
-use Rattle.script_procedures.specs.Included.{is_there}
+use Rattle.script_procedures.specs.IncludedScripts.{is_there}
 use Rattle.script_procedures.specs.Slots.{slots_of, HasSlots}
-use Rattle.script_procedures.specs.Reached.{has_at, ReachIs}
+use Rattle.script_procedures.specs.ReachTables.{has_at, ReachIs}
 use Rattle.script_procedures.specs.Keys.{is_active, IsEnteredKey}
 
 pub same_tests : (a b : Bool) → (a ≡ true → b ≡ true) → (b ≡ true → a ≡ true) → a ≡ b

@@ -10,7 +10,7 @@ use Rattle.sieve_meaning.specs.Meaning.{Library}
 use Rattle.sieve_meaning.specs.Procedures.{Procedure, called_by, led_to, main_procedure, procedures}
 use Rattle.sieve_meaning.proofs.ProcedureLemmas.{AllOf, called_left}
 use Rattle.script_library.specs.Libraries.{Scripts, library_of}
-use Rattle.script_procedures.specs.Made.{procedure_of, HasKey, IsEntered, HaveKeys, AreProcedures}
+use Rattle.script_procedures.specs.ProcedureCode.{procedure_of, HasKey, IsEntered, HaveKeys, AreProcedures}
 use Rattle.script_procedures.specs.declared.procedure.Procedure as code
 
 abbrev HasLeft : ℕ → code.Procedure → Type 0

@@ -5,7 +5,7 @@ use Rattle.std.proofs.lemmas.List.Folds.{list_any-append}
 use Rattle.std.proofs.lemmas.Grind.{common_steps}
 use Rattle.sieve_meaning.specs.Meaning.{Library}
 use Rattle.sieve_meaning.specs.Procedures.{Procedure, is_shared}
-use Rattle.script_procedures.specs.Made.{procedure_of, number_of}
+use Rattle.script_procedures.specs.ProcedureCode.{procedure_of, number_of}
 use Rattle.script_procedures.specs.declared.procedure.Procedure as code
 use Rattle.script_procedures.proofs.ReachTables.{item_more}
 

@@ -16,9 +16,9 @@ use Rattle.sieve_meaning.proofs.ProcedureLemmas.{some_is}
 use Rattle.script_library.specs.Libraries.{Scripts, library_of}
 use Rattle.script_procedures.specs.declared.slot_set.SlotSet.{SlotSet}
 use Rattle.script_procedures.specs.Sets.{has}
-use Rattle.script_procedures.specs.Included.{is_there, names_there}
+use Rattle.script_procedures.specs.IncludedScripts.{is_there, names_there}
 use Rattle.script_procedures.specs.Slots.{slots_of, HasSlots, IsAt}
-use Rattle.script_procedures.specs.Reached.{has_at, leads_to, further, IsRow, AreRows, AreFurther, AreReached, ReachIs}
+use Rattle.script_procedures.specs.ReachTables.{has_at, leads_to, further, IsRow, AreRows, AreFurther, AreReached, ReachIs}
 use Rattle.script_procedures.proofs.IncludedLemmas.{any_map}
 
 pub if_ok_more : {V E : Type 0} (P Q : V → Type 0) (r : Result V E) → ((v : V) → P v → Q v) → IfOk r P → IfOk r Q

@@ -4,7 +4,7 @@ use Rattle.std.specs.List.{list_any}
 use Rattle.sieve_meaning.specs.Meaning.{ScriptName}
 use Rattle.sieve_meaning.specs.Procedures.{Procedure}
 use Rattle.script_library.specs.Libraries.{Scripts, library_of}
-use Rattle.script_procedures.specs.Included.{is_there}
+use Rattle.script_procedures.specs.IncludedScripts.{is_there}
 use Rattle.script_procedures.specs.Sets.{has}
 use Rattle.script_procedures.specs.Slots.{slots_of}
 use Rattle.script_procedures.specs.declared.key.Key.{Key}

@@ -1,6 +1,6 @@
 pub mod Slots
 pub mod Sets
-pub mod Included
-pub mod Reached
+pub mod IncludedScripts
+pub mod ReachTables
 pub mod Keys
-pub mod Made
+pub mod ProcedureCode

@@ -5,14 +5,14 @@ ghost use Rattle.std.specs.List.{list_any};
 ghost use Rattle.sieve_syntax.specs.View.{command_of, commands_of, ending_of, tree_of};
 ghost use Rattle.sieve_meaning.specs.Reading.{block_in, program_of};
 ghost use Rattle.sieve_meaning.specs.Meaning.{same_script, script_named};
-ghost use Rattle.sieve_meaning.specs.Scripts.{asked, script_of};
-ghost use Rattle.script_library.specs.Lent.{scripts_of};
+ghost use Rattle.sieve_meaning.specs.Scripts.{include_view, script_of};
+ghost use Rattle.script_library.specs.BorrowedShelves.{scripts_of};
 ghost use Rattle.script_library.specs.Libraries.{library_of};
-ghost use Rattle.script_procedures.specs.Included.{with_name, with_part, with_included, names_there};
+ghost use Rattle.script_procedures.specs.IncludedScripts.{with_name, with_part, with_included, names_there};
 
 use crate::slots::find_script;
 use script_library::Shelves;
-use sieve_meaning::branches::{Part, is_branch, part_in};
+use sieve_meaning::branches::{BranchPart, is_branch, part_in};
 use sieve_meaning::reading::include;
 use sieve_meaning::{CommandWord, Include, ScriptName, command_word};
 use sieve_syntax::{Command, Ending, Script};
@@ -32,7 +32,7 @@ fn add_include<'a>(
     names: &mut Vec<ScriptName<'a>>,
 ) -> Result<(), AllocError>
     ensures { OnOk result (map script_of names.new.items ≡ with_name (library_of (scripts_of shelves.entry))
-        (map script_of names.old.items) (script_named (asked include.entry))) }
+        (map script_of names.old.items) (script_named (include_view include.entry))) }
 {
     if find_script(shelves, &include.script).is_some() && !is_listed(names, &include.script) {
         names.push(include.script)?;
@@ -61,15 +61,15 @@ fn add_block<'a>(
 fn add_part<'a>(
     shelves: Shelves<'_>,
     command: &'a Command,
-    part: Part,
+    part: BranchPart,
     names: &mut Vec<ScriptName<'a>>,
 ) -> Result<(), AllocError>
     ensures { OnOk result (map script_of names.new.items ≡ with_part (library_of (scripts_of shelves.entry))
         part (command_of command.now) (map script_of names.old.items)) }
 {
     match part {
-        Part::Branch | Part::Otherwise => add_block(shelves, &command.ending, names),
-        Part::Plain => match command_word(command.name.as_slice()) {
+        BranchPart::Branch | BranchPart::Otherwise => add_block(shelves, &command.ending, names),
+        BranchPart::Plain => match command_word(command.name.as_slice()) {
             CommandWord::Include => {
                 add_include(shelves, include(command.arguments.as_slice()), names)
             }

@@ -3,7 +3,7 @@
 ghost use Rattle.std.specs.Prelude.{◌≡◌, ℕ, map};
 ghost use Rattle.sieve_meaning.specs.Procedures.{Procedure, is_shared};
 ghost use Rattle.sieve_meaning.specs.Scripts.{script_of};
-ghost use Rattle.script_library.specs.Lent.{scripts_of};
+ghost use Rattle.script_library.specs.BorrowedShelves.{scripts_of};
 ghost use Rattle.script_library.specs.Libraries.{library_of};
 ghost use Rattle.script_procedures.specs.Keys.{is_active, IsEnteredKey};
 ghost use Rattle.script_procedures.specs.Sets.{has};

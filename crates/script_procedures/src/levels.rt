@@ -4,11 +4,11 @@ ghost use Rattle.std.specs.Prelude.{◌≡◌, ◌<◌, ◌≤◌, ◌-◌, ℕ,
 ghost use Rattle.std.specs.List.{All};
 ghost use Rattle.sieve_syntax.specs.View.{tree_of};
 ghost use Rattle.sieve_meaning.specs.Reading.{program_of};
-ghost use Rattle.sieve_meaning.specs.Procedures.{entered, called_by, procedures, most_procedures};
+ghost use Rattle.sieve_meaning.specs.Procedures.{entry, called_by, procedures, most_procedures};
 ghost use Rattle.sieve_meaning.specs.Scripts.{script_of};
-ghost use Rattle.script_library.specs.Lent.{scripts_of};
+ghost use Rattle.script_library.specs.BorrowedShelves.{scripts_of};
 ghost use Rattle.script_library.specs.Libraries.{library_of};
-ghost use Rattle.script_procedures.specs.Made.{names_of, procedure_of, HasKey, IsEntered, with_procedure, with_procedures, entered_by, AreProcedures};
+ghost use Rattle.script_procedures.specs.ProcedureCode.{names_of, procedure_of, HasKey, IsEntered, with_procedure, with_procedures, entered_by, AreProcedures};
 
 use crate::included::included_scripts;
 use crate::procedure::{MAX_FURTHER, Procedure, is_made, main_procedure};
@@ -39,7 +39,7 @@ fn enter<'a>(
     ensures few { OnOk result (length next.new.items ≤ room) }
     ensures made { let lib = library_of (scripts_of reach.now.shelves) in
         let all = with_procedure lib (map procedure_of next.old.items)
-        (entered lib (caller.now.key.left - 1) (names_of caller.now) (script_of name.now)) in
+        (entry lib (caller.now.key.left - 1) (names_of caller.now) (script_of name.now)) in
         IfOk result (λ b. MatchBool b (map procedure_of next.new.items ≡ all) (room < length all)) }
 {
     if caller.contains(name) {

@@ -10,10 +10,10 @@ ghost use Rattle.sieve_meaning.specs.Meaning.{is_among, main_names};
 ghost use Rattle.sieve_meaning.specs.Procedures as sharing;
 ghost use Rattle.sieve_meaning.specs.Procedures.{is_shared, main_procedure};
 ghost use Rattle.sieve_meaning.specs.Scripts.{script_of};
-ghost use Rattle.script_library.specs.Lent.{scripts_of};
+ghost use Rattle.script_library.specs.BorrowedShelves.{scripts_of};
 ghost use Rattle.script_library.specs.Libraries.{Scripts, library_of};
 ghost use Rattle.script_procedures.specs.Keys.{IsKeyOf, IsEnteredKey};
-ghost use Rattle.script_procedures.specs.Made.{names_of, procedure_of, number_of, HasKey, IsEntered};
+ghost use Rattle.script_procedures.specs.ProcedureCode.{names_of, procedure_of, number_of, HasKey, IsEntered};
 ghost use Rattle.script_procedures.specs.Slots.{slots_of};
 
 use crate::key::{Key, are_shared, slots_of_active};

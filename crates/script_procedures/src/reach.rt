@@ -8,12 +8,12 @@ ghost use Rattle.sieve_meaning.specs.Program.{Commands};
 ghost use Rattle.sieve_meaning.specs.Meaning as meaning;
 ghost use Rattle.sieve_meaning.specs.Procedures.{reaches};
 ghost use Rattle.sieve_meaning.specs.Scripts.{script_of};
-ghost use Rattle.script_library.specs.Lent.{scripts_of};
+ghost use Rattle.script_library.specs.BorrowedShelves.{scripts_of};
 ghost use Rattle.script_library.specs.Libraries.{library_of};
-ghost use Rattle.script_procedures.specs.Included.{is_there};
+ghost use Rattle.script_procedures.specs.IncludedScripts.{is_there};
 ghost use Rattle.script_procedures.specs.Sets.{has};
 ghost use Rattle.script_procedures.specs.Slots.{HasSlots, slots_of};
-ghost use Rattle.script_procedures.specs.Reached.{has_at, further, IsRow, AreRows, AreFurther, ReachIs};
+ghost use Rattle.script_procedures.specs.ReachTables.{has_at, further, IsRow, AreRows, AreFurther, ReachIs};
 
 use crate::included::included_scripts;
 use crate::slot_set::SlotSet;

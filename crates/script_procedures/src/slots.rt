@@ -4,8 +4,8 @@ ghost use Rattle.std.specs.Prelude.{◌≡◌, ◌<◌, ◌≤◌, ℕ, IfSome, 
 ghost use Rattle.sieve_syntax.specs.View.{tree_of};
 ghost use Rattle.sieve_meaning.specs.Reading.{program_of};
 ghost use Rattle.sieve_meaning.specs.Scripts.{is_global, script_of};
-ghost use Rattle.script_library.specs.Lent.{scripts_of};
-ghost use Rattle.script_library.specs.Libraries.{named, location_of, library_of};
+ghost use Rattle.script_library.specs.BorrowedShelves.{scripts_of};
+ghost use Rattle.script_library.specs.Libraries.{script_under, location_of, library_of};
 ghost use Rattle.script_procedures.specs.Slots.{slots_of, HasSlots, IsAt};
 
 use script_library::{MAX_SCRIPTS, Shelves};
@@ -19,7 +19,7 @@ pub fn find_script<'a>(
     script: &ScriptName<'_>,
 ) -> Option<(usize, &'a Checked)>
     ensures script { option_map (λ f. f.1.now.script) result ≡
-        named script.now.name.now (location_of (is_global script.now.location) (scripts_of shelves.entry)) }
+        script_under script.now.name.now (location_of (is_global script.now.location) (scripts_of shelves.entry)) }
     ensures slot { IfSome result (λ f. f.0 ≡ slots_of (scripts_of shelves.entry) (script_of script.now)) }
     ensures inside { IfSome result (λ f. f.0 < 64) }
 {

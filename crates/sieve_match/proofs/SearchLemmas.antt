@@ -11,7 +11,7 @@ use Rattle.sieve_meaning.specs.declared.matching.Item.TheVariants.{Octet, One, A
 use Rattle.sieve_meaning.proofs.MatchingLemmas.{covers_to, covers_from}
 use Rattle.sieve_meaning.specs.Matching.{covers, folded, item_of, items_from, items_of, Matches}
 use Rattle.sieve_match.proofs.FoldLemmas.{nil_from_length}
-use Rattle.sieve_match.specs.Steps.{compared, octet_count, Turn, ends, star, goes, stuck, turn_of}
+use Rattle.sieve_match.specs.Steps.{compared_length, octet_count, Turn, ends, star, goes, stuck, turn_of}
 
 -- the items match the text from some place on
 abbrev pub SomeTail : Comparator → List Item → List ℕ → Type 0
@@ -35,14 +35,14 @@ fixed-le (Octet o ∷ is) = omega (arith, fixed-le is)
 fixed-le (One ∷ is) = omega (arith, fixed-le is)
 fixed-le (Any ∷ is) = omega arith
 
-compared-le : (is : List Item) (text : List ℕ) → compared is text ≤ fixed is
+compared-le : (is : List Item) (text : List ℕ) → compared_length is text ≤ fixed is
 compared-le [] text = omega arith
 compared-le (Octet o ∷ is) [] = omega arith
 compared-le (Octet o ∷ is) (b ∷ bs) = omega arith
 compared-le (One ∷ is) text = omega arith
 compared-le (Any ∷ is) text = omega arith
 
-compared-one : (is : List Item) (text : List ℕ) → compared is text ≤ 1
+compared-one : (is : List Item) (text : List ℕ) → compared_length is text ≤ 1
 compared-one [] text = omega arith
 compared-one (Octet o ∷ is) [] = omega arith
 compared-one (Octet o ∷ is) (b ∷ bs) = omega arith
@@ -94,7 +94,7 @@ pub record Goes (c : Comparator) (items : List Item) (rest : List ℕ) (next : L
   pub item : length items ≡ suc (length next)
   pub octet : length rest ≡ suc (length following)
   pub before : fixed items ≡ suc (fixed next)
-  pub octets : octet_count items ≡ compared items rest + octet_count next
+  pub octets : octet_count items ≡ compared_length items rest + octet_count next
 
 octet_tail : (c : Comparator) (o : ℕ) (is : List Item) (xs : List ℕ) → Matches c (Octet o ∷ is) xs → Matches c is (drop 1 xs)
 octet_tail c o is [] m = absurd m
@@ -176,7 +176,7 @@ Fresh-first c all value = record {
   least = omega arith;
 }
 
-pub Fresh-goes : (c : Comparator) (all : List Item) (value : List ℕ) (items next : List Item) (rest following : List ℕ) (count more : ℕ) → Fresh c all value items rest count → Goes c items rest next following → more ≡ compared items rest → Fresh c all value next following (count + more)
+pub Fresh-goes : (c : Comparator) (all : List Item) (value : List ℕ) (items next : List Item) (rest following : List ℕ) (count more : ℕ) → Fresh c all value items rest count → Goes c items rest next following → more ≡ compared_length items rest → Fresh c all value next following (count + more)
 Fresh-goes c all value items next rest following count more h g m = record {
   to = λ x. g.ahead 0 (h.to x);
   from = λ x. h.from (g.back x);
@@ -185,7 +185,7 @@ Fresh-goes c all value items next rest following count more h g m = record {
   least = omega (arith, h.least, g.octets, m);
 }
 
-pub Tried-goes : (c : Comparator) (all : List Item) (value : List ℕ) (items next : List Item) (rest following : List ℕ) (after : List Item) (since : List ℕ) (count more : ℕ) → Tried c all value items rest after since count → Goes c items rest next following → more ≡ compared items rest → Tried c all value next following after since (count + more)
+pub Tried-goes : (c : Comparator) (all : List Item) (value : List ℕ) (items next : List Item) (rest following : List ℕ) (after : List Item) (since : List ℕ) (count more : ℕ) → Tried c all value items rest after since count → Goes c items rest next following → more ≡ compared_length items rest → Tried c all value next following after since (count + more)
 Tried-goes c all value items next rest following after since count more h g m = record {
   to = h.to;
   from = h.from;
@@ -296,18 +296,18 @@ abbrev pub left : List ℕ → Option (Bor (List ℕ) × Bor (List ℕ)) → ℕ
 left value None = length value
 left value (Some s) = length s.1.now
 
-pub State-goes : (c : Comparator) (all : List Item) (value : List ℕ) (items next : List Item) (rest following : List ℕ) (s : Option (Bor (List ℕ) × Bor (List ℕ))) (count more : ℕ) → State c all value items rest s count → turn_of c items rest ≡ goes next following → more ≡ compared items rest → State c all value next following s (count + more)
+pub State-goes : (c : Comparator) (all : List Item) (value : List ℕ) (items next : List Item) (rest following : List ℕ) (s : Option (Bor (List ℕ) × Bor (List ℕ))) (count more : ℕ) → State c all value items rest s count → turn_of c items rest ≡ goes next following → more ≡ compared_length items rest → State c all value next following s (count + more)
 State-goes c all value items next rest following None count more h g m = Fresh-goes c all value items next rest following count more h (goes_is c items rest next following g) m
 State-goes c all value items next rest following (Some s) count more h g m = Tried-goes c all value items next rest following (items_of s.0.now) s.1.now count more h (goes_is c items rest next following g) m
 
-pub State-star : (c : Comparator) (all : List Item) (value : List ℕ) (items next : List Item) (rest : List ℕ) (s : Option (Bor (List ℕ) × Bor (List ℕ))) (count more : ℕ) → State c all value items rest s count → turn_of c items rest ≡ star next → more ≡ compared items rest → Tried c all value next rest next rest (count + more)
+pub State-star : (c : Comparator) (all : List Item) (value : List ℕ) (items next : List Item) (rest : List ℕ) (s : Option (Bor (List ℕ) × Bor (List ℕ))) (count more : ℕ) → State c all value items rest s count → turn_of c items rest ≡ star next → more ≡ compared_length items rest → Tried c all value next rest next rest (count + more)
 State-star c all value items next rest None count more h g m = Fresh-star c all value next rest count more (rw (star_is c items rest next g) at h) (omega (arith, m, compared-one items rest))
 State-star c all value items next rest (Some s) count more h g m = Tried-star c all value next rest (items_of s.0.now) s.1.now count more (rw (star_is c items rest next g) at h) (omega (arith, m, compared-one items rest))
 
-pub State-stuck : (c : Comparator) (all : List Item) (value : List ℕ) (items : List Item) (rest : List ℕ) (after : List Item) (since : List ℕ) (b : ℕ) (following : List ℕ) (count more : ℕ) → Tried c all value items rest after since count → since ≡ b ∷ following → turn_of c items rest ≡ stuck → more ≡ compared items rest → Tried c all value after following after following (count + more)
+pub State-stuck : (c : Comparator) (all : List Item) (value : List ℕ) (items : List Item) (rest : List ℕ) (after : List Item) (since : List ℕ) (b : ℕ) (following : List ℕ) (count more : ℕ) → Tried c all value items rest after since count → since ≡ b ∷ following → turn_of c items rest ≡ stuck → more ≡ compared_length items rest → Tried c all value after following after following (count + more)
 State-stuck c all value items rest after since b following count more h e g m = Tried-stuck c all value items rest after b following count more (rw e at h) (stuck_is c items rest g) (omega (arith, m, compared-le items rest))
 
-pub State-bound : (c : Comparator) (all : List Item) (value : List ℕ) (items : List Item) (rest : List ℕ) (s : Option (Bor (List ℕ) × Bor (List ℕ))) (count more : ℕ) → State c all value items rest s count → more ≡ compared items rest → count + more ≤ (length all + 1) * (length value + 1)
+pub State-bound : (c : Comparator) (all : List Item) (value : List ℕ) (items : List Item) (rest : List ℕ) (s : Option (Bor (List ℕ) × Bor (List ℕ))) (count more : ℕ) → State c all value items rest s count → more ≡ compared_length items rest → count + more ≤ (length all + 1) * (length value + 1)
 State-bound c all value items rest None count more h m = Fresh-bound c all value items rest count more h (omega (arith, m, compared-le items rest))
 State-bound c all value items rest (Some s) count more h m = Tried-bound c all value items rest (items_of s.0.now) s.1.now count more h (omega (arith, m, compared-le items rest))
 

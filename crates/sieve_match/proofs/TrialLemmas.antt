@@ -6,7 +6,7 @@ use Rattle.sieve_meaning.specs.declared.matching.Item.{Item}
 use Rattle.sieve_meaning.specs.declared.matching.Item.TheVariants.{Octet, One, Any}
 use Rattle.sieve_meaning.specs.Matching.{folded, items_of}
 use Rattle.sieve_match.specs.Search.{Trial, covered, to_star, misfit, trial, comparisons, Search, covers_all, at_star, at_front, at_end, next_place}
-use Rattle.sieve_match.specs.Steps.{compared, ends, star, goes, stuck, turn_of}
+use Rattle.sieve_match.specs.Steps.{compared_length, ends, star, goes, stuck, turn_of}
 use Rattle.sieve_match.proofs.FoldLemmas.{nil_from_length}
 use Rattle.sieve_match.proofs.SearchLemmas.{ends_is, star_is}
 
@@ -54,7 +54,7 @@ later_try c items text answer n h = search_from c true (Some (items, text)) item
 -- one octet further in a try
 record SameTry (c : Comparator) (items : List Item) (rest : List ℕ) (next : List Item) (following : List ℕ) : Type 0 where
   trial_is : trial c items rest ≡ trial c next following
-  count_is : comparisons c items rest ≡ compared items rest + comparisons c next following
+  count_is : comparisons c items rest ≡ compared_length items rest + comparisons c next following
 
 octet_goes : (c : Comparator) (o b : ℕ) (is next : List Item) (bs following : List ℕ) (t : Bool) → eqb (folded c o) (folded c b) ≡ t → cond t (goes is bs) stuck ≡ goes next following → SameTry c (Octet o ∷ is) (b ∷ bs) next following
 octet_goes c o b is next bs following true e f = let i : is ≡ next = cc in let r : bs ≡ following = cc in rw (← i, ← r) (record { trial_is = rw e refl; count_is = rw e (omega arith) })
@@ -72,7 +72,7 @@ goes_on c (Any ∷ is) text next following e = absurd cc
 -- the end of a try
 record EndsTry (c : Comparator) (items : List Item) (rest : List ℕ) (t : Trial) : Type 0 where
   trial_is : trial c items rest ≡ t
-  count_is : comparisons c items rest ≡ compared items rest
+  count_is : comparisons c items rest ≡ compared_length items rest
 
 octet_stuck : (c : Comparator) (o b : ℕ) (is : List Item) (bs : List ℕ) (t : Bool) → eqb (folded c o) (folded c b) ≡ t → cond t (goes is bs) stuck ≡ stuck → EndsTry c (Octet o ∷ is) (b ∷ bs) misfit
 octet_stuck c o b is bs true e f = absurd cc
@@ -104,7 +104,7 @@ counted c all value answer m n e h = subst (λ (k : ℕ). Search c false all val
 pub Exact-first : (c : Comparator) (all : List Item) (value : List ℕ) → Exact c all value None all value 0
 Exact-first c all value = λ answer n h. counted c all value answer n (0 + n) (omega arith) (first_try c all value answer n h)
 
-pub Exact-goes : (c : Comparator) (all : List Item) (value : List ℕ) (again : Again) (items next : List Item) (rest following : List ℕ) (count more : ℕ) → Exact c all value again items rest count → turn_of c items rest ≡ goes next following → more ≡ compared items rest → Exact c all value again next following (count + more)
+pub Exact-goes : (c : Comparator) (all : List Item) (value : List ℕ) (again : Again) (items next : List Item) (rest following : List ℕ) (count more : ℕ) → Exact c all value again items rest count → turn_of c items rest ≡ goes next following → more ≡ compared_length items rest → Exact c all value again next following (count + more)
 Exact-goes c all value again items next rest following count more h e m = λ answer n k.
     let g = goes_on c items rest next following e in
     counted c all value answer (count + (more + n)) (count + more + n) (omega arith) (h answer (more + n) (record {
@@ -113,7 +113,7 @@ Exact-goes c all value again items next rest following count more h e m = λ ans
       count = omega (arith, m, g.count_is, k.count);
     }))
 
-pub Exact-star : (c : Comparator) (all : List Item) (value : List ℕ) (again : Again) (items next : List Item) (rest : List ℕ) (count more : ℕ) → Exact c all value again items rest count → turn_of c items rest ≡ star next → more ≡ compared items rest → Exact c all value (Some (next, rest)) next rest (count + more)
+pub Exact-star : (c : Comparator) (all : List Item) (value : List ℕ) (again : Again) (items next : List Item) (rest : List ℕ) (count more : ℕ) → Exact c all value again items rest count → turn_of c items rest ≡ star next → more ≡ compared_length items rest → Exact c all value (Some (next, rest)) next rest (count + more)
 Exact-star c all value again items next rest count more h e m = λ answer n k.
     let g = reaches_star c items next rest e in
     counted c all value answer (count + (more + n)) (count + more + n) (omega arith) (h answer (more + n) (record {
@@ -122,7 +122,7 @@ Exact-star c all value again items next rest count more h e m = λ answer n k.
       count = omega (arith, m, g.count_is);
     }))
 
-pub Exact-stuck : (c : Comparator) (all : List Item) (value : List ℕ) (items : List Item) (rest : List ℕ) (after : List Item) (since : List ℕ) (b : ℕ) (following : List ℕ) (count more : ℕ) → Exact c all value (Some (after, since)) items rest count → since ≡ b ∷ following → turn_of c items rest ≡ stuck → more ≡ compared items rest → Exact c all value (Some (after, following)) after following (count + more)
+pub Exact-stuck : (c : Comparator) (all : List Item) (value : List ℕ) (items : List Item) (rest : List ℕ) (after : List Item) (since : List ℕ) (b : ℕ) (following : List ℕ) (count more : ℕ) → Exact c all value (Some (after, since)) items rest count → since ≡ b ∷ following → turn_of c items rest ≡ stuck → more ≡ compared_length items rest → Exact c all value (Some (after, following)) after following (count + more)
 Exact-stuck c all value items rest after since b following count more h place e m = λ answer n k.
     let g = misfits c items rest e in
     let left : AfterMisfit c (Some (after, since)) answer n = subst (λ (xs : List ℕ). AfterMisfit c (Some (after, xs)) answer n) (sym place) (later_try c after following answer n k) in
@@ -133,20 +133,20 @@ Exact-stuck c all value items rest after since b following count more h place e 
     }))
 
 -- the three ends of a search
-pub Exact-ends : (c : Comparator) (all : List Item) (value : List ℕ) (again : Again) (items : List Item) (rest : List ℕ) (count more : ℕ) → Exact c all value again items rest count → turn_of c items rest ≡ ends → more ≡ compared items rest → Search c false all value true (count + more)
+pub Exact-ends : (c : Comparator) (all : List Item) (value : List ℕ) (again : Again) (items : List Item) (rest : List ℕ) (count more : ℕ) → Exact c all value again items rest count → turn_of c items rest ≡ ends → more ≡ compared_length items rest → Search c false all value true (count + more)
 Exact-ends c all value again items rest count more h e m =
     let g = covers_text c items rest e in
     h true more (record { later = 0; after = subst (λ (t : Trial). After c again t true 0) (sym g.trial_is) (refl, refl); count = omega (arith, m, g.count_is) })
 
-fails : (c : Comparator) (all : List Item) (value : List ℕ) (again : Again) (items : List Item) (rest : List ℕ) (count more : ℕ) → Exact c all value again items rest count → AfterMisfit c again false 0 → turn_of c items rest ≡ stuck → more ≡ compared items rest → Search c false all value false (count + more)
+fails : (c : Comparator) (all : List Item) (value : List ℕ) (again : Again) (items : List Item) (rest : List ℕ) (count more : ℕ) → Exact c all value again items rest count → AfterMisfit c again false 0 → turn_of c items rest ≡ stuck → more ≡ compared_length items rest → Search c false all value false (count + more)
 fails c all value again items rest count more h over e m =
     let g = misfits c items rest e in
     h false more (record { later = 0; after = subst (λ (t : Trial). After c again t false 0) (sym g.trial_is) over; count = omega (arith, m, g.count_is) })
 
-pub Exact-fails : (c : Comparator) (all : List Item) (value : List ℕ) (items : List Item) (rest : List ℕ) (count more : ℕ) → Exact c all value None items rest count → turn_of c items rest ≡ stuck → more ≡ compared items rest → Search c false all value false (count + more)
+pub Exact-fails : (c : Comparator) (all : List Item) (value : List ℕ) (items : List Item) (rest : List ℕ) (count more : ℕ) → Exact c all value None items rest count → turn_of c items rest ≡ stuck → more ≡ compared_length items rest → Search c false all value false (count + more)
 Exact-fails c all value items rest count more h e m = fails c all value None items rest count more h (refl, refl) e m
 
-pub Exact-fails_at_end : (c : Comparator) (all : List Item) (value : List ℕ) (items : List Item) (rest : List ℕ) (after : List Item) (since : List ℕ) (count more : ℕ) → Exact c all value (Some (after, since)) items rest count → length since ≡ 0 → turn_of c items rest ≡ stuck → more ≡ compared items rest → Search c false all value false (count + more)
+pub Exact-fails_at_end : (c : Comparator) (all : List Item) (value : List ℕ) (items : List Item) (rest : List ℕ) (after : List Item) (since : List ℕ) (count more : ℕ) → Exact c all value (Some (after, since)) items rest count → length since ≡ 0 → turn_of c items rest ≡ stuck → more ≡ compared_length items rest → Search c false all value false (count + more)
 Exact-fails_at_end c all value items rest after since count more h empty e m =
     fails c all value (Some (after, since)) items rest count more h (subst (λ (xs : List ℕ). AfterMisfit c (Some (after, xs)) false 0) (sym (nil_from_length since empty)) (refl, refl)) e m
 

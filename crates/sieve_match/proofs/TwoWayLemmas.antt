@@ -16,7 +16,7 @@ use Rattle.sieve_meaning.specs.Matching.{folded, fold, Contains}
 use Rattle.sieve_match.specs.declared.two_way.Order.{Order}
 use Rattle.sieve_match.specs.declared.two_way.Order.TheVariants.{Rising, Falling}
 use Rattle.sieve_match.specs.declared.two_way.Plan.{Plan}
-use Rattle.sieve_match.specs.TwoWay.{read, StandsAt, StandsIn, Precedes, IsPlan}
+use Rattle.sieve_match.specs.TwoWay.{folded_octet, StandsAt, StandsIn, Precedes, IsPlan}
 use Rattle.sieve_match.proofs.OccurrenceLemmas.{around_from, place_from}
 
 pub Precedes-trans : (order : Order) (a b c : ℕ) → Precedes order a b → Precedes order b c → Precedes order a c
@@ -50,8 +50,8 @@ either_case : (b o : ℕ) → folded Casemap b ≡ folded Casemap o → (eqb b (
 either_case b o e = grind (arith, nat_tests)
 
 -- a text as it is compared reads as its octets do
-read_fold : (text : List ℕ) (k : ℕ) → slice_index (fold Casemap text) k ≡ read text k
-unfolding read
+read_fold : (text : List ℕ) (k : ℕ) → slice_index (fold Casemap text) k ≡ folded_octet text k
+unfolding folded_octet
 read_fold text k = get_or-map (folded Casemap) text k 0
 
 occurs_from : (key value : List ℕ) (k : ℕ) → StandsAt value key k → OccursAt (fold Casemap value) (fold Casemap key) k
@@ -88,7 +88,7 @@ module _ (key value : List ℕ) (at rare upper lower : ℕ) (inside : rare < len
   at-ahead j l = get_or-take (length value - length key + rare + 1 - (at + rare)) (drop (at + rare) value) j 0 l ∙ get_or-drop (at + rare) value j 0
 
   passes : (k : ℕ) → at ≤ k → k < length value + 1 - length key → StandsAt value key k → Passes (is_byte2 upper lower) ahead (k - at)
-  unfolding read
+  unfolding folded_octet
   passes k low high h =
       let e : folded Casemap (slice_index value (k + rare)) ≡ folded Casemap (slice_index key rare) = h.reads rare inside in
       let place : at + rare + (k - at) ≡ k + rare = omega arith in
@@ -105,26 +105,26 @@ module _ (key value : List ℕ) (at rare upper lower : ℕ) (inside : rare < len
   )
 
 -- one place at which the search compares: the octets from `start` up to `end` fit, and those before `known`
-module _ (key value : List ℕ) (p : Plan) (plan : IsPlan (read key) (length key) p) (some : 0 < length key) (at next known start end : ℕ)
-    (passed : Nowhere (StandsAt value key) 0 at) (small : known < length key) (fits : (k : ℕ) → k < known → read key k ≡ read value (at + k))
+module _ (key value : List ℕ) (p : Plan) (plan : IsPlan (folded_octet key) (length key) p) (some : 0 < length key) (at next known start end : ℕ)
+    (passed : Nowhere (StandsAt value key) 0 at) (small : known < length key) (fits : (k : ℕ) → k < known → folded_octet key k ≡ folded_octet value (at + k))
     (candidate : (at ≤ next) × (next < length value + 1 - length key) × Nowhere (StandsAt value key) at next) (stays : 0 < known → Some next ≡ Some at)
-    (start_is : start ≡ max p.cut known) (low : start ≤ end) (high : end ≤ length key) (same : (k : ℕ) → start ≤ k → k < end → read key k ≡ read value (next + k)) where
+    (start_is : start ≡ max p.cut known) (low : start ≤ end) (high : end ≤ length key) (same : (k : ℕ) → start ≤ k → k < end → folded_octet key k ≡ folded_octet value (next + k)) where
   before : Nowhere (StandsAt value key) 0 next
   before = Nowhere-then passed candidate.2
 
-  front : (k : ℕ) → k < known → read key k ≡ read value (next + k)
+  front : (k : ℕ) → k < known → folded_octet key k ≡ folded_octet value (next + k)
   front k l =
       let s = stays (omega arith) in
       let e : at ≡ next = cc in
-      subst (λ (q : ℕ). read key k ≡ read value (q + k)) e (fits k l)
+      subst (λ (q : ℕ). folded_octet key k ≡ folded_octet value (q + k)) e (fits k l)
 
-  right : (k : ℕ) → p.cut ≤ k → k < end → read key k ≡ read value (next + k)
+  right : (k : ℕ) → p.cut ≤ k → k < end → folded_octet key k ≡ folded_octet value (next + k)
   right k a b = ⊎_elim (λ inside. front k (omega arith)) (λ outside. same k outside b) (cases_lt k start)
 
-  pub after_right : end < length key → (read key end ≡ read value (next + end) → ⊥) → Nowhere (StandsAt value key) 0 (next + (end - p.cut + 1))
-  after_right below differs = Nowhere-then before (Nowhere-right (read key) (length key) (read value) (length value) p.cut plan.critical next end (omega arith) below right differs)
+  pub after_right : end < length key → (folded_octet key end ≡ folded_octet value (next + end) → ⊥) → Nowhere (StandsAt value key) 0 (next + (end - p.cut + 1))
+  after_right below differs = Nowhere-then before (Nowhere-right (folded_octet key) (length key) (folded_octet value) (length value) p.cut plan.critical next end (omega arith) below right differs)
 
-  pub found : length key ≤ end → ((k : ℕ) → known ≤ k → k < p.cut → read key k ≡ read value (next + k)) → StandsIn value key
+  pub found : length key ≤ end → ((k : ℕ) → known ≤ k → k < p.cut → folded_octet key k ≡ folded_octet value (next + k)) → StandsIn value key
   found full left = (
     next,
     record {
@@ -136,14 +136,14 @@ module _ (key value : List ℕ) (p : Plan) (plan : IsPlan (read key) (length key
     },
   )
 
-  pub after_left : length key ≤ end → (((k : ℕ) → known ≤ k → k < p.cut → read key k ≡ read value (next + k)) → ⊥) → Nowhere (StandsAt value key) 0 (next + p.shift)
-  after_left full differs = Nowhere-then before (Nowhere-left (read key) (length key) (read value) (length value) p.cut p.shift plan.critical plan.short next
+  pub after_left : length key ≤ end → (((k : ℕ) → known ≤ k → k < p.cut → folded_octet key k ≡ folded_octet value (next + k)) → ⊥) → Nowhere (StandsAt value key) 0 (next + p.shift)
+  after_left full differs = Nowhere-then before (Nowhere-left (folded_octet key) (length key) (folded_octet value) (length value) p.cut p.shift plan.critical plan.short next
       (λ k a b. right k a (omega arith)) (λ occurs. differs (λ k a b. sym (occurs.reads k (omega (arith, plan.below))))))
 
-  pub kept_fits : length key ≤ end → (k : ℕ) → k < p.kept → read key k ≡ read value (next + p.shift + k)
+  pub kept_fits : length key ≤ end → (k : ℕ) → k < p.kept → folded_octet key k ≡ folded_octet value (next + p.shift + k)
   kept_fits full k l = ⊎_elim
       (λ none. absurd (omega (arith, none)))
-      (λ s. known-next (read key) (length key) (read value) (length value) p.cut p.shift s.2 s.1 next (λ j a b. right j a (omega arith)) k (omega (arith, s.0)))
+      (λ s. known-next (folded_octet key) (length key) (folded_octet value) (length value) p.cut p.shift s.2 s.1 next (λ j a b. right j a (omega arith)) k (omega (arith, s.0)))
       plan.kept
 
 pub kept_below : (x : ℕ → ℕ) (m : ℕ) (p : Plan) → IsPlan x m p → 0 < m → p.kept < m

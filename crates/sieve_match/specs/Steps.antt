@@ -30,12 +30,12 @@ turn_view (steps.Goes p t) = goes (items_of p.now) t.now
 turn_view steps.Stuck = stuck
 
 -- how many octets the first item compares with the front of a text: one, if the item is an octet and the text has one
-abbrev pub compared : List Item → List ℕ → ℕ
-compared [] text = 0
-compared (Octet o ∷ is) [] = 0
-compared (Octet o ∷ is) (b ∷ bs) = 1
-compared (One ∷ is) text = 0
-compared (Any ∷ is) text = 0
+abbrev pub compared_length : List Item → List ℕ → ℕ
+compared_length [] text = 0
+compared_length (Octet o ∷ is) [] = 0
+compared_length (Octet o ∷ is) (b ∷ bs) = 1
+compared_length (One ∷ is) text = 0
+compared_length (Any ∷ is) text = 0
 
 -- how many items of a pattern are octets
 abbrev pub octet_count : List Item → ℕ

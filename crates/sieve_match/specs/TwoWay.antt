@@ -9,12 +9,12 @@ use Rattle.sieve_match.specs.declared.two_way.Order.TheVariants.{Rising, Falling
 use Rattle.sieve_match.specs.declared.two_way.Plan.{Plan}
 
 -- an octet of a text, as it is compared
-unfoldable pub read : List ℕ → ℕ → ℕ
-read text k = folded Casemap (slice_index text k)
+unfoldable pub folded_octet : List ℕ → ℕ → ℕ
+folded_octet text k = folded Casemap (slice_index text k)
 
 -- the key occurs in the value at this place
 abbrev pub StandsAt : (value key : List ℕ) → ℕ → Type 0
-StandsAt value key k = OccursIn (read key) (length key) (read value) (length value) k
+StandsAt value key k = OccursIn (folded_octet key) (length key) (folded_octet value) (length value) k
 
 abbrev pub StandsIn : (value key : List ℕ) → Type 0
 StandsIn value key = (k : ℕ) × StandsAt value key k

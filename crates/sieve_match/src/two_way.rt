@@ -12,7 +12,7 @@ ghost use Rattle.std.specs.Prelude.{◌≡◌, ◌≢◌, ◌↔◌, ℕ, ◌+�
 ghost use Rattle.std.specs.Ordering.{MatchOrdering};
 ghost use Rattle.memchr.specs.Critical.{IsSuffixAt, IsCutPlace};
 ghost use Rattle.memchr.specs.TwoWay.{IsNextCandidate};
-ghost use Rattle.sieve_match.specs.TwoWay.{read, StandsAt, StandsIn, Precedes, IsPlan};
+ghost use Rattle.sieve_match.specs.TwoWay.{folded_octet, StandsAt, StandsIn, Precedes, IsPlan};
 
 use crate::Comparator;
 use crate::octets::fold;
@@ -28,11 +28,11 @@ pub(crate) fn stands_in(key: &[u8], value: &[u8]) -> bool
 }
 
 /// An octet of a text, as it is compared.
-#[tactic(auto, unfolding(crate::specs::TwoWay::read))]
+#[tactic(auto, unfolding(crate::specs::TwoWay::folded_octet))]
 #[inline(always)]
 fn folded_at(text: &[u8], place: usize) -> u8
     requires { place < length text.now }
-    ensures { result ≡ read text.now place }
+    ensures { result ≡ folded_octet text.now place }
 {
     fold(Comparator::Casemap, text[place])
 }
@@ -71,7 +71,7 @@ struct Suffix {
 /// The greatest suffix of a key by an order.
 fn greatest_suffix(key: &[u8], order: Order) -> Suffix
     requires { 0 < length key.now }
-    ensures { IsSuffixAt (Precedes order) (read key.now) (length key.now) result.place result.period }
+    ensures { IsSuffixAt (Precedes order) (folded_octet key.now) (length key.now) result.place result.period }
 {
     let (mut place, mut period) = (0, 1);
     let (mut candidate, mut offset) = (1, 0);
@@ -106,7 +106,7 @@ fn greatest_suffix(key: &[u8], order: Order) -> Suffix
 /// Whether each octet before the cut is equal to the one a period after it.
 fn repeats_before(key: &[u8], cut: usize, period: usize) -> bool
     requires { cut + period ≤ length key.now }
-    ensures { IsTrue result ↔ ((k : ℕ) → k < cut → read key.now k ≡ read key.now (k + period)) }
+    ensures { IsTrue result ↔ ((k : ℕ) → k < cut → folded_octet key.now k ≡ folded_octet key.now (k + period)) }
 {
     for place in 0..cut {
         if folded_at(key, place) != folded_at(key, place + period) {
@@ -135,8 +135,8 @@ fn fits_to(key: &[u8], value: &[u8], at: usize, start: usize) -> usize
     requires from { start ≤ length key.now }
     ensures low { start ≤ result }
     ensures high { result ≤ length key.now }
-    ensures same { (k : ℕ) → start ≤ k → k < result → read key.now k ≡ read value.now (at + k) }
-    ensures differs { result < length key.now → read key.now result ≢ read value.now (at + result) }
+    ensures same { (k : ℕ) → start ≤ k → k < result → folded_octet key.now k ≡ folded_octet value.now (at + k) }
+    ensures differs { result < length key.now → folded_octet key.now result ≢ folded_octet value.now (at + result) }
 {
     let mut end = start;
     while end < key.len() && folded_at(key, end) == folded_at(value, at + end) {
@@ -150,7 +150,7 @@ fn fits_to(key: &[u8], value: &[u8], at: usize, start: usize) -> usize
 fn fits_between(key: &[u8], value: &[u8], at: usize, low: usize, high: usize) -> bool
     requires within { at + length key.now ≤ length value.now }
     requires top { high ≤ length key.now }
-    ensures { IsTrue result ↔ ((k : ℕ) → low ≤ k → k < high → read key.now k ≡ read value.now (at + k)) }
+    ensures { IsTrue result ↔ ((k : ℕ) → low ≤ k → k < high → folded_octet key.now k ≡ folded_octet value.now (at + k)) }
 {
     for place in low..high {
         if folded_at(key, place) != folded_at(value, at + place) {
@@ -176,7 +176,7 @@ pub(crate) struct Plan {
 impl Plan {
     fn new(key: &[u8]) -> Plan
         requires { 0 < length key.now }
-        ensures { IsPlan (read key.now) (length key.now) result }
+        ensures { IsPlan (folded_octet key.now) (length key.now) result }
     {
         let rising = greatest_suffix(key, Order::Rising);
         let falling = greatest_suffix(key, Order::Falling);
@@ -189,8 +189,8 @@ impl Plan {
 
     /// The plan of a key that is cut before a suffix of this least period.
     fn at(key: &[u8], cut: usize, period: usize) -> Plan
-        requires { IsCutPlace (read key.now) (length key.now) cut period }
-        ensures { IsPlan (read key.now) (length key.now) result }
+        requires { IsCutPlace (folded_octet key.now) (length key.now) cut period }
+        ensures { IsPlan (folded_octet key.now) (length key.now) result }
     {
         let rare = rare_place(key);
         if cut * 2 < key.len() && repeats_before(key, cut, period) {
@@ -212,7 +212,7 @@ impl Plan {
     /// Whether the key occurs in a value.
     fn finds(&self, key: &[u8], value: &[u8]) -> bool
         requires some { 0 < length key.now }
-        requires plan { IsPlan (read key.now) (length key.now) self.now }
+        requires plan { IsPlan (folded_octet key.now) (length key.now) self.now }
         ensures { IsTrue result ↔ StandsIn value.now key.now }
     {
         let (mut at, mut known) = (0, 0);

@@ -6,7 +6,7 @@
 ghost use Rattle.std.specs.Prelude.{◌≡◌, ◌≤◌, ◌+◌, ◌*◌, ◌↔◌, ◌∷◌, ◌==◌, [], length, false, IsTrue, MatchOption};
 ghost use Rattle.sieve_meaning.specs.Matching.{folded, items_of, covers, Matches};
 ghost use Rattle.sieve_match.specs.Search.{Search};
-ghost use Rattle.sieve_match.specs.Steps.{turn_of, turn_view, compared, octet_count};
+ghost use Rattle.sieve_match.specs.Steps.{turn_of, turn_view, compared_length, octet_count};
 
 use crate::Comparator;
 use crate::octets::fold;
@@ -55,7 +55,7 @@ fn compare(comparator: Comparator, item: u8, octet: u8) -> (bool, u128)
 /// What the first item does, and how many octets were compared: 0 or 1.
 fn first_step<'a>(comparator: Comparator, pattern: &'a [u8], text: &'a [u8]) -> (Step<'a>, u128)
     ensures value { turn_view result.0 ≡ turn_of comparator (items_of pattern.now) text.now }
-    ensures count { result.1 ≡ compared (items_of pattern.now) text.now }
+    ensures count { result.1 ≡ compared_length (items_of pattern.now) text.now }
 {
     match next_item(pattern) {
         None if text.is_empty() => (Step::Ends, 0),

@@ -1,7 +1,7 @@
 pub mod MatchingLemmas
 pub mod OutcomeLaws
+pub mod RunFaultLemmas
 pub mod PartLaws
-mod PathLemmas
 mod ProcedureRows
 pub mod SharingLemmas
 pub mod ProcedureLemmas

@@ -1,6 +1,7 @@
 -- Outcomes of scripts that are too heavy, and of all others.
 use Rattle.std.proofs.Common.{◌≡◌, ◌<◌, ◌≤◌, ℕ, List, [], false, Option, Some, refl}
 use Rattle.std.proofs.lemmas.Bool.{lt-ltb, le-ltb, false_from_ne_true}
+use Rattle.sieve_meaning.specs.declared.run_fault.RunFault.TheVariants as run_faults
 use Rattle.sieve_meaning.specs.Case.{Facts}
 use Rattle.sieve_meaning.specs.Program.{Commands}
 use Rattle.sieve_meaning.specs.Meaning.{Library, meaning}
@@ -30,8 +31,8 @@ pub budget_by_path : (lib : Library) (known_as : Option (List ℕ)) (main : Comm
 unfolding script_budget
 budget_by_path lib known_as main over = rw (lt-ltb greatest_weight (linked_weight lib known_as main) over) refl
 
--- one that is too heavy is fault 5
-pub heavy_outcome : (facts : Facts) (lib : Library) (known_as : Option (List ℕ)) (main : Commands) → IsTooHeavy lib known_as main → outcome facts lib known_as main ≡ outcome_at (Some 5) [] false false
+-- one that is too heavy ends with that fault
+pub heavy_outcome : (facts : Facts) (lib : Library) (known_as : Option (List ℕ)) (main : Commands) → IsTooHeavy lib known_as main → outcome facts lib known_as main ≡ outcome_at (Some run_faults.TooHeavy) [] false false
 unfolding outcome
 heavy_outcome facts lib known_as main heavy = rw heavy refl
 

@@ -1,7 +1,7 @@
 -- The role of the parts of branches in the program, by the words of commands.
 use Rattle.std.proofs.Common.{◌≡◌, true, false, List, refl}
 use Rattle.sieve_syntax.specs.declared.tree.Argument.{Argument}
-use Rattle.sieve_meaning.specs.declared.branches.Part.TheVariants.{Branch, Otherwise}
+use Rattle.sieve_meaning.specs.declared.branches.BranchPart.TheVariants.{Branch, Otherwise}
 use Rattle.sieve_meaning.specs.declared.words.CommandWord.{CommandWord}
 use Rattle.sieve_meaning.specs.declared.words.CommandWord.TheVariants.{If, ElsIf, Else}
 use Rattle.sieve_meaning.specs.Branching.{part_of}

@@ -5,7 +5,7 @@ use Rattle.std.specs.List.{list_any, cons_option}
 use Rattle.std.proofs.lemmas.Bool.{and_from, or_right, or_left, eq-eqb, false_from_ne_true}
 use Rattle.sieve_meaning.specs.Program.{Include, Commands}
 use Rattle.sieve_meaning.specs.Meaning.{ScriptName, script_named, same_script, is_among, Library}
-use Rattle.sieve_meaning.specs.Procedures.{includes_of, once, included_names, reaches, Procedure, same_first, are_among, is_shared, entered_if, entered, called_by, led_to, main_procedure, procedures}
+use Rattle.sieve_meaning.specs.Procedures.{includes_of, once, included_names, reaches, Procedure, same_first, are_among, is_shared, entered_if, entry, called_by, led_to, main_procedure, procedures}
 use Rattle.sieve_meaning.proofs.SharingLemmas.{IsIn, same_is, same_self, not_false, or_else, kept_step, among_those, shared_tests}
 
 -- LISTS
@@ -202,7 +202,7 @@ module _ (lib : Library) where
         (are_among_from x.script x.chain z.chain (λ s there r. among_those lib y.script y.chain z.chain s ty.2 (back s r) (among_those lib x.script x.chain y.chain s tx.2 r there)))
         (are_among_from x.script z.chain x.chain (λ s there r. among_those lib x.script y.chain x.chain s tx.3 r (among_those lib y.script z.chain y.chain s ty.3 (back s r) there)))
 
-    pub entered_is : (chain : List ScriptName) (s : ScriptName) (e : Procedure) → entered lib left chain s ≡ Some e → IsEntered lib left e
+    pub entered_is : (chain : List ScriptName) (s : ScriptName) (e : Procedure) → entry lib left chain s ≡ Some e → IsEntered lib left e
     entered_is chain s e h = go (lib.find s) refl (is_among chain s) h
       where
         go : (o : Option Commands) → lib.find s ≡ o → (active : Bool) → entered_if o active left (s ∷ chain) ≡ Some e → IsEntered lib left e
@@ -213,17 +213,17 @@ module _ (lib : Library) where
             subst (IsEntered lib left) (some_is made e k) (record { name = s; before = chain; chain = refl; there = at; left_is = refl })
 
     abbrev pub all_entered : List Procedure → List Procedure
-    all_entered ps = flat_map (λ p. filter_map (entered lib left p.chain) (included_names p.script)) ps
+    all_entered ps = flat_map (λ p. filter_map (entry lib left p.chain) (included_names p.script)) ps
 
     pub are_entered : (ps : List Procedure) → AllOf (IsEntered lib left) (all_entered ps)
     are_entered ps =
-        all_flat_map (IsEntered lib left) (λ p. filter_map (entered lib left p.chain) (included_names p.script)) ps
-        (λ p. all_filter_map (IsEntered lib left) (entered lib left p.chain) (included_names p.script) (λ s e h. entered_is p.chain s e h))
+        all_flat_map (IsEntered lib left) (λ p. filter_map (entry lib left p.chain) (included_names p.script)) ps
+        (λ p. all_filter_map (IsEntered lib left) (entry lib left p.chain) (included_names p.script) (λ s e h. entered_is p.chain s e h))
 
-    called_found : (ps : List Procedure) (p : Procedure) → IsElement p ps → (s : ScriptName) (e : Procedure) → IsElement s (included_names p.script) → entered lib left p.chain s ≡ Some e → list_any (λ q. is_shared lib q e) (called_by lib left ps) ≡ true
+    called_found : (ps : List Procedure) (p : Procedure) → IsElement p ps → (s : ScriptName) (e : Procedure) → IsElement s (included_names p.script) → entry lib left p.chain s ≡ Some e → list_any (λ q. is_shared lib q e) (called_by lib left ps) ≡ true
     called_found ps p there s e named h =
         once_covers (is_shared lib) (IsEntered lib left) shared_self shared_along (all_entered ps) (are_entered ps) e
-        (in_flat_map (λ p. filter_map (entered lib left p.chain) (included_names p.script)) e p ps there (in_filter_map (entered lib left p.chain) e s (included_names p.script) named h))
+        (in_flat_map (λ p. filter_map (entry lib left p.chain) (included_names p.script)) e p ps there (in_filter_map (entry lib left p.chain) e s (included_names p.script) named h))
 
     pub called_left : (ps : List Procedure) → AllOf (λ p. p.left ≡ left) (called_by lib left ps)
     called_left ps = all_mapped (IsEntered lib left) (λ p. p.left ≡ left) (called_by lib left ps) (λ p h. h.left_is) (all_once (is_shared lib) (IsEntered lib left) (all_entered ps) (are_entered ps))
@@ -236,7 +236,7 @@ module _ (lib : Library) where
 
   -- what an include of the procedure enters is among these
   abbrev pub FindsCalls : Procedure → List Procedure → Type 0
-  FindsCalls p later = (left : ℕ) → p.left ≡ suc left → (s : ScriptName) (e : Procedure) → IsElement s (included_names p.script) → entered lib left p.chain s ≡ Some e → list_any (λ q. is_shared lib q e) later ≡ true
+  FindsCalls p later = (left : ℕ) → p.left ≡ suc left → (s : ScriptName) (e : Procedure) → IsElement s (included_names p.script) → entry lib left p.chain s ≡ Some e → list_any (λ q. is_shared lib q e) later ≡ true
 
   -- what includes enter comes after them
   abbrev pub AllFind : List Procedure → Type 0
@@ -260,7 +260,7 @@ module _ (lib : Library) where
   each_finds left all (p ∷ ps) inside h = (
     λ n is s e named at.
         let same : n ≡ left = suc_is n left (sym is ∙ h.0) in
-        let here : entered lib left p.chain s ≡ Some e = subst (λ (k : ℕ). entered lib k p.chain s ≡ Some e) same at in
+        let here : entry lib left p.chain s ≡ Some e = subst (λ (k : ℕ). entry lib k p.chain s ≡ Some e) same at in
         led_any (λ q. is_shared lib q e) left (called_by lib left all) (called_found left all p (inside p (inl refl)) s e named here),
     each_finds left all ps (λ q there. inside q (inr there)) h.1,
   )

@@ -4,7 +4,10 @@ use Rattle.std.specs.Str.{bytes_eq}
 use Rattle.sieve_syntax.specs.Tree.{test, no_tests, one_test, CommandTree, command, semicolon, block, CommandTrees, no_commands, command_then as tree_then}
 use Rattle.sieve_syntax.specs.declared.tree.StringList.TheVariants as string_lists
 use Rattle.sieve_syntax.specs.declared.tree.Argument.TheVariants as arguments
+use Rattle.class_paths.specs.Path.{unfiled}
 use Rattle.sieve_meaning.specs.declared.matching.Comparator.TheVariants as comparators
+use Rattle.sieve_meaning.specs.declared.outcome.Outcome.{Outcome}
+use Rattle.sieve_meaning.specs.declared.run_fault.RunFault.TheVariants.{ClassNotOpen}
 use Rattle.sieve_meaning.specs.Words.{command_word, test_word}
 use Rattle.sieve_meaning.specs.Matching.{items_from, items_of, suffixes, contains, covers}
 use Rattle.sieve_meaning.specs.Case.{Facts}
@@ -12,7 +15,7 @@ use Rattle.sieve_meaning.specs.Reading.{string_lists, comparator_from, program_o
 use Rattle.sieve_meaning.specs.Meaning.{no_library}
 use Rattle.sieve_meaning.specs.Weight.{linked_weight}
 use Rattle.sieve_meaning.specs.TooHeavy.{is_too_heavy}
-use Rattle.sieve_meaning.specs.Outcome.{Outcome, outcome, unfiled}
+use Rattle.sieve_meaning.specs.Outcome.{outcome}
 
 -- `*ab*ab` matches `abab` and not `ab`
 two_stars : covers comparators.Octet (items_of (codes "*ab*ab")) (codes "abab") ≡ true
@@ -74,7 +77,7 @@ present : result (message (codes "X-None") []) (contains_script (codes "x-none")
 unfolding command_word test_word string_lists comparator_from suffixes contains outcome is_too_heavy
 present = refl
 
--- a path that is not open is fault 1, and what was filed before is dropped
-closed : result (message [] []) (tree_then (file_tree (codes "finance")) (tree_then (file_tree (codes "nowhere")) no_commands)) ≡ record { classes = unfiled ∷ []; fault = Some 1 }
+-- a path that is not open is a fault, and what was filed before is dropped
+closed : result (message [] []) (tree_then (file_tree (codes "finance")) (tree_then (file_tree (codes "nowhere")) no_commands)) ≡ record { classes = unfiled ∷ []; fault = Some ClassNotOpen }
 unfolding command_word string_lists outcome is_too_heavy
 closed = refl

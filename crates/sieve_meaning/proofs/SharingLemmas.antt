@@ -5,10 +5,11 @@ use Rattle.std.specs.List.{list_any}
 use Rattle.std.proofs.lemmas.Slice.Eq.{bytes_eq-Decides}
 use Rattle.std.specs.Prelude.{nat_eq}
 use Rattle.std.proofs.lemmas.Bool.{and_parts, and_from, or_right, or_left, or_cases, eqb-true}
+use Rattle.sieve_meaning.specs.declared.run_fault.RunFault.TheVariants.{NestingTooDeep}
 use Rattle.sieve_meaning.specs.Case.{Facts}
 use Rattle.sieve_meaning.specs.Truth.{truth}
 use Rattle.sieve_meaning.specs.Program.{Include, Command, require, keep, discard, stop, return, file_into, branch, include, Commands, no_command, command_then, Branches, no_branch, otherwise, if_then}
-use Rattle.sieve_meaning.specs.Meaning.{ScriptName, script_named, same_bool, same_script, is_among, Library, Filing, Ending, GoesOn, Returns, Stops, Faults, Included, and_then, run, run_one, run_branches, included, including, ended, entering, unless_entered, unless_missing, unless_active}
+use Rattle.sieve_meaning.specs.Meaning.{ScriptName, script_named, same_bool, same_script, is_among, Library, Filing, Ending, GoesOn, Returns, Stops, Faults, Included, and_then, run, run_one, run_branches, included, inclusion, ending_of_include, entering, unless_entered, unless_missing, unless_active}
 use Rattle.sieve_meaning.specs.Weight as weights
 use Rattle.sieve_meaning.specs.Weight.{weight, weight_one, branches_weight}
 use Rattle.sieve_meaning.specs.Procedures.{includes_of, includes_in, branch_includes, once, included_names, holds_if_there, reaches_within, reaches, Procedure, same_first, are_among, is_shared, included_path}
@@ -66,7 +67,7 @@ then_alike : (e : Ending) (a b : Filing → Ending) → ((f : Filing) → a f �
 then_alike (GoesOn f) a b h = h f
 then_alike (Returns f) a b h = refl
 then_alike (Stops f) a b h = refl
-then_alike (Faults n f) a b h = refl
+then_alike (Faults fault f) a b h = refl
 
 either_alike : {A : Type 0} (t : Bool) (a b x y : A) → a ≡ x → b ≡ y → cond t a b ≡ cond t x y
 either_alike true a b x y h k = h
@@ -244,7 +245,7 @@ path_case None a b e k h = refl
 path_case (Some y) a b e k h = let p = h y refl in ap (λ (t : Bool). weights.unless_active t (e y)) p.0 ∙ ap (λ (n : ℕ). weights.unless_active b n) p.1
 
 including_case : (lib : Library) (a b : List ScriptName) (e k : Commands → Filing → Ending) (i : Include) (f : Filing) → ((y : Commands) → lib.find (script_named i) ≡ Some y → (is_among a (script_named i) ≡ is_among b (script_named i)) × ((g : Filing) → e y g ≡ k y g))
-    → including lib a e i f ≡ including lib b k i f
+    → inclusion lib a e i f ≡ inclusion lib b k i f
 including_case lib a b e k i f h =
     let s = script_named i in
     entered_case (i.once && is_among f.entered s) (unless_missing (lib.find s) i.optional (λ script. unless_active (is_among a s) (e script))) (unless_missing (lib.find s) i.optional (λ script. unless_active (is_among b s) (k script))) f
@@ -253,14 +254,14 @@ including_case lib a b e k i f h =
 module _ (c : Facts) (lib : Library) where
   -- includes of a script run alike after chains that agree on what it reaches
   pub included_alike : (left m : ℕ) → left ≤ m → (x : Commands) (a b : List ScriptName) → SameFor lib (suc m) x a b → RunsAlike (included c lib left a) (included c lib left b) (includes_of x)
-  included_alike zero m le x a b same i is f = including_case lib a b (λ script g. Faults 4 g) (λ script g. Faults 4 g) i f (λ y there. (at_include lib m x y i a b is there same, λ g. refl))
+  included_alike zero m le x a b same i is f = including_case lib a b (λ script g. Faults NestingTooDeep g) (λ script g. Faults NestingTooDeep g) i f (λ y there. (at_include lib m x y i a b is there same, λ g. refl))
   included_alike (suc left) zero le x a b same i is f = absurd (omega (arith, le))
   included_alike (suc left) (suc m) le x a b same i is f =
       let s = script_named i in
-      including_case lib a b (λ script g. ended (run c (included c lib left (s ∷ a)) script (entering s g))) (λ script g. ended (run c (included c lib left (s ∷ b)) script (entering s g))) i f
+      including_case lib a b (λ script g. ending_of_include (run c (included c lib left (s ∷ a)) script (entering s g))) (λ script g. ending_of_include (run c (included c lib left (s ∷ b)) script (entering s g))) i f
       (λ y there. (
         at_include lib (suc m) x y i a b is there same,
-        λ g. ap ended (run_alike c (included c lib left (s ∷ a)) (included c lib left (s ∷ b)) y (included_alike left m (omega (arith, le)) y (s ∷ a) (s ∷ b) (inside_include lib (suc m) x y i a b is there same)) (entering s g)),
+        λ g. ap ending_of_include (run_alike c (included c lib left (s ∷ a)) (included c lib left (s ∷ b)) y (included_alike left m (omega (arith, le)) y (s ∷ a) (s ∷ b) (inside_include lib (suc m) x y i a b is there same)) (entering s g)),
       ))
 
 module _ (lib : Library) where

@@ -1,11 +1,11 @@
 pub mod Words
 pub mod Matching
 pub mod Case
-pub mod Paths
 pub mod Program
 pub mod Reading
 pub mod Branching
 pub mod Truth
+pub mod RunFaults
 pub mod Meaning
 pub mod Scripts
 pub mod TooHeavy

@@ -2,8 +2,10 @@
 use Rattle.std.specs.Prelude.{ℕ, zero, suc, List, [], ◌∷◌, Bool, true, false, not, ◌&&◌, ◌||◌, if◌then◌else◌, Option, Some, None}
 use Rattle.std.specs.List.{list_any}
 use Rattle.std.specs.Str.{bytes_eq}
+use Rattle.class_paths.specs.Paths.{Paths, insert_path}
 use Rattle.sieve_meaning.specs.Case.{Facts}
-use Rattle.sieve_meaning.specs.Paths.{Paths, insert_path}
+use Rattle.sieve_meaning.specs.declared.run_fault.RunFault.{RunFault}
+use Rattle.sieve_meaning.specs.declared.run_fault.RunFault.TheVariants.{ClassNotOpen, ScriptMissing, RecursiveInclude, NestingTooDeep}
 use Rattle.sieve_meaning.specs.Truth.{truth}
 use Rattle.sieve_meaning.specs.Program.{Include, Command, require, keep, discard, stop, return, file_into, branch, include, Commands, no_command, command_then, Branches, no_branch, otherwise, if_then}
 
@@ -31,18 +33,18 @@ pub data Ending : Type 0 where
   GoesOn : Filing → Ending
   Returns : Filing → Ending
   Stops : Filing → Ending
-  Faults : ℕ → Filing → Ending
+  Faults : RunFault → Filing → Ending
 
 abbrev pub and_then : Ending → (Filing → Ending) → Ending
 and_then (GoesOn f) go = go f
 and_then (Returns f) go = Returns f
 and_then (Stops f) go = Stops f
-and_then (Faults n f) go = Faults n f
+and_then (Faults fault f) go = Faults fault f
 
--- `fileinto`: only a copy leaves the implicit keep in force (RFC 3894, section 3); a path that is not open is fault 1
+-- `fileinto`: only a copy leaves the implicit keep in force (RFC 3894, section 3); a path that is not open is a fault
 abbrev pub filing : Facts → Bool → List ℕ → Filing → Ending
 filing facts copy path f = if facts.is_open path
-    then GoesOn (record f { filed = insert_path path f.filed; cancelled = f.cancelled || not copy }) else Faults 1 f
+    then GoesOn (record f { filed = insert_path path f.filed; cancelled = f.cancelled || not copy }) else Faults ClassNotOpen f
 
 -- what an `include` does
 abbrev pub Included : Type 0
@@ -80,21 +82,21 @@ abbrev pub is_among : List ScriptName → ScriptName → Bool
 is_among names s = list_any (same_script s) names
 
 -- a `return` ends the included script alone (RFC 6609, section 3.3)
-abbrev pub ended : Ending → Ending
-ended (Returns f) = GoesOn f
-ended (GoesOn f) = GoesOn f
-ended (Stops f) = Stops f
-ended (Faults n f) = Faults n f
+abbrev pub ending_of_include : Ending → Ending
+ending_of_include (Returns f) = GoesOn f
+ending_of_include (GoesOn f) = GoesOn f
+ending_of_include (Stops f) = Stops f
+ending_of_include (Faults fault f) = Faults fault f
 
 abbrev pub entering : ScriptName → Filing → Filing
 entering s f = record f { entered = s ∷ f.entered }
 
 abbrev pub unless_missing : Option Commands → Bool → (Commands → Filing → Ending) → Filing → Ending
-unless_missing None optional go f = if optional then GoesOn f else Faults 2 f
+unless_missing None optional go f = if optional then GoesOn f else Faults ScriptMissing f
 unless_missing (Some script) optional go f = go script f
 
 abbrev pub unless_active : Bool → (Filing → Ending) → Filing → Ending
-unless_active true go f = Faults 3 f
+unless_active true go f = Faults RecursiveInclude f
 unless_active false go f = go f
 
 abbrev pub unless_entered : Bool → (Filing → Ending) → Filing → Ending
@@ -102,19 +104,19 @@ unless_entered true go f = GoesOn f
 unless_entered false go f = go f
 
 -- How an `include` is judged, in this order. Under `:once`, a script that was entered before does nothing. A missing
--- script does nothing under `:optional`, and is fault 2 otherwise. An active script is fault 3. Any other is entered.
-abbrev pub including : Library → (chain : List ScriptName) → (Commands → Filing → Ending) → Included
-including lib chain enter n f = unless_entered (n.once &&
+-- script does nothing under `:optional`, and is a fault otherwise. An active script is a fault. Any other is entered.
+abbrev pub inclusion : Library → (chain : List ScriptName) → (Commands → Filing → Ending) → Included
+inclusion lib chain enter n f = unless_entered (n.once &&
     is_among f.entered (script_named n))
     (unless_missing (lib.find (script_named n)) n.optional
     (λ script. unless_active (is_among chain (script_named n)) (enter script))) f
 
 -- An `include`, given how many further scripts may be active, and the names of the active ones that have one. If no
--- further script may be active, entering a script is fault 4.
+-- further script may be active, entering a script is a fault.
 abbrev pub included : Facts → Library → ℕ → (chain : List ScriptName) → Included
-included facts lib zero chain n = including lib chain (λ script f. Faults 4 f) n
-included facts lib (suc left) chain n = including lib chain
-    (λ script f. ended (run facts (included facts lib left (script_named n ∷ chain)) script
+included facts lib zero chain n = inclusion lib chain (λ script f. Faults NestingTooDeep f) n
+included facts lib (suc left) chain n = inclusion lib chain
+    (λ script f. ending_of_include (run facts (included facts lib left (script_named n ∷ chain)) script
     (entering (script_named n) f))) n
 
 -- the main script's personal name, if it has one

@@ -3,7 +3,7 @@
 use Rattle.std.specs.Prelude.{◌≡◌, ℕ, true, false, List}
 use Rattle.sieve_syntax.specs.Tree.{InnerTests, command, EndingTree, CommandTrees, command_then as tree_then}
 use Rattle.sieve_syntax.specs.declared.tree.Argument.{Argument}
-use Rattle.sieve_meaning.specs.declared.branches.Part.TheVariants.{Branch, Otherwise}
+use Rattle.sieve_meaning.specs.declared.branches.BranchPart.TheVariants.{Branch, Otherwise}
 use Rattle.sieve_meaning.specs.Branching.{part_of}
 use Rattle.sieve_meaning.specs.Program.{branch, command_then, no_branch, otherwise, if_then}
 use Rattle.sieve_meaning.specs.Reading.{only_in, program_of, branches_of, block_in}

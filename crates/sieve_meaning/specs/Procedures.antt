@@ -87,13 +87,13 @@ entered_if (Some script) false left chain = Some (record { script = script; left
 
 -- The script that an include enters after the active ones: it is there, and not active. `left` further ones may be
 -- active.
-abbrev pub entered : Library → (left : ℕ) → (chain : List ScriptName) → ScriptName → Option Procedure
-entered lib left chain s = entered_if (lib.find s) (is_among chain s) left (s ∷ chain)
+abbrev pub entry : Library → (left : ℕ) → (chain : List ScriptName) → ScriptName → Option Procedure
+entry lib left chain s = entered_if (lib.find s) (is_among chain s) left (s ∷ chain)
 
 -- the procedures that these call, each once, where so many further scripts may be active
 abbrev pub called_by : Library → (left : ℕ) → List Procedure → List Procedure
 called_by lib left ps = once (is_shared lib)
-    (flat_map (λ p. filter_map (entered lib left p.chain) (included_names p.script)) ps)
+    (flat_map (λ p. filter_map (entry lib left p.chain) (included_names p.script)) ps)
 
 -- these procedures and all that they lead to, ordered by the number of active scripts
 abbrev pub led_to : Library → (left : ℕ) → List Procedure → List Procedure

@@ -15,5 +15,5 @@ abbrev pub script_of : ScriptName → meaning.ScriptName
 script_of s = record { global = is_global s.location; name = s.name.now }
 
 -- what an include requests
-abbrev pub asked : Include → program.Include
-asked i = record { global = is_global i.script.location; once = i.is_once; optional = i.is_optional; name = i.script.name.now }
+abbrev pub include_view : Include → program.Include
+include_view i = record { global = is_global i.script.location; once = i.is_once; optional = i.is_optional; name = i.script.name.now }

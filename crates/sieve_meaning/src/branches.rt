@@ -7,7 +7,7 @@ use crate::words::CommandWord;
 
 /// The part of a command in a chain of `if`, `elsif` and `else` (RFC 5228, section 3.1).
 #[derive(Clone, Copy, Debug, PartialEq, Eq)]
-pub enum Part {
+pub enum BranchPart {
     /// An `if`, or an `elsif` after open branches.
     Branch,
     /// An `else` after open branches.
@@ -17,23 +17,23 @@ pub enum Part {
 }
 
 /// The part of a command, given whether the branches before it are open.
-pub fn part_in(word: CommandWord, is_open: bool) -> Part
+pub fn part_in(word: CommandWord, is_open: bool) -> BranchPart
     ensures { result ≡ part_of word is_open }
 {
     match word {
-        CommandWord::If => Part::Branch,
-        CommandWord::ElsIf if is_open => Part::Branch,
-        CommandWord::Else if is_open => Part::Otherwise,
-        _ => Part::Plain,
+        CommandWord::If => BranchPart::Branch,
+        CommandWord::ElsIf if is_open => BranchPart::Branch,
+        CommandWord::Else if is_open => BranchPart::Otherwise,
+        _ => BranchPart::Plain,
     }
 }
 
 /// Whether branches are open after a command of this part.
-pub fn is_branch(part: Part) -> bool
+pub fn is_branch(part: BranchPart) -> bool
     ensures { result ≡ is_branch_of part }
 {
     match part {
-        Part::Branch => true,
-        Part::Otherwise | Part::Plain => false,
+        BranchPart::Branch => true,
+        BranchPart::Otherwise | BranchPart::Plain => false,
     }
 }

@@ -1,11 +1,13 @@
 //! Laws of the definitions. Each is the contract of a function that does nothing.
 
-ghost use Rattle.std.specs.Prelude.{ℕ, List, IsTrue, ◌↔◌};
+ghost use Rattle.std.specs.Prelude.{◌≡◌, ℕ, List, IsTrue, ◌↔◌};
 ghost use Rattle.sieve_meaning.specs.Matching.{equals, IsEqualUnder, contains, Contains, covers, Matches};
 ghost use Rattle.sieve_meaning.specs.Parts.{PartLaw};
 ghost use Rattle.sieve_meaning.specs.Sharing.{ReachLaw, SharingLaw};
 ghost use Rattle.sieve_meaning.specs.declared.matching.Comparator.{Comparator};
 ghost use Rattle.sieve_meaning.specs.declared.matching.Item.{Item};
+
+use crate::level::{Level, Levels};
 
 /// What is computed for `:is` agrees with the relation.
 pub fn equality_is_decided()
@@ -37,4 +39,9 @@ pub fn reaching_is_decided()
 /// Scripts that includes share run alike in every case, and weigh the same on every path.
 pub fn shared_scripts_are_alike()
     ensures { SharingLaw }
+{}
+
+/// Seven further scripts may be active at the level of a main script, as many as in its meaning.
+pub fn eight_may_be_active()
+    ensures { ⟦<Levels as Level>⟧.depth ≡ 7 }
 {}

@@ -2,7 +2,7 @@
 
 ghost use Rattle.std.specs.Prelude.{◌≡◌, [], ◌∷◌, ◌<◌, codes, length, false, MatchOption};
 ghost use Rattle.sieve_meaning.specs.Reading.{is_tag, has_tag as has_tag_of, string_lists, first_string as first_string_of, comparator_named, comparator_from, match_type as match_type_of, number_in, include_of};
-ghost use Rattle.sieve_meaning.specs.Scripts.{asked, is_global};
+ghost use Rattle.sieve_meaning.specs.Scripts.{include_view, is_global};
 
 use crate::matching::{Comparator, MatchType};
 use crate::scripts::{Include, Location, ScriptName};
@@ -133,7 +133,7 @@ fn location(arguments: &[Argument]) -> Location
 
 /// What an `include` with these arguments requests (RFC 6609, section 3.2).
 pub fn include(arguments: &[Argument]) -> Include<'_>
-    ensures { asked result ≡ include_of arguments.now }
+    ensures { include_view result ≡ include_of arguments.now }
 {
     Include {
         script: ScriptName {

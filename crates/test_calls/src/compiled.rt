@@ -2,16 +2,15 @@
 
 use crate::images::over_budget;
 use crate::messages::{octet_case, whole_case};
-use crate::runs::{OWN_CASE, outcome_of, outcome_of_both};
+use crate::runs::{OWN_CASE, outcome_of_both, run_both_ways};
 use crate::told::{refused, word};
 use anyhow::{Result, bail};
 use filing_gen::compile as compile_script;
 use filing_image::encode;
-use filing_machine::Outcome;
 use filing_verify::Verified;
 use script_library::{Library, LibraryFault};
 use sieve_check::{Checked, check};
-use sieve_meaning::Location;
+use sieve_meaning::{Location, Outcome};
 use sieve_text::parse;
 use std::alloc::Global;
 use std::rc::Rc;
@@ -91,7 +90,8 @@ pub fn find(alloc: Global, library: &Library, location: &[u8], name: &[u8]) -> R
 fn told(alloc: Global, budget: u32, outcome: &Outcome) -> Result<Vec<u8>> {
     let mut out = format!(in alloc; "budget {budget}:")?.into_bytes();
     if let Some(fault) = outcome.fault {
-        out.extend_from_slice(format!(in alloc; " fault {fault}")?.as_bytes())?;
+        let number = fault.number();
+        out.extend_from_slice(format!(in alloc; " fault {number}")?.as_bytes())?;
     }
     if outcome.classes.as_slice().is_empty() {
         out.extend_from_slice(b" discarded")?;
@@ -177,6 +177,6 @@ pub fn own(alloc: Global, library: &Library, script: &[u8]) -> Result<Vec<u8>> {
     told(
         alloc,
         program.budget(),
-        &outcome_of(alloc, &program, &OWN_CASE)?,
+        &run_both_ways(alloc, &program, &OWN_CASE)?.outcome,
     )
 }

@@ -1,12 +1,13 @@
 //! The calls of images.
 
 use crate::messages::whole_case;
-use crate::runs::outcome_of;
+use crate::runs::run_both_ways;
 use crate::told::{refused, word};
 use anyhow::{Context, Result, bail};
 use filing_image::{Image, Instruction, Version, decode, encode};
-use filing_machine::{Outcome, WholeCase, run as run_image};
+use filing_machine::{EndedRun, WholeCase, run as run_image};
 use filing_verify::{Verified, verify as verify_image};
+use sieve_meaning::RunFault;
 use std::alloc::{AllocError, Global};
 use std::str;
 
@@ -211,13 +212,13 @@ pub fn changes(alloc: Global, octets: &[u8]) -> Result<Vec<u8>> {
     Ok(out)
 }
 
-fn captured(alloc: Global, outcome: &Outcome) -> Result<Vec<u8>> {
+fn captured(alloc: Global, ended: &EndedRun) -> Result<Vec<u8>> {
     let mut out = Vec::new(alloc);
-    for class in outcome.classes.as_slice() {
+    for class in ended.outcome.classes.as_slice() {
         out.extend_from_slice(class.as_slice())?;
         out.push(b' ')?;
     }
-    let (fault, steps) = (outcome.fault, outcome.steps);
+    let (fault, steps) = (ended.outcome.fault.map(RunFault::number), ended.steps);
     out.extend_from_slice(format!(in alloc; "{fault:?} {steps}")?.as_bytes())?;
     Ok(out)
 }
@@ -230,6 +231,6 @@ pub fn run(alloc: Global, octets: &[u8], message: &[u8]) -> Result<Vec<u8>> {
     let Ok(program) = verify_image(alloc, image) else {
         bail!("an image that may not run");
     };
-    let outcome = outcome_of(alloc, &program, &whole_case(alloc, message)?)?;
-    captured(alloc, &outcome)
+    let ended = run_both_ways(alloc, &program, &whole_case(alloc, message)?)?;
+    captured(alloc, &ended)
 }

@@ -4,6 +4,7 @@
 //! was met.
 
 pub mod chance;
+mod heavy;
 pub mod libraries;
 pub mod messages;
 mod outcomes;
@@ -13,14 +14,15 @@ mod sides;
 use crate::compiled::{checked, keep};
 use anyhow::Result;
 use chance::Chance;
-use libraries::{Included, included_scripts};
+use class_paths::Paths;
+use libraries::{Included, SPARSE, included_scripts};
 use messages::{message, open_classes};
 use outcomes::{Kind, Tally};
 use plain_evaluator::BorrowedCase;
 use script_library::Library;
 use scripts::script;
-use sides::{Captured, Linked, by_image, by_tree, case};
-use sieve_meaning::Paths;
+use sides::{Linked, by_image, by_tree, case, shown};
+use sieve_meaning::{Outcome, RunFault};
 use std::alloc::Global;
 
 /// How many scripts and messages are made.
@@ -34,10 +36,22 @@ const NO_FIELD: &[u8] = b"\r\n";
 
 /// The kinds of outcomes, and how each is reported.
 const KINDS: [(Kind, &str); 8] = [
-    (Kind::Fault(1), "fault 1, a class that is not open"),
-    (Kind::Fault(2), "fault 2, a script that is missing"),
-    (Kind::Fault(3), "fault 3, a script that is active"),
-    (Kind::Fault(4), "fault 4, a ninth script"),
+    (
+        Kind::Fault(RunFault::ClassNotOpen),
+        "fault 1, a class that is not open",
+    ),
+    (
+        Kind::Fault(RunFault::ScriptMissing),
+        "fault 2, a script that is missing",
+    ),
+    (
+        Kind::Fault(RunFault::RecursiveInclude),
+        "fault 3, a script that is active",
+    ),
+    (
+        Kind::Fault(RunFault::NestingTooDeep),
+        "fault 4, a ninth script",
+    ),
     (Kind::Discarded, "no class"),
     (Kind::Unfiled, "the default class alone"),
     (Kind::Filed, "one other class"),
@@ -55,7 +69,7 @@ fn library_of(alloc: Global, scripts: &[Included]) -> Result<Library> {
 
 /// A library that is made by chance.
 pub fn library_by_chance(alloc: Global, chance: &mut Chance) -> Result<Library> {
-    let scripts = included_scripts(alloc, chance)?;
+    let scripts = included_scripts(alloc, chance, SPARSE)?;
     library_of(alloc, scripts.as_slice())
 }
 
@@ -74,7 +88,7 @@ struct Made {
 fn make(alloc: Global, chance: &mut Chance) -> Result<Made> {
     Ok(Made {
         text: script(alloc, chance)?,
-        scripts: included_scripts(alloc, chance)?,
+        scripts: included_scripts(alloc, chance, SPARSE)?,
         is_named: chance.one_in(2),
         message: message(alloc, chance)?,
         classes: open_classes(alloc, chance)?,
@@ -100,7 +114,7 @@ fn differs(
     case: &BorrowedCase<'_, Paths>,
     outcome: &str,
 ) -> Result<bool> {
-    Ok(by_tree(alloc, script, case)?.shown(alloc)?.as_str() != outcome)
+    Ok(shown(alloc, &by_tree(alloc, script, case)?)?.as_str() != outcome)
 }
 
 /// Whether a script has another outcome for a message without a field.
@@ -134,11 +148,11 @@ fn compare_image(
     rt: &(impl Print + AllocGlobal),
     tally: &mut Tally,
     made: &Made,
-    captured: &Captured,
+    captured: &Outcome,
     by_tree: &str,
 ) -> Result<()> {
     tally.kinds.push(Kind::of(captured))?;
-    let by_image = captured.shown(rt.alloc())?;
+    let by_image = shown(rt.alloc(), captured)?;
     if by_image.as_str() == by_tree {
         tally.agree = tally.agree.saturating_add(1);
         return Ok(());
@@ -155,7 +169,7 @@ fn compare_linked(
 ) -> Result<()> {
     let (alloc, classes) = (rt.alloc(), made.classes.as_slice());
     let filed = case(alloc, made.message.as_bytes(), classes)?;
-    let outcome = by_tree(alloc, script, &filed)?.shown(alloc)?;
+    let outcome = shown(alloc, &by_tree(alloc, script, &filed)?)?;
     let captured = by_image(alloc, script, &filed)?;
     compare_image(rt, tally, made, &captured, outcome.as_str())?;
     if differs_by_message(alloc, script, classes, outcome.as_str())? {
@@ -196,5 +210,5 @@ pub fn compare_all(rt: &(impl Print + AllocGlobal)) -> Result<()> {
     }
     println!(rt; "another outcome than for a message without a field: {by_message}")?;
     println!(rt; "another outcome than where nothing can be included: {by_library}")?;
-    Ok(())
+    heavy::compare_all(rt)
 }

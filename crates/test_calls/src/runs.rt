@@ -1,9 +1,9 @@
 //! Runs as a whole and step by step, and a case of the tests' own.
 
 use anyhow::{Result, bail};
-use filing_machine::{Case, Machine, Outcome, run};
+use filing_machine::{Case, EndedRun, Machine, run};
 use filing_verify::Verified;
-use sieve_meaning::is_word;
+use sieve_meaning::{Outcome, is_word};
 use std::alloc::Global;
 
 /// A field of the tests' own case.
@@ -60,8 +60,8 @@ impl Case for OwnCase {
     }
 }
 
-/// The outcome of a run that is made step by step.
-fn stepped<C: Case>(alloc: Global, program: &Verified, case: &C) -> Result<Outcome> {
+/// A run that is made step by step.
+fn stepped<C: Case>(alloc: Global, program: &Verified, case: &C) -> Result<EndedRun> {
     let mut machine = Machine::start(alloc, program)?;
     let mut steps = 0u64;
     while !machine.is_ended() {
@@ -74,12 +74,18 @@ fn stepped<C: Case>(alloc: Global, program: &Verified, case: &C) -> Result<Outco
             );
         }
     }
-    Ok(machine.outcome()?)
+    Ok(EndedRun {
+        outcome: machine.outcome()?,
+        steps,
+    })
 }
 
-fn are_same(one: &Outcome, other: &Outcome) -> bool {
-    let (ones, others) = (one.classes.as_slice(), other.classes.as_slice());
-    one.fault == other.fault
+fn are_same(one: &EndedRun, other: &EndedRun) -> bool {
+    let (ones, others) = (
+        one.outcome.classes.as_slice(),
+        other.outcome.classes.as_slice(),
+    );
+    one.outcome.fault == other.outcome.fault
         && one.steps == other.steps
         && ones.len() == others.len()
         && ones
@@ -88,13 +94,13 @@ fn are_same(one: &Outcome, other: &Outcome) -> bool {
             .all(|(a, b)| a.as_slice() == b.as_slice())
 }
 
-/// The outcome of a program's run in a case, as a whole and step by step.
-pub fn outcome_of<C: Case>(alloc: Global, program: &Verified, case: &C) -> Result<Outcome> {
-    let outcome = run(alloc, program, case)?;
-    if !are_same(&outcome, &stepped(alloc, program, case)?) {
+/// A program's run in a case, where it is the same as a whole and step by step.
+pub fn run_both_ways<C: Case>(alloc: Global, program: &Verified, case: &C) -> Result<EndedRun> {
+    let ended = run(alloc, program, case)?;
+    if !are_same(&ended, &stepped(alloc, program, case)?) {
         bail!("another outcome step by step");
     }
-    Ok(outcome)
+    Ok(ended)
 }
 
 /// The outcome of a program's run in two cases, where it is the same.
@@ -104,9 +110,9 @@ pub fn outcome_of_both<C: Case, D: Case>(
     one: &C,
     other: &D,
 ) -> Result<Outcome> {
-    let outcome = outcome_of(alloc, program, one)?;
-    if !are_same(&outcome, &run(alloc, program, other)?) {
+    let ended = run_both_ways(alloc, program, one)?;
+    if !are_same(&ended, &run(alloc, program, other)?) {
         bail!("another outcome in another case of the message");
     }
-    Ok(outcome)
+    Ok(ended.outcome)
 }

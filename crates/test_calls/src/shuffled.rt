@@ -4,7 +4,7 @@
 
 use crate::desks::desk_in_memory;
 use crate::made::chance::Chance;
-use crate::made::libraries::{Included, included_scripts};
+use crate::made::libraries::{Included, SPARSE, included_scripts};
 use crate::made::messages::message;
 use crate::made::scripts::script;
 use anyhow::{Context, Result, bail};
@@ -82,7 +82,7 @@ fn set_program(
     pair: &mut Pair,
     officer: &str,
 ) -> Result<(), AllocError> {
-    for kept in &included_scripts(alloc, chance)? {
+    for kept in &included_scripts(alloc, chance, SPARSE)? {
         keep(alloc, pair, officer, kept)?;
     }
     let text = script(alloc, chance)?;

@@ -6,7 +6,7 @@ use crate::made::library_by_chance;
 use crate::made::scripts::script;
 use anyhow::Result;
 use filing_gen::compile;
-use filing_image::{Image, Instruction, encode};
+use filing_image::{Image, Instruction, Version, encode};
 use std::alloc::{AllocError, Global};
 
 /// How many images of scripts are changed.
@@ -32,9 +32,13 @@ pub fn images_of_scripts(alloc: Global, chance: &mut Chance) -> Result<Vec<Vec<u
     Ok(images)
 }
 
-/// An instruction in code of `count` instructions. Its operands are small, and 0 where it has none.
-fn instruction(chance: &mut Chance, count: u64) -> Instruction {
-    let op = u8::try_from(chance.below(21))
+/// An instruction of a version in code of `count` instructions. Its operands are small, and 0 where it has none.
+fn instruction(chance: &mut Chance, version: Version, count: u64) -> Instruction {
+    let operations = match version {
+        Version::One => 21,
+        Version::Two => 23,
+    };
+    let op = u8::try_from(chance.below(operations))
         .unwrap_or(0)
         .saturating_add(1);
     let a = match op {
@@ -42,11 +46,48 @@ fn instruction(chance: &mut Chance, count: u64) -> Instruction {
         _ => 0,
     };
     let b = match op {
-        4 | 6 | 8 | 10 | 15 | 16 | 17 => u16::try_from(chance.below(3)).unwrap_or(0),
+        4 | 6 | 8 | 10 | 15 | 16 | 17 | 22 => u16::try_from(chance.below(3)).unwrap_or(0),
         12..=14 => u16::try_from(chance.below(count)).unwrap_or(0),
         _ => 0,
     };
     Instruction { op, a, b }
+}
+
+/// Up to eight instructions of a version, most times with a STOP after them.
+fn few_instructions(
+    alloc: Global,
+    chance: &mut Chance,
+    version: Version,
+) -> Result<Vec<Instruction>, AllocError> {
+    let count = chance.below(9);
+    let mut code = Vec::new(alloc);
+    for _ in 0..count {
+        code.push(instruction(chance, version, count.saturating_add(2)))?;
+    }
+    if !chance.one_in(9) {
+        code.push(Instruction { op: 20, a: 0, b: 0 })?;
+    }
+    Ok(code)
+}
+
+/// The first places of procedures: 0, and most of those that follow a STOP, a FAULT or a RETURN.
+fn first_places(
+    alloc: Global,
+    chance: &mut Chance,
+    code: &[Instruction],
+) -> Result<Vec<u16>, AllocError> {
+    let mut places = Vec::new(alloc);
+    let mut is_first = true;
+    for (place, instruction) in code.iter().enumerate() {
+        if is_first {
+            places.push(u16::try_from(place).unwrap_or(0))?;
+        }
+        is_first = match instruction.op {
+            20 | 21 | 23 => !chance.one_in(9),
+            _ => chance.one_in(20),
+        };
+    }
+    Ok(places)
 }
 
 fn texts(alloc: Global) -> Result<Vec<Vec<u8>>, AllocError> {
@@ -57,20 +98,24 @@ fn texts(alloc: Global) -> Result<Vec<Vec<u8>>, AllocError> {
     Ok(texts)
 }
 
-/// The octets of an image of a few instructions, most of them with a STOP at the end; no octets where the format has no
-/// such image.
+/// The octets of an image of a few instructions, of either version; no octets where the format has no such image.
 pub fn image_of_instructions(alloc: Global, chance: &mut Chance) -> Result<Vec<u8>> {
-    let count = chance.below(9);
-    let mut code = Vec::new(alloc);
-    for _ in 0..count {
-        code.push(instruction(chance, count.saturating_add(2)))?;
-    }
-    if !chance.one_in(9) {
-        code.push(Instruction { op: 20, a: 0, b: 0 })?;
-    }
+    let version = if chance.one_in(2) {
+        Version::Two
+    } else {
+        Version::One
+    };
+    let code = few_instructions(alloc, chance, version)?;
     let budget = u32::try_from(chance.below(12)).unwrap_or(0);
-    let numbers = Vec::from_slice(alloc, &NUMBERS)?;
-    match Image::new(alloc, budget, texts(alloc)?, numbers, SLOTS, code) {
+    let (words, numbers) = (texts(alloc)?, Vec::from_slice(alloc, &NUMBERS)?);
+    let image = match version {
+        Version::One => Image::new(alloc, budget, words, numbers, SLOTS, code),
+        Version::Two => {
+            let places = first_places(alloc, chance, &code)?;
+            Image::new_with_procedures(alloc, budget, words, numbers, SLOTS, places, code)
+        }
+    };
+    match image {
         Ok(image) => Ok(encode(alloc, &image)?),
         Err(_) => Ok(Vec::new(alloc)),
     }

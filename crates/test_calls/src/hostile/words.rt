@@ -1,12 +1,15 @@
 //! Words that are inserted into inputs, and texts that inputs are made from.
 
-/// Words of images: the mark, instructions, and greatest numbers.
-pub const IMAGE_WORDS: [&str; 6] = [
+/// Words of images: the marks, instructions, and greatest numbers.
+pub const IMAGE_WORDS: [&str; 9] = [
     "SFI1",
+    "SFI2",
     "\0\0\0\0",
     "\x14\0\0\0",
     "\x0c\0\0\x01",
     "\x07\0\0\0",
+    "\x16\0\0\x01",
+    "\x17\0\0\0",
     "\x7f\x7f\x7f\x7f",
 ];
 

@@ -1,13 +1,13 @@
 //! Outcomes of scripts and messages by their kinds, to be counted.
 
-use crate::made::sides::Captured;
+use sieve_meaning::{Outcome, RunFault};
 use std::alloc::Global;
 
 /// The kinds of outcomes.
 #[derive(Clone, Copy, PartialEq)]
 pub enum Kind {
-    /// A fault with its number.
-    Fault(u8),
+    /// A fault.
+    Fault(RunFault),
     /// No class.
     Discarded,
     /// The default class alone.
@@ -20,11 +20,11 @@ pub enum Kind {
 
 impl Kind {
     /// The kind of an outcome.
-    pub fn of(captured: &Captured) -> Kind {
-        if let Some(fault) = captured.fault {
+    pub fn of(outcome: &Outcome) -> Kind {
+        if let Some(fault) = outcome.fault {
             return Kind::Fault(fault);
         }
-        let classes = captured.classes.as_slice();
+        let classes = outcome.classes.as_slice();
         match classes.first() {
             None => Kind::Discarded,
             Some(_) if classes.len() > 1 => Kind::FiledInSeveral,

@@ -1,6 +1,7 @@
 //! Scripts that are made by chance, each of them well made.
 
 use crate::made::chance::Chance;
+use crate::made::libraries::Density;
 use crate::made::messages::PATHS;
 use std::alloc::{AllocError, Global};
 
@@ -161,6 +162,19 @@ fn push_include_of(
     script.push_str("; ")
 }
 
+fn push_includes_of(
+    chance: &mut Chance,
+    script: &mut String,
+    times: usize,
+    location: &str,
+    name: &str,
+) -> Result<(), AllocError> {
+    for _ in 0..times {
+        push_include_of(chance, script, location, name)?;
+    }
+    Ok(())
+}
+
 /// An include of any script.
 fn push_include(chance: &mut Chance, script: &mut String) -> Result<(), AllocError> {
     let location = chance.pick(&LOCATIONS);
@@ -220,11 +234,12 @@ fn push_command(chance: &mut Chance, script: &mut String, depth: u8) -> Result<(
     push_plain_command(chance, script)
 }
 
-/// A script for others to include: perhaps a command, mostly an include of the next script, whose location and name
-/// these are, and perhaps another command, which may have one block.
+/// A script for others to include: perhaps a command, mostly includes of the next script, whose location and name these
+/// are, and perhaps another command, which may have one block.
 pub fn included_script(
     alloc: Global,
     chance: &mut Chance,
+    density: Density,
     location: &str,
     name: &str,
 ) -> Result<String, AllocError> {
@@ -232,8 +247,8 @@ pub fn included_script(
     if chance.one_in(4) {
         push_plain_command(chance, &mut script)?;
     }
-    if !chance.one_in(8) {
-        push_include_of(chance, &mut script, location, name)?;
+    if !chance.one_in(density.gaps) {
+        push_includes_of(chance, &mut script, density.times, location, name)?;
     }
     if chance.one_in(2) {
         push_command(chance, &mut script, 1)?;
@@ -248,5 +263,16 @@ pub fn script(alloc: Global, chance: &mut Chance) -> Result<String, AllocError> 
     for _ in 0..chance.below(4) {
         push_command(chance, &mut script, BLOCK_DEPTH)?;
     }
+    Ok(script)
+}
+
+/// Such a script, which then includes the personal `a`.
+pub fn script_with_includes(
+    alloc: Global,
+    chance: &mut Chance,
+    density: Density,
+) -> Result<String, AllocError> {
+    let mut script = script(alloc, chance)?;
+    push_includes_of(chance, &mut script, density.times, ":personal ", "a")?;
     Ok(script)
 }

@@ -1,35 +1,28 @@
 //! The two ways from a checked script, with those that it can include, and a message to an outcome.
 
 use anyhow::Result;
+use class_paths::Paths;
 use filing_gen::compile;
 use filing_machine::run;
 use plain_evaluator::{BorrowedCase, evaluate};
 use script_library::Library;
 use sieve_check::Checked;
-use sieve_meaning::Paths;
+use sieve_meaning::Outcome;
 use std::alloc::{AllocError, Global};
 
-/// What a message was captured in.
-#[derive(Drop)]
-pub struct Captured {
-    pub classes: Paths,
-    pub fault: Option<u8>,
-}
-
-impl Captured {
-    /// The outcome as text: the fault, if there is one, and the classes.
-    pub fn shown(&self, alloc: Global) -> Result<String> {
-        let mut text = String::new(alloc);
-        if let Some(fault) = self.fault {
-            text.push_str(format!(in alloc; "fault {fault}, ")?.as_str())?;
-        }
-        text.push_str("classes:")?;
-        for class in self.classes.as_slice() {
-            text.push_str(" ")?;
-            text.push_str(str::from_utf8(class.as_slice())?)?;
-        }
-        Ok(text)
+/// An outcome as text: the fault, if there is one, and the classes.
+pub fn shown(alloc: Global, outcome: &Outcome) -> Result<String> {
+    let mut text = String::new(alloc);
+    if let Some(fault) = outcome.fault {
+        let number = fault.number();
+        text.push_str(format!(in alloc; "fault {number}, ")?.as_str())?;
     }
+    text.push_str("classes:")?;
+    for class in outcome.classes.as_slice() {
+        text.push_str(" ")?;
+        text.push_str(str::from_utf8(class.as_slice())?)?;
+    }
+    Ok(text)
 }
 
 /// A script with those that it can include.
@@ -64,13 +57,9 @@ pub fn by_image(
     alloc: Global,
     script: Linked<'_>,
     case: &BorrowedCase<'_, Paths>,
-) -> Result<Captured> {
+) -> Result<Outcome> {
     let program = compile(alloc, script.main, script.known_as, script.library)?;
-    let outcome = run(alloc, &program, case)?;
-    Ok(Captured {
-        classes: outcome.classes,
-        fault: outcome.fault,
-    })
+    Ok(run(alloc, &program, case)?.outcome)
 }
 
 /// By the script's tree.
@@ -78,12 +67,8 @@ pub fn by_tree(
     alloc: Global,
     script: Linked<'_>,
     case: &BorrowedCase<'_, Paths>,
-) -> Result<Captured, AllocError> {
+) -> Result<Outcome, AllocError> {
     let main = script.main.script();
     let shelves = script.library.shelves();
-    let outcome = evaluate(alloc, main, script.known_as, shelves, case)?;
-    Ok(Captured {
-        classes: outcome.classes,
-        fault: outcome.fault,
-    })
+    evaluate(alloc, main, script.known_as, shelves, case)
 }

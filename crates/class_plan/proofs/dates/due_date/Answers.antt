@@ -1,7 +1,7 @@
 use Rattle.std.proofs.Common.{◌≡◌, pos, Some, subst, sym, ◌∙◌, arith}
 use Rattle.jiff_core.specs.declared.civil.date.Date.{Date}
 use Rattle.jiff.proofs.SpanFacts.{signed_arith}
-use Rattle.class_plan.specs.Dates.{IsDue, IsYearEnd}
+use Rattle.class_plan.specs.Dates.{IsYearEnd}
 use Rattle.class_plan.proofs.CalendarLemmas.{due_by_is, capture_number}
 use Rattle.class_plan.proofs.Due.{due-only, due-later, due-period, due-year_end}
 use Rattle.class_plan.proofs.dates.due_date.Goals as goal

@@ -2,7 +2,7 @@ use Rattle.std.proofs.Common.{◌≡◌, Some, None, true, false, map, rules, op
 use Rattle.toml.specs.Data.{get_member, as_str}
 use Rattle.toml.specs.View.{table_view}
 use Rattle.class_plan.specs.Document.{has_only, is_file_key, listed_of}
-use Rattle.class_plan.specs.Entries.{shown}
+use Rattle.class_plan.specs.Entries.{entry_view}
 use Rattle.class_plan.proofs.Classes.{no_file-keys, no_file-root, no_file-classes, file-made}
 use Rattle.class_plan.proofs.document.lists_from.Goals as goal
 
@@ -28,5 +28,5 @@ pub returns : goal.returns
 returns c =
     let a : true ≡ has_only is_file_key (table_view c.args.table.now) = search rules in
     let b : Some c.in-Some.root.now ≡ option_and_then as_str (get_member (codes "root") (table_view c.args.table.now)) = search rules in
-    let d : Some (map shown c.in-Some-2.classes.items) ≡ listed_of (get_member (codes "class") (table_view c.args.table.now)) = search rules in
+    let d : Some (map entry_view c.in-Some-2.classes.items) ≡ listed_of (get_member (codes "class") (table_view c.args.table.now)) = search rules in
     rw (c.schedule_of_text.ensures.schedule, c.as_bytes.ensures.value) (file-made _ _ _ a b d)

@@ -1,5 +1,5 @@
 use Rattle.std.proofs.Common.{◌≡◌, length}
-use Rattle.class_plan.specs.Paths.{ancestors_below}
+use Rattle.class_paths.specs.Path.{ancestors_below}
 use Rattle.class_plan.proofs.plans.has_parent.Given as goal
 
 abbrev pub invariant-loop-end : goal.invariant-loop-end

@@ -1,5 +1,5 @@
 use Rattle.std.proofs.Common.{◌≡◌, length}
-use Rattle.class_plan.specs.Paths.{ancestors_below}
+use Rattle.class_paths.specs.Path.{ancestors_below}
 use Rattle.class_plan.specs.Plans.{first_own}
 use Rattle.class_plan.specs.Fields.{rows_in}
 use Rattle.class_plan.proofs.readers.inherited_schedule.Given as goal

@@ -1,7 +1,7 @@
 use Rattle.std.proofs.Common.{◌≡◌, ◌≤◌, length, take}
 use Rattle.filing_commands.specs.Limits.{greatest_message}
-use Rattle.filing_desk.specs.Beginning.{joined}
+use Rattle.filing_desk.specs.Beginning.{whole_message}
 use Rattle.filing_desk.proofs.pieces.length_of.Given as goal
 
 abbrev pub invariant-loop-piece : goal.invariant-loop-piece
-invariant-loop-piece l = (l.octets ≡ length (joined (take l.piece-index l.pieces))) × (l.octets ≤ greatest_message)
+invariant-loop-piece l = (l.octets ≡ length (whole_message (take l.piece-index l.pieces))) × (l.octets ≤ greatest_message)

@@ -1,7 +1,6 @@
-use Rattle.std.proofs.Common.{ℕ, ◌∷◌, [], length, length-append, map, ap, arith}
-use Rattle.std.specs.Prelude.{Option}
-use Rattle.script_library.specs.Lent.{scripts_of}
-use Rattle.script_procedures.specs.Made.{procedure_of}
+use Rattle.std.proofs.Common.{◌∷◌, [], length, length-append, map, ap, arith}
+use Rattle.script_library.specs.BorrowedShelves.{scripts_of}
+use Rattle.script_procedures.specs.ProcedureCode.{procedure_of}
 use Rattle.filing_gen.proofs.NumberLemmas.{number_more}
 use Rattle.filing_gen.proofs.callees.numbers_by_slot.Goals as goal
 

@@ -13,10 +13,10 @@ use Rattle.sieve_meaning.specs.Reading.{only_in, block_in, program_of}
 use Rattle.filing_image.specs.declared.instruction.Operation.TheVariants.{Jump, JumpUnless}
 use Rattle.filing_flow.specs.Structure.{size}
 use Rattle.filing_gen.specs.declared.output.Output.{Output}
-use Rattle.filing_gen.specs.Structured.{test_flow, flow}
+use Rattle.filing_gen.specs.BlockCode.{test_flow, flow}
 use Rattle.filing_gen.specs.Adds.{HasRoom}
 use Rattle.filing_gen.specs.Emission.{commands_long, part_long, plain_flow}
-use Rattle.sieve_meaning.specs.declared.branches.Part.TheVariants.{Branch}
+use Rattle.sieve_meaning.specs.declared.branches.BranchPart.TheVariants.{Branch}
 use Rattle.filing_gen.proofs.Emitted.{grows, put_grows}
 use Rattle.filing_gen.specs.Ends.{no_place}
 use Rattle.filing_gen.proofs.Turns.{flow_long}

@@ -1,9 +1,9 @@
-use Rattle.std.proofs.Common.{◌≡◌, ℕ, List, refl, sym, ap, ◌∙◌, subst, codes, false}
+use Rattle.std.proofs.Common.{◌≡◌, ℕ, List, refl, ap, ◌∙◌, subst, codes, false}
 use Rattle.std.proofs.lemmas.Result.{on_ok_weaker}
 use Rattle.sieve_meaning.specs.Reading.{has_tag, first_string, string_lists}
-use Rattle.filing_flow.specs.Structure.{Action, action, FileInto}
+use Rattle.filing_flow.specs.Structure.{action, FileInto}
 use Rattle.filing_gen.specs.Adds.{Emits}
-use Rattle.filing_gen.specs.Structured.{copy_number}
+use Rattle.filing_gen.specs.BlockCode.{copy_number}
 use Rattle.filing_gen.proofs.Emitted.{text_emitted}
 use Rattle.filing_gen.proofs.emit_commands.emit_file.Goals as goal
 

@@ -1,5 +1,5 @@
 use Rattle.std.proofs.Common.{take}
-use Rattle.script_library.specs.Lent.{scripts_of}
+use Rattle.script_library.specs.BorrowedShelves.{scripts_of}
 use Rattle.script_library.specs.Libraries.{library_of}
 use Rattle.script_procedures.specs.Slots.{slots_of}
 use Rattle.filing_gen.specs.Scopes.{names_of}

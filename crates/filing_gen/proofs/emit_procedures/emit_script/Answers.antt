@@ -3,7 +3,7 @@ use Rattle.std.proofs.lemmas.Result.{on_ok_weaker}
 use Rattle.sieve_syntax.specs.View.{tree_of}
 use Rattle.sieve_meaning.specs.Reading.{program_of}
 use Rattle.filing_gen.specs.Ends.{no_place, IsEnded}
-use Rattle.filing_gen.specs.Structured.{script_flow}
+use Rattle.filing_gen.specs.BlockCode.{script_flow}
 use Rattle.filing_gen.proofs.Emitted.{grows}
 use Rattle.filing_gen.proofs.EndedBlocks.{block_ended}
 use Rattle.filing_gen.proofs.Turns.{flow_long}

@@ -1,4 +1,4 @@
-use Rattle.std.proofs.Common.{◌≡◌, ℕ, ◌+◌, [], ◌∷◌, List, refl, not, false, codes, inl, inr, arith, ap, map, subst, sym, ◌∙◌}
+use Rattle.std.proofs.Common.{◌≡◌, ℕ, ◌+◌, [], ◌∷◌, List, refl, false, codes, inl, inr, arith, ap, map, subst, sym, ◌∙◌}
 use Rattle.std.proofs.lemmas.Result.{on_ok_weaker}
 use Rattle.sieve_syntax.specs.View.{test_of, inner_of}
 use Rattle.sieve_syntax.proofs.Views.{inner_of-None, inner_of-One, inner_of-Listed}
@@ -12,7 +12,7 @@ use Rattle.sieve_syntax.specs.declared.tree.Tests.{Tests}
 use Rattle.sieve_meaning.specs.Reading.{test_in, tests_in, only_in, string_lists, exists_of, size_of, header_of, has_tag, number_in, match_type, comparator_from}
 use Rattle.filing_image.specs.declared.instruction.Operation.TheVariants.{Not}
 use Rattle.filing_flow.specs.Structure.{Flow, action, Negate, Push}
-use Rattle.filing_gen.specs.Structured.{test_flow, tests_flow}
+use Rattle.filing_gen.specs.BlockCode.{test_flow, tests_flow}
 use Rattle.filing_gen.specs.Ends.{no_place}
 use Rattle.filing_gen.specs.Adds.{Emits}
 use Rattle.filing_gen.proofs.Emitted.{Leads, leads_first, leads_last, no_turn, emits_sequence, action_emitted, grows}

@@ -1,7 +1,7 @@
 use Rattle.std.proofs.Common.{drop, map}
 use Rattle.sieve_syntax.specs.View.{test_of, inner_of}
 use Rattle.sieve_meaning.specs.Reading.{tests_in}
-use Rattle.filing_gen.specs.Structured.{tests_flow}
+use Rattle.filing_gen.specs.BlockCode.{tests_flow}
 use Rattle.filing_gen.proofs.Emitted.{Leads}
 use Rattle.filing_gen.proofs.EmittedTests.{row_flow, Unknown}
 use Rattle.filing_gen.proofs.emit_tests.+emission.Given as goal

@@ -1,13 +1,13 @@
-use Rattle.std.proofs.Common.{◌≡◌, ℕ, ◌+◌, ◌<◌, List, [], ◌∷◌, ap, ◌∙◌, sym, refl, subst, arith, false, length}
+use Rattle.std.proofs.Common.{◌≡◌, ◌+◌, ◌<◌, List, [], ◌∷◌, ◌∙◌, sym, refl, subst, arith}
 use Rattle.std.proofs.lemmas.Result.{on_ok_weaker}
 use Rattle.sieve_syntax.specs.Arguments.{strings_of}
 use Rattle.sieve_syntax.specs.declared.tree.StringList.{StringList}
-use Rattle.sieve_meaning.specs.Reading.{string_lists, exists_of}
-use Rattle.filing_flow.specs.Structure.{nothing, size}
+use Rattle.sieve_meaning.specs.Reading.{exists_of}
+use Rattle.filing_flow.specs.Structure.{nothing}
 use Rattle.filing_gen.specs.Adds.{Emits}
 use Rattle.filing_gen.specs.Ends.{no_place}
 use Rattle.filing_gen.specs.Names.{each_once}
-use Rattle.filing_gen.specs.Structured.{names_flow, test_flow}
+use Rattle.filing_gen.specs.BlockCode.{names_flow, test_flow}
 use Rattle.filing_gen.proofs.Emitted.{grows, emits_nothing}
 use Rattle.filing_gen.proofs.EmittedTests.{exists_size}
 use Rattle.filing_gen.proofs.Types.{names_typed}

@@ -2,9 +2,10 @@ use Rattle.std.proofs.Common.{◌≡◌, ℕ, List, ◌∷◌, false, sym, ap, �
 use Rattle.std.proofs.lemmas.Result.{on_ok_weaker}
 use Rattle.sieve_syntax.specs.Arguments.{first_of, others_of}
 use Rattle.sieve_syntax.specs.declared.tree.StringList.{StringList}
-use Rattle.sieve_meaning.specs.Reading.{header_of, match_type, comparator_from, string_lists}
+use Rattle.sieve_meaning.specs.Reading.{header_of, match_type, comparator_from}
 use Rattle.filing_gen.specs.Names.{others_once}
-use Rattle.filing_gen.specs.Structured.{comparison, header_flow, test_flow}
+use Rattle.filing_table.specs.Comparison.{comparison}
+use Rattle.filing_gen.specs.BlockCode.{header_flow, test_flow}
 use Rattle.filing_gen.proofs.EmittedTests.{emits_same, header_same}
 use Rattle.filing_gen.proofs.emit_tests.emit_header.Goals as goal
 

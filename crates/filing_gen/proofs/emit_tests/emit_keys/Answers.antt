@@ -1,10 +1,10 @@
-use Rattle.std.proofs.Common.{◌≡◌, ◌+◌, ◌<◌, ℕ, List, [], ◌∷◌, ap, ◌∙◌, sym, refl, subst, arith, true}
+use Rattle.std.proofs.Common.{◌≡◌, ◌+◌, ◌<◌, [], ◌∷◌, ap, ◌∙◌, refl, subst, arith, true}
 use Rattle.std.proofs.lemmas.Result.{on_ok_weaker}
 use Rattle.sieve_syntax.specs.Arguments.{first_of, others_of}
 use Rattle.filing_flow.specs.Structure.{Flow, size, action, sequence, leave_if, MatchKey}
 use Rattle.filing_gen.specs.Adds.{Emits}
 use Rattle.filing_gen.specs.Ends.{no_place}
-use Rattle.filing_gen.specs.Structured.{keys_flow}
+use Rattle.filing_gen.specs.BlockCode.{keys_flow}
 use Rattle.filing_gen.proofs.Emitted.{grows}
 use Rattle.filing_gen.proofs.EmittedTests.{keys_emitted, same_keys}
 use Rattle.filing_gen.proofs.emit_tests.emit_keys.Goals as goal

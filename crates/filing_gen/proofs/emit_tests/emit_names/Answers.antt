@@ -1,11 +1,11 @@
-use Rattle.std.proofs.Common.{◌≡◌, ◌+◌, ◌<◌, ℕ, List, [], ◌∷◌, ap, ◌∙◌, sym, refl, subst, arith, false}
+use Rattle.std.proofs.Common.{◌≡◌, ◌+◌, ◌<◌, [], ◌∷◌, ap, ◌∙◌, refl, subst, arith, false}
 use Rattle.std.proofs.lemmas.Result.{on_ok_weaker}
 use Rattle.sieve_syntax.specs.Arguments.{first_of, others_of}
 use Rattle.filing_flow.specs.Structure.{Flow, size, action, sequence, leave_if, HasField}
 use Rattle.filing_gen.specs.Adds.{Emits}
 use Rattle.filing_gen.specs.Ends.{no_place}
 use Rattle.filing_gen.specs.Names.{others_once}
-use Rattle.filing_gen.specs.Structured.{names_flow}
+use Rattle.filing_gen.specs.BlockCode.{names_flow}
 use Rattle.filing_gen.proofs.Emitted.{grows}
 use Rattle.filing_gen.proofs.EmittedTests.{names_emitted, same_names}
 use Rattle.filing_gen.proofs.emit_tests.emit_names.Goals as goal

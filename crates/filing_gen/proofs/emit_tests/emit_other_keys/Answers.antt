@@ -1,6 +1,6 @@
 use Rattle.std.proofs.Common.{ℕ, List, ap}
-use Rattle.filing_gen.specs.Structured.{keys_flow}
-use Rattle.filing_gen.proofs.Emitted.{leads_first, leads_last, no_turn}
+use Rattle.filing_gen.specs.BlockCode.{keys_flow}
+use Rattle.filing_gen.proofs.Emitted.{leads_last, no_turn}
 use Rattle.filing_gen.proofs.EmittedTests.{Unknown, keys_turn}
 use Rattle.filing_gen.proofs.emit_tests.emit_other_keys.Goals as goal
 

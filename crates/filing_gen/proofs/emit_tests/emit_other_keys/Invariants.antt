@@ -1,5 +1,5 @@
 use Rattle.std.proofs.Common.{drop}
-use Rattle.filing_gen.specs.Structured.{keys_flow}
+use Rattle.filing_gen.specs.BlockCode.{keys_flow}
 use Rattle.filing_gen.proofs.Emitted.{Leads}
 use Rattle.filing_gen.proofs.EmittedTests.{Unknown}
 use Rattle.filing_gen.proofs.emit_tests.emit_other_keys.Given as goal

@@ -1,7 +1,7 @@
 use Rattle.std.proofs.Common.{◌≡◌, ◌+◌, ◌<◌, refl, arith}
 use Rattle.filing_flow.specs.Structure.{Flow}
 use Rattle.filing_gen.specs.Names.{others_once, has_name}
-use Rattle.filing_gen.specs.Structured.{names_flow}
+use Rattle.filing_gen.specs.BlockCode.{names_flow}
 use Rattle.filing_gen.proofs.Names.{not_there, was_there}
 use Rattle.filing_gen.proofs.EmittedTests.{Unknown, asked_first, asked_before, asked_now, asked_room, asked_last, name_leads}
 use Rattle.filing_gen.proofs.emit_tests.emit_other_names.Goals as goal

@@ -1,5 +1,5 @@
 use Rattle.std.proofs.Common.{drop}
-use Rattle.filing_gen.specs.Structured.{names_flow}
+use Rattle.filing_gen.specs.BlockCode.{names_flow}
 use Rattle.filing_gen.specs.Names.{others_once}
 use Rattle.filing_gen.proofs.EmittedTests.{Asked, Unknown}
 use Rattle.filing_gen.proofs.emit_tests.emit_other_names.Given as goal

@@ -1,5 +1,5 @@
 use Rattle.std.proofs.Common.{drop}
-use Rattle.filing_gen.specs.Structured.{values_flow}
+use Rattle.filing_gen.specs.BlockCode.{values_flow}
 use Rattle.filing_gen.specs.Names.{others_once}
 use Rattle.filing_gen.proofs.EmittedTests.{Asked}
 use Rattle.filing_gen.proofs.Emitted.{Anywhere}

@@ -1,10 +1,10 @@
-use Rattle.std.proofs.Common.{◌≡◌, ℕ, ◌+◌, ◌∷◌, [], refl, arith, ◌∙◌, sym}
+use Rattle.std.proofs.Common.{◌≡◌, ◌+◌, ◌∷◌, [], refl, arith, ◌∙◌}
 use Rattle.std.proofs.lemmas.Result.{on_ok_weaker}
 use Rattle.sieve_syntax.specs.Arguments.{first_of, others_of}
-use Rattle.filing_flow.specs.Structure.{Flow, size, sequence, action, ValuesOf}
+use Rattle.filing_flow.specs.Structure.{sequence, action, ValuesOf}
 use Rattle.filing_gen.specs.Ends.{no_place}
 use Rattle.filing_gen.specs.Names.{others_once}
-use Rattle.filing_gen.specs.Structured.{values_flow, keys_flow}
+use Rattle.filing_gen.specs.BlockCode.{values_flow, keys_flow}
 use Rattle.filing_gen.proofs.Emitted.{grows}
 use Rattle.filing_gen.proofs.EmittedTests.{header_emitted}
 use Rattle.filing_gen.proofs.emit_tests.emit_some_match.Goals as goal

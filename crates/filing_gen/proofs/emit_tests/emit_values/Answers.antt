@@ -1,10 +1,10 @@
-use Rattle.std.proofs.Common.{◌≡◌, ◌+◌, ◌<◌, ℕ, List, [], ◌∷◌, ap, ◌∙◌, sym, refl, subst, arith}
+use Rattle.std.proofs.Common.{◌≡◌, ◌+◌, ◌<◌, [], ◌∷◌, ap, ◌∙◌, subst, arith}
 use Rattle.std.proofs.lemmas.Result.{on_ok_weaker}
 use Rattle.sieve_syntax.specs.Arguments.{first_of, others_of}
-use Rattle.filing_flow.specs.Structure.{Flow, size, action, sequence, ValuesOf}
+use Rattle.filing_flow.specs.Structure.{Flow, size, action, ValuesOf}
 use Rattle.filing_gen.specs.Adds.{Emits}
 use Rattle.filing_gen.specs.Names.{others_once}
-use Rattle.filing_gen.specs.Structured.{values_flow}
+use Rattle.filing_gen.specs.BlockCode.{values_flow}
 use Rattle.filing_gen.proofs.Emitted.{emits_sequence, grows}
 use Rattle.filing_gen.proofs.EmittedTests.{same_values}
 use Rattle.filing_gen.proofs.emit_tests.emit_values.Goals as goal

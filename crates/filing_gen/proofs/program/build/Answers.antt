@@ -6,9 +6,9 @@ use Rattle.sieve_meaning.specs.Meaning.{main_names}
 use Rattle.sieve_meaning.specs.Reading.{program_of}
 use Rattle.filing_gen.specs.Correct.{IsCompiled}
 use Rattle.script_procedures.specs.Slots.{slots_of}
-use Rattle.script_library.specs.Lent.{scripts_of}
+use Rattle.script_library.specs.BorrowedShelves.{scripts_of}
 use Rattle.script_library.specs.Libraries.{library_of}
-use Rattle.filing_gen.specs.Linked.{linked_flow}
+use Rattle.filing_gen.specs.IncludeCode.{linked_flow}
 use Rattle.filing_gen.proofs.Types.{flow_typed}
 use Rattle.filing_gen.proofs.IncludesTypes.{included_typed}
 use Rattle.filing_gen.proofs.Compiled.{room, built_well, built}

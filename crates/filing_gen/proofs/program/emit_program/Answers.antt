@@ -5,7 +5,7 @@ use Rattle.filing_flow.specs.Structure.{block, action, End}
 use Rattle.filing_gen.specs.declared.output.Output.{Output}
 use Rattle.filing_gen.specs.Ends.{no_place, IsEnded}
 use Rattle.filing_image.specs.declared.instruction.Operation.TheVariants.{Stop}
-use Rattle.filing_gen.specs.Structured.{script_flow}
+use Rattle.filing_gen.specs.BlockCode.{script_flow}
 use Rattle.filing_gen.proofs.Emitted.{emits_sequence, action_emitted, grows}
 use Rattle.filing_gen.proofs.EndedBlocks.{block_ended}
 use Rattle.filing_gen.proofs.Turns.{flow_long, code_of_empty}

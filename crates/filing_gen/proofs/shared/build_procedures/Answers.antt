@@ -4,9 +4,9 @@ use Rattle.std.specs.Option.{option_map}
 use Rattle.filing_image.specs.Program.{Program}
 use Rattle.sieve_meaning.specs.Program.{Commands}
 use Rattle.sieve_meaning.specs.Procedures.{path_weight, greatest_path}
-use Rattle.script_library.specs.Lent.{scripts_of}
+use Rattle.script_library.specs.BorrowedShelves.{scripts_of}
 use Rattle.script_library.specs.Libraries.{Scripts, library_of}
-use Rattle.script_procedures.specs.Made.{AreProcedures}
+use Rattle.script_procedures.specs.ProcedureCode.{AreProcedures}
 use Rattle.script_procedures.specs.declared.procedure.Procedure as code
 use Rattle.filing_gen.specs.Correct.{IsCompiled}
 use Rattle.filing_gen.proofs.SharedBuilt.{heavy_by_path, heavy_by_code, light_by_all, shared_image, compiled_image}

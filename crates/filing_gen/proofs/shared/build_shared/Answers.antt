@@ -4,7 +4,7 @@ use Rattle.sieve_syntax.specs.View.{tree_of}
 use Rattle.sieve_meaning.specs.Reading.{program_of}
 use Rattle.sieve_meaning.specs.Weight.{greatest_weight, linked_weight}
 use Rattle.script_library.specs.declared.shelves.Shelves.{Shelves}
-use Rattle.script_library.specs.Lent.{scripts_of}
+use Rattle.script_library.specs.BorrowedShelves.{scripts_of}
 use Rattle.script_library.specs.Libraries.{library_of}
 use Rattle.filing_gen.proofs.shared.build_shared.Goals as goal
 

@@ -1,11 +1,13 @@
-use Rattle.std.proofs.Common.{◌≡◌, ap, ◌∙◌, sym, subst, Err, Ok, Result}
+use Rattle.std.proofs.Common.{◌≡◌, ap, ◌∙◌, sym, subst, Err, Ok, Result, inr}
 use Rattle.std.specs.Prelude.{IfOk}
 use Rattle.sieve_syntax.specs.View.{tree_of}
 use Rattle.sieve_meaning.specs.Reading.{program_of}
 use Rattle.sieve_meaning.specs.Meaning.{Library}
-use Rattle.script_library.specs.Lent.{scripts_of}
+use Rattle.script_library.specs.BorrowedShelves.{scripts_of}
 use Rattle.script_library.specs.Libraries.{library_of}
+use Rattle.filing_image.specs.declared.instruction.Operation.TheVariants.{Fault}
 use Rattle.filing_commands.specs.Pinning.{PinsChosen, script}
+use Rattle.filing_officers.specs.Ends.{alone}
 use Rattle.filing_officers.proofs.MeaningLemmas.{library_meant}
 use Rattle.filing_officers.proofs.PinLemmas.{compiled_pins, heavy_pins}
 use Rattle.filing_officers.proofs.pinned.pin_script.Goals as goal
@@ -24,6 +26,9 @@ returns-in-Ok c =
     let P : Library → Type 0 = λ l. PinsChosen (script c.args.name.now main) l c.in-Ok.program in
     subst P (library_meant lib) (compiled_pins (library_of lib) c.args.name.now main c.in-Ok.program c.in-Ok.ensures.compiled (λ heavy. ok_not_err c.in-Ok.is ((c.compile_with.ensures.too_large (ok_not_err c.in-Ok.is)).1 heavy)))
 
+pub single-requires : goal.single-requires
+single-requires c = inr (ap Fault c.number.ensures)
+
 pub returns-in-Err-TooLarge : goal.returns-in-Err-TooLarge
 returns-in-Err-TooLarge c =
     let main = program_of (tree_of c.args.script.now.script) in
@@ -32,4 +37,4 @@ returns-in-Err-TooLarge c =
     let heavy = (c.compile_with.ensures.too_large (λ none. cc (refused, none))).0 refused in
     all_ok c.single.result c.single.ensures (λ v e.
     let P : Library → Type 0 = λ l. PinsChosen (script c.args.name.now main) l v in
-    subst P (library_meant lib) (heavy_pins (library_of lib) c.args.name.now main v e heavy))
+    subst P (library_meant lib) (heavy_pins (library_of lib) c.args.name.now main v (e ∙ ap (λ n. alone (Fault n)) c.number.ensures) heavy))

@@ -1,6 +1,5 @@
-use Rattle.std.proofs.Common.{◌≡◌, Some, None, sym, ap, ◌∙◌}
+use Rattle.std.proofs.Common.{◌≡◌, sym, ap, ◌∙◌}
 use Rattle.std.specs.Option.{option_copied_mut}
-use Rattle.std.specs.BTreeMap.{BTreeMap}
 use Rattle.filing_officers.specs.declared.profile.Active.TheVariants.{NoProgram}
 use Rattle.filing_officers.specs.declared.profile.Profile.{Profile}
 use Rattle.filing_officers.proofs.ProfileLemmas.{found_is, missing_is, changed_there, changed_not, no_program_known, program_set}

@@ -1,4 +1,4 @@
-use Rattle.std.proofs.Common.{◌≡◌, Some, None, is_some, sym, ap, ◌∙◌}
+use Rattle.std.proofs.Common.{◌≡◌, is_some, sym, ap, ◌∙◌}
 use Rattle.std.specs.Option.{option_copied}
 use Rattle.filing_commands.specs.Pinning.{Officer}
 use Rattle.filing_commands.specs.Scripts.{script_at}

@@ -1,12 +1,11 @@
-use Rattle.std.proofs.Common.{◌≡◌, Some, None, sym, ap, ◌∙◌, rules}
+use Rattle.std.proofs.Common.{◌≡◌, sym, ap, ◌∙◌, rules}
 use Rattle.std.specs.Option.{option_copied_mut}
 use Rattle.std.specs.BTreeMap.{is_at, insert_entry}
-use Rattle.std.specs.Map.{lookup, set_value}
+use Rattle.std.specs.Map.{set_value}
 use Rattle.std.proofs.lemmas.Map.Steps.{set_value_same}
-use Rattle.script_library.specs.declared.fault.LibraryFault.TheVariants.{Full}
 use Rattle.filing_commands.specs.Office.{with_scripts}
 use Rattle.filing_commands.specs.Pinning.{Officer}
-use Rattle.filing_commands.specs.Scripts.{HasNoRoom, put_script}
+use Rattle.filing_commands.specs.Scripts.{put_script}
 use Rattle.filing_officers.specs.declared.profile.Profile.{Profile}
 use Rattle.filing_officers.specs.Register.{meaning_of, officer_of}
 use Rattle.filing_officers.proofs.ProfileLemmas.{cmp_names, compare, found_is, missing_is, changed_there, changed_new, on_both, on_err, room_unknown}

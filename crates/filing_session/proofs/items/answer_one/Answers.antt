@@ -6,8 +6,8 @@ use Rattle.filing_session.specs.Session.{Call}
 use Rattle.filing_session.proofs.PayloadLemmas.{one_heard}
 use Rattle.filing_session.proofs.items.answer_one.Goals as goal
 
-pub returns-clause-said : goal.returns-clause-said
-returns-clause-said g c = λ t.
+pub returns-clause-reaction : goal.returns-clause-reaction
+returns-clause-reaction g c = λ t.
     let old = g.S.Source.left c.args.source.now in
     let new = g.S.Source.left c.read_payload.new.source in
     let command = c.args.command in

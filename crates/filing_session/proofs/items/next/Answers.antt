@@ -1,21 +1,21 @@
 use Rattle.std.proofs.Common.{◌≡◌, IfOk, ap, sym, ◌∙◌, subst}
 use Rattle.filing_commands.specs.Calls.{Calls}
-use Rattle.filing_session.specs.Heard.{Answers}
+use Rattle.filing_session.specs.ItemAnswers.{Answers}
 use Rattle.filing_session.specs.Lines.{line_of, line_as}
-use Rattle.filing_session.specs.Session.{Heard, heard, heard_in, heard_line}
-use Rattle.filing_session.specs.Asked.{asked, asked_as}
+use Rattle.filing_session.specs.Session.{InputStart, start_of, start_by_line, start_by_request}
+use Rattle.filing_session.specs.LineRequests.{request_of, request_view}
 use Rattle.filing_session.specs.declared.lines.LineEnd.{LineEnd}
 use Rattle.filing_session.proofs.items.next.Goals as goal
 
-pub returns-in-Whole-clause-said : goal.returns-in-Whole-clause-said
-returns-in-Whole-clause-said g c = λ t.
+pub returns-in-Whole-clause-reaction : goal.returns-in-Whole-clause-reaction
+returns-in-Whole-clause-reaction g c = λ t.
     let input = g.S.Source.left c.args.source.now in
     let text = c.read_line.new.line in
     let rest = g.S.Source.left c.read_line.new.source in
     let left = g.S.Source.left c.answer.new.source in
     let L : LineEnd → Type 0 = λ end. line_of input ≡ line_as end text rest in
     let whole = subst L c.in-Whole.is (c.in_ok-read_line.ensures.line t) in
-    let asks : asked_as c.read_request.result ≡ asked text = c.read_request.ensures ∙ ap asked c.as_slice.ensures in
-    let hears : heard_line (asked_as c.read_request.result) rest ≡ heard input = ap (λ a. heard_line a rest) asks ∙ ap heard_in (sym whole) in
-    let P : Heard → Type 0 = λ h. IfOk c.answer.result (λ a. Answers (Calls g.R.Registry.clean g.R.Registry.stands) c.args.registry.now h a c.answer.new.registry left) in
-    subst P hears (c.answer.ensures.said t)
+    let asks : request_view c.read_request.result ≡ request_of text = c.read_request.ensures ∙ ap request_of c.as_slice.ensures in
+    let hears : start_by_request (request_view c.read_request.result) rest ≡ start_of input = ap (λ a. start_by_request a rest) asks ∙ ap start_by_line (sym whole) in
+    let P : InputStart → Type 0 = λ h. IfOk c.answer.result (λ a. Answers (Calls g.R.Registry.clean g.R.Registry.stands) c.args.registry.now h a c.answer.new.registry left) in
+    subst P hears (c.answer.ensures.reaction t)

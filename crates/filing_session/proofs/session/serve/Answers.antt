@@ -1,13 +1,13 @@
 use Rattle.std.proofs.Common.{◌-◌, ℕ, arith, refl, [], inl, inr, ap, sym, ◌∙◌, subst, Ok}
 use Rattle.std.proofs.lemmas.List.{append-nil}
 use Rattle.filing_commands.specs.Calls.{Calls}
-use Rattle.filing_session.specs.Session.{heard, session_of, EndsByInput, IsAnswered}
-use Rattle.filing_session.specs.Heard.{Answers, SaysEnd}
+use Rattle.filing_session.specs.Session.{start_of, session_of, EndsByInput, IsAnswered}
+use Rattle.filing_session.specs.ItemAnswers.{Answers, SaysEnd}
 use Rattle.filing_session.specs.Replies.{answer_of, reply_octets}
 use Rattle.filing_session.specs.Streams.{TellsEnd}
-use Rattle.filing_session.specs.declared.items.Ending.{Ending}
-use Rattle.filing_session.specs.declared.items.Ending.TheVariants.{Limit}
-use Rattle.filing_session.specs.declared.items.Said.{Said}
+use Rattle.filing_session.specs.declared.items.SessionEnd.{SessionEnd}
+use Rattle.filing_session.specs.declared.items.SessionEnd.TheVariants.{Limit}
+use Rattle.filing_session.specs.declared.items.Reaction.{Reaction}
 use Rattle.filing_session.proofs.Pieces.{written_ok, written_fault, outlasted}
 use Rattle.filing_session.proofs.Served.{Served, more, answered_now, cut_in_answer, all_ends, one_less, ended_ok, ended_cut, limit_ends, stop_ends}
 use Rattle.filing_session.proofs.Unread.{left_more, left_stop, left_limit}
@@ -37,13 +37,13 @@ loop-preserved g c =
     record {
       served = λ s k.
           let P : ℕ → Type 0 = λ n. Served (Calls g.R.Registry.clean g.R.Registry.stands) n (session_of 1000000 (g.S.Source.left c.args.source.now)) c.args.registry.now (g.K.Sink.written c.args.sink.now) (g.S.Source.left c.loop.source) c.loop.registry (g.K.Sink.written c.loop.sink) in
-          let Q : Said → Type 0 = λ x. Answers (Calls g.R.Registry.clean g.R.Registry.stands) c.loop.registry (heard (g.S.Source.left c.loop.source)) x c.next.new.registry (g.S.Source.left c.next.new.source) in
-          let a = subst Q c.in-Reply.is (c.in-Ok.ensures.said s) in
+          let Q : Reaction → Type 0 = λ x. Answers (Calls g.R.Registry.clean g.R.Registry.stands) c.loop.registry (start_of (g.S.Source.left c.loop.source)) x c.next.new.registry (g.S.Source.left c.next.new.source) in
+          let a = subst Q c.in-Reply.is (c.in-Ok.ensures.reaction s) in
           more (Calls g.R.Registry.clean g.R.Registry.stands) _ _ _ _ _ _ _ a.0 (answer_of c.in-Reply.reply) _ _ _ (subst P (one_less c.loop.counter c.loop-test.true) (c.loop.invariant.served s k)) a.1 a.2
           (written_ok c.write_reply.result (g.K.Sink.written c.loop.sink) (reply_octets (answer_of c.in-Reply.reply)) (g.K.Sink.written c.write_reply.new.sink) (c.write_reply.ensures.written k) (sym c.is_err.ensures.value ∙ c.if-is_err.false));
       unread = λ s.
-          let Q : Said → Type 0 = λ x. Answers (Calls g.R.Registry.clean g.R.Registry.stands) c.loop.registry (heard (g.S.Source.left c.loop.source)) x c.next.new.registry (g.S.Source.left c.next.new.source) in
-          let a = subst Q c.in-Reply.is (c.in-Ok.ensures.said s) in
+          let Q : Reaction → Type 0 = λ x. Answers (Calls g.R.Registry.clean g.R.Registry.stands) c.loop.registry (start_of (g.S.Source.left c.loop.source)) x c.next.new.registry (g.S.Source.left c.next.new.source) in
+          let a = subst Q c.in-Reply.is (c.in-Ok.ensures.reaction s) in
           c.loop.invariant.unread s ∙ left_more c.loop.counter _ a.0 _ c.loop-test.true a.1;
       ends = omega (arith, c.next.ensures.ends.rises);
       reads_over = omega (arith, c.in-Ok.ensures.troubles.over, c.loop.invariant.reads_over);
@@ -61,40 +61,40 @@ loop-preserved g c =
 pub returns-then-is_err-clause-unsaid : goal.returns-then-is_err-clause-unsaid
 returns-then-is_err-clause-unsaid g c = λ s k is.
     let P : ℕ → Type 0 = λ n. Served (Calls g.R.Registry.clean g.R.Registry.stands) n (session_of 1000000 (g.S.Source.left c.args.source.now)) c.args.registry.now (g.K.Sink.written c.args.sink.now) (g.S.Source.left c.loop.source) c.loop.registry (g.K.Sink.written c.loop.sink) in
-    let Q : Said → Type 0 = λ x. Answers (Calls g.R.Registry.clean g.R.Registry.stands) c.loop.registry (heard (g.S.Source.left c.loop.source)) x c.next.new.registry (g.S.Source.left c.next.new.source) in
-    let a = subst Q c.in-Reply.is (c.in-Ok.ensures.said s) in
+    let Q : Reaction → Type 0 = λ x. Answers (Calls g.R.Registry.clean g.R.Registry.stands) c.loop.registry (start_of (g.S.Source.left c.loop.source)) x c.next.new.registry (g.S.Source.left c.next.new.source) in
+    let a = subst Q c.in-Reply.is (c.in-Ok.ensures.reaction s) in
     let following = written_fault c.write_reply.result (g.K.Sink.written c.loop.sink) (reply_octets (answer_of c.in-Reply.reply)) (g.K.Sink.written c.write_reply.new.sink) (c.write_reply.ensures.written k) (sym c.is_err.ensures.value ∙ c.if-is_err.true) in
     inl (cut_in_answer (Calls g.R.Registry.clean g.R.Registry.stands) _ _ _ _ _ _ _ a.0 (answer_of c.in-Reply.reply) _ _ _ (subst P (one_less c.loop.counter c.loop-test.true) (c.loop.invariant.served s k)) a.1 a.2 following)
 
 pub returns-in-End-clause-ok : goal.returns-in-End-clause-ok
 returns-in-End-clause-ok g c = λ s k.
-    let Q : Said → Type 0 = λ x. Answers (Calls g.R.Registry.clean g.R.Registry.stands) c.loop.registry (heard (g.S.Source.left c.loop.source)) x c.next.new.registry (g.S.Source.left c.next.new.source) in
-    let a = subst Q c.in-End.is (c.in-Ok.ensures.said s) in
+    let Q : Reaction → Type 0 = λ x. Answers (Calls g.R.Registry.clean g.R.Registry.stands) c.loop.registry (start_of (g.S.Source.left c.loop.source)) x c.next.new.registry (g.S.Source.left c.next.new.source) in
+    let a = subst Q c.in-End.is (c.in-Ok.ensures.reaction s) in
     let P : _ → Type 0 = λ x. Served (Calls g.R.Registry.clean g.R.Registry.stands) (1000000 - c.loop.counter) (session_of 1000000 (g.S.Source.left c.args.source.now)) c.args.registry.now (g.K.Sink.written c.args.sink.now) (g.S.Source.left c.loop.source) x (g.K.Sink.written c.loop.sink) in
     ended_ok (Calls g.R.Registry.clean g.R.Registry.stands) c.write_ending.result _ _ _ _ _ c.next.new.registry (g.K.Sink.written c.loop.sink) c.in-End.ending (g.K.Sink.written c.write_ending.new.sink) (subst P (sym a.1) (c.loop.invariant.served s k)) (stop_ends c.loop.counter _ _ _ c.loop-test.true a.0) (c.write_ending.ensures.written k)
 
 pub returns-in-End-clause-unsaid : goal.returns-in-End-clause-unsaid
 returns-in-End-clause-unsaid g c = λ s k is.
-    let Q : Said → Type 0 = λ x. Answers (Calls g.R.Registry.clean g.R.Registry.stands) c.loop.registry (heard (g.S.Source.left c.loop.source)) x c.next.new.registry (g.S.Source.left c.next.new.source) in
-    let a = subst Q c.in-End.is (c.in-Ok.ensures.said s) in
+    let Q : Reaction → Type 0 = λ x. Answers (Calls g.R.Registry.clean g.R.Registry.stands) c.loop.registry (start_of (g.S.Source.left c.loop.source)) x c.next.new.registry (g.S.Source.left c.next.new.source) in
+    let a = subst Q c.in-End.is (c.in-Ok.ensures.reaction s) in
     let P : _ → Type 0 = λ x. Served (Calls g.R.Registry.clean g.R.Registry.stands) (1000000 - c.loop.counter) (session_of 1000000 (g.S.Source.left c.args.source.now)) c.args.registry.now (g.K.Sink.written c.args.sink.now) (g.S.Source.left c.loop.source) x (g.K.Sink.written c.loop.sink) in
     inr (ended_cut (Calls g.R.Registry.clean g.R.Registry.stands) c.write_ending.result _ _ _ _ _ _ c.next.new.registry (g.K.Sink.written c.loop.sink) c.in-End.ending (g.K.Sink.written c.write_ending.new.sink) (subst P (sym a.1) (c.loop.invariant.served s k)) (stop_ends c.loop.counter _ _ _ c.loop-test.true a.0) (c.write_ending.ensures.written k) is)
 
 pub returns-in-End-clause-ending : goal.returns-in-End-clause-ending
 returns-in-End-clause-ending g c = λ s k ok by.
-    let Q : Said → Type 0 = λ x. Answers (Calls g.R.Registry.clean g.R.Registry.stands) c.loop.registry (heard (g.S.Source.left c.loop.source)) x c.next.new.registry (g.S.Source.left c.next.new.source) in
-    let a = subst Q c.in-End.is (c.in-Ok.ensures.said s) in
+    let Q : Reaction → Type 0 = λ x. Answers (Calls g.R.Registry.clean g.R.Registry.stands) c.loop.registry (start_of (g.S.Source.left c.loop.source)) x c.next.new.registry (g.S.Source.left c.next.new.source) in
+    let a = subst Q c.in-End.is (c.in-Ok.ensures.reaction s) in
     let all = all_ends (Calls g.R.Registry.clean g.R.Registry.stands) _ _ _ _ _ _ _ c.in-End.ending (c.loop.invariant.served s k) (stop_ends c.loop.counter _ _ _ c.loop-test.true a.0) in
-    let P : Ending → Type 0 = EndsByInput in
-    let R : Said → Type 0 = λ x. TellsEnd (SaysEnd (Ok x)) (g.S.Source.ends c.loop.source) (g.S.Source.ends c.next.new.source) in
+    let P : SessionEnd → Type 0 = EndsByInput in
+    let R : Reaction → Type 0 = λ x. TellsEnd (SaysEnd (Ok x)) (g.S.Source.ends c.loop.source) (g.S.Source.ends c.next.new.source) in
     let ends = subst R c.in-End.is c.in-Ok.ensures.ends in
     let told = ends.told (subst P (ap (λ x. x.ending) all) by) in
     omega (arith, told, c.loop.invariant.ends)
 
 pub returns-in-End-clause-unread : goal.returns-in-End-clause-unread
 returns-in-End-clause-unread g c = λ s k ok.
-    let Q : Said → Type 0 = λ x. Answers (Calls g.R.Registry.clean g.R.Registry.stands) c.loop.registry (heard (g.S.Source.left c.loop.source)) x c.next.new.registry (g.S.Source.left c.next.new.source) in
-    let a = subst Q c.in-End.is (c.in-Ok.ensures.said s) in
+    let Q : Reaction → Type 0 = λ x. Answers (Calls g.R.Registry.clean g.R.Registry.stands) c.loop.registry (start_of (g.S.Source.left c.loop.source)) x c.next.new.registry (g.S.Source.left c.next.new.source) in
+    let a = subst Q c.in-End.is (c.in-Ok.ensures.reaction s) in
     sym (c.loop.invariant.unread s ∙ left_stop c.loop.counter _ _ c.in-End.ending c.loop-test.true a.0)
 
 pub returns-clause-ok : goal.returns-clause-ok
@@ -106,7 +106,7 @@ returns-clause-unsaid g c = λ s k is. inr (ended_cut (Calls g.R.Registry.clean 
 pub returns-clause-ending : goal.returns-clause-ending
 returns-clause-ending g c = λ s k ok by.
     let all = all_ends (Calls g.R.Registry.clean g.R.Registry.stands) _ _ _ _ _ _ _ Limit (c.loop.invariant.served s k) (limit_ends c.loop.counter _ c.loop-test.false) in
-    let P : Ending → Type 0 = EndsByInput in
+    let P : SessionEnd → Type 0 = EndsByInput in
     absurd (subst P (ap (λ x. x.ending) all) by)
 
 pub returns-clause-unread : goal.returns-clause-unread

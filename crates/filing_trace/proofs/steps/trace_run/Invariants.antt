@@ -1,7 +1,7 @@
 use Rattle.std.proofs.Common.{◌≡◌, ◌≤◌, ◌-◌, ℕ, length, slice_get, Some}
 use Rattle.filing_machine.specs.Runs.{Stands}
 use Rattle.filing_trace.specs.declared.steps.Step.{Step}
-use Rattle.filing_trace.specs.Told.{IsTold}
+use Rattle.filing_trace.specs.StepRecords.{IsStepRecord}
 use Rattle.filing_trace.proofs.steps.trace_run.Given as goal
 
 -- the machine is in the run, and the steps that it has made are recorded
@@ -10,7 +10,7 @@ invariant-loop-machine g l = record {
   stands : Stands l.program (g.C.Case.facts l.case) l.machine;
   budget : l.machine.steps ≤ l.program.budget;
   whole : length l.steps.items ≡ l.machine.steps;
-  told : (k : ℕ) (s : Step) → slice_get l.steps.items k ≡ Some s → IsTold l.program (g.C.Case.facts l.case) k s;
+  told : (k : ℕ) (s : Step) → slice_get l.steps.items k ≡ Some s → IsStepRecord l.program (g.C.Case.facts l.case) k s;
 }
 
 abbrev pub decreases-loop-machine : goal.decreases-loop-machine

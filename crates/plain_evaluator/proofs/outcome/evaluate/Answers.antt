@@ -1,7 +1,7 @@
 use Rattle.std.proofs.Common.{refl, false, map, ap, ◌∙◌}
 use Rattle.std.specs.Prelude.{option_map}
 use Rattle.sieve_syntax.specs.View.{tree_of}
-use Rattle.script_library.specs.Lent.{scripts_of}
+use Rattle.script_library.specs.BorrowedShelves.{scripts_of}
 use Rattle.script_library.specs.Libraries.{library_of}
 use Rattle.plain_evaluator.specs.Case.{facts_of}
 use Rattle.sieve_meaning.specs.Scripts.{script_of}

@@ -1,4 +1,4 @@
-use Rattle.std.proofs.Common.{◌≡◌, Bool, true, false, map, sym, ap, ◌∙◌}
+use Rattle.std.proofs.Common.{◌≡◌, true, false, map, sym, ap, ◌∙◌}
 use Rattle.sieve_syntax.specs.View.{test_of}
 use Rattle.sieve_syntax.specs.declared.tree.TestList.{TestList, out-TestList}
 use Rattle.sieve_syntax.proofs.Views.{inner_of-Listed}

@@ -3,8 +3,8 @@ use Rattle.promises.proofs.Pinned.{alone, within_budget}
 use Rattle.promises.proofs.Sources.{stood_at_beginning}
 use Rattle.promises.proofs.laws.captures_are_pinned.Goals as goal
 
-pub returns-clause-stood : goal.returns-clause-stood
-returns-clause-stood c = stood_at_beginning
+pub returns-clause-at_begin : goal.returns-clause-at_begin
+returns-clause-at_begin c = stood_at_beginning
 
 pub returns-clause-pinned : goal.returns-clause-pinned
 returns-clause-pinned c = all_pinned

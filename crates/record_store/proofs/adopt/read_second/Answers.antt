@@ -1,18 +1,12 @@
-use Rattle.std.proofs.Common.{◌≡◌, ◌∙◌, sym, ap, subst, map, Err, arith, refl, inl, inr, IsTrue, false}
-use Rattle.sqlite.specs.State.{HasCleanDisk, IsUnchanged}
+use Rattle.std.proofs.Common.{◌≡◌, ◌∙◌, ap, Err, inl}
+use Rattle.sqlite.specs.State.{HasCleanDisk}
 use Rattle.sqlite.specs.Held.{state}
-use Rattle.sqlite.specs.Effect.{Database}
 use Rattle.record_tables.specs.Tables.{HasCommonTables, IsArchiveSchema}
-use Rattle.record_tables.specs.Changes.{IsRevised}
-use Rattle.record_tables.specs.Layouts.{IsMoved}
-use Rattle.record_tables.specs.Typed.{rule_of, listed_of, due_of}
 use Rattle.record_store.specs.Archive.{Archive}
-use Rattle.record_store.specs.Stores.{due_rows, StoresArchive}
-use Rattle.record_store.specs.Adoption.{FindsSecond, FindsFirst, FindsCommon, IsKeyed, TellsPlan, Sees}
-use Rattle.record_store.proofs.AdoptReads.{sees_as, sees_then, kept_then, unchanged_then, second_after, first_after, common_after, archive_common, first_common, second_common, first_found, archive_of, second_told, first_told}
+use Rattle.record_store.specs.Adoption.{FindsSecond, IsKeyed}
+use Rattle.record_store.proofs.AdoptReads.{sees_as, sees_then, kept_then, common_after, archive_common, second_common, archive_of, second_told}
 use Rattle.record_store.proofs.AdoptRows.{judged_archive}
-use Rattle.record_store.proofs.AdoptSettled.{handed_on, keyed_of, stores_settled, stores_moved, leaves_read, leaves_after, leaves_made}
-use Rattle.record_tables.proofs.TypedLemmas.{never_none}
+use Rattle.record_store.proofs.AdoptSettled.{handed_on, keyed_of}
 use Rattle.record_store.proofs.adopt.read_second.Goals as goal
 
 pub returns-in_err-rows-clause-sees : goal.returns-in_err-rows-clause-sees

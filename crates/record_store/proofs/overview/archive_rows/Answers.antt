@@ -1,10 +1,10 @@
 use Rattle.std.proofs.Common.{◌≡◌, ◌∙◌, sym, ap, subst, map, Err}
 use Rattle.std.specs.List.{AllByRecursion}
-use Rattle.sqlite.specs.State.{HasCleanDisk, IsUnchanged}
+use Rattle.sqlite.specs.State.{HasCleanDisk}
 use Rattle.sqlite.specs.Held.{state}
 use Rattle.record_tables.specs.Tables.{HasCommonTables}
 use Rattle.record_tables.specs.Rows.{Message}
-use Rattle.record_tables.specs.Reads.{FitsNumber, FitsHold}
+use Rattle.record_tables.specs.Reads.{FitsNumber}
 use Rattle.record_store.specs.Archive.{Archive}
 use Rattle.record_store.specs.Adoption.{Sees, sorted_holds}
 use Rattle.record_store.proofs.AdoptReads.{sees_then, kept_then, common_after}

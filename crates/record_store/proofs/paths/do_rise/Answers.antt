@@ -1,6 +1,6 @@
-use Rattle.std.proofs.Common.{◌≡◌, ◌<◌, ◌-◌, ℕ, Vec, Global, List, map, length, false, true, refl, sym, ap₂, ◌∙◌, arith, rules, true≢false, is_lt, ap, Less}
+use Rattle.std.proofs.Common.{◌≡◌, ◌<◌, ◌-◌, ℕ, Vec, Global, List, map, false, true, refl, sym, ap₂, ◌∙◌, arith, rules, true≢false, is_lt, ap, Less}
 use Rattle.std.proofs.lemmas.List.{length-map}
-use Rattle.record_store.proofs.PathLemmas.{path_cmp, RisesTo, rises-sorted, sorted-rises, is_less, path_at, next_place}
+use Rattle.record_store.proofs.PathLemmas.{path_cmp, rises-sorted, sorted-rises, is_less, path_at, next_place}
 use Rattle.record_store.proofs.paths.do_rise.Goals as goal
 
 pub loop-i-init : goal.loop-i-init

@@ -1,9 +1,9 @@
 use Rattle.std.proofs.Common.{◌≡◌, drop, map, false}
 use Rattle.sieve_syntax.specs.View.{command_of, commands_of}
 use Rattle.sieve_meaning.specs.Scripts.{script_of}
-use Rattle.script_library.specs.Lent.{scripts_of}
+use Rattle.script_library.specs.BorrowedShelves.{scripts_of}
 use Rattle.script_library.specs.Libraries.{library_of}
-use Rattle.script_procedures.specs.Included.{with_rest}
+use Rattle.script_procedures.specs.IncludedScripts.{with_rest}
 use Rattle.script_procedures.proofs.included.+inclusion.Given as goal
 
 abbrev pub invariant-add_commands-loop-command : goal.invariant-add_commands-loop-command

@@ -3,9 +3,9 @@ use Rattle.sieve_syntax.specs.View.{tree_of}
 use Rattle.sieve_meaning.specs.Reading.{program_of}
 use Rattle.sieve_meaning.specs.declared.scripts.ScriptName as code
 use Rattle.sieve_meaning.specs.Scripts.{script_of}
-use Rattle.script_library.specs.Lent.{scripts_of}
+use Rattle.script_library.specs.BorrowedShelves.{scripts_of}
 use Rattle.script_library.specs.Libraries.{library_of}
-use Rattle.script_procedures.specs.Included.{with_included}
+use Rattle.script_procedures.specs.IncludedScripts.{with_included}
 use Rattle.script_procedures.proofs.IncludedLemmas.{gathers_there}
 use Rattle.script_procedures.proofs.included.included_scripts.Goals as goal
 

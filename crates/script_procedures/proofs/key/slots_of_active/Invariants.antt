@@ -1,6 +1,6 @@
 use Rattle.std.proofs.Common.{◌≡◌, ℕ, map, take}
 use Rattle.sieve_meaning.specs.Scripts.{script_of}
-use Rattle.script_library.specs.Lent.{scripts_of}
+use Rattle.script_library.specs.BorrowedShelves.{scripts_of}
 use Rattle.script_procedures.specs.Sets.{has}
 use Rattle.script_procedures.specs.Keys.{is_active}
 use Rattle.script_procedures.proofs.key.slots_of_active.Given as goal

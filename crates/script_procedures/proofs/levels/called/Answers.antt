@@ -2,9 +2,9 @@ use Rattle.std.proofs.Common.{List, [], suc, ◌+◌, drop, map, flat_map, lengt
 use Rattle.std.proofs.lemmas.Bool.{MatchBool-at_true, MatchBool-at_false}
 use Rattle.std.proofs.lemmas.List.{drop_all}
 use Rattle.sieve_meaning.specs.Procedures.{Procedure}
-use Rattle.script_library.specs.Lent.{scripts_of}
+use Rattle.script_library.specs.BorrowedShelves.{scripts_of}
 use Rattle.script_library.specs.Libraries.{library_of}
-use Rattle.script_procedures.specs.Made.{procedure_of, with_procedures, entered_by}
+use Rattle.script_procedures.specs.ProcedureCode.{procedure_of, with_procedures, entered_by}
 use Rattle.script_procedures.specs.declared.procedure.Procedure as code
 use Rattle.script_procedures.proofs.EnterLemmas.{caller_turn, caller_full, called_are}
 use Rattle.script_procedures.proofs.LevelLemmas.{lefts_from}

@@ -1,8 +1,8 @@
 use Rattle.std.proofs.Common.{◌≡◌, ◌≤◌, [], length, map, flat_map, drop}
 use Rattle.std.specs.List.{All}
-use Rattle.script_library.specs.Lent.{scripts_of}
+use Rattle.script_library.specs.BorrowedShelves.{scripts_of}
 use Rattle.script_library.specs.Libraries.{library_of}
-use Rattle.script_procedures.specs.Made.{procedure_of, IsEntered, with_procedures, entered_by}
+use Rattle.script_procedures.specs.ProcedureCode.{procedure_of, IsEntered, with_procedures, entered_by}
 use Rattle.script_procedures.proofs.levels.called.Given as goal
 
 abbrev pub invariant-loop-caller : goal.invariant-loop-caller

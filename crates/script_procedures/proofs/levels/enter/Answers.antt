@@ -6,12 +6,12 @@ use Rattle.sieve_syntax.specs.declared.tree.Script.{Script}
 use Rattle.sieve_syntax.specs.View.{tree_of}
 use Rattle.sieve_meaning.specs.Reading.{program_of}
 use Rattle.sieve_meaning.specs.Scripts.{script_of}
-use Rattle.sieve_meaning.specs.Procedures.{Procedure, is_shared, entered}
-use Rattle.script_library.specs.Lent.{scripts_of}
+use Rattle.sieve_meaning.specs.Procedures.{Procedure, is_shared, entry}
+use Rattle.script_library.specs.BorrowedShelves.{scripts_of}
 use Rattle.script_library.specs.Libraries.{library_of}
 use Rattle.script_procedures.specs.declared.key.Key.{Key}
 use Rattle.script_procedures.specs.Keys.{IsEnteredKey}
-use Rattle.script_procedures.specs.Made.{names_of, procedure_of, IsEntered}
+use Rattle.script_procedures.specs.ProcedureCode.{names_of, procedure_of, IsEntered}
 use Rattle.script_procedures.specs.declared.procedure.Procedure as code
 use Rattle.script_procedures.proofs.IncludedLemmas.{any_map}
 use Rattle.script_procedures.proofs.EnterLemmas.{active_entered, there_entered, none_added, made_before, one_added, no_room, same_procedure}
@@ -23,7 +23,7 @@ returns-then-contains-clause-made c =
     let s = script_of c.args.name.now in
     let left = c.args.caller.now.key.left - 1 in
     let chain = names_of c.args.caller.now in
-    none_added lib (map procedure_of c.args.next.now.items) (entered lib left chain s) (active_entered lib left chain s (sym c.contains.ensures ∙ c.if-contains.true))
+    none_added lib (map procedure_of c.args.next.now.items) (entry lib left chain s) (active_entered lib left chain s (sym c.contains.ensures ∙ c.if-contains.true))
 
 pub returns-then-is_made-clause-made : goal.returns-then-is_made-clause-made
 returns-then-is_made-clause-made c =
@@ -37,7 +37,7 @@ returns-then-is_made-clause-made c =
     let at : lib.find s ≡ Some x = ap (option_map (λ (y : Script). program_of (tree_of y))) (sym c.in-Some.ensures.script) in
     let key = c.key_of_entry-key.ensures l s x at (sym c.in-Some.ensures.slot) c.requires.key in
     let is = there_entered lib left chain s x at (sym c.contains.ensures ∙ c.if-contains.false) in
-    made_before lib (map procedure_of c.args.next.now.items) (entered lib left chain s) e is
+    made_before lib (map procedure_of c.args.next.now.items) (entry lib left chain s) e is
     (any_map (λ (p : Procedure). is_shared lib p e) procedure_of c.args.next.now.items ∙ ap (list_any (λ (p : code.Procedure). is_shared lib (procedure_of p) e)) (sym c.deref.ensures.value) ∙ sym (c.is_made.ensures e key) ∙ c.if-is_made.true)
 
 pub returns-then-len-room-clause-made : goal.returns-then-len-room-clause-made
@@ -53,7 +53,7 @@ returns-then-len-room-clause-made c =
     let key = c.key_of_entry-key.ensures l s x at (sym c.in-Some.ensures.slot) c.requires.key in
     let is = there_entered lib left chain s x at (sym c.contains.ensures ∙ c.if-contains.false) in
     let out = any_map (λ (p : Procedure). is_shared lib p e) procedure_of c.args.next.now.items ∙ ap (list_any (λ (p : code.Procedure). is_shared lib (procedure_of p) e)) (sym c.deref.ensures.value) ∙ sym (c.is_made.ensures e key) ∙ c.if-is_made.false in
-    no_room lib (map procedure_of c.args.next.now.items) (entered lib left chain s) e is out c.args.room (omega (arith, length-map c.args.next.now.items procedure_of))
+    no_room lib (map procedure_of c.args.next.now.items) (entry lib left chain s) e is out c.args.room (omega (arith, length-map c.args.next.now.items procedure_of))
 
 pub returns-clause-each : goal.returns-clause-each
 returns-clause-each c =
@@ -91,4 +91,4 @@ returns-clause-made c =
     ap (map procedure_of) c.in_ok-push.ensures.items
     ∙ map-append procedure_of c.args.next.now.items (p ∷ [])
     ∙ ap (λ (q : Procedure). map procedure_of c.args.next.now.items ++ q ∷ []) made
-    ∙ one_added lib (map procedure_of c.args.next.now.items) (entered lib left chain s) e is out
+    ∙ one_added lib (map procedure_of c.args.next.now.items) (entry lib left chain s) e is out

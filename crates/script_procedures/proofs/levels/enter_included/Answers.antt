@@ -3,12 +3,12 @@ use Rattle.std.proofs.Common.{◌-◌, List, map, filter_map, ap, ◌∙◌}
 use Rattle.sieve_syntax.specs.View.{tree_of}
 use Rattle.sieve_meaning.specs.Reading.{program_of}
 use Rattle.sieve_meaning.specs.Meaning.{ScriptName}
-use Rattle.sieve_meaning.specs.Procedures.{included_names, entered}
+use Rattle.sieve_meaning.specs.Procedures.{included_names, entry}
 use Rattle.sieve_meaning.specs.Scripts.{script_of}
 use Rattle.sieve_meaning.specs.declared.scripts.ScriptName as code
-use Rattle.script_library.specs.Lent.{scripts_of}
+use Rattle.script_library.specs.BorrowedShelves.{scripts_of}
 use Rattle.script_library.specs.Libraries.{library_of}
-use Rattle.script_procedures.specs.Made.{names_of, procedure_of, with_procedures, entered_by}
+use Rattle.script_procedures.specs.ProcedureCode.{names_of, procedure_of, with_procedures, entered_by}
 use Rattle.script_procedures.proofs.EnterLemmas.{there_alone, name_full}
 use Rattle.script_procedures.proofs.levels.enter_included.Goals as goal
 
@@ -20,8 +20,8 @@ loop-name-init c =
     let ps = map procedure_of c.args.next.now.items in (
       c.requires.each,
       c.requires.few,
-      ap (λ (ns : List code.ScriptName). with_procedures lib ps (filter_map (entered lib left chain) (map script_of ns))) c.deref-name-items.ensures.value
-          ∙ ap (λ (ns : List ScriptName). with_procedures lib ps (filter_map (entered lib left chain) ns)) c.in_ok-names.ensures
+      ap (λ (ns : List code.ScriptName). with_procedures lib ps (filter_map (entry lib left chain) (map script_of ns))) c.deref-name-items.ensures.value
+          ∙ ap (λ (ns : List ScriptName). with_procedures lib ps (filter_map (entry lib left chain) ns)) c.in_ok-names.ensures
           ∙ ap (with_procedures lib ps) (there_alone lib left chain (included_names (program_of (tree_of c.args.caller.now.script.now)))),
     )
 

@@ -1,7 +1,7 @@
 use Rattle.std.proofs.Common.{◌≡◌, ℕ, ◌-◌, ◌++◌, ◌∷◌, [], List, length, take, drop, option_map, sym, ap, ◌∙◌, subst, arith}
 use Rattle.sieve_syntax.specs.View.{tree_of}
 use Rattle.sieve_meaning.specs.Reading.{program_of}
-use Rattle.script_library.specs.Lent.{scripts_of}
+use Rattle.script_library.specs.BorrowedShelves.{scripts_of}
 use Rattle.script_procedures.specs.declared.procedure.Procedure as code
 use Rattle.script_procedures.proofs.LevelLemmas.{AreLevels, slice_is, first_level, slice_left, slice_keys, none_answered, some_answered, all_levels}
 use Rattle.script_procedures.proofs.levels.procedures.Goals as goal

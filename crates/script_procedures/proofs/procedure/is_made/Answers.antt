@@ -1,5 +1,5 @@
 use Rattle.std.proofs.Common.{ℕ, Option, is_some, ap, ◌∙◌}
-use Rattle.script_library.specs.Lent.{scripts_of}
+use Rattle.script_library.specs.BorrowedShelves.{scripts_of}
 use Rattle.script_library.specs.Libraries.{library_of}
 use Rattle.script_procedures.proofs.MadeLemmas.{number_there}
 use Rattle.script_procedures.proofs.procedure.is_made.Goals as goal

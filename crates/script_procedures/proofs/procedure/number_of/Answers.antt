@@ -1,8 +1,8 @@
 use Rattle.std.proofs.Common.{sym, subst, ◌∙◌, arith}
 use Rattle.sieve_meaning.specs.Procedures.{is_shared}
-use Rattle.script_library.specs.Lent.{scripts_of}
+use Rattle.script_library.specs.BorrowedShelves.{scripts_of}
 use Rattle.script_library.specs.Libraries.{library_of}
-use Rattle.script_procedures.specs.Made.{procedure_of, IsEntered}
+use Rattle.script_procedures.specs.ProcedureCode.{procedure_of, IsEntered}
 use Rattle.script_procedures.specs.declared.procedure.Procedure as code
 use Rattle.script_procedures.proofs.MadeLemmas.{none_more, none_at_end, number_found, no_number}
 use Rattle.script_procedures.proofs.procedure.number_of.Goals as goal

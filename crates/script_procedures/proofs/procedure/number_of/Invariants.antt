@@ -1,10 +1,10 @@
 use Rattle.std.proofs.Common.{◌≡◌, take, false}
 use Rattle.std.specs.List.{list_any}
 use Rattle.sieve_meaning.specs.Procedures.{Procedure, is_shared}
-use Rattle.script_library.specs.Lent.{scripts_of}
+use Rattle.script_library.specs.BorrowedShelves.{scripts_of}
 use Rattle.script_library.specs.Libraries.{library_of}
 use Rattle.script_procedures.specs.Keys.{IsEnteredKey}
-use Rattle.script_procedures.specs.Made.{procedure_of}
+use Rattle.script_procedures.specs.ProcedureCode.{procedure_of}
 use Rattle.script_procedures.proofs.procedure.number_of.Given as goal
 
 abbrev pub invariant-loop-number : goal.invariant-loop-number

@@ -5,11 +5,11 @@ use Rattle.sieve_syntax.specs.View.{tree_of}
 use Rattle.sieve_meaning.specs.declared.scripts.ScriptName.{ScriptName}
 use Rattle.sieve_meaning.specs.Reading.{program_of}
 use Rattle.sieve_meaning.specs.Scripts.{script_of}
-use Rattle.script_library.specs.Lent.{scripts_of}
+use Rattle.script_library.specs.BorrowedShelves.{scripts_of}
 use Rattle.script_library.specs.Libraries.{library_of}
 use Rattle.script_procedures.specs.Slots.{slots_of, IsAt}
-use Rattle.script_procedures.specs.Included.{is_there, names_there}
-use Rattle.script_procedures.specs.Reached.{IsRow}
+use Rattle.script_procedures.specs.IncludedScripts.{is_there, names_there}
+use Rattle.script_procedures.specs.ReachTables.{IsRow}
 use Rattle.script_procedures.proofs.ReachTables.{if_ok_more, row_is}
 use Rattle.script_procedures.proofs.reach.included_slots.Goals as goal
 

@@ -1,6 +1,6 @@
 use Rattle.std.proofs.Common.{◌≡◌, ℕ, take}
 use Rattle.script_procedures.specs.Sets.{has}
-use Rattle.script_procedures.specs.Reached.{further}
+use Rattle.script_procedures.specs.ReachTables.{further}
 use Rattle.script_procedures.proofs.reach.reached_further.Given as goal
 
 abbrev pub invariant-loop-slot : goal.invariant-loop-slot

@@ -1,5 +1,5 @@
 use Rattle.std.proofs.Common.{List, ℕ, ap, ◌∙◌}
-use Rattle.script_procedures.specs.Reached.{further}
+use Rattle.script_procedures.specs.ReachTables.{further}
 use Rattle.script_procedures.proofs.ReachTables.{round_turn}
 use Rattle.script_procedures.proofs.reach.reached_round.Goals as goal
 

@@ -1,5 +1,5 @@
 use Rattle.std.proofs.Common.{map, take}
-use Rattle.script_procedures.specs.Reached.{AreFurther}
+use Rattle.script_procedures.specs.ReachTables.{AreFurther}
 use Rattle.script_procedures.proofs.reach.reached_round.Given as goal
 
 abbrev pub invariant-loop-row : goal.invariant-loop-row

@@ -1,7 +1,7 @@
 use Rattle.std.proofs.Common.{◌≡◌, List, ℕ, Vec, Global, map, subst, arith}
-use Rattle.script_library.specs.Lent.{scripts_of}
+use Rattle.script_library.specs.BorrowedShelves.{scripts_of}
 use Rattle.script_procedures.specs.declared.slot_set.SlotSet.{SlotSet}
-use Rattle.script_procedures.specs.Reached.{AreFurther, AreReached}
+use Rattle.script_procedures.specs.ReachTables.{AreFurther, AreReached}
 use Rattle.script_procedures.proofs.ReachTables.{round_more, reached_all}
 use Rattle.script_procedures.proofs.reach.reached_sets.Goals as goal
 

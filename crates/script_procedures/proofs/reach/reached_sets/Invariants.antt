@@ -1,5 +1,5 @@
-use Rattle.script_library.specs.Lent.{scripts_of}
-use Rattle.script_procedures.specs.Reached.{AreReached}
+use Rattle.script_library.specs.BorrowedShelves.{scripts_of}
+use Rattle.script_procedures.specs.ReachTables.{AreReached}
 use Rattle.script_procedures.proofs.reach.reached_sets.Given as goal
 
 abbrev pub invariant-loop-round : goal.invariant-loop-round

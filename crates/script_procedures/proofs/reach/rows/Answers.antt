@@ -1,4 +1,4 @@
-use Rattle.script_library.specs.Lent.{scripts_of}
+use Rattle.script_library.specs.BorrowedShelves.{scripts_of}
 use Rattle.script_procedures.proofs.ReachTables.{rows_turn}
 use Rattle.script_procedures.proofs.reach.rows.Goals as goal
 

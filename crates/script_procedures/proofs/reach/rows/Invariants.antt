@@ -1,6 +1,6 @@
 use Rattle.std.proofs.Common.{map}
-use Rattle.script_library.specs.Lent.{scripts_of}
-use Rattle.script_procedures.specs.Reached.{AreRows}
+use Rattle.script_library.specs.BorrowedShelves.{scripts_of}
+use Rattle.script_procedures.specs.ReachTables.{AreRows}
 use Rattle.script_procedures.proofs.reach.rows.Given as goal
 
 abbrev pub invariant-loop-slot : goal.invariant-loop-slot

@@ -1,9 +1,9 @@
 use Rattle.std.proofs.Common.{◌≡◌, take, map, filter}
 use Rattle.sieve_meaning.specs.Scripts.{script_of}
-use Rattle.script_library.specs.Lent.{scripts_of}
+use Rattle.script_library.specs.BorrowedShelves.{scripts_of}
 use Rattle.script_library.specs.Libraries.{library_of}
 use Rattle.script_procedures.specs.Slots.{slots_of}
-use Rattle.script_procedures.specs.Included.{is_there}
+use Rattle.script_procedures.specs.IncludedScripts.{is_there}
 use Rattle.script_procedures.proofs.reach.slots_of_names.Given as goal
 
 abbrev pub invariant-loop-name : goal.invariant-loop-name

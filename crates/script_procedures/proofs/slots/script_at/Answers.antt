@@ -3,7 +3,7 @@ use Rattle.sieve_check.specs.declared.checked.Checked.{Checked}
 use Rattle.sieve_syntax.specs.declared.tree.Script.{Script}
 use Rattle.sieve_syntax.specs.View.{tree_of}
 use Rattle.sieve_meaning.specs.Reading.{program_of}
-use Rattle.script_library.specs.Lent.{scripts_of}
+use Rattle.script_library.specs.BorrowedShelves.{scripts_of}
 use Rattle.script_procedures.proofs.SlotLemmas.{personal_at, global_at, map_twice}
 use Rattle.script_procedures.proofs.slots.script_at.Goals as goal
 

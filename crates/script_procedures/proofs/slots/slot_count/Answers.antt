@@ -1,6 +1,6 @@
 use Rattle.std.proofs.Common.{◌≡◌, ◌+◌, length, arith}
 use Rattle.std.proofs.lemmas.Grind.{common_steps}
-use Rattle.script_library.specs.Lent.{scripts_of}
+use Rattle.script_library.specs.BorrowedShelves.{scripts_of}
 use Rattle.script_library.specs.Libraries.{Scripts, IsLibrary}
 use Rattle.script_procedures.proofs.SlotLemmas.{slots_personal, slots_global, least_personal, least_global}
 use Rattle.script_procedures.proofs.slots.slot_count.Goals as goal

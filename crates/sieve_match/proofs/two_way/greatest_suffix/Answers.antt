@@ -1,6 +1,6 @@
 use Rattle.std.proofs.Common.{◌≡◌, ◌+◌, ◌-◌, length, sym, subst, ◌∙◌, arith}
 use Rattle.memchr.proofs.lemmas.SuffixLemmas.{IsScan, IsScan-start, IsScan-accept, IsScan-skip, IsScan-push, IsScan-block, IsScan-end}
-use Rattle.sieve_match.specs.TwoWay.{read, Precedes}
+use Rattle.sieve_match.specs.TwoWay.{folded_octet, Precedes}
 use Rattle.sieve_match.proofs.TwoWayLemmas.{Precedes-trans, Precedes-irrefl}
 use Rattle.sieve_match.proofs.two_way.greatest_suffix.Goals as goal
 
@@ -10,14 +10,14 @@ suffixes-init c = IsScan-start (Precedes c.args.order) (Precedes-trans c.args.or
 pub suffixes-preserved-in-Less : goal.suffixes-preserved-in-Less
 suffixes-preserved-in-Less c =
     let s = c.suffixes in
-    let x = read c.args.key.now in
+    let x = folded_octet c.args.key.now in
     IsScan-accept (Precedes c.args.order) (Precedes-trans c.args.order) (Precedes-irrefl c.args.order) x _ s.invariant c.suffixes-test.true
     (subst (λ v. Precedes c.args.order v (x (s.candidate + s.offset))) c.folded_at-best.ensures (subst (Precedes c.args.order c.folded_at-best.result) c.folded_at-other.ensures c.in-Less.ensures))
 
 pub suffixes-preserved-in-Greater : goal.suffixes-preserved-in-Greater
 suffixes-preserved-in-Greater c =
     let s = c.suffixes in
-    let x = read c.args.key.now in
+    let x = folded_octet c.args.key.now in
     let m = length c.args.key.now in
     let moved : s.candidate + s.offset + 1 ≡ s.candidate + (s.offset + 1) = omega arith in
     subst (λ k. IsScan (Precedes c.args.order) x m s.place (k - s.place) k 0) moved

@@ -1,4 +1,4 @@
-use Rattle.std.proofs.Common.{◌≡◌, ap, sym, ◌∙◌, rules, refl}
+use Rattle.std.proofs.Common.{◌≡◌, ap, ◌∙◌, rules}
 use Rattle.std.proofs.lemmas.Map.Iter.{rest_more, rest_all}
 use Rattle.std.specs.Map.Iter.{deref_pair}
 use Rattle.class_plan.specs.Fields.{row}

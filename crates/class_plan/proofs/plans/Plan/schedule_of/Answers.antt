@@ -1,7 +1,7 @@
 use Rattle.std.proofs.Common.{◌≡◌, inl, inr, Some, None, sym, subst, ◌∙◌}
-use Rattle.class_plan.specs.Paths.{ancestors}
+use Rattle.class_paths.specs.Path.{ancestors}
 use Rattle.class_plan.specs.Schedules.{IsInRange, IsInRangeIfAny}
-use Rattle.class_plan.specs.Plans.{Listing, found, own_at, IsFromAbove}
+use Rattle.class_plan.specs.Plans.{Listing, row_at, own_at, IsFromAbove}
 use Rattle.class_plan.specs.Fields.{rows_in}
 use Rattle.class_plan.proofs.Nearest.{from-above}
 use Rattle.class_plan.proofs.Ranges.{own-found, own-range, first-range}
@@ -10,7 +10,7 @@ use Rattle.class_plan.proofs.plans.Plan.schedule_of.Goals as goal
 pub returns-in-Some-clause-range : goal.returns-in-Some-clause-range
 returns-in-Some-clause-range c =
     let p : Listing = record { root = c.self.inside.root; rows = rows_in c.self.inside.classes } in
-    let own : Some c.in-Some.schedule ≡ own_at p.rows c.args.path.now = sym c.in-Some.is ∙ own-found (found c.args.path.now p.rows) _ c.in_ok-class.ensures.schedule in
+    let own : Some c.in-Some.schedule ≡ own_at p.rows c.args.path.now = sym c.in-Some.is ∙ own-found (row_at c.args.path.now p.rows) _ c.in_ok-class.ensures.schedule in
     subst IsInRangeIfAny (sym own) (own-range p c.self.invariant c.args.path.now)
 
 pub returns-in-None-clause-range : goal.returns-in-None-clause-range
@@ -21,12 +21,12 @@ returns-in-None-clause-range c =
 pub returns-in-Some-clause-nearest : goal.returns-in-Some-clause-nearest
 returns-in-Some-clause-nearest c =
     let p : Listing = record { root = c.self.inside.root; rows = rows_in c.self.inside.classes } in
-    let own : Some c.in-Some.schedule ≡ own_at p.rows c.args.path.now = sym c.in-Some.is ∙ own-found (found c.args.path.now p.rows) _ c.in_ok-class.ensures.schedule in
+    let own : Some c.in-Some.schedule ≡ own_at p.rows c.args.path.now = sym c.in-Some.is ∙ own-found (row_at c.args.path.now p.rows) _ c.in_ok-class.ensures.schedule in
     rw (← c.self.view_is) (inl (sym own))
 
 pub returns-in-None-clause-nearest : goal.returns-in-None-clause-nearest
 returns-in-None-clause-nearest c =
     let p : Listing = record { root = c.self.inside.root; rows = rows_in c.self.inside.classes } in
-    let own : None ≡ own_at p.rows c.args.path.now = sym c.in-None.is ∙ own-found (found c.args.path.now p.rows) _ c.in_ok-class.ensures.schedule in
+    let own : None ≡ own_at p.rows c.args.path.now = sym c.in-None.is ∙ own-found (row_at c.args.path.now p.rows) _ c.in_ok-class.ensures.schedule in
     let above = subst (IsFromAbove p c.args.path.now) (sym c.inherited_schedule.ensures) (from-above p c.args.path.now) in
     rw (← c.self.view_is) (inr (sym own, above))

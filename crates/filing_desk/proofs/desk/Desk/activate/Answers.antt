@@ -1,7 +1,7 @@
 use Rattle.std.proofs.Common.{Err, ap, refl, subst, sym, true, ◌≡◌}
 use Rattle.std.specs.Prelude.{is_some}
 use Rattle.filing_commands.specs.Answers.{Answer}
-use Rattle.filing_commands.specs.Office.{OfficeStep, activate, setting}
+use Rattle.filing_commands.specs.Office.{OfficeStep, activate, with_active}
 use Rattle.filing_commands.specs.Pinning.{Officer, script_named}
 use Rattle.filing_commands.specs.Scripts.{script_at}
 use Rattle.filing_officers.specs.Register.{officer_at}
@@ -20,6 +20,6 @@ returns-in_err-activate g c =
 pub returns : goal.returns
 returns g c =
     let set = c.in_ok-activate.ensures in
-    set_by g.S.Store c.args.self.now _ (activate c.args.officer.now c.args.name.now) (λ s. setting s c.args.officer.now (script_named c.args.name.now)) (record { store = refl; flights = refl; last = refl; open_paths = refl }) (λ s. refl) set.done (λ x stands.
+    set_by g.S.Store c.args.self.now _ (activate c.args.officer.now c.args.name.now) (λ s. with_active s c.args.officer.now (script_named c.args.name.now)) (record { store = refl; flights = refl; last = refl; open_paths = refl }) (λ s. refl) set.done (λ x stands.
     let P : Officer → Type 0 = λ o. is_some (script_at c.args.name.now o.scripts) ≡ true in
     (subst P (officer_is g.S.Store c.args.self.now x c.args.officer.now stands) set.there, refl))

@@ -1,6 +1,5 @@
 use Rattle.std.proofs.Common.{◌≡◌, arith, false, true, refl}
 use Rattle.std.proofs.lemmas.Grind.{common_steps}
-use Rattle.filing_machine.specs.Runs.{answer}
 use Rattle.filing_commands.specs.declared.fault.DeskFault.TheVariants.{NoMemory}
 use Rattle.filing_desk.proofs.FilingLemmas.{capture_fault}
 use Rattle.filing_desk.proofs.FlightLemmas.{finish_done, finish_early, finish_none, finish_poor, finish_refused}
@@ -25,10 +24,10 @@ returns-in_err-lines g c =
     let on : c.is_ended.result ≡ true = grind (arith, common_steps) in
     let result = c.from_residual-in_err-lines.ensures in
     let outcome = c.in_ok-outcome.ensures in
-    finish_refused g.S.Store c.args.self.now _ c.args.ticket c.in-Some.flight.now c.is_ended.result (answer c.in_ok-outcome.outcome) c.in_err-lines.field-0.0 _ c.in-Some.ensures c.is_ended.ensures.flight on outcome.alone outcome.in_order outcome.classes c.in_err-lines.ensures.files c.file_outcome.ensures.falls refl refl refl refl (capture_fault _ _ result.0 result.1)
+    finish_refused g.S.Store c.args.self.now _ c.args.ticket c.in-Some.flight.now c.is_ended.result c.in_ok-outcome.outcome c.in_err-lines.field-0.0 _ c.in-Some.ensures c.is_ended.ensures.flight on outcome.alone outcome.in_order outcome.classes c.in_err-lines.ensures.files c.file_outcome.ensures.falls refl refl refl refl (capture_fault _ _ result.0 result.1)
 
 pub returns : goal.returns
 returns g c =
     let on : c.is_ended.result ≡ true = grind (arith, common_steps) in
     let outcome = c.in_ok-outcome.ensures in
-    finish_done g.S.Store c.args.self.now _ c.args.ticket c.in-Some.flight.now c.is_ended.result (answer c.in_ok-outcome.outcome) c.in_ok-lines.lines c.in-Some.ensures c.is_ended.ensures.flight on outcome.alone c.in_ok-lines.ensures.files c.file_outcome.ensures.falls refl c.remove.ensures refl refl
+    finish_done g.S.Store c.args.self.now _ c.args.ticket c.in-Some.flight.now c.is_ended.result c.in_ok-outcome.outcome c.in_ok-lines.lines c.in-Some.ensures c.is_ended.ensures.flight on outcome.alone c.in_ok-lines.ensures.files c.file_outcome.ensures.falls refl c.remove.ensures refl refl

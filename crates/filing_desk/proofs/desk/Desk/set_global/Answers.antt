@@ -6,7 +6,7 @@ use Rattle.filing_commands.specs.Limits.{greatest_script}
 use Rattle.filing_commands.specs.Office.{OfficeStep, set_global}
 use Rattle.filing_commands.specs.Parts.{RefusesScript}
 use Rattle.filing_commands.specs.Scripts.{meanings_of, put_script}
-use Rattle.filing_officers.specs.Register.{sharing}
+use Rattle.filing_officers.specs.Register.{with_global_script}
 use Rattle.filing_desk.proofs.FaultLemmas.{refused_part}
 use Rattle.filing_desk.proofs.OfficerLemmas.{globals_are, keep_refused, kept, not_set, set_by}
 use Rattle.filing_desk.proofs.StepLemmas.{done_fault}
@@ -29,5 +29,5 @@ pub returns : goal.returns
 returns g c = λ t is.
     let set = c.in_ok-set_global.ensures in
     let main = program_of (tree_of c.in_ok-script.script.script) in
-    set_by g.S.Store c.args.self.now _ (set_global c.args.name.now t) (λ s. sharing s c.args.name.now main) (record { store = refl; flights = refl; last = refl; open_paths = refl }) (λ s. refl) set.done (λ x stands.
+    set_by g.S.Store c.args.self.now _ (set_global c.args.name.now t) (λ s. with_global_script s c.args.name.now main) (record { store = refl; flights = refl; last = refl; open_paths = refl }) (λ s. refl) set.done (λ x stands.
     (put_script c.args.name.now main x.office.globals, kept x.office.globals (meanings_of c.args.self.now.officers.globals) c.args.name.now t (tree_of c.in_ok-script.script.script) (globals_are g.S.Store c.args.self.now x stands) (c.in_ok-script.ensures.good t is) set.has_room, refl))

@@ -1,6 +1,6 @@
 use Rattle.std.proofs.Common.{refl}
 use Rattle.filing_commands.specs.Limits.{greatest_image}
-use Rattle.filing_commands.specs.Office.{set_image, setting}
+use Rattle.filing_commands.specs.Office.{set_image, with_active}
 use Rattle.filing_commands.specs.Parts.{RefusesImage}
 use Rattle.filing_commands.specs.Pinning.{image}
 use Rattle.filing_desk.proofs.FaultLemmas.{lacking, refused_part}
@@ -23,4 +23,4 @@ returns-in_err-set_image g c = λ i is.
 pub returns : goal.returns
 returns g c = λ i is.
     let set = c.in_ok-set_image.ensures in
-    set_by g.S.Store c.args.self.now _ (set_image c.args.officer.now i) (λ s. setting s c.args.officer.now (image c.in_ok-program.program)) (record { store = refl; flights = refl; last = refl; open_paths = refl }) (λ s. refl) set.done (λ x stands. (c.in_ok-program.program, c.in_ok-program.ensures.good i is, refl))
+    set_by g.S.Store c.args.self.now _ (set_image c.args.officer.now i) (λ s. with_active s c.args.officer.now (image c.in_ok-program.program)) (record { store = refl; flights = refl; last = refl; open_paths = refl }) (λ s. refl) set.done (λ x stands. (c.in_ok-program.program, c.in_ok-program.ensures.good i is, refl))

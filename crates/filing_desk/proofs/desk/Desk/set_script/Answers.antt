@@ -7,7 +7,7 @@ use Rattle.filing_commands.specs.Office.{OfficeStep, set_script}
 use Rattle.filing_commands.specs.Parts.{RefusesScript}
 use Rattle.filing_commands.specs.Pinning.{Officer}
 use Rattle.filing_commands.specs.Scripts.{put_script}
-use Rattle.filing_officers.specs.Register.{keeping, officer_at}
+use Rattle.filing_officers.specs.Register.{with_own_script, officer_at}
 use Rattle.filing_desk.proofs.FaultLemmas.{refused_part}
 use Rattle.filing_desk.proofs.OfficerLemmas.{keep_refused, kept, not_set, officer_is, set_by}
 use Rattle.filing_desk.proofs.StepLemmas.{done_fault}
@@ -30,5 +30,5 @@ pub returns : goal.returns
 returns g c = λ t is.
     let set = c.in_ok-set_script.ensures in
     let main = program_of (tree_of c.in_ok-script.script.script) in
-    set_by g.S.Store c.args.self.now _ (set_script c.args.officer.now c.args.name.now t) (λ s. keeping s c.args.officer.now c.args.name.now main) (record { store = refl; flights = refl; last = refl; open_paths = refl }) (λ s. refl) set.done (λ x stands.
+    set_by g.S.Store c.args.self.now _ (set_script c.args.officer.now c.args.name.now t) (λ s. with_own_script s c.args.officer.now c.args.name.now main) (record { store = refl; flights = refl; last = refl; open_paths = refl }) (λ s. refl) set.done (λ x stands.
     (put_script c.args.name.now main (x.office.officers c.args.officer.now).scripts, kept (x.office.officers c.args.officer.now).scripts (officer_at c.args.officer.now c.args.self.now.officers.officers).scripts c.args.name.now t (tree_of c.in_ok-script.script.script) (ap (λ (o : Officer). o.scripts) (officer_is g.S.Store c.args.self.now x c.args.officer.now stands)) (c.in_ok-script.ensures.good t is) set.has_room, refl))

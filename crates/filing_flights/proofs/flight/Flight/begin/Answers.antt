@@ -2,7 +2,7 @@ use Rattle.std.proofs.Common.{◌∙◌, ap, subst}
 use Rattle.filing_image.specs.Program.{Program}
 use Rattle.filing_case.specs.Message.{case_of, is_among}
 use Rattle.filing_machine.specs.Runs.{Stands}
-use Rattle.filing_flights.specs.Held.{Held, facts_in}
+use Rattle.filing_flights.specs.FlightViews.{FlightView, facts_in}
 use Rattle.filing_flights.proofs.BegunLemmas.{holds_begun}
 use Rattle.filing_flights.proofs.flight.Flight.begin.Goals as goal
 
@@ -14,5 +14,5 @@ invariant_of-result c =
 
 pub returns : goal.returns
 returns c =
-    let x : Held = record { ticket = c.args.ticket; program = c.args.program.value; message = c.args.message.items; case = c.in_ok-case.case; day = c.args.day; machine = c.in_ok-machine.machine } in
+    let x : FlightView = record { ticket = c.args.ticket; program = c.args.program.value; message = c.args.message.items; case = c.in_ok-case.case; day = c.args.day; machine = c.in_ok-machine.machine } in
     holds_begun x c.args.paths (c.in_ok-case.ensures ∙ ap (λ m. case_of m (is_among c.args.paths)) c.as_slice.ensures.value) c.in_ok-machine.ensures.fresh

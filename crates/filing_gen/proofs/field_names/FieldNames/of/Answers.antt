@@ -1,5 +1,4 @@
-use Rattle.std.proofs.Common.{◌≡◌, List, ◌||◌, Vec, ap, ◌∙◌}
-use Rattle.std.specs.declared.alloc.Global.{Global}
+use Rattle.std.proofs.Common.{◌≡◌, ◌||◌, ap, ◌∙◌}
 use Rattle.sieve_meaning.specs.Words.{same_word}
 use Rattle.filing_gen.specs.Names.{has_name}
 use Rattle.filing_gen.proofs.Names.{or_nothing}

@@ -1,18 +1,18 @@
-use Rattle.std.proofs.Common.{◌≡◌, ℕ, [], ◌∷◌, length, refl, sym, ap, ◌∙◌, subst, arith}
+use Rattle.std.proofs.Common.{◌≡◌, ℕ, [], ◌∷◌, length, sym, ap, ◌∙◌, subst, arith}
 use Rattle.std.proofs.lemmas.Result.{on_ok_weaker}
-use Rattle.filing_flow.specs.Structure.{Flow, Fail}
+use Rattle.filing_flow.specs.Structure.{Flow}
 use Rattle.sieve_syntax.specs.View.{tree_of}
 use Rattle.sieve_meaning.specs.Reading.{program_of}
-use Rattle.sieve_meaning.specs.Scripts.{asked, script_of}
+use Rattle.sieve_meaning.specs.Scripts.{include_view, script_of}
 use Rattle.filing_gen.specs.Adds.{Emits}
-use Rattle.script_library.specs.Lent.{scripts_of}
+use Rattle.script_library.specs.BorrowedShelves.{scripts_of}
 use Rattle.script_library.specs.Libraries.{library_of}
 use Rattle.filing_gen.specs.Ends.{no_place, IsEnded}
-use Rattle.filing_image.specs.declared.instruction.Operation.TheVariants.{Marked, JumpIf, Fault}
-use Rattle.filing_gen.specs.Levels.{Passes, Fails, entered_flow}
+use Rattle.filing_image.specs.declared.instruction.Operation.TheVariants.{Marked, JumpIf}
+use Rattle.filing_gen.specs.Levels.{Passes, Fails, flow_at_level}
 use Rattle.script_procedures.specs.Slots.{slots_of}
-use Rattle.filing_gen.specs.Scopes.{names_of, told}
-use Rattle.filing_gen.proofs.Emitted.{grows, put_grows, emits_nothing, action_emitted}
+use Rattle.filing_gen.specs.Scopes.{names_of, judgement_of}
+use Rattle.filing_gen.proofs.Emitted.{grows, put_grows, emits_nothing}
 use Rattle.filing_gen.proofs.IncludesTypes.{entered_typed}
 use Rattle.filing_gen.proofs.LevelLemmas.{flow_told, plain_entry, once_entry, plain_size, once_size, once_emitted}
 use Rattle.filing_gen.proofs.levels.IncludesLinker.emit.Goals as goal
@@ -20,60 +20,59 @@ use Rattle.filing_gen.proofs.levels.IncludesLinker.emit.Goals as goal
 pub returns-in-Pass : goal.returns-in-Pass
 returns-in-Pass g c =
     let s = c.args.self.now in
-    let same = flow_told (library_of (scripts_of s.scope.shelves)) (slots_of (scripts_of s.scope.shelves)) (names_of s.scope.main) g.L.Level.depth (g.C.Chain.names s.chain.now) (asked c.args.include.now) Passes (sym (ap told c.in-Pass.is) ∙ c.find.ensures.told) in
+    let same = flow_told (library_of (scripts_of s.scope.shelves)) (slots_of (scripts_of s.scope.shelves)) (names_of s.scope.main) g.L.Level.depth (g.C.Chain.names s.chain.now) (include_view c.args.include.now) Passes (sym (ap judgement_of c.in-Pass.is) ∙ c.find.ensures.told) in
     record { adds = λ ends. subst (λ (a : Flow). Emits c.args.out.now c.args.out.now a ends) (sym same) (emits_nothing c.args.out.now ends) }
 
 pub returns-in-Fault : goal.returns-in-Fault
 returns-in-Fault g c =
     let s = c.args.self.now in
-    let n = c.in-Fault.number in
-    let same = flow_told (library_of (scripts_of s.scope.shelves)) (slots_of (scripts_of s.scope.shelves)) (names_of s.scope.main) g.L.Level.depth (g.C.Chain.names s.chain.now) (asked c.args.include.now) (Fails n) (sym (ap told c.in-Fault.is) ∙ c.find.ensures.told) in
-    record { adds = on_ok_weaker c.put.result (λ h ends. subst (λ (a : Flow). Emits c.args.out.now c.put.new.out a ends) (sym same) (action_emitted c.args.out.now c.put.new.out (Fault n) (Fail n) h refl ends)) c.put.ensures }
+    let same = flow_told (library_of (scripts_of s.scope.shelves)) (slots_of (scripts_of s.scope.shelves)) (names_of s.scope.main) g.L.Level.depth (g.C.Chain.names s.chain.now) (include_view c.args.include.now) (Fails c.in-Fault.fault) (sym (ap judgement_of c.in-Fault.is) ∙ c.find.ensures.told) in
+    record { adds = on_ok_weaker c.put_fault.result (λ h ends. subst (λ (a : Flow). Emits c.args.out.now c.put_fault.new.out a ends) (sym same) (h ends)) c.put_fault.ensures.adds }
 
 pub emit-requires-clause-room : goal.emit-requires-clause-room
 emit-requires-clause-room g c =
     let s = c.args.self.now in
-    let long = plain_size (library_of (scripts_of s.scope.shelves)) (slots_of (scripts_of s.scope.shelves)) (names_of s.scope.main) g.L.Level.depth (g.C.Chain.names s.chain.now) (asked c.args.include.now) (program_of (tree_of c.in-Entry.script.now)) c.in-Entry.ensures.told c.in-Entry.slot c.in-Entry.ensures.slot.0 c.if-not-include.true in
+    let long = plain_size (library_of (scripts_of s.scope.shelves)) (slots_of (scripts_of s.scope.shelves)) (names_of s.scope.main) g.L.Level.depth (g.C.Chain.names s.chain.now) (include_view c.args.include.now) (program_of (tree_of c.in-Entry.script.now)) c.in-Entry.ensures.told c.in-Entry.slot c.in-Entry.ensures.slot.0 c.if-not-include.true in
     (omega (arith, c.requires.0, long), omega (arith, c.requires.1, long), omega (arith, c.requires.2, long))
 
 pub returns-then-not-include : goal.returns-then-not-include
 returns-then-not-include g c =
     let s = c.args.self.now in
-    let is = plain_entry (library_of (scripts_of s.scope.shelves)) (slots_of (scripts_of s.scope.shelves)) (names_of s.scope.main) g.L.Level.depth (g.C.Chain.names s.chain.now) (asked c.args.include.now) (program_of (tree_of c.in-Entry.script.now)) c.in-Entry.ensures.told c.in-Entry.slot c.in-Entry.ensures.slot.0 c.if-not-include.true in
+    let is = plain_entry (library_of (scripts_of s.scope.shelves)) (slots_of (scripts_of s.scope.shelves)) (names_of s.scope.main) g.L.Level.depth (g.C.Chain.names s.chain.now) (include_view c.args.include.now) (program_of (tree_of c.in-Entry.script.now)) c.in-Entry.ensures.told c.in-Entry.slot c.in-Entry.ensures.slot.0 c.if-not-include.true in
     record { adds = on_ok_weaker c.emit.result (λ h ends. subst (λ (a : Flow). Emits c.args.out.now c.emit.new.out a ends) (sym is) (h ends)) c.emit.ensures.adds }
 
 pub emit-requires-2-clause-room : goal.emit-requires-2-clause-room
 emit-requires-2-clause-room g c =
     let s = c.args.self.now in
-    let long = once_size (library_of (scripts_of s.scope.shelves)) (slots_of (scripts_of s.scope.shelves)) (names_of s.scope.main) g.L.Level.depth (g.C.Chain.names s.chain.now) (asked c.args.include.now) (program_of (tree_of c.in-Entry.script.now)) c.in-Entry.ensures.told c.in-Entry.slot c.in-Entry.ensures.slot.0 c.if-not-include.false in
-    let p = put_grows c.args.out.now c.put-2.new.out (Marked c.in-Entry.slot) c.in_ok-put.ensures in
-    let q = put_grows c.put-2.new.out c.put-3.new.out (JumpIf no_place) c.in_ok-put-2.ensures in
+    let long = once_size (library_of (scripts_of s.scope.shelves)) (slots_of (scripts_of s.scope.shelves)) (names_of s.scope.main) g.L.Level.depth (g.C.Chain.names s.chain.now) (include_view c.args.include.now) (program_of (tree_of c.in-Entry.script.now)) c.in-Entry.ensures.told c.in-Entry.slot c.in-Entry.ensures.slot.0 c.if-not-include.false in
+    let p = put_grows c.args.out.now c.put.new.out (Marked c.in-Entry.slot) c.in_ok-put.ensures in
+    let q = put_grows c.put.new.out c.put-2.new.out (JumpIf no_place) c.in_ok-put-2.ensures in
     (omega (arith, c.requires.0, long, p.code, q.code), omega (arith, c.requires.1, long, p.texts, q.texts), omega (arith, c.requires.2, long, p.numbers, q.numbers))
 
 pub end_block-requires : goal.end_block-requires
 end_block-requires g c =
     let s = c.args.self.now in
-    let long = once_size (library_of (scripts_of s.scope.shelves)) (slots_of (scripts_of s.scope.shelves)) (names_of s.scope.main) g.L.Level.depth (g.C.Chain.names s.chain.now) (asked c.args.include.now) (program_of (tree_of c.in-Entry.script.now)) c.in-Entry.ensures.told c.in-Entry.slot c.in-Entry.ensures.slot.0 c.if-not-include.false in
-    let p = put_grows c.args.out.now c.put-2.new.out (Marked c.in-Entry.slot) c.in_ok-put.ensures in
-    let q = put_grows c.put-2.new.out c.put-3.new.out (JumpIf no_place) c.in_ok-put-2.ensures in
-    let r = grows c.put-3.new.out c.emit-2.new.out (entered_flow (library_of (scripts_of s.scope.shelves)) (slots_of (scripts_of s.scope.shelves)) (names_of s.scope.main) g.L.Level.depth (script_of c.args.include.now.script ∷ g.C.Chain.names s.chain.now) c.in-Entry.slot (program_of (tree_of c.in-Entry.script.now))) [] (c.in_ok-emit.ensures.adds []) in
+    let long = once_size (library_of (scripts_of s.scope.shelves)) (slots_of (scripts_of s.scope.shelves)) (names_of s.scope.main) g.L.Level.depth (g.C.Chain.names s.chain.now) (include_view c.args.include.now) (program_of (tree_of c.in-Entry.script.now)) c.in-Entry.ensures.told c.in-Entry.slot c.in-Entry.ensures.slot.0 c.if-not-include.false in
+    let p = put_grows c.args.out.now c.put.new.out (Marked c.in-Entry.slot) c.in_ok-put.ensures in
+    let q = put_grows c.put.new.out c.put-2.new.out (JumpIf no_place) c.in_ok-put-2.ensures in
+    let r = grows c.put-2.new.out c.emit-2.new.out (flow_at_level (library_of (scripts_of s.scope.shelves)) (slots_of (scripts_of s.scope.shelves)) (names_of s.scope.main) g.L.Level.depth (script_of c.args.include.now.script ∷ g.C.Chain.names s.chain.now) c.in-Entry.slot (program_of (tree_of c.in-Entry.script.now))) [] (c.in_ok-emit.ensures.adds []) in
     record { start = omega (arith, c.len-start.ensures, c.args.out.now.code.ok.0, p.code, q.code, r.code); room = omega (arith, c.requires.0, long, p.code, q.code, r.code) }
 
 pub returns : goal.returns
 returns g c =
     let s = c.args.self.now in
     let w = c.emit-2.new.out in
-    let a = entered_flow (library_of (scripts_of s.scope.shelves)) (slots_of (scripts_of s.scope.shelves)) (names_of s.scope.main) g.L.Level.depth (script_of c.args.include.now.script ∷ g.C.Chain.names s.chain.now) c.in-Entry.slot (program_of (tree_of c.in-Entry.script.now)) in
-    let is = once_entry (library_of (scripts_of s.scope.shelves)) (slots_of (scripts_of s.scope.shelves)) (names_of s.scope.main) g.L.Level.depth (g.C.Chain.names s.chain.now) (asked c.args.include.now) (program_of (tree_of c.in-Entry.script.now)) c.in-Entry.ensures.told c.in-Entry.slot c.in-Entry.ensures.slot.0 c.if-not-include.false in
-    let long = once_size (library_of (scripts_of s.scope.shelves)) (slots_of (scripts_of s.scope.shelves)) (names_of s.scope.main) g.L.Level.depth (g.C.Chain.names s.chain.now) (asked c.args.include.now) (program_of (tree_of c.in-Entry.script.now)) c.in-Entry.ensures.told c.in-Entry.slot c.in-Entry.ensures.slot.0 c.if-not-include.false in
-    let p = put_grows c.args.out.now c.put-2.new.out (Marked c.in-Entry.slot) c.in_ok-put.ensures in
-    let q = put_grows c.put-2.new.out c.put-3.new.out (JumpIf no_place) c.in_ok-put-2.ensures in
-    let r = grows c.put-3.new.out w a [] (c.in_ok-emit.ensures.adds []) in
+    let a = flow_at_level (library_of (scripts_of s.scope.shelves)) (slots_of (scripts_of s.scope.shelves)) (names_of s.scope.main) g.L.Level.depth (script_of c.args.include.now.script ∷ g.C.Chain.names s.chain.now) c.in-Entry.slot (program_of (tree_of c.in-Entry.script.now)) in
+    let is = once_entry (library_of (scripts_of s.scope.shelves)) (slots_of (scripts_of s.scope.shelves)) (names_of s.scope.main) g.L.Level.depth (g.C.Chain.names s.chain.now) (include_view c.args.include.now) (program_of (tree_of c.in-Entry.script.now)) c.in-Entry.ensures.told c.in-Entry.slot c.in-Entry.ensures.slot.0 c.if-not-include.false in
+    let long = once_size (library_of (scripts_of s.scope.shelves)) (slots_of (scripts_of s.scope.shelves)) (names_of s.scope.main) g.L.Level.depth (g.C.Chain.names s.chain.now) (include_view c.args.include.now) (program_of (tree_of c.in-Entry.script.now)) c.in-Entry.ensures.told c.in-Entry.slot c.in-Entry.ensures.slot.0 c.if-not-include.false in
+    let p = put_grows c.args.out.now c.put.new.out (Marked c.in-Entry.slot) c.in_ok-put.ensures in
+    let q = put_grows c.put.new.out c.put-2.new.out (JumpIf no_place) c.in_ok-put-2.ensures in
+    let r = grows c.put-2.new.out w a [] (c.in_ok-emit.ensures.adds []) in
     let begins : c.len-start.result ≡ length c.args.out.now.code.items = c.len-start.ensures ∙ c.args.out.now.code.ok.0 in
     record {
       adds = λ ends.
           subst (λ (b : Flow). Emits c.args.out.now c.end_block.new.out b ends) (sym is)
-          (once_emitted c.args.out.now c.put-2.new.out c.put-3.new.out w c.end_block.new.out c.in-Entry.slot a
+          (once_emitted c.args.out.now c.put.new.out c.put-2.new.out w c.end_block.new.out c.in-Entry.slot a
           (entered_typed (library_of (scripts_of s.scope.shelves)) (slots_of (scripts_of s.scope.shelves)) (names_of s.scope.main) g.L.Level.depth (script_of c.args.include.now.script ∷ g.C.Chain.names s.chain.now) c.in-Entry.slot (program_of (tree_of c.in-Entry.script.now)))
           c.in_ok-put.ensures c.in_ok-put-2.ensures (c.in_ok-emit.ensures.adds (no_place ∷ [])) (omega (arith, c.requires.0, long, p.code, q.code, r.code))
           (subst (λ (n : ℕ). IsEnded n (length w.code.items) w c.end_block.new.out) begins c.end_block.ensures) ends);

@@ -1,11 +1,10 @@
 use Rattle.std.proofs.Common.{◌≡◌, ◌-◌, ◌<◌, ◌≤◌, ◌^◌, ℕ, length, map, None, sym, ap, ◌∙◌, subst, arith}
 use Rattle.std.specs.Prelude.{Option, Some, slice_index}
 use Rattle.std.specs.Option.{SomeIff}
-use Rattle.script_library.specs.Lent.{scripts_of}
+use Rattle.script_library.specs.BorrowedShelves.{scripts_of}
 use Rattle.script_library.specs.Libraries.{library_of}
-use Rattle.script_procedures.specs.Made.{procedure_of}
+use Rattle.script_procedures.specs.ProcedureCode.{procedure_of}
 use Rattle.filing_gen.specs.Procedures.{path_weights}
-use Rattle.filing_gen.specs.Paths.{known_path}
 use Rattle.filing_gen.specs.Weights.{IsLeft}
 use Rattle.filing_gen.specs.Inclusions.{path_of, path_of_call, EntersOneOf, CallsOneOf}
 use Rattle.filing_gen.specs.declared.callees.Call.{Call}

@@ -1,5 +1,5 @@
 use Rattle.std.proofs.Common.{◌≡◌, Some, is_some, sym, ap, ◌∙◌, slice_get}
-use Rattle.filing_table.specs.Machine.{compared}
+use Rattle.filing_table.specs.Machine.{comparison_holds}
 use Rattle.filing_case.specs.Fields.{field_at}
 use Rattle.filing_machine.specs.declared.state.Item.TheVariants.{Fields}
 use Rattle.filing_machine.specs.Runs.{Stored}
@@ -21,7 +21,7 @@ returns-in-Fields-clause-found g c =
     sym (ap (λ (m : Stored). slice_get m.at.stack 0) c.self.view_is) ∙ sym c.in_ok-fields.ensures ∙ ap (λ x. Some x) c.in-Fields.is in
     ap is_some c.first_match.ensures
     ∙ is_some_find test c.in-Fields.fields
-    ∙ sym (any_of_map (compared c.args.comparison c.args.key.now) (λ place. (field_at facts place).value) c.in-Fields.fields)
+    ∙ sym (any_of_map (comparison_holds c.args.comparison c.args.key.now) (λ place. (field_at facts place).value) c.in-Fields.fields)
     ∙ sym (any_of_fields facts c.args.comparison c.args.key.now c.args.self.now.at.stack c.in-Fields.fields on_top)
 
 pub returns-in_default : goal.returns-in_default

@@ -1,7 +1,7 @@
 use Rattle.std.proofs.Common.{◌+◌, ◌-◌, ◌≤◌, length, refl, arith}
 use Rattle.std.proofs.lemmas.Bool.{false≢true}
 use Rattle.memchr.proofs.lemmas.FindLemmas.{Nowhere-then}
-use Rattle.sieve_match.specs.TwoWay.{read}
+use Rattle.sieve_match.specs.TwoWay.{folded_octet}
 use Rattle.sieve_match.proofs.TwoWayLemmas.{after_right, found, after_left, kept_fits, kept_below, stands_nowhere}
 use Rattle.sieve_match.proofs.two_way.Plan.finds.Goals as goal
 
@@ -40,7 +40,7 @@ places-preserved c =
       omega (arith, next.1, c.requires.plan.fits),
       after_left c.args.key.now c.args.value.now c.args.self.now c.requires.plan c.requires.some c.places.at c.in-Some.next c.places.known c.max.result c.fits_to-end.result
           old.1 old.2 old.3 next c.in-Some.ensures.stays c.max.ensures e.low e.high e.same full (λ all. false≢true (c.if-fits_between.ensures.1 all)),
-      kept_below (read c.args.key.now) (length c.args.key.now) c.args.self.now c.requires.plan c.requires.some,
+      kept_below (folded_octet c.args.key.now) (length c.args.key.now) c.args.self.now c.requires.plan c.requires.some,
       kept_fits c.args.key.now c.args.value.now c.args.self.now c.requires.plan c.requires.some c.places.at c.in-Some.next c.places.known c.max.result c.fits_to-end.result
           old.1 old.2 old.3 next c.in-Some.ensures.stays c.max.ensures e.low e.high e.same full,
     )

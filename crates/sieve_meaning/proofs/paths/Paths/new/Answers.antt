@@ -1,5 +1,0 @@
-use Rattle.sieve_meaning.proofs.PathLemmas.{none_increasing}
-use Rattle.sieve_meaning.proofs.paths.Paths.new.Goals as goal
-
-pub invariant_of-result : goal.invariant_of-result
-invariant_of-result c = rw c.new.ensures.items none_increasing
