@@ -1,7 +1,7 @@
 -- A copied map shows the same classes.
 use Rattle.std.proofs.Common.{◌≡◌, ℕ, List, [], ◌∷◌, refl, ap, ◌∙◌}
 use Rattle.std.specs.List.{AllZip}
-use Rattle.class_plan.specs.Fields.{Held, row, rows}
+use Rattle.class_plan.specs.Fields.{MapEntry, row, rows}
 
 pub same_items : (xs ys : List ℕ) → AllZip (λ x y. y ≡ x) xs ys → ys ≡ xs
 same_items [] [] h = refl
@@ -9,7 +9,7 @@ same_items [] (y ∷ ys) h = absurd h
 same_items (x ∷ xs) [] h = absurd h
 same_items (x ∷ xs) (y ∷ ys) h = rw (h.0, same_items xs ys h.1)
 
-pub rows-clone : (R : Held → Held → Type 0) → ((e f : Held) → R e f → row f ≡ row e) → (es fs : List Held) → AllZip R es fs → rows fs ≡ rows es
+pub rows-clone : (R : MapEntry → MapEntry → Type 0) → ((e f : MapEntry) → R e f → row f ≡ row e) → (es fs : List MapEntry) → AllZip R es fs → rows fs ≡ rows es
 rows-clone R same [] [] h = refl
 rows-clone R same [] (f ∷ fs) h = absurd h
 rows-clone R same (e ∷ es) [] h = absurd h

@@ -9,18 +9,18 @@ use Rattle.std.specs.Str.{bytes_eq}
 use Rattle.std.specs.Map.{keys_of}
 use Rattle.class_paths.specs.Path.{is_path, has_parent_in, first_passes, ancestors, unfiled}
 use Rattle.class_plan.specs.Plans.{Row, Listing, has, with_row, open_at, open_row, paths_of, first_plan, IsClass, IsPlan}
-use Rattle.class_plan.specs.Fields.{Held, rows}
+use Rattle.class_plan.specs.Fields.{MapEntry, rows}
 use Rattle.class_plan.proofs.Put.{has-put, open-put, all-put, length-put}
 
 abbrev pub key_cmp : Vec ℕ Global → Vec ℕ Global → Ordering
 key_cmp x y = slice_cmp nat_cmp x.items y.items
 
-less_paths : (k : Vec ℕ Global) (es : List Held) → AllByRecursion (λ y. key_cmp k y ≡ Less) (keys_of es) → AllByRecursion (λ q. slice_cmp nat_cmp k.items q ≡ Less) (paths_of (rows es))
+less_paths : (k : Vec ℕ Global) (es : List MapEntry) → AllByRecursion (λ y. key_cmp k y ≡ Less) (keys_of es) → AllByRecursion (λ q. slice_cmp nat_cmp k.items q ≡ Less) (paths_of (rows es))
 less_paths k [] h = tt
 less_paths k (e ∷ es) h = (h.0, less_paths k es h.1)
 
 -- a map's order is that of its rows
-pub sorted-rows : (es : List Held) → IsStrictlySortedBy key_cmp (keys_of es) → IsStrictlySortedBy (slice_cmp nat_cmp) (paths_of (rows es))
+pub sorted-rows : (es : List MapEntry) → IsStrictlySortedBy key_cmp (keys_of es) → IsStrictlySortedBy (slice_cmp nat_cmp) (paths_of (rows es))
 unfolding IsStrictlySortedBy
 sorted-rows [] h = tt
 sorted-rows (e ∷ es) h = (less_paths e.0 es h.0, sorted-rows es h.1)

@@ -3,12 +3,12 @@ use Rattle.std.proofs.Common.{◌≡◌, ℕ, Bool, true, false, ◌&&◌, List,
 use Rattle.std.specs.List.{list_all}
 use Rattle.std.specs.Map.{keys_of}
 use Rattle.class_plan.specs.Plans.{Row, has}
-use Rattle.class_plan.specs.Fields.{Held, rows}
+use Rattle.class_plan.specs.Fields.{MapEntry, rows}
 
 abbrev pub kept_keys : List Row → List (Vec ℕ Global) → Bool
 kept_keys new ks = list_all (λ k. has new k.items) ks
 
-pub kept-rows : (new : List Row) (es : List Held) → kept_keys new (keys_of es) ≡ list_all (λ r. has new r.path) (rows es)
+pub kept-rows : (new : List Row) (es : List MapEntry) → kept_keys new (keys_of es) ≡ list_all (λ r. has new r.path) (rows es)
 kept-rows new [] = refl
 kept-rows new (e ∷ es) = ap (λ b. has new e.0.items && b) (kept-rows new es)
 

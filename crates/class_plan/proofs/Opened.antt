@@ -8,7 +8,7 @@ use Rattle.std.specs.Cmp.Lexicographic.{slice_cmp}
 use Rattle.std.specs.Ordering.{match_ordering, ordering_reverse}
 use Rattle.std.specs.BTreeSet.{insert_key}
 use Rattle.class_plan.specs.Plans.{Row, paths_of}
-use Rattle.class_plan.specs.Fields.{Held, rows}
+use Rattle.class_plan.specs.Fields.{MapEntry, rows}
 use Rattle.class_plan.proofs.Keeping.{key_cmp}
 
 abbrev pub path_cmp : List ℕ → List ℕ → Ordering
@@ -71,7 +71,7 @@ pub collected-all : (rs : List Row) → IsStrictlySortedBy path_cmp (paths_of rs
 collected-all rs s = collected-from [] rs (none_above (paths_of rs)) s
 
 -- an open class's path is inserted into the set
-pub collected-open : (ks more : List (Vec ℕ Global)) (k : Vec ℕ Global) (e : Held) (it rest : List Held) (whole : List (List ℕ)) → it ≡ e ∷ rest → e.1.is_open ≡ true → more ≡ insert_key key_cmp ks k → k.items ≡ e.0.items
+pub collected-open : (ks more : List (Vec ℕ Global)) (k : Vec ℕ Global) (e : MapEntry) (it rest : List MapEntry) (whole : List (List ℕ)) → it ≡ e ∷ rest → e.1.is_open ≡ true → more ≡ insert_key key_cmp ks k → k.items ≡ e.0.items
     → collected (items_of ks) (rows it) ≡ whole → collected (items_of more) (rows rest) ≡ whole
 collected-open ks more k e it rest whole cut is_open grown same so =
     let one : collected (items_of ks) (rows it) ≡ collected (insert_key path_cmp (items_of ks) e.0.items) (rows rest) =

@@ -11,7 +11,7 @@ use Rattle.std.specs.Cmp.Lexicographic.{slice_cmp}
 use Rattle.class_plan.specs.declared.faults.PlanFault.TheVariants.{PathTwice}
 use Rattle.class_plan.specs.Plans.{Row, Listing, row_at, has, with_row, open_row, paths_of}
 use Rattle.class_plan.specs.Changes.{addition, speaks_against, with_class, without_class}
-use Rattle.class_plan.specs.Fields.{Held, row, rows}
+use Rattle.class_plan.specs.Fields.{MapEntry, row, rows}
 use Rattle.class_plan.proofs.Judged.{judged-made}
 use Rattle.class_plan.proofs.Put.{put-cons, placed, same-path}
 
@@ -66,14 +66,14 @@ without-added p r q e =
 
 -- ---- the map
 
-above_others : (k : List ℕ) (es : List Held) → AllByRecursion (λ q. slice_cmp nat_cmp k q ≡ Less) (paths_of (rows es)) → has (rows es) k ≡ false
+above_others : (k : List ℕ) (es : List MapEntry) → AllByRecursion (λ q. slice_cmp nat_cmp k q ≡ Less) (paths_of (rows es)) → has (rows es) k ≡ false
 above_others k [] h = refl
 above_others k (e ∷ es) h =
     let other : bytes_eq k e.0.items ≡ false = sym (is_eq-slice_cmp k e.0.items) ∙ ap is_eq h.0 in
     ap (λ b. is_some (cond b (Some (row e)) (row_at k (rows es)))) other ∙ above_others k es h.1
 
 -- what a removal from the map leaves
-pub rows-remove : (q : List ℕ) (es : List Held) → IsStrictlySortedBy (slice_cmp nat_cmp) (paths_of (rows es))
+pub rows-remove : (q : List ℕ) (es : List MapEntry) → IsStrictlySortedBy (slice_cmp nat_cmp) (paths_of (rows es))
     → rows (remove_entry (is_at (λ (k : Vec ℕ Global). slice_cmp nat_cmp q k.items)) es) ≡ filter (is_other q) (rows es)
 unfolding IsStrictlySortedBy
 rows-remove q [] h = refl

@@ -6,13 +6,13 @@ use Rattle.class_plan.specs.declared.plans.Class.{Class}
 use Rattle.class_plan.specs.Plans.{Row}
 
 -- an entry of the map
-abbrev pub Held : Type 0
-Held = Vec ℕ Global × Class
+abbrev pub MapEntry : Type 0
+MapEntry = Vec ℕ Global × Class
 
-abbrev pub row : Held → Row
+abbrev pub row : MapEntry → Row
 row e = record { path = e.0.items; is_open = e.1.is_open; schedule = e.1.schedule }
 
-abbrev pub rows : List Held → List Row
+abbrev pub rows : List MapEntry → List Row
 rows es = map row es
 
 abbrev pub rows_in : BTreeMap (Vec ℕ Global) Class → List Row

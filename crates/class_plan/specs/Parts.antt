@@ -48,11 +48,11 @@ abbrev pub plan_of_parts : Contents → Result Listing PlanFault
 plan_of_parts f = verdict (parts_faults f) (listing_of f)
 
 -- a class as `Plan::classes` answers it
-abbrev pub Told : Type 0
-Told = Bor (List ℕ) × Bool × Option Schedule
+abbrev pub ClassAnswer : Type 0
+ClassAnswer = Bor (List ℕ) × Bool × Option Schedule
 
-abbrev pub told_row : Told → Row
-told_row c = record { path = c.0.now; is_open = c.1; schedule = c.2 }
+abbrev pub answer_row : ClassAnswer → Row
+answer_row c = record { path = c.0.now; is_open = c.1; schedule = c.2 }
 
 -- the class that a part shows
 abbrev pub part_row : Part → Row

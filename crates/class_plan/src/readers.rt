@@ -5,7 +5,7 @@ ghost use Rattle.class_paths.specs.Path.{ancestors};
 ghost use Rattle.class_plan.specs.Schedules.{IsInRange};
 ghost use Rattle.class_plan.specs.Plans.{has, own_at, first_own, schedule_at, IsPlan, IsScheduleOf};
 ghost use Rattle.class_plan.specs.Fields.{rows_in};
-ghost use Rattle.class_plan.specs.Parts.{told_row};
+ghost use Rattle.class_plan.specs.Parts.{answer_row};
 ghost use Rattle.class_plan.specs.Calendar.{number_of_day, due_on};
 ghost use Rattle.class_plan.specs.Dates.{IsCaptureDay, IsDueOf, IsLater, IsSameDay};
 ghost use Rattle.jiff_core.specs.declared.civil.date.Date.{Date};
@@ -103,7 +103,7 @@ impl Plan {
     ///
     /// The only refusal is no memory (99).
     pub fn classes(&self, alloc: Global) -> Result<Vec<(&[u8], bool, Option<Schedule>)>, AllocError>
-        ensures { IfOk result (λ v. map told_row v.items ≡ self.now.rows) }
+        ensures { IfOk result (λ v. map answer_row v.items ≡ self.now.rows) }
     {
         let mut told = Vec::with_capacity(alloc, self.class_count())?;
         for (path, class) in &self.classes {

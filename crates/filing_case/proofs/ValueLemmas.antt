@@ -5,7 +5,7 @@ use Rattle.std.proofs.lemmas.Bool.{and_parts, leb-true, le-leb}
 use Rattle.std.specs.Prelude.{slice_range, slice_index_or, nat_le, ◌&&◌}
 use Rattle.mail_head.specs.declared.reading.FoundField.{FoundField}
 use Rattle.mail_head.specs.Fields.{fields_of}
-use Rattle.mail_head.specs.Found.{IsFirstField}
+use Rattle.mail_head.specs.FirstField.{IsFirstField}
 use Rattle.mail_head.specs.Pieces.{Reader, reader_of}
 use Rattle.mail_head.proofs.FeedLemmas.{fields_of-kept}
 use Rattle.mail_words.specs.Value.{value_of_body}

@@ -24,9 +24,9 @@ pub struct PieceCase {
 }
 
 impl Model for PieceCase {
-    ghost use Rattle.filing_case.specs.Pieces.{Coming};
+    ghost use Rattle.filing_case.specs.Pieces.{Arrival};
 
-    ghost Value = { Coming };
+    ghost Value = { Arrival };
 
     ghost use Rattle.filing_case.specs.Views.{paths_in};
 

@@ -12,7 +12,7 @@ use crate::case::Case;
 use crate::fields::FieldValues;
 use crate::paths::OpenPaths;
 use mail_head::{HeadFault, HeaderBuffer, MAX_OCTETS};
-use sieve_meaning::is_word;
+use sieve_meaning::is_same_word;
 use std::alloc::{AllocError, Global};
 use std::collections::BTreeSet;
 
@@ -129,7 +129,7 @@ impl<P: OpenPaths> Case for WholeCase<P> {
     }
 
     fn is_named(&self, field: usize, name: &[u8]) -> bool {
-        is_word(self.fields.name(field), name)
+        is_same_word(self.fields.name(field), name)
     }
 
     fn value(&self, field: usize) -> &[u8] {

@@ -32,25 +32,25 @@ abbrev pub new_officer : Officer
 new_officer = record { active = no_program; scripts = [] }
 
 -- An officer's program at a moment.
-pub data Chosen : Type 0 where
-  nothing : Chosen
-  script : (name : List ℕ) → Commands → Chosen
-  image_of : Program → Chosen
+pub data Choice : Type 0 where
+  nothing : Choice
+  script : (name : List ℕ) → Commands → Choice
+  image_of : Program → Choice
 
-abbrev pub script_if : (name : List ℕ) → Option Commands → Chosen
+abbrev pub script_if : (name : List ℕ) → Option Commands → Choice
 script_if name None = nothing
 script_if name (Some s) = script name s
 
 -- A name means the script that has it now.
-abbrev pub chosen_by : Active → List (List ℕ × Commands) → Chosen
-chosen_by no_program scripts = nothing
-chosen_by (script_named name) scripts = script_if name (script_at name scripts)
-chosen_by (image p) scripts = image_of p
+abbrev pub choice_by : Active → List (List ℕ × Commands) → Choice
+choice_by no_program scripts = nothing
+choice_by (script_named name) scripts = script_if name (script_at name scripts)
+choice_by (image p) scripts = image_of p
 
 -- The state at the beginning of a capture: the officer's program, what an include finds, the message, the open classes,
 -- and the day in days since 1970-01-01.
 pub record BeginState : Type 0 where
-  pub program : Chosen
+  pub program : Choice
   pub library : Library
   pub message : List ℕ
   pub is_open : List ℕ → Bool
@@ -65,7 +65,7 @@ abbrev pub kept_alone : Outcome
 kept_alone = meaning.outcome_at None [] false false
 
 -- The outcome of a program in a case.
-abbrev pub GivesOutcome : Chosen → Library → Facts → Outcome → Type 0
+abbrev pub GivesOutcome : Choice → Library → Facts → Outcome → Type 0
 GivesOutcome nothing lib facts o = o ≡ kept_alone
 GivesOutcome (script name s) lib facts o = o ≡ meaning.outcome facts lib (Some name) s
 GivesOutcome (image_of p) lib facts o = (n : ℕ) × HasOutcome p facts n o
@@ -82,7 +82,7 @@ abbrev pub one_fault : Program
 one_fault = record { budget = 1; texts = []; numbers = []; slots = 0; procedures = None; code = Fault (number_of run_faults.TooHeavy) ∷ [] }
 
 -- The budget of what is pinned, in steps.
-abbrev pub budget_by : Chosen → Library → ℕ
+abbrev pub budget_by : Choice → Library → ℕ
 budget_by nothing lib = 1
 budget_by (script name s) lib = if is_too_heavy lib (Some name) s then 1 else script_budget lib (Some name) s
 budget_by (image_of p) lib = p.budget
@@ -96,10 +96,10 @@ PinsScript false lib name s p = IsCompiled lib (Some name) s p
 
 -- What is pinned: an image as it is, one FAULT 5 for a script that is too heavy, and one STOP where nothing is set. For
 -- any other script it is a program that is compiled correctly for every case, not only for this one.
-abbrev pub PinsChosen : Chosen → Library → Program → Type 0
-PinsChosen nothing lib p = p ≡ one_stop
-PinsChosen (script name s) lib p = PinsScript (is_too_heavy lib (Some name) s) lib name s p
-PinsChosen (image_of q) lib p = p ≡ q
+abbrev pub PinsChoice : Choice → Library → Program → Type 0
+PinsChoice nothing lib p = p ≡ one_stop
+PinsChoice (script name s) lib p = PinsScript (is_too_heavy lib (Some name) s) lib name s p
+PinsChoice (image_of q) lib p = p ≡ q
 
 abbrev pub Pins : BeginState → Program → Type 0
-Pins s p = PinsChosen s.program s.library p
+Pins s p = PinsChoice s.program s.library p

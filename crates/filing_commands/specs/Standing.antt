@@ -7,11 +7,11 @@ use Rattle.filing_verify.specs.Well.{IsWell}
 use Rattle.filing_table.specs.Machine.{State, At, after_steps}
 use Rattle.filing_table.specs.Ends.{HasOutcome}
 use Rattle.filing_machine.specs.Runs.{IsModestAt}
-use Rattle.record_store.specs.Archive.{Archive, capture, captured_lines}
+use Rattle.record_store.specs.Archive.{Archive, capture, capture_lines}
 use Rattle.record_store.specs.declared.fault.StoreFault.TheVariants.{Full}
 use Rattle.filing_commands.specs.Answers.{Answer, begun, running, ended, captured, refused}
 use Rattle.filing_commands.specs.Limits.{greatest_message, last_moment, last_ticket, most_in_flight}
-use Rattle.filing_commands.specs.Pinning.{BeginState, case_in, IsAlone, Pins, chosen_by}
+use Rattle.filing_commands.specs.Pinning.{BeginState, case_in, IsAlone, Pins, choice_by}
 use Rattle.filing_commands.specs.Office.{Office, opening_office, PlainCommand, OfficeStep, IsTrouble, with_archive}
 use Rattle.filing_commands.specs.Scripts.{library}
 
@@ -73,7 +73,7 @@ begin_refusal count last moment size =
 -- The state at the beginning of a capture; a day has 86,400 seconds.
 abbrev pub begin_state : Office → (officer : List ℕ) → (moment : ℕ) → (message : List ℕ) → BeginState
 begin_state s officer moment message = record {
-  program = chosen_by (s.officers officer).active (s.officers officer).scripts;
+  program = choice_by (s.officers officer).active (s.officers officer).scripts;
   library = library (s.officers officer).scripts s.globals;
   message = message;
   is_open = is_open_in s.archive.plan;
@@ -137,7 +137,7 @@ TurnStep s t k (Some f) a new =
 abbrev pub Files : Archive → BeginState → Answer → Archive → Type 0
 Files a at_begin (captured fault lines) new =
     (o : Outcome) × IsAlone at_begin o × (fault ≡ o.fault) × (capture a at_begin.message at_begin.day o.classes ≡ Ok new) ×
-    (lines ≡ captured_lines a at_begin.day o.classes)
+    (lines ≡ capture_lines a at_begin.day o.classes)
 Files a at_begin (refused n at) new = (n ≡ 87) × (at ≡ None) × (new ≡ a) ×
     ((o : Outcome) × IsAlone at_begin o × (capture a at_begin.message at_begin.day o.classes ≡ Err Full))
 Files a at_begin _ new = ⊥

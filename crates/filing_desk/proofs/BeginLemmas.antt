@@ -16,7 +16,7 @@ use Rattle.filing_commands.specs.Calls.{Calls}
 use Rattle.filing_commands.specs.Faults.{refusal_of, refused_by}
 use Rattle.filing_commands.specs.Limits.{greatest_message, last_moment, last_ticket, most_in_flight}
 use Rattle.filing_commands.specs.Office.{Office}
-use Rattle.filing_commands.specs.Pinning.{Pins, PinsChosen, chosen_by}
+use Rattle.filing_commands.specs.Pinning.{Pins, PinsChoice, choice_by}
 use Rattle.filing_commands.specs.Scripts.{library, meanings_of}
 use Rattle.filing_commands.specs.Standing.{Standing, Flight, Step, BeginStep, begin, begin_refusal, begin_state}
 use Rattle.filing_commands.specs.CallAnswers.{answer_of_ticket}
@@ -104,7 +104,7 @@ module _ {S : Type 0} (g : Ghosts S) where
   -- what is pinned for an officer of the desk is what is pinned for what stands in the state
   pins_stood : (desk : Desk S) (s : Standing) (officer : List ℕ) (moment : ℕ) (message : List ℕ) (p : Program) → StandsFor g desk s → PinsFor (officer_at officer desk.officers.officers) (meanings_of desk.officers.globals) p → Pins (begin_state s.office officer moment message) p
   pins_stood desk s officer moment message p stands pins =
-      let P : Office → Type 0 = λ o. PinsChosen (chosen_by (o.officers officer).active (o.officers officer).scripts) (library (o.officers officer).scripts o.globals) p in
+      let P : Office → Type 0 = λ o. PinsChoice (choice_by (o.officers officer).active (o.officers officer).scripts) (library (o.officers officer).scripts o.globals) p in
       subst P stands.officers pins
 
   pub begin_done : (old mid new : Desk S) (officer : List ℕ) (moment : ℕ) (message : List ℕ) (day : Date) (x : FlightView) (a : Answer) → against_begin old moment (length message) ≡ None → epoch_day day ≡ pos (moment / 86400) → KeepsAll old mid → (AreOpenPaths old.open_paths old.store.plan → AreOpenPaths mid.open_paths old.store.plan) → (AreOpenPaths old.open_paths old.store.plan → IsEntered old officer (old.last + 1) message day x) → new.store ≡ mid.store → new.officers ≡ mid.officers → Adds mid.flights x new.flights → new.last ≡ old.last + 1 → new.open_paths ≡ mid.open_paths → a ≡ begun (old.last + 1) x.program.budget → Calls (IsClean g) (StandsFor g) old (begin officer moment message) a new

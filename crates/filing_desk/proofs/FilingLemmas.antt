@@ -8,7 +8,7 @@ use Rattle.sqlite.specs.Store.{Ghosts}
 use Rattle.class_plan.specs.Plans.{Listing}
 use Rattle.sieve_meaning.specs.Case.{Facts}
 use Rattle.filing_machine.specs.Runs.{Stands}
-use Rattle.record_store.specs.Archive.{Archive, capture, after_capture, captured_lines, has_room}
+use Rattle.record_store.specs.Archive.{Archive, capture, after_capture, capture_lines, has_room}
 use Rattle.record_store.specs.Stores.{AreClasses, Becomes, StandsFor, is_trouble, line_view}
 use Rattle.record_store.specs.declared.fault.StoreFault.{StoreFault}
 use Rattle.record_store.specs.declared.fault.StoreFault.TheVariants as fault
@@ -72,11 +72,11 @@ module _ {S : Type 0} (g : Ghosts S) where
       let same : capture a said on asked ≡ capture a body day classes = λ i. capture a (b i) (d i) (c i) in
       (h.0, reason a body day classes f (λ trouble. sym same ∙ h.1 trouble))
 
-  pub file_done : (old new : Store S) (body said : List ℕ) (day on : ℕ) (classes asked : List (List ℕ)) (lines : Vec Line Global) → said ≡ body → on ≡ day → asked ≡ classes → ((a : Archive) → StandsFor g old a → Becomes g new (capture a said on asked) × (map line_view lines.items ≡ captured_lines a on asked)) → Files g old new body day classes (Ok lines)
+  pub file_done : (old new : Store S) (body said : List ℕ) (day on : ℕ) (classes asked : List (List ℕ)) (lines : Vec Line Global) → said ≡ body → on ≡ day → asked ≡ classes → ((a : Archive) → StandsFor g old a → Becomes g new (capture a said on asked) × (map line_view lines.items ≡ capture_lines a on asked)) → Files g old new body day classes (Ok lines)
   file_done old new body said day on classes asked lines b d c does = λ a stands.
       let h = does a stands in
       let same : capture a said on asked ≡ capture a body day classes = λ i. capture a (b i) (d i) (c i) in
-      let told_same : captured_lines a on asked ≡ captured_lines a day classes = λ i. captured_lines a (d i) (c i) in
+      let told_same : capture_lines a on asked ≡ capture_lines a day classes = λ i. capture_lines a (d i) (c i) in
       (subst (Becomes g new) same h.0, h.1 ∙ told_same)
 
 -- ---- captures that are shown

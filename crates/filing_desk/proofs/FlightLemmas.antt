@@ -12,7 +12,7 @@ use Rattle.class_plan.specs.Plans.{Listing}
 use Rattle.sieve_meaning.specs.declared.outcome.Outcome.{Outcome}
 use Rattle.sieve_meaning.specs.Case.{Facts}
 use Rattle.filing_case.specs.Message.{is_among}
-use Rattle.record_store.specs.Archive.{Archive, capture, captured_lines}
+use Rattle.record_store.specs.Archive.{Archive, capture, capture_lines}
 use Rattle.record_store.specs.Stores as stores
 use Rattle.record_store.specs.Stores.{line_view}
 use Rattle.record_store.specs.declared.fault.StoreFault.{StoreFault}
@@ -201,7 +201,7 @@ module _ {S : Type 0} (g : Ghosts S) where
         let ended = ended_flag x flight b tells here.2 e in
         let was = s.office.archive in
         let h = files was stands.store in
-        let D : ℕ → Type 0 = λ d. stores.Becomes g new.store (capture was x.message d o.classes) × (map line_view lines.items ≡ captured_lines was d o.classes) in
+        let D : ℕ → Type 0 = λ d. stores.Becomes g new.store (capture was x.message d o.classes) × (map line_view lines.items ≡ capture_lines was d o.classes) in
         let C : List ℕ → Type 0 = λ m. stores.Becomes g new.store (capture was m flight.at_begin.day o.classes) in
         let dated = subst D (of_flight x flight s here.2) h in
         let made = becomes new.store (capture was flight.at_begin.message flight.at_begin.day o.classes) (subst C here.2.message dated.0) in

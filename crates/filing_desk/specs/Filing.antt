@@ -2,7 +2,7 @@
 use Rattle.std.specs.Prelude.{◌≡◌, ◌⊎◌, ℕ, List, map, None, Result, Ok, Err, Vec}
 use Rattle.std.specs.declared.alloc.Global.{Global}
 use Rattle.sqlite.specs.Store.{Ghosts}
-use Rattle.record_store.specs.Archive.{Archive, capture, captured_lines}
+use Rattle.record_store.specs.Archive.{Archive, capture, capture_lines}
 use Rattle.record_store.specs.Stores.{AreClasses, Becomes, StandsFor, line_view}
 use Rattle.record_store.specs.declared.fault.StoreFault.TheVariants.{Full}
 use Rattle.record_store.specs.declared.store.Line.{Line}
@@ -23,6 +23,6 @@ abbrev pub Files : {S : Type 0} → Ghosts S → (old new : Store S) → (body :
     → Result (Vec Line Global) DeskFault → Type 0
 Files g old new body day classes (Ok lines) =
     (a : Archive) → StandsFor g old a → Becomes g new (capture a body day classes) ×
-    (map line_view lines.items ≡ captured_lines a day classes)
+    (map line_view lines.items ≡ capture_lines a day classes)
 Files g old new body day classes (Err f) =
     (a : Archive) → StandsFor g old a → AreClasses a.plan classes → StandsFor g new a × IsNotFiled a body day classes f

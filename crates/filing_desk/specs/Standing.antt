@@ -7,7 +7,7 @@ use Rattle.sqlite.specs.Held.{state}
 use Rattle.class_plan.specs.Plans.{Listing, has, is_open_in}
 use Rattle.filing_image.specs.Program.{Program}
 use Rattle.filing_case.specs.Message.{is_among}
-use Rattle.filing_machine.specs.Runs.{Stands, Stored}
+use Rattle.filing_machine.specs.Runs.{Stands, Snapshot}
 use Rattle.record_store.specs.Stores as stores
 use Rattle.filing_commands.specs.Pinning.{case_in}
 use Rattle.filing_commands.specs.Standing.{Standing, Flight}
@@ -39,7 +39,7 @@ pub record StandsFor {S : Type 0} (g : Ghosts S) (desk : Desk S) (s : Standing) 
 
 -- a capture in flight is shown by its program, and by a machine that stands on its run after the lesser of its turns
 -- and its run's length
-abbrev pub IsShownBy : Option Flight → Program → Stored → Type 0
+abbrev pub IsShownBy : Option Flight → Program → Snapshot → Type 0
 IsShownBy None program machine = ⊥
 IsShownBy (Some f) program machine = (program ≡ f.pinned) × Stands program (case_in f.at_begin) machine ×
     (machine.steps ≡ min f.granted f.run_length)

@@ -9,7 +9,7 @@ use Rattle.filing_table.specs.Ends.{HasOutcome}
 use Rattle.filing_machine.specs.declared.state.Progress.{Progress}
 use Rattle.filing_machine.specs.declared.state.Progress.TheVariants.{Going, Ended}
 use Rattle.filing_machine.specs.StateViews.{state, is_ended}
-use Rattle.filing_machine.specs.Runs.{Stored, Stands, IsModestAt}
+use Rattle.filing_machine.specs.Runs.{Snapshot, Stands, IsModestAt}
 use Rattle.filing_commands.specs.Answers.{ended, running}
 use Rattle.filing_commands.specs.Pinning.{case_in}
 use Rattle.filing_commands.specs.Standing.{Flight, IsInterrupted, turn_answer}
@@ -19,18 +19,18 @@ use Rattle.filing_flights.proofs.Lengths.{ended_at, runs_at, running_before, mad
 use Rattle.filing_commands.proofs.Alone.{pinned_alone}
 
 -- the same capture with another machine
-abbrev pub with_machine : FlightView → Stored → FlightView
+abbrev pub with_machine : FlightView → Snapshot → FlightView
 with_machine x m = record x { machine = m }
 
 -- the machine is on the run of what is pinned, in the case of the state at the beginning
-pub on_run : (x : FlightView) (f : Flight) (m : Stored) → Holds x f → Stands x.program (facts_in x.case) m → Stands f.pinned (case_in f.at_begin) m
+pub on_run : (x : FlightView) (f : Flight) (m : Snapshot) → Holds x f → Stands x.program (facts_in x.case) m → Stands f.pinned (case_in f.at_begin) m
 on_run x f m h k =
     let P : Program → Type 0 = λ p. Stands p (facts_in x.case) m in
     let Q : Facts → Type 0 = λ c. Stands f.pinned c m in
     subst Q h.facts (subst P h.program k)
 
 -- the flight is held after more turns, where the machine has made that many steps
-moved : (x : FlightView) (m : Stored) (f : Flight) (k : ℕ) → Holds x f → m.steps ≡ min (f.granted + k) f.run_length → Holds (with_machine x m) (granting_more f k)
+moved : (x : FlightView) (m : Snapshot) (f : Flight) (k : ℕ) → Holds x f → m.steps ≡ min (f.granted + k) f.run_length → Holds (with_machine x m) (granting_more f k)
 moved x m f k h n = record {
   ticket = h.ticket;
   program = h.program;
@@ -41,12 +41,12 @@ moved x m f k h n = record {
   steps = n;
 }
 
-pub made_grants : (x : FlightView) (m : Stored) (k : ℕ) → Stands x.program (facts_in x.case) m → HasMade x.machine k m → IsGranted x k (with_machine x m)
+pub made_grants : (x : FlightView) (m : Snapshot) (k : ℕ) → Stands x.program (facts_in x.case) m → HasMade x.machine k m → IsGranted x k (with_machine x m)
 made_grants x m k on made = λ f h.
     let length = h.pinned.length in
     moved x m f k h (made_by f.pinned (case_in f.at_begin) x.machine m f.run_length f.granted k length.0 m.progress refl (on_run x f m h on) length.1 h.steps made)
 
-pub stopped_short : (x : FlightView) (m : Stored) (k : ℕ) → Stands x.program (facts_in x.case) m → IsStopped x.program x.machine k m → StopsShort x k (with_machine x m)
+pub stopped_short : (x : FlightView) (m : Snapshot) (k : ℕ) → Stands x.program (facts_in x.case) m → IsStopped x.program x.machine k m → StopsShort x k (with_machine x m)
 stopped_short x m k on stop = λ f h.
     let length = h.pinned.length in
     let run = on_run x f m h on in

@@ -10,7 +10,7 @@ use Rattle.filing_case.specs.Message.{is_among}
 use Rattle.filing_case.specs.Whole.{facts_by}
 use Rattle.filing_case.specs.declared.whole.WholeCase.{WholeCase}
 use Rattle.filing_machine.specs.StateViews.{is_ended}
-use Rattle.filing_machine.specs.Runs.{Stored}
+use Rattle.filing_machine.specs.Runs.{Snapshot}
 use Rattle.filing_commands.specs.Pinning.{IsAlone, case_in}
 use Rattle.filing_commands.specs.Standing.{Flight, IsInterrupted, IsPinned, turn_answer}
 use Rattle.filing_commands.specs.CallAnswers.{answer_of_turn}
@@ -23,7 +23,7 @@ pub record FlightView : Type 0 where
   pub message : List ℕ
   pub case : WholeCase (List (List ℕ))
   pub day : Date
-  pub machine : Stored
+  pub machine : Snapshot
 
 -- what a run can learn of a message and a list of open paths
 abbrev pub facts_in : WholeCase (List (List ℕ)) → Facts

@@ -16,7 +16,7 @@ use Rattle.filing_table.specs.Machine.{values_of, Entry, T, L, N, State, Run, At
 use Rattle.filing_table.specs.Machine as table
 use Rattle.filing_flow.specs.Structure.{Action, Push, Negate, ValuesOf, JoinTwo, MatchKey, Drop, HasField, PushSize, PushNumber, IsLess, IsMarked, SetMark, FileInto, SetKept, SetCancelled, End, Fail, CallTo, Flow, nothing, action, sequence, block, leave, leave_if, size, Bounds, IsSoundAction, IsSound}
 use Rattle.filing_flow.specs.Code.{places_in, IsWritten, Stands, end_at, jump_when}
-use Rattle.filing_flow.specs.Effect.{Filing, Exit, FallsThrough, Leaves, EndsRun, Stuck, with_stack, file_exit, Called, call_exit, action_effect, and_then, caught, jump_exit, effect}
+use Rattle.filing_flow.specs.Effect.{Filing, Exit, FallsThrough, Leaves, EndsRun, Stuck, with_stack, file_exit, CallEffects, call_exit, action_effect, and_then, caught, jump_exit, effect}
 
 unfoldable pub steps : Program → Facts → ℕ → Run → Run
 steps p c zero x = x
@@ -120,7 +120,7 @@ module _ (p : Program) (c : Facts) (calls : List ℕ) where
   IsStep (CallTo b) = ⊥
   IsStep x = Unit {0}
 
-  action_gives : (called : Called) (bounds : Bounds) → bounds.slots ≡ p.slots → (x : Action) (f : Filing) (pc : ℕ) (es : List Entry) (o : Operation) → IsStep x → IsSoundAction bounds x → IsWritten (places_in p.texts p.numbers) x o → Gives (action_effect called c x f es) (pc + 1) (on_stack p c o (on calls f pc es) es)
+  action_gives : (called : CallEffects) (bounds : Bounds) → bounds.slots ≡ p.slots → (x : Action) (f : Filing) (pc : ℕ) (es : List Entry) (o : Operation) → IsStep x → IsSoundAction bounds x → IsWritten (places_in p.texts p.numbers) x o → Gives (action_effect called c x f es) (pc + 1) (on_stack p c o (on calls f pc es) es)
   action_gives called bounds slots (Push true) f pc es o is_step ok w = rw w (stacked f pc es (T true ∷ es))
   action_gives called bounds slots (Push false) f pc es o is_step ok w = rw w (stacked f pc es (T false ∷ es))
   action_gives called bounds slots Negate f pc [] o is_step ok w = tt
@@ -157,10 +157,10 @@ module _ (p : Program) (c : Facts) (calls : List ℕ) where
   leaves_if false n ends pc f _ h = tt
 
   -- From a call the run comes to where the call's effect says.
-  abbrev pub CallsRun : Called → Type 0
+  abbrev pub CallsRun : CallEffects → Type 0
   CallsRun called = (b : ℕ) (f : Filing) (pc : ℕ) (ends : List ℕ) → slice_get p.code pc ≡ Some (Call b) → Arrives (call_exit (called b f)) (pc + 1) ends (At (on calls f pc []))
 
-  module _ (called : Called) (calls_run : CallsRun called) (bounds : Bounds) (slots : bounds.slots ≡ p.slots) where
+  module _ (called : CallEffects) (calls_run : CallsRun called) (bounds : Bounds) (slots : bounds.slots ≡ p.slots) where
     action_runs : (x : Action) (ends : List ℕ) (pc : ℕ) (f : Filing) (es : List Entry) (o : Operation) → IsSoundAction bounds x → slice_get p.code pc ≡ Some o → IsWritten (places_in p.texts p.numbers) x o → Arrives (action_effect called c x f es) (pc + 1) ends (At (on calls f pc es))
     action_runs (CallTo b) ends pc f [] o ok at w = calls_run b f pc ends (at ∙ ap Some w)
     action_runs (CallTo b) ends pc f (e ∷ es) o ok at w = tt

@@ -10,7 +10,7 @@ use Rattle.filing_image.specs.declared.instruction.Operation.{Operation}
 use Rattle.filing_image.specs.declared.instruction.Operation.TheVariants.{Stop, Call}
 use Rattle.filing_image.specs.Program.{Program, first_places, firsts_of}
 use Rattle.filing_verify.specs.declared.kind.Kind.TheVariants.{Truth}
-use Rattle.filing_verify.specs.Flow.{Path, Reached}
+use Rattle.filing_verify.specs.Flow.{Path, IsReached}
 use Rattle.filing_verify.specs.Shapes as shapes
 use Rattle.filing_verify.specs.Well.{InRange, HasProcedures, AreInRange, greatest_budget, Suffices, IsWell}
 use Rattle.filing_verify.specs.Passes.{RunsOn}
@@ -119,7 +119,7 @@ module _ (p : Program) (a : Flow) (is : IsCodeOf p a) (d : HasType (block a) [] 
   greatest : greatest_budget p.procedures ≡ 65535
   greatest = ap greatest_budget is.one_piece
 
-  never_on : (q : ℕ) → q < length p.code → Reached p q → RunsOn p q → ⊥
+  never_on : (q : ℕ) → q < length p.code → IsReached p q → RunsOn p q → ⊥
   never_on q within reached on = elim (cases_lt (q + 1) (length p.code)) [
     | inl lt ↦ on.out (lt, one_piece p is.one_piece (q + 1) ∙ sym (one_piece p is.one_piece q))
     | inr end ↦

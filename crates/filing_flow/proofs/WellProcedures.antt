@@ -8,7 +8,7 @@ use Rattle.std.proofs.lemmas.Option.{slice_get_within, slice_get-get_or}
 use Rattle.filing_image.specs.declared.instruction.Operation.{Operation}
 use Rattle.filing_image.specs.declared.instruction.Operation.TheVariants.{Stop, Call, Return}
 use Rattle.filing_image.specs.Program.{Program, first_places, firsts_of}
-use Rattle.filing_verify.specs.Flow.{first_place, goes_on, Reached, procedure_of}
+use Rattle.filing_verify.specs.Flow.{first_place, goes_on, IsReached, procedure_of}
 use Rattle.filing_verify.specs.Shapes as shapes
 use Rattle.filing_verify.specs.Well.{InRange, HasProcedures, AreInRange, greatest_budget, Suffices, IsWell}
 use Rattle.filing_verify.specs.Passes.{RunsOn}
@@ -199,7 +199,7 @@ module _ (p : Program) (procedures : List Flow) (are : AreProceduresOf p procedu
         x.same q (omega (arith, x.low, later)) ((x.within o at).jumps q to) ∙ sym (x.same i x.low (omega (arith, later, (x.within o at).jumps q to)));
   }
 
-  never_on : (q : ℕ) → q < length p.code → Reached p q → RunsOn p q → ⊥
+  never_on : (q : ℕ) → q < length p.code → IsReached p q → RunsOn p q → ⊥
   never_on q lt reached on =
       let x = place q on.operation on.here in
       let next = x.goes on.operation on.here on.goes in

@@ -40,11 +40,11 @@ file_exit c f es a path = if c.is_open path
     else EndsRun (Some ClassNotOpen) f
 
 -- what a call of the procedure with a number does to a state, on the empty stack
-abbrev pub Called : Type 0
-Called = ℕ → Filing → Exit
+abbrev pub CallEffects : Type 0
+CallEffects = ℕ → Filing → Exit
 
 -- where there are no procedures
-abbrev pub no_calls : Called
+abbrev pub no_calls : CallEffects
 no_calls b f = Stuck
 
 -- how a call is left: its procedure comes to its end with the empty stack, or ends the run
@@ -53,7 +53,7 @@ call_exit (FallsThrough f []) = FallsThrough f []
 call_exit (EndsRun e f) = EndsRun e f
 call_exit _ = Stuck
 
-abbrev pub action_effect : Called → Facts → Action → Filing → List Entry → Exit
+abbrev pub action_effect : CallEffects → Facts → Action → Filing → List Entry → Exit
 action_effect called c (Push b) f es = with_stack f (T b ∷ es)
 action_effect called c Negate f (T b ∷ es) = with_stack f (T (not b) ∷ es)
 action_effect called c Negate f _ = Stuck
@@ -101,7 +101,7 @@ jump_exit false n f (T true ∷ es) = FallsThrough f es
 jump_exit false n f (T false ∷ es) = Leaves n f es
 jump_exit _ n f _ = Stuck
 
-abbrev pub effect : Called → Facts → Flow → Filing → List Entry → Exit
+abbrev pub effect : CallEffects → Facts → Flow → Filing → List Entry → Exit
 effect called c nothing f es = FallsThrough f es
 effect called c (action o) f es = action_effect called c o f es
 effect called c (sequence a b) f es = and_then (effect called c a f es) (effect called c b)

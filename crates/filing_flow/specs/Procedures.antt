@@ -10,7 +10,7 @@ use Rattle.sieve_meaning.specs.Case.{Facts}
 use Rattle.filing_table.specs.Ends.{HasOutcome}
 use Rattle.filing_flow.specs.Structure.{Action, CallTo, End, Flow, nothing, action, sequence, block, leave, leave_if, size, IsSound}
 use Rattle.filing_flow.specs.Code.{Operands, places_in, Stands}
-use Rattle.filing_flow.specs.Effect.{Filing, Stuck, EndsRun, Called, effect}
+use Rattle.filing_flow.specs.Effect.{Filing, Stuck, EndsRun, CallEffects, effect}
 use Rattle.filing_flow.specs.Types.{HasType}
 use Rattle.filing_flow.specs.Whole.{nothing_done, outcome_from}
 
@@ -52,7 +52,7 @@ AreTyped (a ∷ later) = HasType (block a) [] [] [] × AreTyped later
 -- EFFECT
 
 -- what a call does, where these are the procedures from this number on
-abbrev pub called_by : Facts → (from : ℕ) → List Flow → Called
+abbrev pub called_by : Facts → (from : ℕ) → List Flow → CallEffects
 called_by c from [] b f = Stuck
 called_by c from (a ∷ later) b f = if nat_eq b from
     then effect (called_by c (suc from) later) c (block a) f []

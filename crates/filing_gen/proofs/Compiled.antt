@@ -12,7 +12,7 @@ use Rattle.filing_flow.proofs.Well.{typed_is_well}
 use Rattle.filing_flow.proofs.Ended.{program_ends}
 use Rattle.sieve_meaning.specs.Case.{Facts}
 use Rattle.sieve_meaning.specs.Program.{Commands}
-use Rattle.sieve_meaning.specs.Meaning.{Ending, GoesOn, Returns, Stops, Faults, included, meaning, opening, main_names, Library}
+use Rattle.sieve_meaning.specs.Meaning.{Ending, GoesOn, Returns, Stops, Faults, inclusion_within, meaning, opening, main_names, Library}
 use Rattle.sieve_meaning.specs.declared.outcome.Outcome.{Outcome}
 use Rattle.sieve_meaning.specs.declared.run_fault.RunFault.{RunFault}
 use Rattle.sieve_meaning.specs.Outcome.{outcome_at, outcome_of}
@@ -20,8 +20,8 @@ use Rattle.sieve_meaning.proofs.OutcomeLaws.{budget_by_weight}
 use Rattle.sieve_meaning.specs.Weight.{linked_weight, included_weight}
 use Rattle.filing_gen.specs.BlockCode.{script_flow}
 use Rattle.script_procedures.specs.Slots.{Slots, HasSlots}
-use Rattle.filing_gen.specs.IncludeCode.{linked_flow, Marked}
-use Rattle.filing_gen.specs.Alike.{Marking, Related, filing_at, exit_of, Alike}
+use Rattle.filing_gen.specs.IncludeCode.{linked_flow, MarksEntries}
+use Rattle.filing_gen.specs.Alike.{Marking, AreAlike, filing_at, exit_of, Alike}
 use Rattle.std.specs.Prelude.{slice_get}
 use Rattle.filing_image.specs.declared.instruction.Operation.{Operation}
 use Rattle.filing_flow.specs.Code.{places_in}
@@ -55,21 +55,21 @@ outcome_is (Returns f) = refl
 outcome_is (Stops f) = refl
 outcome_is (Faults fault f) = refl
 
-pub same_outcome : (marking : Marking) (e : Ending) (g : code.Filing) → Related marking (filing_at e) g → outcome_from (fault_of e) g ≡ outcome_of e
+pub same_outcome : (marking : Marking) (e : Ending) (g : code.Filing) → AreAlike marking (filing_at e) g → outcome_from (fault_of e) g ≡ outcome_of e
 same_outcome marking e g r = rw (r.filed, r.kept, r.cancelled) (outcome_is e)
 
 abbrev pub main_flow : Library → Slots → Option (List ℕ) → Commands → Flow
 main_flow lib slot known_as main = script_flow (linked_flow lib slot known_as) main
 
 -- before a run only the main script was entered, and no mark is set
-pub opening_related : (lib : Library) (slot : Slots) (count : ℕ) → HasSlots lib slot count → (known_as : Option (List ℕ)) → Related (Marked lib slot (main_names known_as) (main_names known_as)) (opening known_as) nothing_done
+pub opening_related : (lib : Library) (slot : Slots) (count : ℕ) → HasSlots lib slot count → (known_as : Option (List ℕ)) → AreAlike (MarksEntries lib slot (main_names known_as) (main_names known_as)) (opening known_as) nothing_done
 opening_related lib slot count has known_as =
     record { filed = refl; kept = refl; cancelled = refl; marks = record { long = length-replicate 64 false; active = λ s h. h; found = λ s x at out. get_or-replicate 64 (slot s) false false (let l = has.inside s x at in omega (arith, l, has.few)) ∙ sym out; missing = λ s none. refl } }
 
 module _ (lib : Library) (slot : Slots) (count : ℕ) (has : HasSlots lib slot count) (known_as : Option (List ℕ)) (main : Commands) where
-  script_means : (c : Facts) → Alike (Marked lib slot (main_names known_as) (main_names known_as)) 0 (meaning c lib known_as main) (effect no_calls c (main_flow lib slot known_as main) nothing_done [])
+  script_means : (c : Facts) → Alike (MarksEntries lib slot (main_names known_as) (main_names known_as)) 0 (meaning c lib known_as main) (effect no_calls c (main_flow lib slot known_as main) nothing_done [])
   script_means c =
-      flow_means no_calls c (Marked lib slot (main_names known_as) (main_names known_as)) (linked_flow lib slot known_as) (included c lib 7 (main_names known_as)) (included_agrees no_calls c lib slot count has (main_names known_as) 7 (main_names known_as) (λ s h. h)) 0 main (opening known_as) nothing_done
+      flow_means no_calls c (MarksEntries lib slot (main_names known_as) (main_names known_as)) (linked_flow lib slot known_as) (inclusion_within c lib 7 (main_names known_as)) (included_agrees no_calls c lib slot count has (main_names known_as) 7 (main_names known_as) (λ s h. h)) 0 main (opening known_as) nothing_done
       (opening_related lib slot count has known_as)
 
   sound : IsSound (without_procedures count) (main_flow lib slot known_as main)
@@ -83,7 +83,7 @@ module _ (lib : Library) (slot : Slots) (count : ℕ) (has : HasSlots lib slot c
       let ends : effect no_calls c (whole a) nothing_done [] ≡ EndsRun (fault_of m) h.filing = ap (λ (x : Exit). code.and_then (caught x) (effect no_calls c (action End))) h.exit ∙ end_means c m h.filing in
       let good : IsSound (without_procedures p.slots) a = subst (λ (k : ℕ). IsSound (without_procedures k) a) (sym slots) sound in
       let found = program_ends p c a (fault_of m) h.filing is good ends in
-      (found.0, subst (λ (o : Outcome). HasOutcome p c found.0 o) (same_outcome (Marked lib slot (main_names known_as) (main_names known_as)) m h.filing h.related) found.1)
+      (found.0, subst (λ (o : Outcome). HasOutcome p c found.0 o) (same_outcome (MarksEntries lib slot (main_names known_as) (main_names known_as)) m h.filing h.related) found.1)
 
   script_small : size (main_flow lib slot known_as main) + 1 ≤ linked_weight lib known_as main
   script_small = omega (arith, flow_small (linked_flow lib slot known_as) (included_weight lib 7 (main_names known_as)) (included_small lib slot (main_names known_as) 7 (main_names known_as)) 0 main)

@@ -11,15 +11,15 @@ use Rattle.sieve_meaning.specs.Procedures.{includes_of, includes_in, branch_incl
 use Rattle.sieve_meaning.proofs.SharingLemmas.{IsIn, in_front, in_rest}
 use Rattle.filing_table.specs.Machine.{Entry, T}
 use Rattle.filing_flow.specs.Structure.{Flow, FileInto, action, sequence, leave}
-use Rattle.filing_flow.specs.Effect.{Exit, FallsThrough, EndsRun, Called, effect, caught}
+use Rattle.filing_flow.specs.Effect.{Exit, FallsThrough, EndsRun, CallEffects, effect, caught}
 use Rattle.filing_flow.specs.Effect as code
 use Rattle.filing_gen.specs.BlockCode.{flow, flow_one, branches_flow, copy_number}
-use Rattle.filing_gen.specs.Alike.{Marking, Related, Alike, Agrees}
+use Rattle.filing_gen.specs.Alike.{Marking, AreAlike, Alike, Agrees}
 use Rattle.filing_gen.proofs.Truths.{test_means}
 
-module _ (called : Called) (c : Facts) (marking : Marking) where
+module _ (called : CallEffects) (c : Facts) (marking : Marking) where
   then_means : (n : ℕ) (e : Ending) (x : Exit) (a : Flow) (go : Filing → Ending) → Alike marking n e x
-      → ((f : Filing) (s : code.Filing) → Related marking f s → Alike marking n (go f) (effect called c a s [])) → Alike marking n (and_then e go) (code.and_then x (effect called c a))
+      → ((f : Filing) (s : code.Filing) → AreAlike marking f s → Alike marking n (go f) (effect called c a s [])) → Alike marking n (and_then e go) (code.and_then x (effect called c a))
   then_means n (GoesOn f) x a go h k = let y = k f h.filing h.related in record { filing = y.filing; related = y.related; exit = ap (λ z. code.and_then z (effect called c a)) h.exit ∙ y.exit }
   then_means n (Returns f) x a go h k = record { filing = h.filing; related = h.related; exit = ap (λ z. code.and_then z (effect called c a)) h.exit }
   then_means n (Stops f) x a go h k = record { filing = h.filing; related = h.related; exit = ap (λ z. code.and_then z (effect called c a)) h.exit }
@@ -46,7 +46,7 @@ module _ (called : Called) (c : Facts) (marking : Marking) where
   cancels true = refl
   cancels false = refl
 
-  file_means : (n : ℕ) (copy : Bool) (path : List ℕ) (f : Filing) (s : code.Filing) → Related marking f s → Alike marking n (filing c copy path f) (effect called c (action (FileInto (copy_number copy) path)) s [])
+  file_means : (n : ℕ) (copy : Bool) (path : List ℕ) (f : Filing) (s : code.Filing) → AreAlike marking f s → Alike marking n (filing c copy path f) (effect called c (action (FileInto (copy_number copy) path)) s [])
   file_means n copy path f s r =
       let now : code.Filing = record s { filed = insert_path path s.filed; cancelled = s.cancelled || nat_eq (copy_number copy) 0 } in
       elim (c.is_open path) as (λ b. Alike marking n (cond b (GoesOn (record f { filed = insert_path path f.filed; cancelled = f.cancelled || not copy })) (Faults ClassNotOpen f)) (cond b (FallsThrough now []) (EndsRun (Some ClassNotOpen) s))) [
@@ -56,17 +56,17 @@ module _ (called : Called) (c : Facts) (marking : Marking) where
 
   -- the code of these includes does what they do
   abbrev pub AgreesAt : (Include → Flow) → Included → List Include → Type 0
-  AgreesAt g h is = (i : Include) → IsIn i is → (n : ℕ) (f : Filing) (s : code.Filing) → Related marking f s → Alike marking n (h i f) (effect called c (g i) s [])
+  AgreesAt g h is = (i : Include) → IsIn i is → (n : ℕ) (f : Filing) (s : code.Filing) → AreAlike marking f s → Alike marking n (h i f) (effect called c (g i) s [])
 
   module _ (g : Include → Flow) (h : Included) where
     mutual
-      pub means_at : (n : ℕ) (xs : Commands) → AgreesAt g h (includes_of xs) → (f : Filing) (s : code.Filing) → Related marking f s → Alike marking n (run c h xs f) (effect called c (flow g n xs) s [])
+      pub means_at : (n : ℕ) (xs : Commands) → AgreesAt g h (includes_of xs) → (f : Filing) (s : code.Filing) → AreAlike marking f s → Alike marking n (run c h xs f) (effect called c (flow g n xs) s [])
       means_at n no_command agree f s r = record { filing = s; related = r; exit = refl }
       means_at n (command_then x xs) agree f s r =
           then_means n (run_one c h x f) (effect called c (flow_one g n x) s []) (flow g n xs) (run c h xs) (one_means n x (λ i is. agree i (in_front i (includes_in x) (includes_of xs) is)) f s r)
           (means_at n xs (λ i is. agree i (in_rest i (includes_in x) (includes_of xs) is)))
 
-      one_means : (n : ℕ) (x : Command) → AgreesAt g h (includes_in x) → (f : Filing) (s : code.Filing) → Related marking f s → Alike marking n (run_one c h x f) (effect called c (flow_one g n x) s [])
+      one_means : (n : ℕ) (x : Command) → AgreesAt g h (includes_in x) → (f : Filing) (s : code.Filing) → AreAlike marking f s → Alike marking n (run_one c h x f) (effect called c (flow_one g n x) s [])
       one_means n require agree f s r = record { filing = s; related = r; exit = refl }
       one_means n keep agree f s r = record { filing = record s { kept = true }; related = record { filed = r.filed; kept = refl; cancelled = r.cancelled; marks = r.marks }; exit = refl }
       one_means n discard agree f s r = record { filing = record s { cancelled = true }; related = record { filed = r.filed; kept = r.kept; cancelled = refl; marks = r.marks }; exit = refl }
@@ -76,7 +76,7 @@ module _ (called : Called) (c : Facts) (marking : Marking) where
       one_means n (branch bs) agree f s r = branches_means n bs agree f s r
       one_means n (include i) agree f s r = agree i (inl refl) n f s r
 
-      branches_means : (n : ℕ) (bs : Branches) → AgreesAt g h (branch_includes bs) → (f : Filing) (s : code.Filing) → Related marking f s → Alike marking n (run_branches c h bs f) (caught (effect called c (branches_flow g (suc n) bs) s []))
+      branches_means : (n : ℕ) (bs : Branches) → AgreesAt g h (branch_includes bs) → (f : Filing) (s : code.Filing) → AreAlike marking f s → Alike marking n (run_branches c h bs f) (caught (effect called c (branches_flow g (suc n) bs) s []))
       branches_means n no_branch agree f s r = record { filing = s; related = r; exit = refl }
       branches_means n (otherwise xs) agree f s r = caught_means n (run c h xs f) (effect called c (flow g (suc n) xs) s []) (means_at (suc n) xs agree f s r)
       branches_means n (if_then t xs bs) agree f s r =
@@ -88,5 +88,5 @@ module _ (called : Called) (c : Facts) (marking : Marking) where
           ])
 
   module _ (g : Include → Flow) (h : Included) (agree : Agrees called c marking g h) where
-    pub flow_means : (n : ℕ) (xs : Commands) (f : Filing) (s : code.Filing) → Related marking f s → Alike marking n (run c h xs f) (effect called c (flow g n xs) s [])
+    pub flow_means : (n : ℕ) (xs : Commands) (f : Filing) (s : code.Filing) → AreAlike marking f s → Alike marking n (run c h xs f) (effect called c (flow g n xs) s [])
     flow_means n xs f s r = means_at g h n xs (λ i is. agree i) f s r

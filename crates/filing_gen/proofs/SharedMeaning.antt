@@ -7,20 +7,20 @@ use Rattle.filing_image.specs.Program.{Program}
 use Rattle.filing_table.specs.Ends.{HasOutcome}
 use Rattle.sieve_meaning.specs.Case.{Facts}
 use Rattle.sieve_meaning.specs.Program.{Commands}
-use Rattle.sieve_meaning.specs.Meaning.{ScriptName, Library, Filing, Ending, GoesOn, Returns, Stops, Faults, run, included, ending_of_include, opening, meaning, main_names}
+use Rattle.sieve_meaning.specs.Meaning.{ScriptName, Library, Filing, Ending, GoesOn, Returns, Stops, Faults, run, inclusion_within, ending_of_include, opening, meaning, main_names}
 use Rattle.sieve_meaning.specs.declared.outcome.Outcome.{Outcome}
 use Rattle.sieve_meaning.specs.Outcome.{outcome_of}
 use Rattle.sieve_meaning.specs.Procedures.{Procedure, main_procedure, procedures}
 use Rattle.sieve_meaning.proofs.ProcedureLemmas.{AllOf, AllFind, IsSomeEntered, all_element, some_is, all_find, after_main, procedures_are, after_main_entered}
 use Rattle.filing_flow.specs.Structure.{CallTo, Flow, action, End}
-use Rattle.filing_flow.specs.Effect.{Exit, EndsRun, Called, effect, caught, call_exit}
+use Rattle.filing_flow.specs.Effect.{Exit, EndsRun, CallEffects, effect, caught, call_exit}
 use Rattle.filing_flow.specs.Effect as code
 use Rattle.filing_flow.specs.Whole.{nothing_done, outcome_from}
 use Rattle.filing_flow.specs.Procedures.{AreProceduresOf, AreSound, called_by, first_call}
 use Rattle.filing_flow.proofs.Calls.{procedures_end}
 use Rattle.script_procedures.specs.Slots.{Slots, HasSlots}
 use Rattle.filing_gen.specs.BlockCode.{script_flow}
-use Rattle.filing_gen.specs.IncludeCode.{Marked}
+use Rattle.filing_gen.specs.IncludeCode.{MarksEntries}
 use Rattle.filing_gen.specs.Alike.{Marking, exit_of, Alike}
 use Rattle.filing_gen.specs.Procedures.{calling_flow, procedure_flows, shared_flows}
 use Rattle.filing_gen.proofs.Includes.{ended_alike}
@@ -36,7 +36,7 @@ returned_alike marking n (Stops f) x h = record { filing = h.filing; related = h
 returned_alike marking n (Faults fault f) x h = record { filing = h.filing; related = h.related; exit = ap call_exit h.exit }
 
 -- the first procedure ends the run as the main script does
-first_ends : (called : Called) (c : Facts) (e : Ending) (g : code.Filing) → code.and_then (call_exit (caught (exit_of 0 e g))) (effect called c (action End)) ≡ EndsRun (fault_of e) g
+first_ends : (called : CallEffects) (c : Facts) (e : Ending) (g : code.Filing) → code.and_then (call_exit (caught (exit_of 0 e g))) (effect called c (action End)) ≡ EndsRun (fault_of e) g
 first_ends called c (GoesOn f) g = refl
 first_ends called c (Returns f) g = refl
 first_ends called c (Stops f) g = refl
@@ -44,7 +44,7 @@ first_ends called c (Faults fault f) g = refl
 
 module _ (c : Facts) (lib : Library) (slot : Slots) (count : ℕ) (has : HasSlots lib slot count) (main : List ScriptName) where
   -- what calls of these procedures do, of which the first has the number `own`
-  abbrev calls_of : (own : ℕ) → List Procedure → Called
+  abbrev calls_of : (own : ℕ) → List Procedure → CallEffects
   calls_of own ps = called_by c own (procedure_flows lib slot main own ps)
 
   -- calls of these do what their scripts mean
@@ -76,8 +76,8 @@ module _ (c : Facts) (lib : Library) (slot : Slots) (count : ℕ) (has : HasSlot
   are_meant own (p ∷ later) finds entered zero q at =
       subst (λ (r : Procedure). CallMeans (calls_of own (p ∷ later)) c lib slot count has main (action (CallTo (own + zero))) r) (some_is p q at)
       (λ chain same within n f g r.
-      let marking = Marked lib slot main chain in
-      let e = run c (included c lib p.left chain) p.script f in
+      let marking = MarksEntries lib slot main chain in
+      let e = run c (inclusion_within c lib p.left chain) p.script f in
       let called = calls_of (suc own) later in
       let few : p.left ≤ 7 = omega (arith, entered.0.1, entered.0.2.left_is) in
       let body = procedure_means called c lib slot count has main own later (calls_mean own later entered.1 (are_meant (suc own) later finds.1 entered.1)) p few finds.0 chain same within f g r in
@@ -85,7 +85,7 @@ module _ (c : Facts) (lib : Library) (slot : Slots) (count : ℕ) (has : HasSlot
       subst (λ (x : Exit). Alike marking n (ending_of_include e) (call_exit x)) (sym (calls_itself own p later g)) (returned_alike marking n e (caught whole) (ended_alike marking n e whole body)))
   are_meant own (p ∷ later) finds entered (suc n) q at =
       λ chain same within m f g r.
-      subst (λ (x : Exit). Alike (Marked lib slot main chain) m (ending_of_include (run c (included c lib q.left chain) q.script f)) (call_exit x)) (sym (calls_later own p later n g))
+      subst (λ (x : Exit). Alike (MarksEntries lib slot main chain) m (ending_of_include (run c (inclusion_within c lib q.left chain) q.script f)) (call_exit x)) (sym (calls_later own p later n g))
       (are_meant (suc own) later finds.1 entered.1 n q at chain same within m f g r)
 
 module _ (lib : Library) (slot : Slots) (count : ℕ) (has : HasSlots lib slot count) (known_as : Option (List ℕ)) (main : Commands) where
@@ -99,7 +99,7 @@ module _ (lib : Library) (slot : Slots) (count : ℕ) (has : HasSlots lib slot c
   abbrev main_code : Flow
   main_code = script_flow (calling_flow lib slot names 0 later (main_procedure known_as main)) main
 
-  main_means : (c : Facts) → Alike (Marked lib slot names names) 0 (meaning c lib known_as main) (effect (called_by c 1 (procedure_flows lib slot names 1 later)) c main_code nothing_done [])
+  main_means : (c : Facts) → Alike (MarksEntries lib slot names names) 0 (meaning c lib known_as main) (effect (called_by c 1 (procedure_flows lib slot names 1 later)) c main_code nothing_done [])
   main_means c =
       let p = main_procedure known_as main in
       let finds : AllFind lib (p ∷ later) = subst (AllFind lib) (procedures_are lib known_as main) (all_find lib known_as main) in
@@ -124,7 +124,7 @@ module _ (lib : Library) (slot : Slots) (count : ℕ) (has : HasSlots lib slot c
             ap (λ (ps : List Procedure). effect (called_by c 0 (procedure_flows lib slot names 0 ps)) c first_call nothing_done []) (procedures_are lib known_as main)
             ∙ ap (λ (x : Exit). code.and_then (call_exit (caught x)) (effect called c (action End))) h.exit
             ∙ first_ends called c m h.filing;
-        outcome = same_outcome (Marked lib slot names names) m h.filing h.related;
+        outcome = same_outcome (MarksEntries lib slot names names) m h.filing h.related;
       }
 
   -- in every case the run of the program ends with the outcome of what the main script means

@@ -12,7 +12,7 @@ use Rattle.sieve_meaning.specs.Truth.{has_field, header_truth, truth, all_true, 
 use Rattle.sieve_meaning.specs.Program.{Test, always, negated, all_of, any_of, has_all, over, under, header, Tests, no_test, test_then}
 use Rattle.filing_table.specs.Machine.{Entry, T, L, comparison_holds, values_of}
 use Rattle.filing_flow.specs.Structure.{Push, Drop, Flow, action, sequence, leave}
-use Rattle.filing_flow.specs.Effect.{Filing, Exit, FallsThrough, Leaves, Called, effect, caught}
+use Rattle.filing_flow.specs.Effect.{Filing, Exit, FallsThrough, Leaves, CallEffects, effect, caught}
 use Rattle.filing_flow.specs.Effect as effects
 use Rattle.filing_gen.specs.Names.{each_once, others_once}
 use Rattle.filing_gen.proofs.Names.{some_once, every_once, same_named}
@@ -76,7 +76,7 @@ compared_is match_types.Contains comparators.Casemap key value = refl
 compared_is match_types.Matches comparators.Octet key value = refl
 compared_is match_types.Matches comparators.Casemap key value = refl
 
-module _ (called : Called) (c : Facts) where
+module _ (called : CallEffects) (c : Facts) where
   -- some value of the named fields matches the key
   key_truth : (a : ℕ) (names : List (List ℕ)) (key : List ℕ) → list_any (comparison_holds a key) (flat_map (values_of c) names) ≡ list_any (λ f. list_any (λ name. is_named name f) names && comparison_holds a key f.value) c.fields
   key_truth a names key =

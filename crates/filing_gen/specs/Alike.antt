@@ -5,7 +5,7 @@ use Rattle.sieve_meaning.specs.Case.{Facts}
 use Rattle.sieve_meaning.specs.Program.{Include}
 use Rattle.sieve_meaning.specs.Meaning.{ScriptName, Filing, Ending, GoesOn, Returns, Stops, Faults, Included}
 use Rattle.filing_flow.specs.Structure.{Flow}
-use Rattle.filing_flow.specs.Effect.{Exit, FallsThrough, Leaves, EndsRun, Called, effect}
+use Rattle.filing_flow.specs.Effect.{Exit, FallsThrough, Leaves, EndsRun, CallEffects, effect}
 use Rattle.filing_flow.specs.Effect as code
 
 -- how marks relate to the scripts that were entered
@@ -13,7 +13,7 @@ abbrev pub Marking : Type 1
 Marking = List ScriptName → List Bool → Type 0
 
 -- the same was filed, kept and cancelled, and the marks are right
-pub record Related (marking : Marking) (f : Filing) (g : code.Filing) : Type 0 where
+pub record AreAlike (marking : Marking) (f : Filing) (g : code.Filing) : Type 0 where
   pub filed : g.filed ≡ f.filed
   pub kept : g.kept ≡ f.kept
   pub cancelled : g.cancelled ≡ f.cancelled
@@ -36,10 +36,10 @@ exit_of n (Faults fault f) g = EndsRun (Some fault) g
 -- The code ends as the script does.
 pub record Alike (marking : Marking) (n : ℕ) (e : Ending) (x : Exit) : Type 0 where
   pub filing : code.Filing
-  pub related : Related marking (filing_at e) filing
+  pub related : AreAlike marking (filing_at e) filing
   pub exit : x ≡ exit_of n e filing
 
 -- The code of each include does what the include does, where calls do this.
-abbrev pub Agrees : Called → Facts → Marking → (Include → Flow) → Included → Type 0
-Agrees called c marking g h = (i : Include) (n : ℕ) (f : Filing) (s : code.Filing) → Related marking f s →
+abbrev pub Agrees : CallEffects → Facts → Marking → (Include → Flow) → Included → Type 0
+Agrees called c marking g h = (i : Include) (n : ℕ) (f : Filing) (s : code.Filing) → AreAlike marking f s →
     Alike marking n (h i f) (effect called c (g i) s [])

@@ -49,7 +49,7 @@ linked_flow lib slot known_as i = included_flow lib slot (main_names known_as) 7
 
 -- The marks say which scripts of the library were entered. The main script, which has no mark, and all active ones
 -- were.
-pub record Marked (lib : Library) (slot : Slots) (main chain entered : List ScriptName)
+pub record MarksEntries (lib : Library) (slot : Slots) (main chain entered : List ScriptName)
     (marks : List Bool) : Type 0 where
   pub long : length marks ≡ 64
   pub active : (s : ScriptName) → is_among chain s ≡ true → is_among entered s ≡ true

@@ -8,7 +8,7 @@ ghost use Rattle.sieve_meaning.specs.TooHeavy.{IsTooHeavy};
 ghost use Rattle.sieve_meaning.specs.Weight.{greatest_weight, linked_weight};
 ghost use Rattle.script_library.specs.BorrowedShelves.{scripts_of};
 ghost use Rattle.script_library.specs.Libraries.{library_of};
-ghost use Rattle.filing_image.specs.Program.{held};
+ghost use Rattle.filing_image.specs.Program.{list_in};
 ghost use Rattle.filing_flow.specs.Structure.{size};
 ghost use Rattle.filing_flow.specs.Types.{HasType};
 ghost use Rattle.filing_gen.specs.BlockCode.{script_flow};
@@ -68,7 +68,7 @@ pub fn image_of(
     mut out: Output,
     first_places: Option<Vec<u16>>,
 ) -> Result<Image, GenFault>
-    ensures made { IfOk result (λ i. IsImageOf budget slots (held first_places) out i) }
+    ensures made { IfOk result (λ i. IsImageOf budget slots (list_in first_places) out i) }
     ensures once { IfOk result (λ i. NamesOnce i) }
     ensures refused { IfErr result (λ f. f ≡ NoMemory) }
 {

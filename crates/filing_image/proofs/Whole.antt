@@ -10,7 +10,7 @@ use Rattle.filing_image.specs.declared.version.Version.{Version}
 use Rattle.filing_image.specs.declared.version.Version.TheVariants.{One, Two}
 use Rattle.filing_image.specs.Program.{Parts, version_of, firsts_of}
 use Rattle.filing_image.specs.Spelling.{mark, text, instruction, procedure_count, procedures, spelling, FitsInstruction, FitsOctets}
-use Rattle.filing_image.specs.Reading.{◌>>=◌, number_at, text_at, instruction_at, many_at, version_told, marked, procedure_count_at, procedures_at, Counts, counts_at, parts_at, all_of}
+use Rattle.filing_image.specs.Reading.{◌>>=◌, number_at, text_at, instruction_at, many_at, version_of_octet, version_and_rest, procedure_count_at, procedures_at, Counts, counts_at, parts_at, all_of}
 use Rattle.filing_image.proofs.Fields.{IsBytes, bind_some, bind_is, some_is, Takes, Takes-then, wide16, wide32, wide64, number_takes, number_again, text_takes, text_again, instruction_takes, instruction_again}
 use Rattle.filing_image.proofs.Many.{many_takes, many_again}
 
@@ -30,7 +30,7 @@ chosen false true v e = inr (refl, cc)
 chosen false false v e = absurd cc
 
 -- the octet that tells a version is the last of its mark
-told_is : (d : ℕ) (v : Version) → version_told d ≡ Some v → 0x53 ∷ 0x46 ∷ 0x49 ∷ d ∷ [] ≡ mark v
+told_is : (d : ℕ) (v : Version) → version_of_octet d ≡ Some v → 0x53 ∷ 0x46 ∷ 0x49 ∷ d ∷ [] ≡ mark v
 told_is d v e = elim (chosen (eqb d 0x31) (eqb d 0x32) v e) [
   | inl (t, is) ↦ let d-is : d ≡ 0x31 = eqb-true _ _ t in rw (d-is, is) refl
   | inr (t, is) ↦ let d-is : d ≡ 0x32 = eqb-true _ _ t in rw (d-is, is) refl
@@ -39,28 +39,28 @@ told_is d v e = elim (chosen (eqb d 0x31) (eqb d 0x32) v e) [
 abbrev with_rest : List ℕ → Version → Option (Version × List ℕ)
 with_rest rest v = Some (v, rest)
 
-mark_takes : (octets : List ℕ) (x : Version × List ℕ) → IsBytes octets → marked octets ≡ Some x → Takes octets (mark x.0) x.1
-unfolding marked
+mark_takes : (octets : List ℕ) (x : Version × List ℕ) → IsBytes octets → version_and_rest octets ≡ Some x → Takes octets (mark x.0) x.1
+unfolding version_and_rest
 mark_takes [] x fits e = absurd cc
 mark_takes (a ∷ []) x fits e = absurd cc
 mark_takes (a ∷ b ∷ []) x fits e = absurd cc
 mark_takes (a ∷ b ∷ c ∷ []) x fits e = absurd cc
 mark_takes (a ∷ b ∷ c ∷ d ∷ octets) x fits e =
-    let g = kept (eqb a 0x53 && (eqb b 0x46 && eqb c 0x49)) (version_told d >>= with_rest octets) x e in
+    let g = kept (eqb a 0x53 && (eqb b 0x46 && eqb c 0x49)) (version_of_octet d >>= with_rest octets) x e in
     let g0 = and_parts (eqb a 0x53) (eqb b 0x46 && eqb c 0x49) g.0 in
     let g1 = and_parts (eqb b 0x46) (eqb c 0x49) g0.1 in
     let a-is : a ≡ 0x53 = eqb-true _ _ g0.0 in
     let b-is : b ≡ 0x46 = eqb-true _ _ g1.0 in
     let c-is : c ≡ 0x49 = eqb-true _ _ g1.1 in
-    let v = bind_some (version_told d) (with_rest octets) x g.1 in
+    let v = bind_some (version_of_octet d) (with_rest octets) x g.1 in
     let marks : 0x53 ∷ 0x46 ∷ 0x49 ∷ d ∷ [] ≡ mark v.0 = told_is d v.0 v.1 in
     let front : a ∷ b ∷ c ∷ d ∷ octets ≡ 0x53 ∷ 0x46 ∷ 0x49 ∷ d ∷ octets = cc (a-is, b-is, c-is) in
     let here : Takes (a ∷ b ∷ c ∷ d ∷ octets) (mark v.0) octets = record { parts = front ∙ ap (λ (m : List ℕ). m ++ octets) marks; rest_fits = λ i. fits (suc (suc (suc (suc i)))) } in
     let made : Version × List ℕ = (v.0, octets) in
     subst (λ (y : Version × List ℕ). Takes (a ∷ b ∷ c ∷ d ∷ octets) (mark y.0) y.1) (some_is made x v.2) here
 
-mark_again : (v : Version) (rest : List ℕ) → marked (mark v ++ rest) ≡ Some (v, rest)
-unfolding marked
+mark_again : (v : Version) (rest : List ℕ) → version_and_rest (mark v ++ rest) ≡ Some (v, rest)
+unfolding version_and_rest
 mark_again One rest = refl
 mark_again Two rest = refl
 
@@ -253,7 +253,7 @@ spelling_is p = spelling_by p.procedures (to_be_bytes w32 p.budget) (to_be_bytes
 pub parts_take : (octets : List ℕ) (x : Parts × List ℕ) → IsBytes octets → parts_at octets ≡ Some x → Takes octets (spelling x.0) x.1 × FitsOctets x.0
 unfolding parts_at
 parts_take octets x fits e =
-    let m = bind_some (marked octets) after_mark x e in
+    let m = bind_some (version_and_rest octets) after_mark x e in
     let v = m.0.0 in
     let b = bind_some (number_at w32 m.0.1) (after_budget v) x m.2 in
     let c = bind_some (counts_at v b.0.1) (after_counts b.0.0) x b.2 in
@@ -319,7 +319,7 @@ parts_again p rest fits =
     let regrouped : spelling p ++ rest ≡ mark v ++ r1 = ap (λ (s : List ℕ). s ++ rest) (spelling_is p) ∙ whole in
     let fits_counts : FitsCounts c = record { texts = fits.short.text_count; numbers = fits.short.number_count; slots = fits.slots; procedures = count_fits p.procedures fits.short.procedure_count; instructions = fits.short.instruction_count } in
     ap parts_at regrouped
-    ∙ bind_is (marked (mark v ++ r1)) after_mark (v, r1) (mark_again v r1)
+    ∙ bind_is (version_and_rest (mark v ++ r1)) after_mark (v, r1) (mark_again v r1)
     ∙ bind_is (number_at w32 r1) (after_budget v) (p.budget, r2) (number_again w32 (2 ^ 32) wide32 p.budget r2 fits.budget)
     ∙ bind_is (counts_at v r2) (after_counts p.budget) (c, r3) (counts_again c r3 fits_counts)
     ∙ bind_is (many_at text_at (length p.texts) r3) (after_texts p.budget c) (p.texts, r4) (many_again text_at text (λ s. length s < 2 ^ 16) text_again p.texts r4 (recursion_from_All (λ s. length s < 2 ^ 16) p.texts fits.short.texts))

@@ -8,34 +8,34 @@ use Rattle.filing_image.specs.declared.version.Version.{Version}
 use Rattle.filing_image.specs.declared.version.Version.TheVariants.{One, Two}
 
 -- an instruction: the number of its operation, and the operands, 0 where the operation has none
-abbrev pub written : ℕ → ℕ → ℕ → Instruction
-written op a b = record { op = op; a = a; b = b }
+abbrev pub instruction : ℕ → ℕ → ℕ → Instruction
+instruction op a b = record { op = op; a = a; b = b }
 
 -- the instruction that encodes each operation
 abbrev pub instruction_of : Operation → Instruction
-instruction_of PushTrue = written 1 0 0
-instruction_of PushFalse = written 2 0 0
-instruction_of Not = written 3 0 0
-instruction_of (Values b) = written 4 0 b
-instruction_of Join = written 5 0 0
-instruction_of (Match a b) = written 6 a b
-instruction_of Pop = written 7 0 0
-instruction_of (Exists b) = written 8 0 b
-instruction_of Size = written 9 0 0
-instruction_of (Number b) = written 10 0 b
-instruction_of Less = written 11 0 0
-instruction_of (Jump b) = written 12 0 b
-instruction_of (JumpIf b) = written 13 0 b
-instruction_of (JumpUnless b) = written 14 0 b
-instruction_of (Marked b) = written 15 0 b
-instruction_of (Mark b) = written 16 0 b
-instruction_of (File a b) = written 17 a b
-instruction_of Keep = written 18 0 0
-instruction_of Discard = written 19 0 0
-instruction_of Stop = written 20 0 0
-instruction_of (Fault a) = written 21 a 0
-instruction_of (Call b) = written 22 0 b
-instruction_of Return = written 23 0 0
+instruction_of PushTrue = instruction 1 0 0
+instruction_of PushFalse = instruction 2 0 0
+instruction_of Not = instruction 3 0 0
+instruction_of (Values b) = instruction 4 0 b
+instruction_of Join = instruction 5 0 0
+instruction_of (Match a b) = instruction 6 a b
+instruction_of Pop = instruction 7 0 0
+instruction_of (Exists b) = instruction 8 0 b
+instruction_of Size = instruction 9 0 0
+instruction_of (Number b) = instruction 10 0 b
+instruction_of Less = instruction 11 0 0
+instruction_of (Jump b) = instruction 12 0 b
+instruction_of (JumpIf b) = instruction 13 0 b
+instruction_of (JumpUnless b) = instruction 14 0 b
+instruction_of (Marked b) = instruction 15 0 b
+instruction_of (Mark b) = instruction 16 0 b
+instruction_of (File a b) = instruction 17 a b
+instruction_of Keep = instruction 18 0 0
+instruction_of Discard = instruction 19 0 0
+instruction_of Stop = instruction 20 0 0
+instruction_of (Fault a) = instruction 21 a 0
+instruction_of (Call b) = instruction 22 0 b
+instruction_of Return = instruction 23 0 0
 
 -- a filing program: its budget in steps, the texts and numbers that its operations name, the number of its slots, in
 -- version 2 the first place of each of its procedures (none in version 1), and its code
@@ -74,8 +74,8 @@ abbrev pub first_places : Program → List ℕ
 first_places p = firsts_of p.procedures
 
 -- the list that each holds
-abbrev pub held : Option (Vec ℕ Global) → Option (List ℕ)
-held firsts = option_map (λ v. v.items) firsts
+abbrev pub list_in : Option (Vec ℕ Global) → Option (List ℕ)
+list_in firsts = option_map (λ v. v.items) firsts
 
 -- the parts of a program from the vectors that hold them
 abbrev pub parts_from : (budget : ℕ) (texts : List (Vec ℕ Global)) (numbers : List ℕ) (slots : ℕ)

@@ -45,14 +45,14 @@ many_at read (suc n) octets = do
   Some (first.0 ∷ others.0, others.1)
 
 -- the version that the last octet of a mark tells
-abbrev pub version_told : ℕ → Option Version
-version_told b = if b == 0x31 then Some One else (if b == 0x32 then Some Two else None)
+abbrev pub version_of_octet : ℕ → Option Version
+version_of_octet b = if b == 0x31 then Some One else (if b == 0x32 then Some Two else None)
 
 -- the version that the mark tells, and the octets after the mark
-unfoldable pub marked : List ℕ → Option (Version × List ℕ)
-marked (b0 ∷ b1 ∷ b2 ∷ b3 ∷ rest) = if (b0 == 0x53) && ((b1 == 0x46) && (b2 == 0x49))
-    then version_told b3 >>= (λ v. Some (v, rest)) else None
-marked _ = None
+unfoldable pub version_and_rest : List ℕ → Option (Version × List ℕ)
+version_and_rest (b0 ∷ b1 ∷ b2 ∷ b3 ∷ rest) = if (b0 == 0x53) && ((b1 == 0x46) && (b2 == 0x49))
+    then version_of_octet b3 >>= (λ v. Some (v, rest)) else None
+version_and_rest _ = None
 
 -- the count of procedures, which version 2 alone has
 unfoldable pub procedure_count_at : Version → List ℕ → Option (Option ℕ × List ℕ)
@@ -83,7 +83,7 @@ counts_at version octets = do
 
 unfoldable pub parts_at : List ℕ → Option (Parts × List ℕ)
 parts_at octets = do
-  version ← marked octets
+  version ← version_and_rest octets
   budget ← number_at w32 version.1
   counts ← counts_at version.0 budget.1
   texts ← many_at text_at counts.0.texts counts.1

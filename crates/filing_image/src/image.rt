@@ -1,7 +1,7 @@
 //! An image: the parts of a filing program that the image format can encode.
 
 ghost use Rattle.std.specs.Prelude.{◌≡◌, ◌<◌, ◌≤◌, ◌^◌, length, map, All, slice_get, IfOk, IfErr, Err, true, false, Some, None, IsTrue, ◌↔◌};
-ghost use Rattle.filing_image.specs.Program.{Program, parts, parts_from, program_from, instruction_of, version_of, firsts_of, first_places, held};
+ghost use Rattle.filing_image.specs.Program.{Program, parts, parts_from, program_from, instruction_of, version_of, firsts_of, first_places, list_in};
 ghost use Rattle.filing_image.specs.Spelling.{IsShort, IsProgram, IsOfVersion, FitsInstruction, Fits, last_operation};
 
 use crate::fault::FormFault;
@@ -26,14 +26,14 @@ pub struct Image {
 impl Model for Image {
     ghost Value = { Program };
 
-    ghost view = { λ i. record { budget = i.budget; texts = map (λ t. t.items) i.texts.items; numbers = i.numbers.items; slots = i.slots; procedures = held i.first_places; code = i.code.items } };
+    ghost view = { λ i. record { budget = i.budget; texts = map (λ t. t.items) i.texts.items; numbers = i.numbers.items; slots = i.slots; procedures = list_in i.first_places; code = i.code.items } };
 
     ghost invariant = { λ i. (length i.texts.items < 2 ^ 16) × (length i.numbers.items < 2 ^ 16) ×
         (length i.code.items < 2 ^ 16) × All (λ t. length t.items < 2 ^ 16) i.texts.items ×
         All (λ n. n < 2 ^ 64) i.numbers.items × All FitsInstruction (map instruction_of i.code.items) ×
-        (i.budget < 2 ^ 32) × (i.slots < 2 ^ 16) × (length (firsts_of (held i.first_places)) < 2 ^ 16) ×
-        All (λ f. f < 2 ^ 16) (firsts_of (held i.first_places)) ×
-        All (λ x. x.op ≤ last_operation (version_of (held i.first_places))) (map instruction_of i.code.items) };
+        (i.budget < 2 ^ 32) × (i.slots < 2 ^ 16) × (length (firsts_of (list_in i.first_places)) < 2 ^ 16) ×
+        All (λ f. f < 2 ^ 16) (firsts_of (list_in i.first_places)) ×
+        All (λ x. x.op ≤ last_operation (version_of (list_in i.first_places))) (map instruction_of i.code.items) };
 }
 
 impl Image {
@@ -104,13 +104,13 @@ impl Image {
         instructions: Vec<Instruction>,
     ) -> Result<Image, FormFault>
         ensures made { IfOk result (λ i. parts i ≡
-            parts_from budget texts.items numbers.items slots (held first_places) instructions.items) }
+            parts_from budget texts.items numbers.items slots (list_in first_places) instructions.items) }
         ensures fits { IfOk result (λ i. Fits (parts i)) }
         ensures refused { let given =
-            parts_from budget texts.items numbers.items slots (held first_places) instructions.items in
+            parts_from budget texts.items numbers.items slots (list_in first_places) instructions.items in
             result ≡ Err FormFault.BadForm → IsShort given → IsProgram given → ⊥ }
         ensures short { result ≡ Err FormFault.NoMemory →
-            IsShort (parts_from budget texts.items numbers.items slots (held first_places) instructions.items) }
+            IsShort (parts_from budget texts.items numbers.items slots (list_in first_places) instructions.items) }
     {
         if texts.len() > 65_535 || numbers.len() > 65_535 || instructions.len() > 65_535 {
             return Err(FormFault::BadForm);
@@ -152,9 +152,9 @@ impl Image {
         code: Vec<Operation>,
     ) -> Result<Image, FormFault>
         ensures made { IfOk result (λ i. i ≡
-            program_from budget texts.items numbers.items slots (held first_places) code.items) }
+            program_from budget texts.items numbers.items slots (list_in first_places) code.items) }
         ensures refused { let given =
-            parts (program_from budget texts.items numbers.items slots (held first_places) code.items) in
+            parts (program_from budget texts.items numbers.items slots (list_in first_places) code.items) in
             IfErr result (λ f. (f ≡ FormFault.BadForm) × (IsShort given → IsOfVersion given → ⊥)) }
     {
         if texts.len() > 65_535 || numbers.len() > 65_535 || code.len() > 65_535 {
@@ -277,7 +277,7 @@ fn has_long(texts: &[Vec<u8>]) -> bool
 
 /// The version of an image with these first places of procedures.
 fn version_of(first_places: &Option<Vec<u16>>) -> Version
-    ensures { result ≡ version_of (held first_places.now) }
+    ensures { result ≡ version_of (list_in first_places.now) }
 {
     match first_places {
         Some(_) => Version::Two,
@@ -287,7 +287,7 @@ fn version_of(first_places: &Option<Vec<u16>>) -> Version
 
 /// The first places of the procedures, none in version 1.
 fn listed(first_places: &Option<Vec<u16>>) -> &[u16]
-    ensures { result.now ≡ firsts_of (held first_places.now) }
+    ensures { result.now ≡ firsts_of (list_in first_places.now) }
 {
     match first_places {
         Some(firsts) => firsts,

@@ -2,9 +2,9 @@
 
 ghost use Rattle.std.specs.Prelude.{◌≡◌, List, map, option_map, IfOk, Err, Some, None};
 ghost use Rattle.std.specs.Int.{w8, w16, w32, w64};
-ghost use Rattle.filing_image.specs.Program.{Program, Parts, parts, held};
+ghost use Rattle.filing_image.specs.Program.{Program, Parts, parts, list_in};
 ghost use Rattle.filing_image.specs.Spelling.{spelling, Fits};
-ghost use Rattle.filing_image.specs.Reading.{Gives, number_at, text_at, instruction_at, many_at, version_told, marked, procedure_count_at, procedures_at, counts_at, Counts, parts_at, all_of};
+ghost use Rattle.filing_image.specs.Reading.{Gives, number_at, text_at, instruction_at, many_at, version_of_octet, version_and_rest, procedure_count_at, procedures_at, counts_at, Counts, parts_at, all_of};
 
 use crate::fault::FormFault;
 use crate::image::Image;
@@ -53,7 +53,7 @@ struct Written {
 /// The parts that the octets spell, with no octet left over.
 #[tactic(auto, unfolding(crate::specs::Reading::all_of))]
 fn all(alloc: Global, octets: &[u8]) -> Result<Written, FormFault>
-    ensures { Gives (λ w. record { budget = w.budget; texts = map (λ t. t.items) w.texts.items; numbers = w.numbers.items; slots = w.slots; procedures = held w.first_places; instructions = w.instructions.items }) result (all_of octets.now) }
+    ensures { Gives (λ w. record { budget = w.budget; texts = map (λ t. t.items) w.texts.items; numbers = w.numbers.items; slots = w.slots; procedures = list_in w.first_places; instructions = w.instructions.items }) result (all_of octets.now) }
 {
     let (written, rest) = written_at(alloc, octets)?;
     if !rest.is_empty() {
@@ -65,7 +65,7 @@ fn all(alloc: Global, octets: &[u8]) -> Result<Written, FormFault>
 /// Reads the parts of an image from the front; answers them and the rest.
 #[tactic(auto, unfolding(crate::specs::Reading::parts_at))]
 fn written_at(alloc: Global, octets: &[u8]) -> Result<(Written, &[u8]), FormFault>
-    ensures { Gives (λ x. (record { budget = x.0.budget; texts = map (λ t. t.items) x.0.texts.items; numbers = x.0.numbers.items; slots = x.0.slots; procedures = held x.0.first_places; instructions = x.0.instructions.items }, x.1.now)) result (parts_at octets.now) }
+    ensures { Gives (λ x. (record { budget = x.0.budget; texts = map (λ t. t.items) x.0.texts.items; numbers = x.0.numbers.items; slots = x.0.slots; procedures = list_in x.0.first_places; instructions = x.0.instructions.items }, x.1.now)) result (parts_at octets.now) }
 {
     let (version, rest) = after_mark(octets)?;
     let (budget, rest) = u32_at(rest)?;
@@ -86,19 +86,19 @@ fn written_at(alloc: Global, octets: &[u8]) -> Result<(Written, &[u8]), FormFaul
 }
 
 /// Reads the mark `SFI1` or `SFI2`; answers the version that it tells and the rest.
-#[tactic(auto, unfolding(crate::specs::Reading::marked))]
+#[tactic(auto, unfolding(crate::specs::Reading::version_and_rest))]
 fn after_mark(octets: &[u8]) -> Result<(Version, &[u8]), FormFault>
-    ensures { Gives (λ x. (x.0, x.1.now)) result (marked octets.now) }
+    ensures { Gives (λ x. (x.0, x.1.now)) result (version_and_rest octets.now) }
 {
     match octets {
-        [0x53, 0x46, 0x49, told, rest @ ..] => Ok((version_told(*told)?, rest)),
+        [0x53, 0x46, 0x49, told, rest @ ..] => Ok((version_of_octet(*told)?, rest)),
         _ => Err(FormFault::BadForm),
     }
 }
 
 /// The version that the last octet of a mark tells.
-fn version_told(told: u8) -> Result<Version, FormFault>
-    ensures { Gives (λ v. v) result (version_told told) }
+fn version_of_octet(told: u8) -> Result<Version, FormFault>
+    ensures { Gives (λ v. v) result (version_of_octet told) }
 {
     match told {
         0x31 => Ok(Version::One),
@@ -187,7 +187,7 @@ fn first_places_of(
     count: Option<u16>,
     octets: &[u8],
 ) -> Result<(Option<Vec<u16>>, &[u8]), FormFault>
-    ensures { Gives (λ x. (held x.0, x.1.now)) result (procedures_at count octets.now) }
+    ensures { Gives (λ x. (list_in x.0, x.1.now)) result (procedures_at count octets.now) }
 {
     match count {
         None => Ok((None, octets)),

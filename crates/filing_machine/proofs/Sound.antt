@@ -9,7 +9,7 @@ use Rattle.filing_image.specs.declared.instruction.Operation.TheVariants.{PushTr
 use Rattle.filing_image.specs.Program.{Program, first_places, firsts_of}
 use Rattle.filing_verify.specs.declared.kind.Kind.{Kind}
 use Rattle.filing_verify.specs.declared.kind.Kind.TheVariants.{Truth, Texts, Count}
-use Rattle.filing_verify.specs.Flow.{first_place, target, goes_on, Follows, Continues, Path, Reached, procedure_of}
+use Rattle.filing_verify.specs.Flow.{first_place, target, goes_on, Follows, Continues, Path, IsReached, procedure_of}
 use Rattle.filing_verify.specs.Shapes.{after, IsFine, IsAssignment}
 use Rattle.filing_verify.specs.Well.{InRange, is_call, together, next_cost, target_cost, cost_by, Suffices, IsWell}
 use Rattle.filing_verify.proofs.Procedures.{by_kind, enters, leads_inside, number_small}
@@ -196,7 +196,7 @@ module _ (p : Program) (c : Facts) (well : IsWell p) where
   -- the number of the calls before it
   pub Waits : List ℕ → Type 0
   Waits [] = Unit {0}
-  Waits (q ∷ qs) = Reached p q × (q < length p.code) × (shape q ≡ []) × (length qs ≤ procedure_of p q) × Waits qs
+  Waits (q ∷ qs) = IsReached p q × (q < length p.code) × (shape q ≡ []) × (length qs ≤ procedure_of p q) × Waits qs
 
   -- in version 1 the run is a path; in version 2 the budget covers the steps so far and the costs of what is left
   pub Spent : (x : Option (List ℕ)) → Suffices p x → ℕ → State → Type 0
@@ -205,7 +205,7 @@ module _ (p : Program) (c : Facts) (well : IsWell p) where
 
   -- a run that has not ended is at a reached place, and its stack has the shape of that place
   pub record Keeps (n : ℕ) (s : State) : Type 0 where
-    pub reached : Reached p s.place
+    pub reached : IsReached p s.place
     pub within : s.place < length p.code
     pub kinds : kinds s.stack ≡ shape s.place
     pub waits : Waits s.calls
@@ -235,7 +235,7 @@ module _ (p : Program) (c : Facts) (well : IsWell p) where
     does : Does p operation s fine.result (act p c operation s)
     does = acts p c operation s s.stack fine.result refl (ap (after operation) k.kinds ∙ fine.finds) fine.shallow_after in_range
 
-    reaches : (q : ℕ) → Follows p operation s.place q → Reached p q
+    reaches : (q : ℕ) → Follows p operation s.place q → IsReached p q
     reaches q f = (suc k.reached.0, (s.place, k.reached.1, (operation, here, f)))
 
     inside : (q : ℕ) → Follows p operation s.place q → q < length p.code

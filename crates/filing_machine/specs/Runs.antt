@@ -14,18 +14,18 @@ use Rattle.filing_machine.specs.declared.state.Standing.{Standing}
 use Rattle.filing_machine.specs.StateViews.{state, run_at, InCase, IsModest}
 
 -- what a machine keeps: its state, how far its run has come, and the number of its steps so far
-pub record Stored : Type 0 where
+pub record Snapshot : Type 0 where
   pub at : Standing
   pub progress : Progress
   pub steps : ℕ
 
 -- where the run of a machine is
-abbrev pub run_view : Facts → Stored → Run
+abbrev pub run_view : Facts → Snapshot → Run
 run_view c m = run_at m.progress (state c m.at)
 
 -- The machine is where the run of this program in this case is after the machine's steps. Before each of them the run
 -- had not ended.
-pub record Stands (p : Program) (c : Facts) (m : Stored) : Type 0 where
+pub record Stands (p : Program) (c : Facts) (m : Snapshot) : Type 0 where
   pub on_run : run_view c m ≡ after_steps p c m.steps
   pub going : (k : ℕ) → k < m.steps → (t : State) × (after_steps p c k ≡ At t)
   pub in_case : AllByRecursion (InCase c) m.at.stack
@@ -35,5 +35,5 @@ abbrev pub IsModestAt : Program → ℕ → Type 0
 IsModestAt p place = (o : Operation) → slice_get p.code place ≡ Some o → IsModest o
 
 -- The machine has ended, with or without a fault, and this is what it captures.
-abbrev pub Leaves : Stored → Outcome → Type 0
+abbrev pub Leaves : Snapshot → Outcome → Type 0
 Leaves m o = (fault : Option RunFault) × (m.progress ≡ Ended fault) × (o ≡ outcome_at fault m.at.filed m.at.kept m.at.cancelled)

@@ -34,9 +34,9 @@ pub struct Machine {
 }
 
 impl Model for Machine {
-    ghost use Rattle.filing_machine.specs.Runs.{Stored};
+    ghost use Rattle.filing_machine.specs.Runs.{Snapshot};
 
-    ghost Value = { Stored };
+    ghost Value = { Snapshot };
 
     ghost view = { λ m. record { at = m.at; progress = m.progress; steps = m.steps } };
 }

@@ -10,7 +10,7 @@ use Rattle.script_library.specs.Libraries.{NamedScript, Scripts}
 use Rattle.filing_image.specs.Program.{Program}
 use Rattle.record_store.specs.Archive.{Archive}
 use Rattle.filing_commands.specs.Office.{Office, with_globals, with_officer, with_scripts}
-use Rattle.filing_commands.specs.Pinning.{Active, Officer, PinsChosen, chosen_by, new_officer}
+use Rattle.filing_commands.specs.Pinning.{Active, Officer, PinsChoice, choice_by, new_officer}
 use Rattle.filing_commands.specs.Scripts.{library, meanings_of, put_script}
 
 -- what an officer has set: a program, and scripts as trees
@@ -49,7 +49,7 @@ with_global_script s name script = with_globals s (put_script name script s.glob
 
 -- what is pinned for an officer with those global scripts
 abbrev pub PinsFor : Officer → (globals : List (List ℕ × Commands)) → Program → Type 0
-PinsFor o globals p = PinsChosen (chosen_by o.active o.scripts) (library o.scripts globals) p
+PinsFor o globals p = PinsChoice (choice_by o.active o.scripts) (library o.scripts globals) p
 
 -- what an include finds among these scripts
 abbrev pub library_in : Scripts → Library

@@ -2,7 +2,7 @@
 
 ghost use Rattle.std.specs.Prelude.{◌≡◌, IfOk};
 ghost use Rattle.script_library.specs.BorrowedShelves.{scripts_of};
-ghost use Rattle.filing_commands.specs.Pinning.{PinsChosen, script as chosen_script, script_if, one_stop};
+ghost use Rattle.filing_commands.specs.Pinning.{PinsChoice, script as chosen_script, script_if, one_stop};
 ghost use Rattle.filing_commands.specs.Scripts.{meanings_of, script_at};
 ghost use Rattle.filing_officers.specs.Ends.{IsEnd, alone};
 ghost use Rattle.filing_officers.specs.Register.{library_in, meaning_of};
@@ -41,7 +41,7 @@ fn pin_script(
     script: &Checked,
     shelves: Shelves<'_>,
 ) -> Result<Verified, AllocError>
-    ensures { IfOk result (λ v. PinsChosen (chosen_script name.now (meaning_of script.now.script))
+    ensures { IfOk result (λ v. PinsChoice (chosen_script name.now (meaning_of script.now.script))
         (library_in (scripts_of shelves.entry)) v) }
 {
     match compile_with(alloc, script, Some(name), shelves) {
@@ -58,7 +58,7 @@ pub(crate) fn pin_named(
     shelves: Shelves<'_>,
 ) -> Result<Verified, AllocError>
     ensures { let scripts = scripts_of shelves.entry in
-        IfOk result (λ v. PinsChosen (script_if name.now (script_at name.now (meanings_of scripts.personal))) (library_in scripts) v) }
+        IfOk result (λ v. PinsChoice (script_if name.now (script_at name.now (meanings_of scripts.personal))) (library_in scripts) v) }
 {
     match shelves.personal.get(name) {
         Some(script) => pin_script(alloc, name, script, shelves),

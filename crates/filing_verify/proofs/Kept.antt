@@ -10,7 +10,7 @@ use Rattle.filing_verify.specs.declared.kind.Kind.{Kind}
 use Rattle.filing_verify.specs.declared.kind.Kind.TheVariants.{Truth, Texts, Count}
 use Rattle.filing_verify.specs.declared.fault.VerifyFault.{VerifyFault}
 use Rattle.filing_verify.specs.declared.fault.VerifyFault.TheVariants.{NoMemory, Operand, Backward, Stack, RunsOff, Budget}
-use Rattle.filing_verify.specs.Flow.{jump_target, target, goes_on, Follows, Path, Reached, procedure_of}
+use Rattle.filing_verify.specs.Flow.{jump_target, target, goes_on, Follows, Path, IsReached, procedure_of}
 use Rattle.filing_verify.specs.Shapes.{after, HasShapes}
 use Rattle.filing_verify.specs.Well.{InRange, HasProcedures, AreInRange, GoesForward, StaysInside, greatest_budget, Suffices, IsWithin, IsWell, Fails}
 use Rattle.filing_verify.specs.VersionOne as one
@@ -142,10 +142,10 @@ module _ (p : Program) (none : p.procedures ≡ None) where
     path_from zero q e = e
     path_from (suc n) q (i, path, (o, at, f)) = (i, path_from n i path, (o, at, follows_from o i q (old_at i o at) f))
 
-    reached_to : (q : ℕ) → Reached p q → one.Reached p q
+    reached_to : (q : ℕ) → IsReached p q → one.Reached p q
     reached_to q (n, path) = (n, path_to n q path)
 
-    reached_from : (q : ℕ) → one.Reached p q → Reached p q
+    reached_from : (q : ℕ) → one.Reached p q → IsReached p q
     reached_from q (n, path) = (n, path_from n q path)
 
     forward_to : GoesForward p → one.GoesForward p

@@ -7,7 +7,7 @@ use Rattle.std.proofs.lemmas.Option.{slice_get_within}
 use Rattle.std.proofs.lemmas.Bool.{cases_lt}
 use Rattle.filing_image.specs.Program.{Program}
 use Rattle.filing_image.specs.declared.instruction.Operation.{Operation}
-use Rattle.filing_verify.specs.Flow.{target, goes_on, Follows, Leads, Path, Reached}
+use Rattle.filing_verify.specs.Flow.{target, goes_on, Follows, Leads, Path, IsReached}
 use Rattle.filing_verify.specs.Passes.{GoesOnward, by_target, by_next, cost_at, Costs}
 
 abbrev at : List ℕ → ℕ → ℕ
@@ -51,20 +51,20 @@ module _ (program : Program) (i : ℕ) (costs : List ℕ) (forward : GoesOnward 
   onto : (p : ℕ) → i ≤ p → (i + 1 ≤ p) ⊎ (p ≡ i)
   onto p le = elim (cases_lt i p) [ inl a ↦ inl (omega arith) | inr b ↦ inr (omega arith) ]
 
-  pub unreached : (Reached program i → ⊥) → Costs program i costs
+  pub unreached : (IsReached program i → ⊥) → Costs program i costs
   unreached never = record {
     long = so_far.long;
     small = so_far.small;
-    some = λ p le lt r. elim (onto p le) [ inl a ↦ so_far.some p a lt r | inr e ↦ absurd (never (subst (Reached program) e r)) ];
-    upper = λ p q le r leads lt. elim (onto p le) [ inl a ↦ so_far.upper p q a r leads lt | inr e ↦ absurd (never (subst (Reached program) e r)) ];
-    attained = λ p le lt r. elim (onto p le) [ inl a ↦ so_far.attained p a lt r | inr e ↦ absurd (never (subst (Reached program) e r)) ];
+    some = λ p le lt r. elim (onto p le) [ inl a ↦ so_far.some p a lt r | inr e ↦ absurd (never (subst (IsReached program) e r)) ];
+    upper = λ p q le r leads lt. elim (onto p le) [ inl a ↦ so_far.upper p q a r leads lt | inr e ↦ absurd (never (subst (IsReached program) e r)) ];
+    attained = λ p le lt r. elim (onto p le) [ inl a ↦ so_far.attained p a lt r | inr e ↦ absurd (never (subst (IsReached program) e r)) ];
   }
 
-  module _ (o : Operation) (here : slice_get program.code i ≡ Some o) (reached : Reached program i) where
+  module _ (o : Operation) (here : slice_get program.code i ≡ Some o) (reached : IsReached program i) where
     v : ℕ
     v = cost_at program o i costs
 
-    later : (p q : ℕ) → i ≤ p → Reached program p → Leads program p q → i < q
+    later : (p q : ℕ) → i ≤ p → IsReached program p → Leads program p q → i < q
     later p q le r (o', at', inl (g, e)) = omega arith
     later p q le r (o', at', inr to) = let lt : p < q = forward p q o' r at' to in omega arith
 

@@ -13,7 +13,7 @@ use Rattle.filing_image.specs.Program.{Program, first_places, firsts_of, version
 use Rattle.filing_image.specs.declared.version.Version.TheVariants.{One, Two}
 use Rattle.filing_image.specs.declared.instruction.Operation.{Operation}
 use Rattle.filing_image.specs.declared.instruction.Operation.TheVariants.{Jump, JumpIf, JumpUnless, Call}
-use Rattle.filing_verify.specs.Flow.{jump_target, first_place, target, Reached, Continues, procedure_of}
+use Rattle.filing_verify.specs.Flow.{jump_target, first_place, target, IsReached, Continues, procedure_of}
 use Rattle.filing_verify.specs.Well.{InRange, Ascends, AreProcedures, HasProcedures, AreInRange, GoesForward, StaysInside}
 use Rattle.filing_verify.specs.Passes.{GoesOnward, LeadsInside, RunsOn}
 
@@ -217,7 +217,7 @@ module _ (program : Program) (in_range : AreInRange program) where
   jump_within o q h e = absurd cc
 
   -- where no place runs on into another procedure, or past the end
-  pub stays : ((p : ℕ) → p < length program.code → Reached program p → RunsOn program p → ⊥) → (p q : ℕ) → Reached program p → Continues program p q → (q < length program.code) × (procedure_of program q ≡ procedure_of program p)
+  pub stays : ((p : ℕ) → p < length program.code → IsReached program p → RunsOn program p → ⊥) → (p q : ℕ) → IsReached program p → Continues program p q → (q < length program.code) × (procedure_of program q ≡ procedure_of program p)
   stays never p q reached (o, at, inl (g, e)) =
       let within = slice_get_within program.code p o at in
       let there : p + 1 < length program.code = elim (cases_lt (p + 1) (length program.code)) [

@@ -7,10 +7,10 @@ use Rattle.filing_image.specs.Program.{Program, parts}
 use Rattle.filing_image.specs.Spelling.{spelling}
 use Rattle.filing_verify.specs.declared.kind.Kind.TheVariants.{Truth}
 use Rattle.filing_verify.specs.declared.fault.VerifyFault.TheVariants.{Operand, Backward, Stack, RunsOff, Budget}
-use Rattle.filing_verify.specs.Flow.{jump_target, goes_on, Reached, Continues, procedure_of}
+use Rattle.filing_verify.specs.Flow.{jump_target, goes_on, IsReached, Continues, procedure_of}
 use Rattle.filing_verify.specs.Shapes.{after, HasShapes}
 use Rattle.filing_verify.specs.Well.{InRange, Ascends, AreProcedures, AreInRange, GoesForward, StaysInside, AreCosts, Suffices, IsWell, Fails}
-use Rattle.filing_verify.specs.Passes.{listed}
+use Rattle.filing_verify.specs.Passes.{cost_in}
 
 -- procedure 0 has places 0 and 1, and procedure 1 has places 2 and 3
 abbrev program : ℕ → Operation → Operation → Operation → Program
@@ -50,16 +50,16 @@ same_way : (x o : Operation) → Some x ≡ Some o → goes_on x ≡ goes_on o
 same_way x o e = let same : x ≡ o = cc in ap goes_on same
 
 module _ (budget : ℕ) (c d : Operation) where
-  at_start : Reached (calling budget c d) 0
+  at_start : IsReached (calling budget c d) 0
   at_start = (0, refl)
 
-  after_call : Reached (calling budget c d) 1
+  after_call : IsReached (calling budget c d) 1
   after_call = (1, (0, refl, (Call 1, refl, inl (refl, refl))))
 
-  in_callee : Reached (calling budget c d) 2
+  in_callee : IsReached (calling budget c d) 2
   in_callee = (1, (0, refl, (Call 1, refl, inr refl)))
 
-  at_end : goes_on c ≡ true → Reached (calling budget c d) 3
+  at_end : goes_on c ≡ true → IsReached (calling budget c d) 3
   at_end on = (2, (2, (0, refl, (Call 1, refl, inr refl)), (c, refl, inl (on, refl))))
 
   module _ (c_stays : jump_target c ≡ None) (d_stays : jump_target d ≡ None) where
@@ -128,7 +128,7 @@ stays budget = record { some = omega arith; inside = λ i q reached on. inside b
 -- ---- its costs: a call costs a step, what its procedure costs, and what follows it
 
 abbrev costs : ℕ → ℕ
-costs = listed (4 ∷ 1 ∷ 2 ∷ 1 ∷ [])
+costs = cost_in (4 ∷ 1 ∷ 2 ∷ 1 ∷ [])
 
 are_costs : AreCosts worked costs
 are_costs zero o reached at = let e : Call 1 ≡ o = cc in rw (← e) refl

@@ -7,9 +7,9 @@ use Rattle.std.proofs.lemmas.Option.{slice_get_within}
 use Rattle.std.proofs.lemmas.Bool.{cases_lt, eqb-true}
 use Rattle.filing_image.specs.Program.{Program}
 use Rattle.filing_image.specs.declared.instruction.Operation.{Operation}
-use Rattle.filing_verify.specs.Flow.{target, goes_on, Follows, Reached}
+use Rattle.filing_verify.specs.Flow.{target, goes_on, Follows, IsReached}
 use Rattle.filing_verify.specs.Well.{is_call, together, next_cost, target_cost, cost_by, AreCosts}
-use Rattle.filing_verify.specs.Passes.{GoesOnward, LeadsInside, AreCostsFrom, listed, too_much, Costing}
+use Rattle.filing_verify.specs.Passes.{GoesOnward, LeadsInside, AreCostsFrom, cost_in, too_much, Costing}
 
 -- ---- one operation
 
@@ -50,12 +50,12 @@ capped_cost program o p t c d h =
 -- ---- one place after another
 
 -- before the first place is looked at, and nothing is known
-pub begins : (program : Program) (costs : List ℕ) (n : ℕ) → n ≡ length program.code → length costs ≡ length program.code → ((k : ℕ) → k < length program.code → listed costs k ≡ 0) → Costing program n costs
+pub begins : (program : Program) (costs : List ℕ) (n : ℕ) → n ≡ length program.code → length costs ≡ length program.code → ((k : ℕ) → k < length program.code → cost_in costs k ≡ 0) → Costing program n costs
 begins program costs n many long zero = record {
   long = long;
   small = λ k. elim (cases_lt k (length program.code)) [
     | inl lt ↦ let e = zero k lt in omega arith
-    | inr past ↦ let e : listed costs k ≡ 0 = get_or_past costs k 0 (omega arith) in omega arith
+    | inr past ↦ let e : cost_in costs k ≡ 0 = get_or_past costs k 0 (omega arith) in omega arith
   ];
   there = (λ _. 0, λ p o le r at. absurd (omega (arith, slice_get_within program.code p o at)));
   are = λ cost from p le lt r. absurd (omega arith);
@@ -68,16 +68,16 @@ module _ (program : Program) (i : ℕ) (costs : List ℕ) (onward : GoesOnward p
   fewer : (cost : ℕ → ℕ) → AreCostsFrom program i cost → AreCostsFrom program (i + 1) cost
   fewer cost from p o le r at = from p o (omega arith) r at
 
-  pub unreached : (Reached program i → ⊥) → Costing program i costs
+  pub unreached : (IsReached program i → ⊥) → Costing program i costs
   unreached never = record {
     long = so_far.long;
     small = so_far.small;
-    there = (so_far.there.0, λ p o le r at. elim (onto p le) [ inl a ↦ so_far.there.1 p o a r at | inr e ↦ absurd (never (subst (Reached program) e r)) ]);
-    are = λ cost from p le lt r. elim (onto p le) [ inl a ↦ so_far.are cost (fewer cost from) p a lt r | inr e ↦ absurd (never (subst (Reached program) e r)) ];
+    there = (so_far.there.0, λ p o le r at. elim (onto p le) [ inl a ↦ so_far.there.1 p o a r at | inr e ↦ absurd (never (subst (IsReached program) e r)) ]);
+    are = λ cost from p le lt r. elim (onto p le) [ inl a ↦ so_far.are cost (fewer cost from) p a lt r | inr e ↦ absurd (never (subst (IsReached program) e r)) ];
   }
 
-  module _ (o : Operation) (here : slice_get program.code i ≡ Some o) (reached : Reached program i) where
-    later : (p q : ℕ) (x : Operation) → i ≤ p → Reached program p → slice_get program.code p ≡ Some x → Follows program x p q → i < q
+  module _ (o : Operation) (here : slice_get program.code i ≡ Some o) (reached : IsReached program i) where
+    later : (p q : ℕ) (x : Operation) → i ≤ p → IsReached program p → slice_get program.code p ≡ Some x → Follows program x p q → i < q
     later p q x le r at (inl (g, e)) = omega arith
     later p q x le r at (inr to) = let lt : p < q = onward p q x r at to in omega arith
 
@@ -100,7 +100,7 @@ module _ (program : Program) (i : ℕ) (costs : List ℕ) (onward : GoesOnward p
     unfolding new
     new_other k lt = other_by k (eqb k i) refl (λ e. omega arith)
 
-    new_follows : (p : ℕ) (x : Operation) → i ≤ p → Reached program p → slice_get program.code p ≡ Some x → cost_by program old p x ≡ cost_by program new p x
+    new_follows : (p : ℕ) (x : Operation) → i ≤ p → IsReached program p → slice_get program.code p ≡ Some x → cost_by program old p x ≡ cost_by program new p x
     new_follows p x le r at = same_cost program x p old new (λ q f. sym (new_other q (later p q x le r at f)))
 
     was : AreCostsFrom program (i + 1) old
@@ -116,18 +116,18 @@ module _ (program : Program) (i : ℕ) (costs : List ℕ) (onward : GoesOnward p
     ]
 
     v : ℕ
-    v = min (cost_by program (listed costs) i o) too_much
+    v = min (cost_by program (cost_in costs) i o) too_much
 
     within : i < length costs
     within = omega (arith, slice_get_within program.code i o here, so_far.long)
 
-    v_here : listed (set costs i v) i ≡ v
+    v_here : cost_in (set costs i v) i ≡ v
     v_here = get_or-set_same costs i v 0 within
 
-    v_below : (q : ℕ) → q < i → listed (set costs i v) q ≡ listed costs q
+    v_below : (q : ℕ) → q < i → cost_in (set costs i v) q ≡ cost_in costs q
     v_below q lt = get_or-set_other costs i q v 0 (omega arith)
 
-    v_above : (q : ℕ) → i < q → listed (set costs i v) q ≡ listed costs q
+    v_above : (q : ℕ) → i < q → cost_in (set costs i v) q ≡ cost_in costs q
     v_above q lt = get_or-set_other costs i q v 0 (omega arith)
 
     v_small : v ≤ too_much
@@ -137,10 +137,10 @@ module _ (program : Program) (i : ℕ) (costs : List ℕ) (onward : GoesOnward p
     v_is : (cost : ℕ → ℕ) → AreCostsFrom program i cost → v ≡ min (cost i) too_much
     unfolding v
     v_is cost from =
-        capped_cost program o i too_much (listed costs) cost (λ q f. so_far.are cost (fewer cost from) q (omega (arith, later i q o (omega arith) reached here f)) (inside i q reached (o, here, f)) (goes_to q f))
+        capped_cost program o i too_much (cost_in costs) cost (λ q f. so_far.are cost (fewer cost from) q (omega (arith, later i q o (omega arith) reached here f)) (inside i q reached (o, here, f)) (goes_to q f))
         ∙ ap (λ (n : ℕ). min n too_much) (sym (from i o (omega arith) reached here))
       where
-        goes_to : (q : ℕ) → Follows program o i q → Reached program q
+        goes_to : (q : ℕ) → Follows program o i q → IsReached program q
         goes_to q f = (suc reached.0, (i, reached.1, (o, here, f)))
 
     set_v : Costing program i (set costs i v)
@@ -160,7 +160,7 @@ module _ (program : Program) (i : ℕ) (costs : List ℕ) (onward : GoesOnward p
       ];
     }
 
-    pub set_cost : Costing program i (set costs i (min (cost_by program (listed costs) i o) too_much))
+    pub set_cost : Costing program i (set costs i (min (cost_by program (cost_in costs) i o) too_much))
     unfolding v
     set_cost = set_v
 
@@ -170,5 +170,5 @@ module _ (program : Program) (costs : List ℕ) (all : Costing program 0 costs) 
   pub there : (cost : ℕ → ℕ) × AreCosts program cost
   there = (all.there.0, λ p o r at. all.there.1 p o (omega arith) r at)
 
-  pub is : 0 < length program.code → (cost : ℕ → ℕ) → AreCosts program cost → listed costs 0 ≡ min (cost 0) too_much
+  pub is : 0 < length program.code → (cost : ℕ → ℕ) → AreCosts program cost → cost_in costs 0 ≡ min (cost 0) too_much
   is some cost costs_are = all.are cost (λ p o le r at. costs_are p o r at) 0 (omega arith) some (0, refl)

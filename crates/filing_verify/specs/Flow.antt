@@ -43,8 +43,8 @@ Path program zero q = q ≡ 0
 Path program (suc n) q = (p : ℕ) × Path program n p × Leads program p q
 
 -- Some path leads from place 0 to q.
-abbrev pub Reached : Program → ℕ → Type 0
-Reached program q = (n : ℕ) × Path program n q
+abbrev pub IsReached : Program → ℕ → Type 0
+IsReached program q = (n : ℕ) × Path program n q
 
 -- the number of the procedure that a place is in: each reaches from its first place to that of the next one; 0 in version
 -- 1, whose code is one piece

@@ -3,18 +3,18 @@ use Rattle.std.specs.Prelude.{◌≡◌, ◌≢◌, ℕ, ◌+◌, ◌<◌, ◌�
 use Rattle.filing_image.specs.Program.{Program}
 use Rattle.filing_image.specs.declared.instruction.Operation.{Operation}
 use Rattle.filing_verify.specs.declared.kind.Kind.{Kind}
-use Rattle.filing_verify.specs.Flow.{jump_target, target, goes_on, Follows, Leads, Reached, procedure_of}
+use Rattle.filing_verify.specs.Flow.{jump_target, target, goes_on, Follows, Leads, IsReached, procedure_of}
 use Rattle.filing_verify.specs.Shapes.{after, IsAssignment}
 use Rattle.filing_verify.specs.Well.{cost_by}
 
 -- each reached jump and each reached call goes to a greater place
 abbrev pub GoesOnward : Program → Type 0
-GoesOnward program = (p q : ℕ) (o : Operation) → Reached program p → slice_get program.code p ≡ Some o →
+GoesOnward program = (p q : ℕ) (o : Operation) → IsReached program p → slice_get program.code p ≡ Some o →
     target program o ≡ Some q → p < q
 
 -- each successor of a reached place is a place of the code
 abbrev pub LeadsInside : Program → Type 0
-LeadsInside program = (p q : ℕ) → Reached program p → Leads program p q → q < length program.code
+LeadsInside program = (p q : ℕ) → IsReached program p → Leads program p q → q < length program.code
 
 -- The run goes on from place p to the next one, which is no place of its procedure.
 pub record RunsOn (program : Program) (p : ℕ) : Type 0 where
@@ -29,7 +29,7 @@ IsMarked ms p = slice_get ms p ≡ Some true
 -- each place has a mark, which is set exactly where the place is reached
 abbrev pub MarksReached : Program → List Bool → Type 0
 MarksReached program ms = (length ms ≡ length program.code) ×
-    ((p : ℕ) → p < length program.code → (IsMarked ms p ↔ Reached program p))
+    ((p : ℕ) → p < length program.code → (IsMarked ms p ↔ IsReached program p))
 
 -- the marks with that of the place that a jump names set
 abbrev pub with_target : Option ℕ → List Bool → List Bool
@@ -44,7 +44,7 @@ with_next false p ms = ms
 pub record Marks (program : Program) (i : ℕ) (ms : List Bool) : Type 0 where
   pub long : length ms ≡ length program.code
   pub first : 0 < length program.code → IsMarked ms 0
-  pub sound : (p : ℕ) → IsMarked ms p → Reached program p
+  pub sound : (p : ℕ) → IsMarked ms p → IsReached program p
   pub closed : (p q : ℕ) → p < i → IsMarked ms p → Leads program p q → q < length program.code → IsMarked ms q
   pub forward : (p q : ℕ) (o : Operation) → p < i → IsMarked ms p → slice_get program.code p ≡ Some o →
       target program o ≡ Some q → p < q
@@ -73,7 +73,7 @@ pub record Clashes (old : List (Option (List Kind))) (At : ℕ → Type 0) (r : 
 pub record Shaping (program : Program) (i : ℕ) (table : List (Option (List Kind))) : Type 0 where
   pub long : length table ≡ length program.code
   pub first : 0 < length program.code → Has table 0 []
-  pub reached : (p : ℕ) (ks : List Kind) → Has table p ks → Reached program p
+  pub reached : (p : ℕ) (ks : List Kind) → Has table p ks → IsReached program p
   pub shallow : (p : ℕ) (ks : List Kind) → Has table p ks → length ks ≤ 32
   pub forced : (p : ℕ) (ks : List Kind) → Has table p ks → (shape : ℕ → List Kind) → IsAssignment program shape →
       shape p ≡ ks
@@ -98,21 +98,21 @@ cost_at program o p costs = 1 + max (by_next (goes_on o) p costs) (by_target (ta
 pub record Costs (program : Program) (i : ℕ) (costs : List ℕ) : Type 0 where
   pub long : length costs ≡ length program.code
   pub small : (p : ℕ) → p < length program.code → slice_index_or costs p 0 + p ≤ length program.code
-  pub some : (p : ℕ) → i ≤ p → p < length program.code → Reached program p → 1 ≤ slice_index_or costs p 0
-  pub upper : (p q : ℕ) → i ≤ p → Reached program p → Leads program p q → q < length program.code →
+  pub some : (p : ℕ) → i ≤ p → p < length program.code → IsReached program p → 1 ≤ slice_index_or costs p 0
+  pub upper : (p q : ℕ) → i ≤ p → IsReached program p → Leads program p q → q < length program.code →
       slice_index_or costs q 0 + 1 ≤ slice_index_or costs p 0
-  pub attained : (p : ℕ) → i ≤ p → p < length program.code → Reached program p → (slice_index_or costs p 0 ≡ 1) ⊎
+  pub attained : (p : ℕ) → i ≤ p → p < length program.code → IsReached program p → (slice_index_or costs p 0 ≡ 1) ⊎
       ((q : ℕ) × (q < length program.code) × Leads program p q ×
       (slice_index_or costs q 0 + 1 ≡ slice_index_or costs p 0))
 
 -- the costs in steps of the reached places from i on
 abbrev pub AreCostsFrom : Program → ℕ → (ℕ → ℕ) → Type 0
-AreCostsFrom program i cost = (p : ℕ) (o : Operation) → i ≤ p → Reached program p → slice_get program.code p ≡ Some o →
+AreCostsFrom program i cost = (p : ℕ) (o : Operation) → i ≤ p → IsReached program p → slice_get program.code p ≡ Some o →
     cost p ≡ cost_by program cost p o
 
 -- the cost of each place by a table; places past the end cost 0
-abbrev pub listed : List ℕ → ℕ → ℕ
-listed costs p = slice_index_or costs p 0
+abbrev pub cost_in : List ℕ → ℕ → ℕ
+cost_in costs p = slice_index_or costs p 0
 
 -- more than any budget: the table has it for this cost and all greater ones
 abbrev pub too_much : ℕ
@@ -121,10 +121,10 @@ too_much = 1000001
 -- the table has the cost of each reached place from i on, or too_much where that is less
 pub record Costing (program : Program) (i : ℕ) (costs : List ℕ) : Type 0 where
   pub long : length costs ≡ length program.code
-  pub small : (p : ℕ) → listed costs p ≤ too_much
+  pub small : (p : ℕ) → cost_in costs p ≤ too_much
   pub there : (cost : ℕ → ℕ) × AreCostsFrom program i cost
   pub are : (cost : ℕ → ℕ) → AreCostsFrom program i cost → (p : ℕ) → i ≤ p → p < length program.code →
-      Reached program p → listed costs p ≡ min (cost p) too_much
+      IsReached program p → cost_in costs p ≡ min (cost p) too_much
 
 -- The jump at this place goes to a place of another procedure.
 pub record JumpsOut (program : Program) (p : ℕ) : Type 0 where

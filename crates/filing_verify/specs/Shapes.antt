@@ -5,7 +5,7 @@ use Rattle.filing_image.specs.declared.instruction.Operation.{Operation}
 use Rattle.filing_image.specs.declared.instruction.Operation.TheVariants.{PushTrue, PushFalse, Not, Values, Join, Match, Pop, Exists, Size, Number, Less, Jump, JumpIf, JumpUnless, Marked, Mark, File, Keep, Discard, Stop, Fault, Call, Return}
 use Rattle.filing_verify.specs.declared.kind.Kind.{Kind}
 use Rattle.filing_verify.specs.declared.kind.Kind.TheVariants.{Truth, Texts, Count}
-use Rattle.filing_verify.specs.Flow.{Follows, Reached}
+use Rattle.filing_verify.specs.Flow.{Follows, IsReached}
 
 -- the kinds after the operation, or None where it does not find its operands
 abbrev pub after : Operation → List Kind → Option (List Kind)
@@ -54,7 +54,7 @@ pub record IsFine (program : Program) (shape : ℕ → List Kind) (p : ℕ) (o :
 -- Place 0 has the empty shape, and each operation that is reached is fine.
 pub record IsAssignment (program : Program) (shape : ℕ → List Kind) : Type 0 where
   pub start : shape 0 ≡ []
-  pub each : (p : ℕ) (o : Operation) → Reached program p → slice_get program.code p ≡ Some o → IsFine program shape p o
+  pub each : (p : ℕ) (o : Operation) → IsReached program p → slice_get program.code p ≡ Some o → IsFine program shape p o
 
 -- some assignment of shapes to the places that are reached
 abbrev pub HasShapes : Program → Type 0

@@ -38,8 +38,8 @@ Path program zero q = q ≡ 0
 Path program (suc n) q = (p : ℕ) × Path program n p × Leads program p q
 
 -- Some path leads from place 0 to q.
-abbrev pub Reached : Program → ℕ → Type 0
-Reached program q = (n : ℕ) × Path program n q
+abbrev pub IsReached : Program → ℕ → Type 0
+IsReached program q = (n : ℕ) × Path program n q
 
 -- the kinds after the operation, or None where it does not find its operands
 abbrev pub after : Operation → List Kind → Option (List Kind)
@@ -85,7 +85,7 @@ pub record IsFine (program : Program) (shape : ℕ → List Kind) (p : ℕ) (o :
 -- Place 0 has the empty shape, and each operation that is reached is fine.
 pub record IsAssignment (program : Program) (shape : ℕ → List Kind) : Type 0 where
   pub start : shape 0 ≡ []
-  pub each : (p : ℕ) (o : Operation) → Reached program p → slice_get program.code p ≡ Some o → IsFine program shape p o
+  pub each : (p : ℕ) (o : Operation) → IsReached program p → slice_get program.code p ≡ Some o → IsFine program shape p o
 
 -- some assignment of shapes to the places that are reached
 abbrev pub HasShapes : Program → Type 0
@@ -116,13 +116,13 @@ pub record AreInRange (p : Program) : Type 0 where
 
 -- each reached jump goes to a greater place
 abbrev pub GoesForward : Program → Type 0
-GoesForward program = (p q : ℕ) (o : Operation) → Reached program p → slice_get program.code p ≡ Some o →
+GoesForward program = (p q : ℕ) (o : Operation) → IsReached program p → slice_get program.code p ≡ Some o →
     target o ≡ Some q → p < q
 
 -- there is a place, and no reached place leads to the one past the end
 pub record StaysInside (program : Program) : Type 0 where
   pub some : 0 < length program.code
-  pub inside : (p : ℕ) → Reached program p → Leads program p (length program.code) → ⊥
+  pub inside : (p : ℕ) → IsReached program p → Leads program p (length program.code) → ⊥
 
 -- the budget is 1 to 65,535, and no path of successors from place 0 has more places than it
 pub record IsWithin (program : Program) : Type 0 where

@@ -5,7 +5,7 @@ use Rattle.filing_image.specs.declared.instruction.Operation.{Operation}
 use Rattle.filing_image.specs.declared.instruction.Operation.TheVariants.{Values, Match, Exists, Number, Jump, JumpIf, JumpUnless, Marked, Mark, File, Fault, Call, Return}
 use Rattle.filing_verify.specs.declared.fault.VerifyFault.{VerifyFault}
 use Rattle.filing_verify.specs.declared.fault.VerifyFault.TheVariants.{NoMemory, Operand, Backward, Stack, RunsOff, Budget}
-use Rattle.filing_verify.specs.Flow.{jump_target, target, goes_on, Path, Reached, procedure_of, Continues}
+use Rattle.filing_verify.specs.Flow.{jump_target, target, goes_on, Path, IsReached, procedure_of, Continues}
 use Rattle.filing_verify.specs.Shapes.{HasShapes}
 
 -- each operand names something that exists, or has one of its values: for Match, 0 to 5 are the comparisons; for File,
@@ -60,14 +60,14 @@ pub record AreInRange (p : Program) : Type 0 where
 -- each reached jump goes to a greater place, and each reached call to a procedure whose number is greater than that of
 -- its own
 pub record GoesForward (program : Program) : Type 0 where
-  pub jumps : (p q : ℕ) (o : Operation) → Reached program p → slice_get program.code p ≡ Some o →
+  pub jumps : (p q : ℕ) (o : Operation) → IsReached program p → slice_get program.code p ≡ Some o →
       jump_target o ≡ Some q → p < q
-  pub calls : (p b : ℕ) → Reached program p → slice_get program.code p ≡ Some (Call b) → procedure_of program p < b
+  pub calls : (p b : ℕ) → IsReached program p → slice_get program.code p ≡ Some (Call b) → procedure_of program p < b
 
 -- there is a place, and no reached place goes on or jumps out of its own procedure, nor past the end
 pub record StaysInside (program : Program) : Type 0 where
   pub some : 0 < length program.code
-  pub inside : (p q : ℕ) → Reached program p → Continues program p q →
+  pub inside : (p q : ℕ) → IsReached program p → Continues program p q →
       (q < length program.code) × (procedure_of program q ≡ procedure_of program p)
 
 -- the greatest budget that a program may declare: more in version 2
@@ -99,7 +99,7 @@ cost_by program cost p o = 1 + together (is_call o) (next_cost (goes_on o) p cos
 
 -- the costs in steps of the reached places
 abbrev pub AreCosts : Program → (ℕ → ℕ) → Type 0
-AreCosts program cost = (p : ℕ) (o : Operation) → Reached program p → slice_get program.code p ≡ Some o →
+AreCosts program cost = (p : ℕ) (o : Operation) → IsReached program p → slice_get program.code p ≡ Some o →
     cost p ≡ cost_by program cost p o
 
 -- the budget covers, in version 1, the places of each path from place 0, and in version 2 the cost of place 0

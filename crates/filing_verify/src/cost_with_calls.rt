@@ -1,7 +1,7 @@
 //! The cost of each place in steps, of which the budget of version 2 must cover the first.
 
 ghost use Rattle.std.specs.Prelude.{◌≡◌, ◌<◌, ◌≤◌, ◌+◌, ℕ, IfOk, length, min};
-ghost use Rattle.filing_verify.specs.Passes.{GoesOnward, LeadsInside, MarksReached, Costing, listed, too_much};
+ghost use Rattle.filing_verify.specs.Passes.{GoesOnward, LeadsInside, MarksReached, Costing, cost_in, too_much};
 ghost use Rattle.filing_verify.specs.Well.{AreCosts, cost_by, together, is_call};
 
 use crate::flow::{goes_on, operation_at, place_count, target};
@@ -46,9 +46,9 @@ fn set_cost(image: &Image, marks: &[bool], costs: &mut [u32], place: usize)
 
 /// The cost of a place from its operation and the costs of the places after it.
 fn cost(image: &Image, operation: Operation, place: usize, costs: &[u32]) -> u32
-    requires small { (p : ℕ) → listed costs.now p ≤ too_much }
+    requires small { (p : ℕ) → cost_in costs.now p ≤ too_much }
     requires within { place < length costs.now }
-    ensures { result ≡ min (cost_by image.now (listed costs.now) place operation) too_much }
+    ensures { result ≡ min (cost_by image.now (cost_in costs.now) place operation) too_much }
 {
     let next = if goes_on(operation) {
         at(costs, place + 1)
@@ -76,8 +76,8 @@ fn together(operation: Operation, next: u32, target: u32) -> u32
 
 /// The cost of a place; 0 past the end.
 fn at(costs: &[u32], place: usize) -> u32
-    requires { (p : ℕ) → listed costs.now p ≤ too_much }
-    ensures is { result ≡ listed costs.now place }
+    requires { (p : ℕ) → cost_in costs.now p ≤ too_much }
+    ensures is { result ≡ cost_in costs.now place }
     ensures small { result ≤ too_much }
 {
     if place < costs.len() { costs[place] } else { 0 }

@@ -1,7 +1,7 @@
 //! Whether the code runs off its end, or from one procedure into the next.
 
 ghost use Rattle.std.specs.Prelude.{◌≡◌, ◌<◌, ◌+◌, true, false, length};
-ghost use Rattle.filing_verify.specs.Flow.{Reached, procedure_of};
+ghost use Rattle.filing_verify.specs.Flow.{IsReached, procedure_of};
 ghost use Rattle.filing_verify.specs.Passes.{MarksReached, RunsOn};
 ghost use Rattle.filing_verify.specs.Well.{AreInRange, StaysInside};
 
@@ -32,8 +32,8 @@ fn runs_on(image: &Image, marks: &[bool], place: usize) -> bool
     requires within { place < length image.now.code }
     requires in_range { AreInRange image.now }
     requires marks { MarksReached image.now marks.now }
-    ensures off { result ≡ true → Reached image.now place × RunsOn image.now place }
-    ensures on { result ≡ false → Reached image.now place → RunsOn image.now place → ⊥ }
+    ensures off { result ≡ true → IsReached image.now place × RunsOn image.now place }
+    ensures on { result ≡ false → IsReached image.now place → RunsOn image.now place → ⊥ }
 {
     if !marks[place] {
         return false;

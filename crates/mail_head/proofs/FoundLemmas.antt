@@ -7,7 +7,7 @@ use Rattle.std.specs.List.{All}
 use Rattle.mail_head.specs.declared.reading.FoundField.{FoundField}
 use Rattle.mail_head.specs.Lines.{header_of, logical_lines}
 use Rattle.mail_head.specs.Fields.{field_of, fields_of}
-use Rattle.mail_head.specs.Found.{IsFirstField}
+use Rattle.mail_head.specs.FirstField.{IsFirstField}
 use Rattle.mail_head.specs.Starts.{field_from, IsFieldStart}
 use Rattle.mail_head.proofs.FieldLemmas.{fields_of-some, fields_of-none, fields_of-done}
 

@@ -6,8 +6,8 @@ use Rattle.std.specs.Prelude.{nat_lt, count_by, ◌==◌}
 use Rattle.std.specs.List.{filter_map, cons_option}
 use Rattle.mail_head.specs.Lines.{into_first, raw_lines, without_end, begins_blank, header_lines, header_of, logical_from, logical_lines}
 use Rattle.mail_head.specs.Fields.{field_of, fields_of}
-use Rattle.mail_head.specs.Pieces.{Reader, Owned, header_octets, reader_of}
-use Rattle.mail_head.specs.Parts.{IsPart, IsNextPart, with_part, gained}
+use Rattle.mail_head.specs.Pieces.{Reader, OwnedHeader, header_octets, reader_of}
+use Rattle.mail_head.specs.Parts.{IsPart, IsNextPart, with_part, gain}
 use Rattle.mail_head.specs.declared.parts.HeaderPart.{HeaderPart}
 use Rattle.mail_head.specs.declared.parts.HeaderPart.TheVariants.{Front, LessCr}
 use Rattle.mail_head.proofs.FeedLemmas.{header_octets_ended, header_octets_whole, fields_of-kept}
@@ -72,14 +72,14 @@ pub fields_room : (bs : List ℕ) (n room : ℕ) → count_by (λ b. b == 10) bs
 fields_room [] n room e h = omega (arith, fields_none)
 fields_room (b ∷ bs) n room e h = omega (arith, length-fields_of (b ∷ bs), h (omega arith))
 
-pub owned_is : (a : Owned) (fields : List (List ℕ × List ℕ)) (size : ℕ) (octets : List ℕ) → a.fields ≡ fields → a.size ≡ size → a.octets ≡ octets → a ≡ record { fields = fields; size = size; octets = octets }
+pub owned_is : (a : OwnedHeader) (fields : List (List ℕ × List ℕ)) (size : ℕ) (octets : List ℕ) → a.fields ≡ fields → a.size ≡ size → a.octets ≡ octets → a ≡ record { fields = fields; size = size; octets = octets }
 owned_is a fields size octets ef es eo = rw (← ef, ← es, ← eo) refl
 
 pub reader_is : (r : Reader) (kept : List ℕ) (size : ℕ) (refuses : Bool) → r.kept ≡ kept → r.size ≡ size → r.refuses ≡ refuses → r ≡ record { kept = kept; size = size; refuses = refuses }
 reader_is r kept size refuses ek es er = rw (← ek, ← es, ← er) refl
 
 -- the header that a reader keeps
-pub finished : (a : Owned) (r : Reader) (kept : List ℕ) (message : List ℕ) → r ≡ reader_of message → a.fields ≡ fields_of r.kept → a.size ≡ r.size → a.octets ≡ r.kept → a ≡ record { fields = fields_of message; size = length message; octets = header_octets message }
+pub finished : (a : OwnedHeader) (r : Reader) (kept : List ℕ) (message : List ℕ) → r ≡ reader_of message → a.fields ≡ fields_of r.kept → a.size ≡ r.size → a.octets ≡ r.kept → a ≡ record { fields = fields_of message; size = length message; octets = header_octets message }
 finished a r kept message e ef es eo =
     owned_is a (fields_of message) (length message) (header_octets message) (ef ∙ ap (λ x. fields_of x.kept) e ∙ fields_of-kept message) (es ∙ ap (λ x. x.size) e) (eo ∙ ap (λ x. x.kept) e)
 
@@ -114,6 +114,6 @@ fed r s message piece part e h es =
 count-append : (xs ys : List ℕ) → count_by (λ b. b == 10) (xs ++ ys) ≡ count_by (λ b. b == 10) xs + count_by (λ b. b == 10) ys
 count-append xs ys = sum_by-append (λ x. cond (eqb x 10) 1 0) xs ys
 
-pub count-part : (kept piece : List ℕ) (part : HeaderPart) → count_by (λ b. b == 10) (with_part kept piece part) ≤ count_by (λ b. b == 10) kept + count_by (λ b. b == 10) (gained piece part)
+pub count-part : (kept piece : List ℕ) (part : HeaderPart) → count_by (λ b. b == 10) (with_part kept piece part) ≤ count_by (λ b. b == 10) kept + count_by (λ b. b == 10) (gain piece part)
 count-part kept piece (Front n) = omega (arith, count-append kept (take n piece))
 count-part kept piece LessCr = omega (arith, count-append (take (length kept - 1) kept) (drop (length kept - 1) kept), ap (count_by (λ b. b == 10)) (take-append-drop (length kept - 1) kept))

@@ -1,7 +1,7 @@
 pub mod Lines
 pub mod Fields
 pub mod Faults
-pub mod Found
+pub mod FirstField
 pub mod Pieces
 pub mod Starts
 pub mod Parts

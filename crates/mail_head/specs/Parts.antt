@@ -17,9 +17,9 @@ with_part kept piece (Front n) = kept ++ take n piece
 with_part kept piece LessCr = take (length kept - 1) kept
 
 -- the octets of the piece that the header gains
-abbrev pub gained : List ℕ → HeaderPart → List ℕ
-gained piece (Front n) = take n piece
-gained piece LessCr = []
+abbrev pub gain : List ℕ → HeaderPart → List ℕ
+gain piece (Front n) = take n piece
+gain piece LessCr = []
 
 -- the part has no more octets than the piece
 abbrev pub IsOfPiece : List ℕ → HeaderPart → Type 0

@@ -18,7 +18,7 @@ abbrev pub reader_of : List ℕ → Reader
 reader_of message = record { kept = header_octets message; size = length message; refuses = false }
 
 -- a header that owns its octets: the fields, the number of the message's octets, and the octets that it owns
-pub record Owned : Type 0 where
+pub record OwnedHeader : Type 0 where
   pub fields : List (List ℕ × List ℕ)
   pub size : ℕ
   pub octets : List ℕ

@@ -23,10 +23,10 @@ pub struct PieceHead {
 impl Model for PieceHead {
     ghost use Rattle.std.specs.Prelude.{map};
     ghost use Rattle.std.specs.List.{All};
-    ghost use Rattle.mail_head.specs.Pieces.{Owned};
+    ghost use Rattle.mail_head.specs.Pieces.{OwnedHeader};
     ghost use Rattle.mail_head.specs.Starts.{field_from, IsFieldStart};
 
-    ghost Value = { Owned };
+    ghost Value = { OwnedHeader };
 
     ghost view = { λ h. record { fields = map (field_from h.octets.items) h.starts.items; size = h.size; octets = h.octets.items } };
 

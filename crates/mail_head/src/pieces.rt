@@ -4,7 +4,7 @@ ghost use Rattle.std.specs.Prelude.{◌≡◌, true, ◌+◌, ◌<◌, ◌≤◌
 ghost use Rattle.std.specs.Vec.{vec_capacity};
 ghost use Rattle.mail_head.specs.Fields.{fields_of};
 ghost use Rattle.mail_head.specs.Pieces.{header_octets, reader_of};
-ghost use Rattle.mail_head.specs.Parts.{gained, IsOfPiece};
+ghost use Rattle.mail_head.specs.Parts.{gain, IsOfPiece};
 ghost use Rattle.mail_head.specs.declared.buffer.TheConstants.{MAX_OCTETS};
 ghost use Rattle.mail_head.specs.declared.buffer.HeadFault.TheVariants.{TooLong, NoMemory};
 
@@ -84,7 +84,7 @@ impl HeadReader {
 /// How many LF are among the octets of a piece that belong to the header.
 fn line_ends_gained(piece: &[u8], part: HeaderPart) -> usize
     requires { IsOfPiece piece.now part }
-    ensures value { result ≡ count_by (λ b. b == 10) (gained piece.now part) }
+    ensures value { result ≡ count_by (λ b. b == 10) (gain piece.now part) }
     ensures within { result ≤ length piece.now }
 {
     match part {

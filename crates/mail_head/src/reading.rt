@@ -2,7 +2,7 @@
 
 ghost use Rattle.std.specs.Prelude.{◌≡◌, [], length, IfOk, MatchOption};
 ghost use Rattle.mail_head.specs.Fields.{fields_of};
-ghost use Rattle.mail_head.specs.Found.{IsFirstField};
+ghost use Rattle.mail_head.specs.FirstField.{IsFirstField};
 
 use crate::fields::{Field, field_at};
 use crate::lines::{header_ends, logical_len};

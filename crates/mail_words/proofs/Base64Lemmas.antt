@@ -9,9 +9,9 @@ use Rattle.base64.specs.Rfc4648.{padding_len, encode_symbols}
 use Rattle.base64.proofs.EngineFacts.{encode_of-append, encode_of-nil}
 use Rattle.base64.proofs.RoundTrip.{length-encode_symbols}
 use Rattle.mail_words.specs.declared.charset.Charset.{Charset}
-use Rattle.mail_words.specs.Charsets.{written_in, ArePut}
+use Rattle.mail_words.specs.Charsets.{in_utf8, ArePut}
 use Rattle.mail_words.specs.Decoding.{b_octets}
-use Rattle.mail_words.specs.Unfolding.{is_nil, unfolded}
+use Rattle.mail_words.specs.Unfolding.{is_nil, without_line_ends}
 use Rattle.mail_words.proofs.CharsetLemmas.{written-nil, written-append, ArePut-some, ArePut-none}
 use Rattle.mail_words.proofs.EncodedLemmas.{b_law, bytes_nil, bytes_cons, bytes_append, bytes_take}
 
@@ -25,10 +25,10 @@ bytes_cond true b xs l h = h
 bytes_cond false b xs l h = bytes_cons b xs l h
 
 -- unfolding leaves octets
-pub bytes_unfolded : (xs : List ℕ) → IsBytes xs → IsBytes (unfolded xs)
-unfolding unfolded
+pub bytes_unfolded : (xs : List ℕ) → IsBytes xs → IsBytes (without_line_ends xs)
+unfolding without_line_ends
 bytes_unfolded [] h = bytes_nil
-bytes_unfolded (b ∷ bs) h = bytes_cond _ b (unfolded bs) (h 0) (bytes_unfolded bs (λ i. h (suc i)))
+bytes_unfolded (b ∷ bs) h = bytes_cond _ b (without_line_ends bs) (h 0) (bytes_unfolded bs (λ i. h (suc i)))
 
 pub length-encoded : (octets : List ℕ) → length (encode_of standard octets) ≡ 4 * ((length octets + 2) / 3)
 length-encoded octets =
@@ -125,7 +125,7 @@ chunk-short text a bytes h short more = at (b_octets text) refl
 pub record Decoding (charset : Charset) (text rest old out : List ℕ) : Type 0 where
   pub bytes : IsBytes rest
   pub octets : List ℕ
-  pub put : out ≡ old ++ written_in charset octets
+  pub put : out ≡ old ++ in_utf8 charset octets
   pub same : option_map (λ more. octets ++ more) (b_octets rest) ≡ b_octets text
 
 option_map-nil : (o : Option (List ℕ)) → option_map (λ more. [] ++ more) o ≡ o
@@ -139,14 +139,14 @@ map_append : (xs ys : List ℕ) (o : Option (List ℕ)) → option_map (λ more.
 map_append xs ys None = refl
 map_append xs ys (Some x) = ap Some (sym (append_assoc xs ys x))
 
-pub Decoding-more : (charset : Charset) (text rest following old out new a : List ℕ) → Decoding charset text rest old out → b_octets (take 64 rest) ≡ Some a → ((length a ≡ 48) ⊎ (following ≡ [])) → following ≡ drop 64 rest → new ≡ out ++ written_in charset a → Decoding charset text following old new
+pub Decoding-more : (charset : Charset) (text rest following old out new a : List ℕ) → Decoding charset text rest old out → b_octets (take 64 rest) ≡ Some a → ((length a ≡ 48) ⊎ (following ≡ [])) → following ≡ drop 64 rest → new ≡ out ++ in_utf8 charset a → Decoding charset text following old new
 Decoding-more charset text rest following old out new a d h whole eb en =
     let next : (length a ≡ 48) ⊎ (drop 64 rest ≡ []) = elim whole [ inl full ↦ inl full | inr last ↦ inr (sym eb ∙ last) ] in
     let step = chunk-good rest a d.bytes h next in
     record {
       bytes = subst IsBytes (sym eb) (bytes_drop 64 rest d.bytes);
       octets = d.octets ++ a;
-      put = en ∙ ap (λ x. x ++ written_in charset a) d.put ∙ append_assoc old (written_in charset d.octets) (written_in charset a) ∙ ap (λ x. old ++ x) (sym (written-append charset d.octets a));
+      put = en ∙ ap (λ x. x ++ in_utf8 charset a) d.put ∙ append_assoc old (in_utf8 charset d.octets) (in_utf8 charset a) ∙ ap (λ x. old ++ x) (sym (written-append charset d.octets a));
       same = ap (λ x. option_map (λ more. (d.octets ++ a) ++ more) (b_octets x)) eb ∙ sym (map_append d.octets a (b_octets (drop 64 rest))) ∙ ap (option_map (λ more. d.octets ++ more)) (sym step) ∙ d.same;
     }
 
@@ -154,10 +154,10 @@ no_rest : (octets : List ℕ) (o : Option (List ℕ)) → o ≡ None → option_
 no_rest octets o e = ap (option_map (λ more. octets ++ more)) e
 
 pub Decoding-bad : (charset : Charset) (text rest old out : List ℕ) → Decoding charset text rest old out → b_octets (take 64 rest) ≡ None → ArePut false charset old (b_octets text) out
-Decoding-bad charset text rest old out d h = ArePut-none charset old (b_octets text) out (written_in charset d.octets) (sym d.same ∙ no_rest d.octets (b_octets rest) (chunk-bad rest d.bytes h)) d.put
+Decoding-bad charset text rest old out d h = ArePut-none charset old (b_octets text) out (in_utf8 charset d.octets) (sym d.same ∙ no_rest d.octets (b_octets rest) (chunk-bad rest d.bytes h)) d.put
 
 pub Decoding-short : (charset : Charset) (text rest following old out a : List ℕ) → Decoding charset text rest old out → b_octets (take 64 rest) ≡ Some a → length a < 48 → (following ≡ [] → ⊥) → following ≡ drop 64 rest → ArePut false charset old (b_octets text) out
-Decoding-short charset text rest following old out a d h short more eb = ArePut-none charset old (b_octets text) out (written_in charset d.octets) (sym d.same ∙ no_rest d.octets (b_octets rest) (chunk-short rest a d.bytes h short (λ none. more (eb ∙ none)))) d.put
+Decoding-short charset text rest following old out a d h short more eb = ArePut-none charset old (b_octets text) out (in_utf8 charset d.octets) (sym d.same ∙ no_rest d.octets (b_octets rest) (chunk-short rest a d.bytes h short (λ none. more (eb ∙ none)))) d.put
 
 b_octets-nil : b_octets [] ≡ Some []
 b_octets-nil = (b_law [] [] bytes_nil).1 (bytes_nil, sym (encode_of-nil standard))

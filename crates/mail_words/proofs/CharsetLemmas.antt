@@ -9,7 +9,7 @@ use Rattle.std.specs.Str.{IsUtf8, is_utf8, encode_utf8_all}
 use Rattle.mail_words.specs.declared.charset.Charset.{Charset}
 use Rattle.mail_words.specs.declared.charset.Charset.TheVariants.{Ascii, Latin1, Utf8}
 use Rattle.mail_words.specs.Words.{Word}
-use Rattle.mail_words.specs.Charsets.{charset_named, text_in, written_in, is_text_in, ArePut}
+use Rattle.mail_words.specs.Charsets.{charset_named, text_in, in_utf8, is_text_in, ArePut}
 use Rattle.mail_words.specs.Decoding.{octets_of, text_of, IsAppended}
 
 not_utf8 : (bs : List ℕ) (t : Bool) → is_utf8 bs ≡ t → (IsUtf8 bs → ⊥) → false ≡ is_utf8 bs
@@ -22,7 +22,7 @@ utf8_test bs P Q (Ok s) h = sym (is_utf8-from_IsUtf8 bs h.1)
 utf8_test bs P Q (Err e) h = not_utf8 bs (is_utf8 bs) refl h.0
 
 -- how octets are written
-pub written-nil : (charset : Charset) (old : List ℕ) → old ≡ old ++ written_in charset []
+pub written-nil : (charset : Charset) (old : List ℕ) → old ≡ old ++ in_utf8 charset []
 written-nil Ascii old = sym (append-nil old)
 written-nil Utf8 old = sym (append-nil old)
 written-nil Latin1 old = sym (append-nil old)
@@ -31,27 +31,27 @@ encode-append : (xs ys : List ℕ) → encode_utf8_all (xs ++ ys) ≡ encode_utf
 encode-append [] ys = refl
 encode-append (x ∷ xs) ys = ap (λ bs. encode_utf8 x ++ bs) (encode-append xs ys) ∙ sym (append_assoc (encode_utf8 x) (encode_utf8_all xs) (encode_utf8_all ys))
 
-pub written-append : (charset : Charset) (xs ys : List ℕ) → written_in charset (xs ++ ys) ≡ written_in charset xs ++ written_in charset ys
+pub written-append : (charset : Charset) (xs ys : List ℕ) → in_utf8 charset (xs ++ ys) ≡ in_utf8 charset xs ++ in_utf8 charset ys
 written-append Ascii xs ys = refl
 written-append Utf8 xs ys = refl
 written-append Latin1 xs ys = encode-append xs ys
 
-pub written-more : (charset : Charset) (old out new octets : List ℕ) (i : ℕ) → out ≡ old ++ written_in charset (take i octets) → i < length octets → new ≡ out ++ written_in charset (get_or octets i 0 ∷ []) → new ≡ old ++ written_in charset (take (i + 1) octets)
-written-more charset old out new octets i h l e = e ∙ ap (λ x. x ++ written_in charset (get_or octets i 0 ∷ [])) h ∙ append_assoc old (written_in charset (take i octets)) (written_in charset (get_or octets i 0 ∷ [])) ∙ ap (λ x. old ++ x) (sym (written-append charset (take i octets) (get_or octets i 0 ∷ [])) ∙ ap (written_in charset) (sym (take_more octets i 0 l)))
+pub written-more : (charset : Charset) (old out new octets : List ℕ) (i : ℕ) → out ≡ old ++ in_utf8 charset (take i octets) → i < length octets → new ≡ out ++ in_utf8 charset (get_or octets i 0 ∷ []) → new ≡ old ++ in_utf8 charset (take (i + 1) octets)
+written-more charset old out new octets i h l e = e ∙ ap (λ x. x ++ in_utf8 charset (get_or octets i 0 ∷ [])) h ∙ append_assoc old (in_utf8 charset (take i octets)) (in_utf8 charset (get_or octets i 0 ∷ [])) ∙ ap (λ x. old ++ x) (sym (written-append charset (take i octets) (get_or octets i 0 ∷ [])) ∙ ap (in_utf8 charset) (sym (take_more octets i 0 l)))
 
-pub written-all : (charset : Charset) (old out octets : List ℕ) (i : ℕ) → out ≡ old ++ written_in charset (take i octets) → length octets ≤ i → out ≡ old ++ written_in charset octets
-written-all charset old out octets i h l = h ∙ ap (λ x. old ++ written_in charset x) (take_all i octets l)
+pub written-all : (charset : Charset) (old out octets : List ℕ) (i : ℕ) → out ≡ old ++ in_utf8 charset (take i octets) → length octets ≤ i → out ≡ old ++ in_utf8 charset octets
+written-all charset old out octets i h l = h ∙ ap (λ x. old ++ in_utf8 charset x) (take_all i octets l)
 
-pub ArePut-some : (charset : Charset) (old : List ℕ) (o : Option (List ℕ)) (new octets : List ℕ) → o ≡ Some octets → new ≡ old ++ written_in charset octets → ArePut true charset old o new
+pub ArePut-some : (charset : Charset) (old : List ℕ) (o : Option (List ℕ)) (new octets : List ℕ) → o ≡ Some octets → new ≡ old ++ in_utf8 charset octets → ArePut true charset old o new
 ArePut-some charset old None new octets e h = absurd cc
-ArePut-some charset old (Some x) new octets e h = let same : octets ≡ x = cc in h ∙ ap (λ y. old ++ written_in charset y) same
+ArePut-some charset old (Some x) new octets e h = let same : octets ≡ x = cc in h ∙ ap (λ y. old ++ in_utf8 charset y) same
 
 pub ArePut-none : (charset : Charset) (old : List ℕ) (o : Option (List ℕ)) (new more : List ℕ) → o ≡ None → new ≡ old ++ more → ArePut false charset old o new
 ArePut-none charset old None new more e h = (more, h)
 ArePut-none charset old (Some x) new more e h = absurd cc
 
 -- what is appended for a word
-text_in-written : (charset : Charset) (octets : List ℕ) → text_in charset octets ≡ cond (is_text_in charset (written_in charset octets)) (Some (written_in charset octets)) None
+text_in-written : (charset : Charset) (octets : List ℕ) → text_in charset octets ≡ cond (is_text_in charset (in_utf8 charset octets)) (Some (in_utf8 charset octets)) None
 unfolding text_in
 text_in-written Ascii octets = refl
 text_in-written Utf8 octets = refl
@@ -63,18 +63,18 @@ drop_run xs ys = drop_at xs ys (length xs) refl
 pub IsAppended-good : (charset : Charset) (old : List ℕ) (o : Option (List ℕ)) (new : List ℕ) → ArePut true charset old o new → is_text_in charset (drop (length old) new) ≡ true → IsAppended true old (option_and_then (text_in charset) o) new
 IsAppended-good charset old None new h good = absurd h
 IsAppended-good charset old (Some octets) new h good =
-    let tail : drop (length old) new ≡ written_in charset octets = ap (drop (length old)) h ∙ drop_run old (written_in charset octets) in
-    let read : is_text_in charset (written_in charset octets) ≡ true = ap (is_text_in charset) (sym tail) ∙ good in
+    let tail : drop (length old) new ≡ in_utf8 charset octets = ap (drop (length old)) h ∙ drop_run old (in_utf8 charset octets) in
+    let read : is_text_in charset (in_utf8 charset octets) ≡ true = ap (is_text_in charset) (sym tail) ∙ good in
     let P : Option (List ℕ) → Type 0 = λ t. IsAppended true old t new in
-    subst P (sym (text_in-written charset octets ∙ ap (λ t. cond t (Some (written_in charset octets)) None) read)) h
+    subst P (sym (text_in-written charset octets ∙ ap (λ t. cond t (Some (in_utf8 charset octets)) None) read)) h
 
 pub IsAppended-unread : (charset : Charset) (old : List ℕ) (o : Option (List ℕ)) (new : List ℕ) → ArePut true charset old o new → is_text_in charset (drop (length old) new) ≡ false → IsAppended false old (option_and_then (text_in charset) o) new
 IsAppended-unread charset old None new h bad = absurd h
 IsAppended-unread charset old (Some octets) new h bad =
-    let tail : drop (length old) new ≡ written_in charset octets = ap (drop (length old)) h ∙ drop_run old (written_in charset octets) in
-    let read : is_text_in charset (written_in charset octets) ≡ false = ap (is_text_in charset) (sym tail) ∙ bad in
+    let tail : drop (length old) new ≡ in_utf8 charset octets = ap (drop (length old)) h ∙ drop_run old (in_utf8 charset octets) in
+    let read : is_text_in charset (in_utf8 charset octets) ≡ false = ap (is_text_in charset) (sym tail) ∙ bad in
     let P : Option (List ℕ) → Type 0 = λ t. IsAppended false old t new in
-    subst P (sym (text_in-written charset octets ∙ ap (λ t. cond t (Some (written_in charset octets)) None) read)) (written_in charset octets, h)
+    subst P (sym (text_in-written charset octets ∙ ap (λ t. cond t (Some (in_utf8 charset octets)) None) read)) (in_utf8 charset octets, h)
 
 pub IsAppended-read : (charset : Charset) (old : List ℕ) (o : Option (List ℕ)) (new : List ℕ) (read : Bool) → ArePut true charset old o new → read ≡ is_text_in charset (drop (length old) new) → IsAppended read old (option_and_then (text_in charset) o) new
 IsAppended-read charset old o new true h e = IsAppended-good charset old o new h (sym e)

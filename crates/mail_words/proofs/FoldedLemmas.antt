@@ -6,10 +6,10 @@ use Rattle.std.proofs.Math.Bool.{and-false, or-true}
 use Rattle.std.proofs.lemmas.Bool.{and_parts}
 use Rattle.std.specs.Prelude.{nat_lt, ◌&&◌, ◌||◌}
 use Rattle.std.specs.List.{list_all, prefix_len, suffix_len, take_while}
-use Rattle.mail_words.specs.Unfolding.{is_blank, without_cr, begins_with, begins_line_end, ends_in, unfolded, IsFirstOctet, without_first_blanks, without_last_blanks}
+use Rattle.mail_words.specs.Unfolding.{is_blank, without_cr, begins_with, begins_line_end, ends_in, without_line_ends, IsFirstOctet, without_first_blanks, without_last_blanks}
 use Rattle.mail_words.specs.Words.{is_charset_octet, is_text_octet, is_part_octet, IsPartOctet}
-use Rattle.mail_words.specs.declared.words.Part.{Part}
-use Rattle.mail_words.specs.declared.words.Part.TheVariants.{Charset, Text}
+use Rattle.mail_words.specs.declared.words.WordPart.{WordPart}
+use Rattle.mail_words.specs.declared.words.WordPart.TheVariants.{Charset, Text}
 use Rattle.mail_words.proofs.UnfoldingLemmas.{before_lf, without_cr-cons}
 
 -- the last octet is c
@@ -23,23 +23,23 @@ push_append true b xs ys = refl
 push_append false b xs ys = refl
 
 -- two texts that make no line end where they are joined
-pub unfolded-append : (xs ys : List ℕ) → (last_is 13 xs && begins_with 10 ys) ≡ false → unfolded (xs ++ ys) ≡ unfolded xs ++ unfolded ys
-unfolding unfolded
+pub unfolded-append : (xs ys : List ℕ) → (last_is 13 xs && begins_with 10 ys) ≡ false → without_line_ends (xs ++ ys) ≡ without_line_ends xs ++ without_line_ends ys
+unfolding without_line_ends
 unfolded-append [] ys h = refl
-unfolded-append (b ∷ []) [] h = sym (append-nil (unfolded (b ∷ [])))
-unfolded-append (b ∷ []) (y ∷ ys) h = rw (h, and-false (eqb b 13)) (before_lf (eqb b 10 || false) b (unfolded (y ∷ ys)))
-unfolded-append (b ∷ c ∷ cs) ys h = ap (λ x. cond (eqb b 10 || (eqb b 13 && eqb c 10)) x (b ∷ x)) (unfolded-append (c ∷ cs) ys h) ∙ push_append (eqb b 10 || (eqb b 13 && eqb c 10)) b (unfolded (c ∷ cs)) (unfolded ys)
+unfolded-append (b ∷ []) [] h = sym (append-nil (without_line_ends (b ∷ [])))
+unfolded-append (b ∷ []) (y ∷ ys) h = rw (h, and-false (eqb b 13)) (before_lf (eqb b 10 || false) b (without_line_ends (y ∷ ys)))
+unfolded-append (b ∷ c ∷ cs) ys h = ap (λ x. cond (eqb b 10 || (eqb b 13 && eqb c 10)) x (b ∷ x)) (unfolded-append (c ∷ cs) ys h) ∙ push_append (eqb b 10 || (eqb b 13 && eqb c 10)) b (without_line_ends (c ∷ cs)) (without_line_ends ys)
 
 pub last-snoc : (c : ℕ) (xs : List ℕ) (b : ℕ) → last_is c (xs ++ b ∷ []) ≡ eqb b c
 last-snoc c [] b = refl
 last-snoc c (x ∷ []) b = refl
 last-snoc c (x ∷ y ∷ ys) b = last-snoc c (y ∷ ys) b
 
-pub unfolded-before : (xs ys : List ℕ) → begins_with 10 ys ≡ false → unfolded (xs ++ ys) ≡ unfolded xs ++ unfolded ys
+pub unfolded-before : (xs ys : List ℕ) → begins_with 10 ys ≡ false → without_line_ends (xs ++ ys) ≡ without_line_ends xs ++ without_line_ends ys
 unfolded-before xs ys h = unfolded-append xs ys (ap (λ t. last_is 13 xs && t) h ∙ and-false (last_is 13 xs))
 
-pub unfolded-snoc : (xs : List ℕ) (b : ℕ) → eqb b 10 ≡ false → unfolded (xs ++ b ∷ []) ≡ unfolded xs ++ b ∷ []
-unfolding unfolded
+pub unfolded-snoc : (xs : List ℕ) (b : ℕ) → eqb b 10 ≡ false → without_line_ends (xs ++ b ∷ []) ≡ without_line_ends xs ++ b ∷ []
+unfolding without_line_ends
 unfolded-snoc xs b h = unfolded-before xs (b ∷ []) h ∙ rw (h, and-false (eqb b 13)) refl
 
 -- an LF at the end, with one CR before it
@@ -51,50 +51,50 @@ begins-without c [] = at (eqb c 13) refl
     at false e = refl
 begins-without c (d ∷ ds) = ap (begins_with 10) (without_cr-cons c d ds)
 
-pub unfolded-end : (xs : List ℕ) → unfolded (xs ++ 10 ∷ []) ≡ unfolded (without_cr xs)
-unfolding unfolded
+pub unfolded-end : (xs : List ℕ) → without_line_ends (xs ++ 10 ∷ []) ≡ without_line_ends (without_cr xs)
+unfolding without_line_ends
 unfolded-end [] = refl
 unfolded-end (b ∷ []) = at (eqb b 13)
   where
-    at : (t : Bool) → cond (eqb b 10 || (t && true)) [] (b ∷ []) ≡ unfolded (cond t [] (b ∷ []))
+    at : (t : Bool) → cond (eqb b 10 || (t && true)) [] (b ∷ []) ≡ without_line_ends (cond t [] (b ∷ []))
     at true = rw (or-true (eqb b 10)) refl
     at false = rw (and-false (eqb b 13)) refl
-unfolded-end (b ∷ c ∷ cs) = ap (λ x. cond (eqb b 10 || (eqb b 13 && eqb c 10)) x (b ∷ x)) (unfolded-end (c ∷ cs)) ∙ ap (λ t. cond (eqb b 10 || (eqb b 13 && t)) (unfolded (without_cr (c ∷ cs))) (b ∷ unfolded (without_cr (c ∷ cs)))) (sym (begins-without c cs)) ∙ ap unfolded (sym (without_cr-cons b c cs))
+unfolded-end (b ∷ c ∷ cs) = ap (λ x. cond (eqb b 10 || (eqb b 13 && eqb c 10)) x (b ∷ x)) (unfolded-end (c ∷ cs)) ∙ ap (λ t. cond (eqb b 10 || (eqb b 13 && t)) (without_line_ends (without_cr (c ∷ cs))) (b ∷ without_line_ends (without_cr (c ∷ cs)))) (sym (begins-without c cs)) ∙ ap without_line_ends (sym (without_cr-cons b c cs))
 
 -- the first octet
 pub record Skipped (text rest : List ℕ) : Type 0 where
   pub front : List ℕ
   pub joined : text ≡ front ++ rest
-  pub same : unfolded text ≡ unfolded rest
+  pub same : without_line_ends text ≡ without_line_ends rest
 
 pub Skipped-none : (text : List ℕ) → Skipped text text
 Skipped-none text = record { front = []; joined = refl; same = refl }
 
 pub Skipped-one : (text rest following : List ℕ) → Skipped text rest → begins_line_end rest ≡ true → following ≡ drop 1 rest → Skipped text following
-unfolding unfolded
+unfolding without_line_ends
 Skipped-one text [] following s h e = absurd cc
 Skipped-one text (b ∷ bs) following s h e = record {
   front = s.front ++ b ∷ [];
   joined = s.joined ∙ sym (append_assoc s.front (b ∷ []) bs) ∙ ap (λ x. (s.front ++ b ∷ []) ++ x) (sym e);
-  same = s.same ∙ ap (λ t. cond t (unfolded bs) (b ∷ unfolded bs)) h ∙ ap unfolded (sym e);
+  same = s.same ∙ ap (λ t. cond t (without_line_ends bs) (b ∷ without_line_ends bs)) h ∙ ap without_line_ends (sym e);
 }
 
 pub Skipped-to : (text rest following : List ℕ) (octet : ℕ) → Skipped text rest → begins_line_end rest ≡ false → rest ≡ octet ∷ following → IsFirstOctet text octet following
-unfolding unfolded
+unfolding without_line_ends
 Skipped-to text [] following octet s h e = absurd cc
 Skipped-to text (b ∷ bs) following octet s h e = (
   s.front,
   s.joined ∙ ap (λ x. s.front ++ x) e,
-  s.same ∙ ap (λ t. cond t (unfolded bs) (b ∷ unfolded bs)) h ∙ (let same : b ∷ bs ≡ octet ∷ following = e in cc),
+  s.same ∙ ap (λ t. cond t (without_line_ends bs) (b ∷ without_line_ends bs)) h ∙ (let same : b ∷ bs ≡ octet ∷ following = e in cc),
 )
 
-pub Skipped-all : (text rest : List ℕ) → Skipped text rest → length rest ≡ 0 → unfolded text ≡ []
-unfolding unfolded
-Skipped-all text rest s e = s.same ∙ ap unfolded (nil_from_length rest e)
+pub Skipped-all : (text rest : List ℕ) → Skipped text rest → length rest ≡ 0 → without_line_ends text ≡ []
+unfolding without_line_ends
+Skipped-all text rest s e = s.same ∙ ap without_line_ends (nil_from_length rest e)
 
-pub unfolded-nil : (text rest : List ℕ) → unfolded text ≡ unfolded rest → length rest ≡ 0 → unfolded text ≡ []
-unfolding unfolded
-unfolded-nil text rest h e = h ∙ ap unfolded (nil_from_length rest e)
+pub unfolded-nil : (text rest : List ℕ) → without_line_ends text ≡ without_line_ends rest → length rest ≡ 0 → without_line_ends text ≡ []
+unfolding without_line_ends
+unfolded-nil text rest h e = h ∙ ap without_line_ends (nil_from_length rest e)
 
 -- the last octet
 ends_in-snoc : (c : ℕ) (xs : List ℕ) → ends_in c xs ≡ true → xs ≡ take (length xs - 1) xs ++ c ∷ []
@@ -106,8 +106,8 @@ ends_in-snoc c (x ∷ xs) h =
     let all : take (length xs + 1) (x ∷ xs) ≡ x ∷ xs = take_all (length xs + 1) (x ∷ xs) (omega arith) in
     sym all ∙ take_more (x ∷ xs) (length xs) 0 (omega arith) ∙ ap (λ k. take (length xs) (x ∷ xs) ++ k ∷ []) last ∙ ap (λ k. take k (x ∷ xs) ++ c ∷ []) (sym n)
 
-pub unfolded-line : (text line rest : List ℕ) → ends_in 10 text ≡ true → line ≡ take (length text - 1) text → rest ≡ without_cr line → unfolded text ≡ unfolded rest
-unfolded-line text line rest h el er = ap unfolded (ends_in-snoc 10 text h ∙ ap (λ x. x ++ 10 ∷ []) (sym el)) ∙ unfolded-end line ∙ ap unfolded (sym er)
+pub unfolded-line : (text line rest : List ℕ) → ends_in 10 text ≡ true → line ≡ take (length text - 1) text → rest ≡ without_cr line → without_line_ends text ≡ without_line_ends rest
+unfolded-line text line rest h el er = ap without_line_ends (ends_in-snoc 10 text h ∙ ap (λ x. x ++ 10 ∷ []) (sym el)) ∙ unfolded-end line ∙ ap without_line_ends (sym er)
 
 -- the last octet, where it is no LF
 ends_in-last : (c : ℕ) (xs : List ℕ) (b : ℕ) → ends_in c (xs ++ b ∷ []) ≡ eqb b c
@@ -118,8 +118,8 @@ ends_in-last c xs b =
     let last : get_or (xs ++ b ∷ []) (length xs) 0 ≡ b = get_or-append_right xs (b ∷ []) (length xs) (length xs) 0 refl (omega arith) ∙ ap (λ k. get_or (b ∷ []) k 0) none in
     rw (some, n, last) refl
 
-pub unfolded-last : (text rest before : List ℕ) (b : ℕ) → unfolded text ≡ unfolded rest → ends_in 10 rest ≡ false → rest ≡ before ++ b ∷ [] → unfolded text ≡ unfolded before ++ b ∷ []
-unfolded-last text rest before b same h e = same ∙ ap unfolded e ∙ unfolded-snoc before b (sym (ends_in-last 10 before b) ∙ ap (ends_in 10) (sym e) ∙ h)
+pub unfolded-last : (text rest before : List ℕ) (b : ℕ) → without_line_ends text ≡ without_line_ends rest → ends_in 10 rest ≡ false → rest ≡ before ++ b ∷ [] → without_line_ends text ≡ without_line_ends before ++ b ∷ []
+unfolded-last text rest before b same h e = same ∙ ap without_line_ends e ∙ unfolded-snoc before b (sym (ends_in-last 10 before b) ∙ ap (ends_in 10) (sym e) ∙ h)
 
 -- blanks at the front
 pub first_blanks-more : (rest following : List ℕ) (octet : ℕ) → rest ≡ octet ∷ following → is_blank octet ≡ true → without_first_blanks rest ≡ without_first_blanks following
@@ -158,50 +158,50 @@ last_blanks-stop rest before octet e h =
     ap without_last_blanks e ∙ ap (λ k. take (length (before ++ octet ∷ []) - k) (before ++ octet ∷ [])) s ∙ take_all (length (before ++ octet ∷ []) - 0) (before ++ octet ∷ []) (omega arith) ∙ sym e
 
 -- the octets of a part
-part_not_cr : (part : Part) (b : ℕ) → is_part_octet part b ≡ true → eqb b 13 ≡ false
+part_not_cr : (part : WordPart) (b : ℕ) → is_part_octet part b ≡ true → eqb b 13 ≡ false
 part_not_cr part b h = at (eqb b 13) refl part h
   where
-    at : (t : Bool) → eqb b 13 ≡ t → (p : Part) → is_part_octet p b ≡ true → eqb b 13 ≡ false
+    at : (t : Bool) → eqb b 13 ≡ t → (p : WordPart) → is_part_octet p b ≡ true → eqb b 13 ≡ false
     at false e p k = e
     at true e Charset k = let here : is_charset_octet 13 ≡ true = ap is_charset_octet (sym (eqb-true b 13 e)) ∙ k in absurd cc
     at true e Text k = let here : is_text_octet 13 ≡ true = ap is_text_octet (sym (eqb-true b 13 e)) ∙ k in absurd cc
 
-pub record InPart (part : Part) (text rest : List ℕ) : Type 0 where
+pub record InPart (part : WordPart) (text rest : List ℕ) : Type 0 where
   pub front : List ℕ
   pub joined : text ≡ front ++ rest
   pub apart : last_is 13 front ≡ false
-  pub all : list_all (is_part_octet part) (unfolded front) ≡ true
+  pub all : list_all (is_part_octet part) (without_line_ends front) ≡ true
 
-pub InPart-none : (part : Part) (text : List ℕ) → InPart part text text
-unfolding unfolded
+pub InPart-none : (part : WordPart) (text : List ℕ) → InPart part text text
+unfolding without_line_ends
 InPart-none part text = record { front = []; joined = refl; apart = refl; all = refl }
 
-in_part-split : (part : Part) (text rest : List ℕ) (s : InPart part text rest) → unfolded text ≡ unfolded s.front ++ unfolded rest
-in_part-split part text rest s = ap unfolded s.joined ∙ unfolded-append s.front rest (rw s.apart refl)
+in_part-split : (part : WordPart) (text rest : List ℕ) (s : InPart part text rest) → without_line_ends text ≡ without_line_ends s.front ++ without_line_ends rest
+in_part-split part text rest s = ap without_line_ends s.joined ∙ unfolded-append s.front rest (rw s.apart refl)
 
-pub InPart-more : (part : Part) (text rest following : List ℕ) → InPart part text rest → IsPartOctet part rest following → InPart part text following
+pub InPart-more : (part : WordPart) (text rest following : List ℕ) → InPart part text rest → IsPartOctet part rest following → InPart part text following
 InPart-more part text rest following s (b, passes, (ends, e, f)) =
     let p : ℕ → Bool = is_part_octet part in
     let front : List ℕ = (s.front ++ ends) ++ b ∷ [] in
     let joined : text ≡ front ++ following = s.joined ∙ ap (λ x. s.front ++ x) e ∙ sym (append_assoc s.front ends (b ∷ following)) ∙ sym (append_assoc (s.front ++ ends) (b ∷ []) following) in
     let apart : last_is 13 front ≡ false = last-snoc 13 (s.front ++ ends) b ∙ part_not_cr part b passes in
-    let whole : unfolded text ≡ unfolded front ++ unfolded following = ap unfolded joined ∙ unfolded-append front following (rw apart refl) in
-    let same : unfolded text ≡ (unfolded s.front ++ b ∷ []) ++ unfolded following = in_part-split part text rest s ∙ ap (λ x. unfolded s.front ++ x) f ∙ sym (append_assoc (unfolded s.front) (b ∷ []) (unfolded following)) in
-    let here : unfolded front ≡ unfolded s.front ++ b ∷ [] = append_cancel_right (unfolded front) (unfolded s.front ++ b ∷ []) (unfolded following) (sym whole ∙ same) in
+    let whole : without_line_ends text ≡ without_line_ends front ++ without_line_ends following = ap without_line_ends joined ∙ unfolded-append front following (rw apart refl) in
+    let same : without_line_ends text ≡ (without_line_ends s.front ++ b ∷ []) ++ without_line_ends following = in_part-split part text rest s ∙ ap (λ x. without_line_ends s.front ++ x) f ∙ sym (append_assoc (without_line_ends s.front) (b ∷ []) (without_line_ends following)) in
+    let here : without_line_ends front ≡ without_line_ends s.front ++ b ∷ [] = append_cancel_right (without_line_ends front) (without_line_ends s.front ++ b ∷ []) (without_line_ends following) (sym whole ∙ same) in
     record {
       front = front;
       joined = joined;
       apart = apart;
-      all = ap (list_all p) here ∙ list_all-append p (unfolded s.front) (b ∷ []) ∙ rw (s.all, passes) refl;
+      all = ap (list_all p) here ∙ list_all-append p (without_line_ends s.front) (b ∷ []) ∙ rw (s.all, passes) refl;
     }
 
-pub InPart-front : (part : Part) (text rest front : List ℕ) → InPart part text rest → front ≡ take (length text - length rest) text → (unfolded text ≡ unfolded front ++ unfolded rest) × (list_all (is_part_octet part) (unfolded front) ≡ true)
+pub InPart-front : (part : WordPart) (text rest front : List ℕ) → InPart part text rest → front ≡ take (length text - length rest) text → (without_line_ends text ≡ without_line_ends front ++ without_line_ends rest) × (list_all (is_part_octet part) (without_line_ends front) ≡ true)
 InPart-front part text rest front s e =
     let n : length s.front ≡ length text - length rest = omega (arith, ap length s.joined, length-append s.front rest) in
     let same : front ≡ s.front = e ∙ ap (take (length text - length rest)) s.joined ∙ take_at s.front rest (length text - length rest) n in
-    (in_part-split part text rest s ∙ ap (λ x. unfolded x ++ unfolded rest) (sym same), ap (λ x. list_all (is_part_octet part) (unfolded x)) same ∙ s.all)
+    (in_part-split part text rest s ∙ ap (λ x. without_line_ends x ++ without_line_ends rest) (sym same), ap (λ x. list_all (is_part_octet part) (without_line_ends x)) same ∙ s.all)
 
-pub part-shorter : (part : Part) (text following : List ℕ) → IsPartOctet part text following → length (unfolded following) < length (unfolded text)
+pub part-shorter : (part : WordPart) (text following : List ℕ) → IsPartOctet part text following → length (without_line_ends following) < length (without_line_ends text)
 part-shorter part text following (b, passes, (ends, e, f)) = omega (arith, ap length f)
 
 -- a run of a part's octets before one that is none

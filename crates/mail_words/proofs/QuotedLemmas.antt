@@ -4,7 +4,7 @@ use Rattle.std.specs.Prelude.{option_map}
 use Rattle.mail_words.specs.declared.charset.Charset.{Charset}
 use Rattle.mail_words.specs.declared.quoted.Place.{Place}
 use Rattle.mail_words.specs.declared.quoted.Place.TheVariants.{Plain, Escape, Digit}
-use Rattle.mail_words.specs.Charsets.{written_in}
+use Rattle.mail_words.specs.Charsets.{in_utf8}
 use Rattle.mail_words.specs.Decoding.{hex_value, q_octets}
 use Rattle.mail_words.proofs.CharsetLemmas.{written-nil, written-append}
 
@@ -18,7 +18,7 @@ IsSmall (Digit high) = high < 16
 pub record Decoded (charset : Charset) (text rest old out : List ℕ) (place : Place) : Type 0 where
   pub small : IsSmall place
   pub octets : List ℕ
-  pub put : out ≡ old ++ written_in charset octets
+  pub put : out ≡ old ++ in_utf8 charset octets
   pub same : option_map (λ more. octets ++ more) (q_octets place rest) ≡ q_octets Plain text
 
 option_map-nil : (o : Option (List ℕ)) → option_map (λ more. [] ++ more) o ≡ o
@@ -32,10 +32,10 @@ push_octet : (octets : List ℕ) (b : ℕ) (o : Option (List ℕ)) → option_ma
 push_octet octets b None = refl
 push_octet octets b (Some x) = ap Some (sym (append_assoc octets (b ∷ []) x))
 
-put_one : (charset : Charset) (old out new octets : List ℕ) (b : ℕ) → out ≡ old ++ written_in charset octets → new ≡ out ++ written_in charset (b ∷ []) → new ≡ old ++ written_in charset (octets ++ b ∷ [])
-put_one charset old out new octets b h e = e ∙ ap (λ x. x ++ written_in charset (b ∷ [])) h ∙ append_assoc old (written_in charset octets) (written_in charset (b ∷ [])) ∙ ap (λ x. old ++ x) (sym (written-append charset octets (b ∷ [])))
+put_one : (charset : Charset) (old out new octets : List ℕ) (b : ℕ) → out ≡ old ++ in_utf8 charset octets → new ≡ out ++ in_utf8 charset (b ∷ []) → new ≡ old ++ in_utf8 charset (octets ++ b ∷ [])
+put_one charset old out new octets b h e = e ∙ ap (λ x. x ++ in_utf8 charset (b ∷ [])) h ∙ append_assoc old (in_utf8 charset octets) (in_utf8 charset (b ∷ [])) ∙ ap (λ x. old ++ x) (sym (written-append charset octets (b ∷ [])))
 
-pub Decoded-plain : (charset : Charset) (text rest following old out new : List ℕ) (place : Place) (b pushed : ℕ) → Decoded charset text rest old out place → place ≡ Plain → rest ≡ b ∷ following → (b ≡ 61 → ⊥) → pushed ≡ cond (eqb b 95) 32 b → new ≡ out ++ written_in charset (pushed ∷ []) → Decoded charset text following old new Plain
+pub Decoded-plain : (charset : Charset) (text rest following old out new : List ℕ) (place : Place) (b pushed : ℕ) → Decoded charset text rest old out place → place ≡ Plain → rest ≡ b ∷ following → (b ≡ 61 → ⊥) → pushed ≡ cond (eqb b 95) 32 b → new ≡ out ++ in_utf8 charset (pushed ∷ []) → Decoded charset text following old new Plain
 unfolding q_octets
 Decoded-plain charset text rest following old out new place b pushed h e l at eb en = record {
   small = tt;
@@ -44,7 +44,7 @@ Decoded-plain charset text rest following old out new place b pushed h e l at eb
   same = sym (push_octet h.octets pushed (q_octets Plain following)) ∙ (rw (e, l, ne_eqb b 61 at, ← eb) at h.same);
 }
 
-pub Decoded-low : (charset : Charset) (text rest following old out new : List ℕ) (place : Place) (b high low : ℕ) → Decoded charset text rest old out place → place ≡ Digit high → rest ≡ b ∷ following → Some low ≡ hex_value b → new ≡ out ++ written_in charset ((high * 16 + low) ∷ []) → Decoded charset text following old new Plain
+pub Decoded-low : (charset : Charset) (text rest following old out new : List ℕ) (place : Place) (b high low : ℕ) → Decoded charset text rest old out place → place ≡ Digit high → rest ≡ b ∷ following → Some low ≡ hex_value b → new ≡ out ++ in_utf8 charset ((high * 16 + low) ∷ []) → Decoded charset text following old new Plain
 unfolding q_octets
 Decoded-low charset text rest following old out new place b high low h e l digit en = record {
   small = tt;

@@ -7,26 +7,26 @@ use Rattle.std.specs.List.{list_all, prefix_len, suffix_len}
 use Rattle.std.specs.Str.{encode_utf8_all}
 use Rattle.mail_words.specs.declared.charset.Charset.{Charset}
 use Rattle.mail_words.specs.declared.charset.Charset.TheVariants.{Ascii, Latin1, Utf8}
-use Rattle.mail_words.specs.Unfolding.{is_blank, unfolded, without_first_blanks, trimmed}
+use Rattle.mail_words.specs.Unfolding.{is_blank, without_line_ends, without_first_blanks, without_outer_blanks}
 use Rattle.mail_words.specs.Words.{Word, spelling, IsWord, first_word}
 use Rattle.mail_words.specs.Charsets.{text_in}
 use Rattle.mail_words.specs.Decoding.{text_of}
 use Rattle.mail_words.specs.Meaning.{QText, q_end, q_itself, q_space, q_escape, IsEncoding}
-use Rattle.mail_words.specs.Value.{cut_at, cut_words, shown_word, shown, value_of_body}
+use Rattle.mail_words.specs.Value.{cut_at, cut_words, display_of_word, display, value_of_body}
 use Rattle.mail_words.proofs.Base64Lemmas.{length-encoded}
 use Rattle.mail_words.proofs.MeaningLemmas.{means_from}
 use Rattle.mail_words.proofs.SpellingLemmas.{Found, first_word-stands}
 
-length-unfolded : (bs : List ℕ) → length (unfolded bs) ≤ length bs
-unfolding unfolded
+length-unfolded : (bs : List ℕ) → length (without_line_ends bs) ≤ length bs
+unfolding without_line_ends
 length-unfolded [] = omega arith
 length-unfolded (b ∷ bs) = at _ (length-unfolded bs)
   where
-    at : (t : Bool) → length (unfolded bs) ≤ length bs → length (cond t (unfolded bs) (b ∷ unfolded bs)) ≤ suc (length bs)
+    at : (t : Bool) → length (without_line_ends bs) ≤ length bs → length (cond t (without_line_ends bs) (b ∷ without_line_ends bs)) ≤ suc (length bs)
     at true h = omega arith
     at false h = omega arith
 
-length-trimmed : (bs : List ℕ) → length (trimmed bs) ≤ length bs
+length-trimmed : (bs : List ℕ) → length (without_outer_blanks bs) ≤ length bs
 length-trimmed bs =
     let front = without_first_blanks bs in
     omega (arith, length-take (length front - suffix_len is_blank front) front, length-drop (prefix_len is_blank bs) bs)
@@ -70,28 +70,28 @@ length-gap true gap = omega arith
 length-gap false gap = omega arith
 
 -- a word as it is shown, with the gap before it and what follows it
-length-shown_word : (after_good : Bool) (gap after : List ℕ) (w : Word) (o : Option (List ℕ)) (more : Bool → List ℕ) → IsWord w → text_of w ≡ o → ((good : Bool) → length (more good) ≤ 4 * length after) → length (shown_word after_good gap w o more) ≤ 4 * (length gap + (length (spelling w) + length after))
+length-shown_word : (after_good : Bool) (gap after : List ℕ) (w : Word) (o : Option (List ℕ)) (more : Bool → List ℕ) → IsWord w → text_of w ≡ o → ((good : Bool) → length (more good) ≤ 4 * length after) → length (display_of_word after_good gap w o more) ≤ 4 * (length gap + (length (spelling w) + length after))
 length-shown_word after_good gap after w (Some text) more h e rest =
     let kept : List ℕ = cond (after_good && list_all is_blank gap) [] gap in
     omega (arith, length-append kept (text ++ more true), length-append text (more true), length-gap (after_good && list_all is_blank gap) gap, length-word w text h e, rest true)
 length-shown_word after_good gap after w None more h e rest = omega (arith, length-append gap (spelling w ++ more false), length-append (spelling w) (more false), rest false)
 
 AllShort : ℕ → Type 0
-AllShort n = (good : Bool) (bs : List ℕ) → length (shown good (cut_words n bs).0 (cut_words n bs).1) ≤ 4 * length bs
+AllShort n = (good : Bool) (bs : List ℕ) → length (display good (cut_words n bs).0 (cut_words n bs).1) ≤ 4 * length bs
 
-length-cut : (n : ℕ) (after_good : Bool) (bs : List ℕ) (o : Option Found) → first_word true bs ≡ o → AllShort n → length (shown after_good (cut_at bs o (cut_words n)).0 (cut_at bs o (cut_words n)).1) ≤ 4 * length bs
-unfolding shown AllShort
+length-cut : (n : ℕ) (after_good : Bool) (bs : List ℕ) (o : Option Found) → first_word true bs ≡ o → AllShort n → length (display after_good (cut_at bs o (cut_words n)).0 (cut_at bs o (cut_words n)).1) ≤ 4 * length bs
+unfolding display AllShort
 length-cut n after_good bs None e rest = omega arith
 length-cut n after_good bs (Some f) e rest =
     let stands = first_word-stands true bs f e in
-    omega (arith, length-shown_word after_good f.0 f.2 f.1 (text_of f.1) (λ good. shown good (cut_words n f.2).0 (cut_words n f.2).1) stands.word refl (λ good. rest good f.2), ap length stands.joined, length-append f.0 (spelling f.1 ++ f.2), length-append (spelling f.1) f.2)
+    omega (arith, length-shown_word after_good f.0 f.2 f.1 (text_of f.1) (λ good. display good (cut_words n f.2).0 (cut_words n f.2).1) stands.word refl (λ good. rest good f.2), ap length stands.joined, length-append f.0 (spelling f.1 ++ f.2), length-append (spelling f.1) f.2)
 
 length-shown : (n : ℕ) → AllShort n
-unfolding cut_words shown AllShort
+unfolding cut_words display AllShort
 length-shown zero = λ good bs. omega arith
 length-shown (suc n) = λ good bs. length-cut n good bs (first_word true bs) refl (length-shown n)
 
 -- a value has at most four octets for each octet of the body
 pub length-value : (raw : List ℕ) → length (value_of_body raw) ≤ 4 * length raw
 unfolding value_of_body AllShort
-length-value raw = omega (arith, length-shown (length (trimmed (unfolded raw))) false (trimmed (unfolded raw)), length-trimmed (unfolded raw), length-unfolded raw)
+length-value raw = omega (arith, length-shown (length (without_outer_blanks (without_line_ends raw))) false (without_outer_blanks (without_line_ends raw)), length-trimmed (without_line_ends raw), length-unfolded raw)

@@ -6,7 +6,7 @@ use Rattle.std.specs.Prelude.{option_map, nat_lt, not, ◌==◌}
 use Rattle.std.specs.List.{list_all, prefix_len}
 use Rattle.mail_words.specs.Words.{Word, spelling, IsWord, is_charset_octet, is_text_octet, is_encoding, precedes, can_follow, word_at, if_followed, followed_word_at, or_later, first_word}
 use Rattle.mail_words.specs.Value.{Cut, cut_at, cut_words}
-use Rattle.mail_words.specs.Spans.{may_stand_after, StandsIn, written, IsCutOf, StandApart}
+use Rattle.mail_words.specs.Spans.{may_stand_after, StandsIn, concatenation, IsCutOf, StandApart}
 use Rattle.mail_words.proofs.SpellingLemmas.{Found, first_word-stands}
 
 -- a prefix of octets that pass, before one that does not, is all of it
@@ -210,19 +210,19 @@ none_cut text e = record {
   all = λ before w after h. absurd (not_found text before w after e h);
 }
 
-first_part : (text : List ℕ) (f : Found) (cut : Cut) → StandsIn true text f.0 f.1 f.2 → f.2 ≡ written cut.0 cut.1 → (part : List ℕ × Word) (back : List (List ℕ × Word)) → (f.0, f.1) ≡ part → cut.0 ≡ back → StandsIn true text part.0 part.1 (written back cut.1)
+first_part : (text : List ℕ) (f : Found) (cut : Cut) → StandsIn true text f.0 f.1 f.2 → f.2 ≡ concatenation cut.0 cut.1 → (part : List ℕ × Word) (back : List (List ℕ × Word)) → (f.0, f.1) ≡ part → cut.0 ≡ back → StandsIn true text part.0 part.1 (concatenation back cut.1)
 first_part text f cut h whole part back ep eb =
     let P : List ℕ × Word → Type 0 = λ p. StandsIn true text p.0 p.1 f.2 in
     let here : P part = subst P ep h in
     let Q : List ℕ → Type 0 = λ after. StandsIn true text part.0 part.1 after in
-    subst Q (whole ∙ ap (λ b. written b cut.1) eb) here
+    subst Q (whole ∙ ap (λ b. concatenation b cut.1) eb) here
 
-later_part : (text : List ℕ) (f : Found) (p : List ℕ × Word) (front : List (List ℕ × Word)) (part : List ℕ × Word) (rest : List ℕ) → StandsIn true text f.0 f.1 f.2 → (f.0, f.1) ≡ p → StandsIn true f.2 (written front part.0) part.1 rest → StandsIn true text (written (p ∷ front) part.0) part.1 rest
+later_part : (text : List ℕ) (f : Found) (p : List ℕ × Word) (front : List (List ℕ × Word)) (part : List ℕ × Word) (rest : List ℕ) → StandsIn true text f.0 f.1 f.2 → (f.0, f.1) ≡ p → StandsIn true f.2 (concatenation front part.0) part.1 rest → StandsIn true text (concatenation (p ∷ front) part.0) part.1 rest
 later_part text f p front part rest h ep k =
-    let P : List ℕ × Word → Type 0 = λ q. StandsIn true text (written (q ∷ front) part.0) part.1 rest in
-    subst P ep (lifted text f.0 f.1 f.2 (written front part.0) part.1 rest h k)
+    let P : List ℕ × Word → Type 0 = λ q. StandsIn true text (concatenation (q ∷ front) part.0) part.1 rest in
+    subst P ep (lifted text f.0 f.1 f.2 (concatenation front part.0) part.1 rest h k)
 
-cut_part : (text : List ℕ) (f : Found) (cut : Cut) → StandsIn true text f.0 f.1 f.2 → IsCutOf f.2 cut → (front : List (List ℕ × Word)) (part : List ℕ × Word) (back : List (List ℕ × Word)) → (f.0, f.1) ∷ cut.0 ≡ front ++ part ∷ back → StandsIn true text (written front part.0) part.1 (written back cut.1)
+cut_part : (text : List ℕ) (f : Found) (cut : Cut) → StandsIn true text f.0 f.1 f.2 → IsCutOf f.2 cut → (front : List (List ℕ × Word)) (part : List ℕ × Word) (back : List (List ℕ × Word)) → (f.0, f.1) ∷ cut.0 ≡ front ++ part ∷ back → StandsIn true text (concatenation front part.0) part.1 (concatenation back cut.1)
 cut_part text f cut h k [] part back e =
     let first : (f.0, f.1) ≡ part = cc in
     let others : cut.0 ≡ back = cc in
@@ -230,10 +230,10 @@ cut_part text f cut h k [] part back e =
 cut_part text f cut h k (p ∷ front) part back e =
     let first : (f.0, f.1) ≡ p = cc in
     let others : cut.0 ≡ front ++ part ∷ back = cc in
-    later_part text f p front part (written back cut.1) h first (k.words front part back others)
+    later_part text f p front part (concatenation back cut.1) h first (k.words front part back others)
 
 abbrev IsOneOf : Cut → List ℕ → Word → Type 0
-IsOneOf cut before w = (front : List (List ℕ × Word)) × (gap : List ℕ) × (back : List (List ℕ × Word)) × (cut.0 ≡ front ++ (gap, w) ∷ back) × (before ≡ written front gap)
+IsOneOf cut before w = (front : List (List ℕ × Word)) × (gap : List ℕ) × (back : List (List ℕ × Word)) × (cut.0 ≡ front ++ (gap, w) ∷ back) × (before ≡ concatenation front gap)
 
 abbrev word_or : Option (Word × List ℕ) → Word → Word
 word_or None w = w

@@ -32,10 +32,10 @@ text_in Utf8 octets = if is_utf8 octets then Some octets else None
 text_in Latin1 octets = Some (encode_utf8_all octets)
 
 -- octets of the charset as they are written in UTF-8, if they have a meaning
-abbrev pub written_in : Charset → List ℕ → List ℕ
-written_in Ascii octets = octets
-written_in Utf8 octets = octets
-written_in Latin1 octets = encode_utf8_all octets
+abbrev pub in_utf8 : Charset → List ℕ → List ℕ
+in_utf8 Ascii octets = octets
+in_utf8 Utf8 octets = octets
+in_utf8 Latin1 octets = encode_utf8_all octets
 
 -- whether the octets that were so written have a meaning in the charset
 abbrev pub is_text_in : Charset → List ℕ → Bool
@@ -46,7 +46,7 @@ is_text_in Latin1 written = true
 -- octets, if there are any, are appended to the old text as they are written; if there are none, anything may be
 -- appended
 abbrev pub ArePut : Bool → Charset → List ℕ → Option (List ℕ) → List ℕ → Type 0
-ArePut true charset old (Some octets) new = new ≡ old ++ written_in charset octets
+ArePut true charset old (Some octets) new = new ≡ old ++ in_utf8 charset octets
 ArePut true charset old None new = ⊥
 ArePut false charset old (Some octets) new = ⊥
 ArePut false charset old None new = (more : List ℕ) × (new ≡ old ++ more)

@@ -4,7 +4,7 @@ use Rattle.std.specs.Prelude.{◌≡◌, ◌⊎◌, ℕ, Bool, true, List, [], �
 use Rattle.std.specs.List.{list_all}
 use Rattle.mail_words.specs.Unfolding.{is_blank}
 use Rattle.mail_words.specs.Words.{Word, spelling, IsWord, precedes, can_follow}
-use Rattle.mail_words.specs.Value.{Cut, words_shown}
+use Rattle.mail_words.specs.Value.{Cut, display_of_text}
 use Rattle.mail_words.specs.Meaning.{Means, IsGood}
 
 -- a word may stand after these octets (RFC 2047, section 5): there are none and one may stand at the start, or the last
@@ -21,19 +21,19 @@ pub record StandsIn (start : Bool) (text before : List ℕ) (w : Word) (after : 
   pub ends : can_follow after ≡ true
 
 -- gaps and words, written one after another, and then the last text
-abbrev pub written : List (List ℕ × Word) → List ℕ → List ℕ
-written [] last = last
-written (part ∷ parts) last = part.0 ++ (spelling part.1 ++ written parts last)
+abbrev pub concatenation : List (List ℕ × Word) → List ℕ → List ℕ
+concatenation [] last = last
+concatenation (part ∷ parts) last = part.0 ++ (spelling part.1 ++ concatenation parts last)
 
 -- a cut is that of a text: it is the text, each of its words stands there, and each word that stands there is one of
 -- its words
 pub record IsCutOf (text : List ℕ) (cut : Cut) : Type 0 where
-  pub whole : text ≡ written cut.0 cut.1
+  pub whole : text ≡ concatenation cut.0 cut.1
   pub words : (front : List (List ℕ × Word)) (part : List ℕ × Word) (back : List (List ℕ × Word)) →
-      cut.0 ≡ front ++ part ∷ back → StandsIn true text (written front part.0) part.1 (written back cut.1)
+      cut.0 ≡ front ++ part ∷ back → StandsIn true text (concatenation front part.0) part.1 (concatenation back cut.1)
   pub all : (before : List ℕ) (w : Word) (after : List ℕ) → StandsIn true text before w after →
       (front : List (List ℕ × Word)) × (gap : List ℕ) × (back : List (List ℕ × Word)) ×
-      (cut.0 ≡ front ++ (gap, w) ∷ back) × (before ≡ written front gap)
+      (cut.0 ≡ front ++ (gap, w) ∷ back) × (before ≡ concatenation front gap)
 
 -- what is shown of a word (RFC 2047, section 6.2): of a good one the text that it means, of another one its spelling
 abbrev pub IsWordShown : Word → List ℕ → Type 0
@@ -65,8 +65,8 @@ abbrev pub IsShown : List ℕ → List ℕ → Type 0
 IsShown text value = (cut : Cut) × IsCutOf text cut × IsShownAfter None cut.0 cut.1 value
 
 -- what is computed is what is shown of a text, and nothing else is
-abbrev pub ShownLaw : Type 0
-ShownLaw = (text value : List ℕ) → (value ≡ words_shown text) ↔ IsShown text value
+abbrev pub DisplayLaw : Type 0
+DisplayLaw = (text value : List ℕ) → (value ≡ display_of_text text) ↔ IsShown text value
 
 -- two words that stand in a text never overlap: the second begins at or after the end of the first
 abbrev pub StandApart : List ℕ → Type 0

@@ -27,14 +27,14 @@ begins_line_end [] = false
 begins_line_end (b ∷ bs) = (b == 10) || ((b == 13) && begins_with 10 bs)
 
 -- a folded text as one line (RFC 5322, section 2.2.3): every LF, with one CR directly before it, is removed
-unfoldable pub unfolded : List ℕ → List ℕ
-unfolded [] = []
-unfolded (b ∷ bs) = if (b == 10) || ((b == 13) && begins_with 10 bs) then unfolded bs else b ∷ unfolded bs
+unfoldable pub without_line_ends : List ℕ → List ℕ
+without_line_ends [] = []
+without_line_ends (b ∷ bs) = if (b == 10) || ((b == 13) && begins_with 10 bs) then without_line_ends bs else b ∷ without_line_ends bs
 
 -- the first octet that is kept, and the text after it
 abbrev pub IsFirstOctet : List ℕ → ℕ → List ℕ → Type 0
 IsFirstOctet text octet following = (ends : List ℕ) × (text ≡ ends ++ octet ∷ following) ×
-    (unfolded text ≡ octet ∷ unfolded following)
+    (without_line_ends text ≡ octet ∷ without_line_ends following)
 
 abbrev pub without_first_blanks : List ℕ → List ℕ
 without_first_blanks bs = drop (prefix_len is_blank bs) bs
@@ -43,5 +43,5 @@ abbrev pub without_last_blanks : List ℕ → List ℕ
 without_last_blanks bs = take (length bs - suffix_len is_blank bs) bs
 
 -- without the blanks at both ends
-abbrev pub trimmed : List ℕ → List ℕ
-trimmed bs = without_last_blanks (without_first_blanks bs)
+abbrev pub without_outer_blanks : List ℕ → List ℕ
+without_outer_blanks bs = without_last_blanks (without_first_blanks bs)

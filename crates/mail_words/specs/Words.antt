@@ -2,8 +2,8 @@
 use Rattle.std.specs.Prelude.{◌≡◌, ℕ, ◌<◌, Bool, true, false, List, [], ◌∷◌, ◌++◌, length, drop, Option, Some, None, option_map, nat_lt, nat_le, slice_index, ◌==◌, ◌&&◌, ◌||◌, not, if◌then◌else◌}
 use Rattle.std.specs.List.{list_any, list_all, take_while}
 use Rattle.mail_words.specs.Unfolding.{is_blank, IsFirstOctet}
-use Rattle.mail_words.specs.declared.words.Part.{Part}
-use Rattle.mail_words.specs.declared.words.Part.TheVariants.{Charset, Text}
+use Rattle.mail_words.specs.declared.words.WordPart.{WordPart}
+use Rattle.mail_words.specs.declared.words.WordPart.TheVariants.{Charset, Text}
 
 -- a printable octet of US-ASCII that is no space
 abbrev pub is_visible : ℕ → Bool
@@ -100,12 +100,12 @@ first_word start [] = None
 first_word start (b ∷ bs) = or_later (if start then followed_word_at (b ∷ bs) else None) b (first_word (precedes b) bs)
 
 -- an octet of a charset's name, or of encoded text
-abbrev pub is_part_octet : Part → ℕ → Bool
+abbrev pub is_part_octet : WordPart → ℕ → Bool
 is_part_octet Charset = is_charset_octet
 is_part_octet Text = is_text_octet
 
 -- the first octet is one of the part's, and this is the rest
-abbrev pub IsPartOctet : Part → List ℕ → List ℕ → Type 0
+abbrev pub IsPartOctet : WordPart → List ℕ → List ℕ → Type 0
 IsPartOctet part text following = (b : ℕ) × (is_part_octet part b ≡ true) × IsFirstOctet text b following
 
 abbrev pub begins_with_pair : ℕ → ℕ → List ℕ → Bool

@@ -1,7 +1,7 @@
 //! B text (RFC 2047, section 4.1).
 
 ghost use Rattle.std.specs.Prelude.{◌≡◌, ◌≤◌, length, take, drop, IfOk, IfSome, MatchOption};
-ghost use Rattle.mail_words.specs.Unfolding.{unfolded};
+ghost use Rattle.mail_words.specs.Unfolding.{without_line_ends};
 ghost use Rattle.mail_words.specs.Charsets.{ArePut};
 ghost use Rattle.mail_words.specs.Decoding.{b_octets};
 
@@ -18,8 +18,8 @@ const OCTETS: usize = 48;
 
 /// Reads the first symbols of a text, as many as there is room for. Answers their number, and the rest of the text.
 fn read_symbols<'a>(text: &'a [u8], symbols: &mut [u8; SYMBOLS]) -> (usize, &'a [u8])
-    ensures read { take result.0 symbols.new ≡ take 64 (unfolded text.now) }
-    ensures following { unfolded result.1.now ≡ drop 64 (unfolded text.now) }
+    ensures read { take result.0 symbols.new ≡ take 64 (without_line_ends text.now) }
+    ensures following { without_line_ends result.1.now ≡ drop 64 (without_line_ends text.now) }
     ensures within { result.0 ≤ 64 }
 {
     let mut count = 0;
@@ -52,7 +52,7 @@ fn decode_symbols(symbols: &[u8], octets: &mut [u8; OCTETS]) -> Option<usize>
 /// Appends the octets that B text encodes with padding (RFC 4648, section 4), as they are written in a charset. Answers
 /// whether the text is good. Where it is bad, some octets may have been appended.
 pub fn append_b(shown: &mut Vec<u8>, charset: Charset, text: &[u8]) -> Result<bool, AllocError>
-    ensures { IfOk result (λ good. ArePut good charset shown.old.items (b_octets (unfolded text.now)) shown.new.items) }
+    ensures { IfOk result (λ good. ArePut good charset shown.old.items (b_octets (without_line_ends text.now)) shown.new.items) }
 {
     let mut symbols = [0u8; SYMBOLS];
     let mut octets = [0u8; OCTETS];

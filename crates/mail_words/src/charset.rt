@@ -4,7 +4,7 @@ ghost use Rattle.std.specs.Prelude.{◌≡◌, ◌∷◌, [], map, codes, OnOk, 
 ghost use Rattle.std.specs.List.{list_any, list_all};
 ghost use Rattle.std.specs.Str.{is_utf8};
 ghost use Rattle.std.specs.Char.{to_ascii_lowercase};
-ghost use Rattle.mail_words.specs.Charsets.{is_named, ascii_parts, charset_named, written_in, is_text_in};
+ghost use Rattle.mail_words.specs.Charsets.{is_named, ascii_parts, charset_named, in_utf8, is_text_in};
 
 use std::alloc::AllocError;
 
@@ -66,7 +66,7 @@ fn is_ascii_part(name: &[u8]) -> bool
 /// Appends an octet in UTF-8: in ISO 8859-1 as the character of its number, in the other charsets as it is. `is_read`
 /// answers afterwards whether it has a meaning in the charset.
 pub fn append_octet(shown: &mut Vec<u8>, charset: Charset, octet: u8) -> Result<(), AllocError>
-    ensures { OnOk result (shown.new.items ≡ shown.old.items ++ written_in charset (octet ∷ [])) }
+    ensures { OnOk result (shown.new.items ≡ shown.old.items ++ in_utf8 charset (octet ∷ [])) }
 {
     match charset {
         Charset::Latin1 => {
@@ -80,7 +80,7 @@ pub fn append_octet(shown: &mut Vec<u8>, charset: Charset, octet: u8) -> Result<
 
 /// Appends each octet as `append_octet` does.
 pub fn append_octets(shown: &mut Vec<u8>, charset: Charset, octets: &[u8]) -> Result<(), AllocError>
-    ensures { OnOk result (shown.new.items ≡ shown.old.items ++ written_in charset octets.now) }
+    ensures { OnOk result (shown.new.items ≡ shown.old.items ++ in_utf8 charset octets.now) }
 {
     for octet in octets {
         append_octet(shown, charset, *octet)?;

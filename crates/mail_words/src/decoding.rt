@@ -1,7 +1,7 @@
 //! What an encoded word means (RFC 2047, sections 3 and 4).
 
 ghost use Rattle.std.specs.Prelude.{◌≡◌, IfOk, OnOk};
-ghost use Rattle.mail_words.specs.Unfolding.{unfolded};
+ghost use Rattle.mail_words.specs.Unfolding.{without_line_ends};
 ghost use Rattle.mail_words.specs.Charsets.{charset_named, ArePut};
 ghost use Rattle.mail_words.specs.Decoding.{octets_of, text_of, IsAppended};
 
@@ -15,7 +15,7 @@ use std::alloc::AllocError;
 /// The charset of a name, if it is one of those that are read. The name may be folded, so it is unfolded at the end of
 /// `shown`, and removed from there again.
 fn charset_written(shown: &mut Vec<u8>, name: &[u8]) -> Result<Option<Charset>, AllocError>
-    ensures value { IfOk result (λ c. c ≡ charset_named (unfolded name.now)) }
+    ensures value { IfOk result (λ c. c ≡ charset_named (without_line_ends name.now)) }
     ensures same { OnOk result (shown.new.items ≡ shown.old.items) }
 {
     let start = shown.len();

@@ -1,7 +1,7 @@
 //! Q text (RFC 2047, section 4.2).
 
 ghost use Rattle.std.specs.Prelude.{◌≡◌, ◌<◌, ◌==◌, IfOk, IfSome, if◌then◌else◌};
-ghost use Rattle.mail_words.specs.Unfolding.{unfolded};
+ghost use Rattle.mail_words.specs.Unfolding.{without_line_ends};
 ghost use Rattle.mail_words.specs.Charsets.{ArePut};
 ghost use Rattle.mail_words.specs.Decoding.{hex_value, q_octets};
 
@@ -42,7 +42,7 @@ fn plain_octet(octet: u8) -> u8
 #[tactic(auto, unfolding(crate::specs::Decoding::q_octets))]
 pub fn append_q(shown: &mut Vec<u8>, charset: Charset, text: &[u8]) -> Result<bool, AllocError>
     ensures { IfOk result (λ good. ArePut good charset shown.old.items
-        (q_octets Place.Plain (unfolded text.now)) shown.new.items) }
+        (q_octets Place.Plain (without_line_ends text.now)) shown.new.items) }
 {
     let mut place = Place::Plain;
     let mut rest = text;

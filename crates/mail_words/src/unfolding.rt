@@ -1,9 +1,9 @@
 //! A folded body as one line (RFC 5322, section 2.2.3), read without making that line. A text is seen without its line
-//! ends, each an LF with one CR directly before it; contracts call that `unfolded`.
+//! ends, each an LF with one CR directly before it; contracts call that `without_line_ends`.
 
 ghost use Rattle.std.specs.Prelude.{◌≡◌, ◌∷◌, [], ◌++◌, ◌≤◌, length, OnOk, IsTrue, MatchOption, ◌==◌};
 ghost use Rattle.std.specs.List.{list_all};
-ghost use Rattle.mail_words.specs.Unfolding.{is_blank, without_cr, begins_line_end, ends_in, is_nil, unfolded, IsFirstOctet, without_first_blanks, without_last_blanks, trimmed};
+ghost use Rattle.mail_words.specs.Unfolding.{is_blank, without_cr, begins_line_end, ends_in, is_nil, without_line_ends, IsFirstOctet, without_first_blanks, without_last_blanks, without_outer_blanks};
 
 use memchr::memchr;
 use std::alloc::AllocError;
@@ -26,7 +26,7 @@ fn line_text(line: &[u8]) -> &[u8]
 
 /// Appends the text without its line ends. The one error is out of memory.
 pub fn append_unfolded(line: &mut Vec<u8>, text: &[u8]) -> Result<(), AllocError>
-    ensures { OnOk result (line.new.items ≡ line.old.items ++ unfolded text.now) }
+    ensures { OnOk result (line.new.items ≡ line.old.items ++ without_line_ends text.now) }
 {
     let mut rest = text;
     while let Some(place) = memchr(b'\n', rest) {
@@ -53,7 +53,7 @@ fn stands_at_line_end(text: &[u8]) -> bool
 
 /// The first octet of a text that belongs to no line end, and the rest of the text. None where there is no such octet.
 pub fn first_octet(text: &[u8]) -> Option<(u8, &[u8])>
-    ensures { MatchOption result (unfolded text.now ≡ []) (λ f. IsFirstOctet text.now f.0 f.1.now) }
+    ensures { MatchOption result (without_line_ends text.now ≡ []) (λ f. IsFirstOctet text.now f.0 f.1.now) }
 {
     let mut rest = text;
     while stands_at_line_end(rest) {
@@ -68,7 +68,7 @@ pub fn first_octet(text: &[u8]) -> Option<(u8, &[u8])>
 
 /// Whether the text is empty but for line ends.
 pub fn is_empty(text: &[u8]) -> bool
-    ensures { result ≡ is_nil (unfolded text.now) }
+    ensures { result ≡ is_nil (without_line_ends text.now) }
 {
     match first_octet(text) {
         Some(_) => false,
@@ -88,7 +88,7 @@ fn ends_line(text: &[u8]) -> bool
 
 /// The last octet of a text that belongs to no line end, with the text before it. None where there is no such octet.
 pub fn last_octet(text: &[u8]) -> Option<(&[u8], u8)>
-    ensures { MatchOption result (unfolded text.now ≡ []) (λ l. unfolded text.now ≡ unfolded l.0.now ++ l.1 ∷ []) }
+    ensures { MatchOption result (without_line_ends text.now ≡ []) (λ l. without_line_ends text.now ≡ without_line_ends l.0.now ++ l.1 ∷ []) }
 {
     let mut rest = text;
     while ends_line(rest) {
@@ -103,7 +103,7 @@ pub fn last_octet(text: &[u8]) -> Option<(&[u8], u8)>
 
 /// Whether the text has blanks only, but for line ends.
 pub fn is_all_blank(text: &[u8]) -> bool
-    ensures { result ≡ list_all is_blank (unfolded text.now) }
+    ensures { result ≡ list_all is_blank (without_line_ends text.now) }
 {
     let mut rest = text;
     while let Some((octet, following)) = first_octet(rest) {
@@ -116,7 +116,7 @@ pub fn is_all_blank(text: &[u8]) -> bool
 }
 
 fn trim_start(text: &[u8]) -> &[u8]
-    ensures { unfolded result.now ≡ without_first_blanks (unfolded text.now) }
+    ensures { without_line_ends result.now ≡ without_first_blanks (without_line_ends text.now) }
 {
     let mut rest = text;
     while let Some((octet, following)) = first_octet(rest) {
@@ -129,7 +129,7 @@ fn trim_start(text: &[u8]) -> &[u8]
 }
 
 fn trim_end(text: &[u8]) -> &[u8]
-    ensures { unfolded result.now ≡ without_last_blanks (unfolded text.now) }
+    ensures { without_line_ends result.now ≡ without_last_blanks (without_line_ends text.now) }
 {
     let mut rest = text;
     while let Some((before, octet)) = last_octet(rest) {
@@ -143,7 +143,7 @@ fn trim_end(text: &[u8]) -> &[u8]
 
 /// A part of the text that, read as unfolded, is the unfolded text without the blanks at both ends.
 pub fn trim(text: &[u8]) -> &[u8]
-    ensures { unfolded result.now ≡ trimmed (unfolded text.now) }
+    ensures { without_line_ends result.now ≡ without_outer_blanks (without_line_ends text.now) }
 {
     trim_end(trim_start(text))
 }

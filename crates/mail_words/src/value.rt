@@ -2,10 +2,10 @@
 
 ghost use Rattle.std.specs.Prelude.{◌≡◌, [], ◌++◌, ◌+◌, ◌*◌, ◌≤◌, ◌&&◌, length, IfOk, OnOk, if◌then◌else◌};
 ghost use Rattle.std.specs.List.{list_all};
-ghost use Rattle.mail_words.specs.Unfolding.{is_blank, unfolded, trimmed};
+ghost use Rattle.mail_words.specs.Unfolding.{is_blank, without_line_ends, without_outer_blanks};
 ghost use Rattle.mail_words.specs.Spans.{IsShown};
 ghost use Rattle.mail_words.specs.Words.{spelling};
-ghost use Rattle.mail_words.specs.Value.{words_shown, value_of_body, IsPutWord};
+ghost use Rattle.mail_words.specs.Value.{display_of_text, value_of_body, IsPutWord};
 
 use crate::decoding::append_decoded;
 use crate::unfolding::{append_unfolded, is_all_blank, trim};
@@ -15,8 +15,8 @@ use std::alloc::{AllocError, Global};
 /// What is shown of the gap before a good word: nothing where it is blanks alone and follows a good word, otherwise
 /// all.
 fn shown_gap(gap: &[u8], after_good: bool) -> &[u8]
-    ensures { unfolded result.now ≡ (if after_good && list_all is_blank (unfolded gap.now) then []
-        else unfolded gap.now) }
+    ensures { without_line_ends result.now ≡ (if after_good && list_all is_blank (without_line_ends gap.now) then []
+        else without_line_ends gap.now) }
 {
     if after_good && is_all_blank(gap) {
         &[]
@@ -60,7 +60,7 @@ fn append_word(
 /// Appends the text with its good words replaced by the texts that they mean. Blanks that alone stand between two good
 /// words are left out.
 fn append_shown(shown: &mut Vec<u8>, text: &[u8]) -> Result<(), AllocError>
-    ensures { OnOk result (shown.new.items ≡ shown.old.items ++ words_shown (unfolded text.now)) }
+    ensures { OnOk result (shown.new.items ≡ shown.old.items ++ display_of_text (without_line_ends text.now)) }
 {
     let mut after_good = false;
     let mut rest = text;
@@ -100,7 +100,7 @@ pub fn append_value(shown: &mut Vec<u8>, raw: &[u8]) -> Result<(), AllocError>
 #[tactic(auto, unfolding(crate::specs::Value::value_of_body))]
 pub fn value_of(alloc: Global, raw: &[u8]) -> Result<Vec<u8>, AllocError>
     ensures value { IfOk result (λ v. v.items ≡ value_of_body raw.now) }
-    ensures spans { IfOk result (λ v. IsShown (trimmed (unfolded raw.now)) v.items) }
+    ensures spans { IfOk result (λ v. IsShown (without_outer_blanks (without_line_ends raw.now)) v.items) }
 {
     let text = trim(raw);
     let mut shown = Vec::with_capacity(alloc, text.len())?;

@@ -2,7 +2,7 @@
 
 ghost use Rattle.std.specs.Prelude.{◌≡◌, ◌∷◌, ◌++◌, [], true, false, length, drop, IfSome, MatchOption};
 ghost use Rattle.std.specs.List.{take_while};
-ghost use Rattle.mail_words.specs.Unfolding.{unfolded};
+ghost use Rattle.mail_words.specs.Unfolding.{without_line_ends};
 ghost use Rattle.mail_words.specs.Spans.{may_stand_after};
 ghost use Rattle.mail_words.specs.Words.{is_charset_octet, is_text_octet, is_encoding, is_part_octet, IsPartOctet, precedes, can_follow, begins_with_pair, names_encoding, word_at, followed_word_at, first_word, spelling};
 
@@ -12,7 +12,7 @@ use std::marker::Model;
 
 /// The two parts of an encoded word that may be of any length.
 #[derive(Clone, Copy)]
-pub enum Part {
+pub enum WordPart {
     Charset,
     Text,
 }
@@ -26,18 +26,18 @@ pub struct EncodedWord<'a> {
 }
 
 impl<'a> Model for EncodedWord<'a> {
-    ghost use Rattle.mail_words.specs.Unfolding.{unfolded};
+    ghost use Rattle.mail_words.specs.Unfolding.{without_line_ends};
     ghost use Rattle.mail_words.specs.Words.{Word};
 
     ghost Value = { Word };
 
-    ghost view = { λ w. record { charset = unfolded w.charset.now; encoding = w.encoding; text = unfolded w.text.now } };
+    ghost view = { λ w. record { charset = without_line_ends w.charset.now; encoding = w.encoding; text = without_line_ends w.text.now } };
 }
 
 impl<'a> EncodedWord<'a> {
     /// The charset's name, line ends included.
     pub fn charset(&self) -> &'a [u8]
-        ensures { unfolded result.now ≡ self.now.charset }
+        ensures { without_line_ends result.now ≡ self.now.charset }
     {
         self.charset
     }
@@ -51,7 +51,7 @@ impl<'a> EncodedWord<'a> {
 
     /// The encoded text, line ends included.
     pub fn text(&self) -> &'a [u8]
-        ensures { unfolded result.now ≡ self.now.text }
+        ensures { without_line_ends result.now ≡ self.now.text }
     {
         self.text
     }
@@ -66,18 +66,18 @@ pub struct FrontWord<'a> {
 
 impl<'a> Model for FrontWord<'a> {
     ghost use Rattle.std.specs.Prelude.{ℕ, List};
-    ghost use Rattle.mail_words.specs.Unfolding.{unfolded};
+    ghost use Rattle.mail_words.specs.Unfolding.{without_line_ends};
     ghost use Rattle.mail_words.specs.Words.{Word};
 
     ghost Value = { Word × List ℕ };
 
-    ghost view = { λ f. (f.word, unfolded f.following.now) };
+    ghost view = { λ f. (f.word, without_line_ends f.following.now) };
 }
 
 impl<'a> FrontWord<'a> {
     /// The word with `gap` before it.
     fn with_gap(self, gap: &'a [u8]) -> StandingWord<'a>
-        ensures { result ≡ (unfolded gap.entry.now, self.entry.0, self.entry.1) }
+        ensures { result ≡ (without_line_ends gap.entry.now, self.entry.0, self.entry.1) }
     {
         StandingWord {
             gap,
@@ -97,18 +97,18 @@ pub struct StandingWord<'a> {
 
 impl<'a> Model for StandingWord<'a> {
     ghost use Rattle.std.specs.Prelude.{ℕ, List};
-    ghost use Rattle.mail_words.specs.Unfolding.{unfolded};
+    ghost use Rattle.mail_words.specs.Unfolding.{without_line_ends};
     ghost use Rattle.mail_words.specs.Words.{Word};
 
     ghost Value = { List ℕ × Word × List ℕ };
 
-    ghost view = { λ s. (unfolded s.gap.now, s.word, unfolded s.following.now) };
+    ghost view = { λ s. (without_line_ends s.gap.now, s.word, without_line_ends s.following.now) };
 }
 
 impl<'a> StandingWord<'a> {
     /// The text before the word.
     pub fn gap(&self) -> &'a [u8]
-        ensures { unfolded result.now ≡ self.now.0 }
+        ensures { without_line_ends result.now ≡ self.now.0 }
     {
         self.gap
     }
@@ -121,7 +121,7 @@ impl<'a> StandingWord<'a> {
 
     /// The text after the word.
     pub fn following(&self) -> &'a [u8]
-        ensures { unfolded result.now ≡ self.now.2 }
+        ensures { without_line_ends result.now ≡ self.now.2 }
     {
         self.following
     }
@@ -163,18 +163,18 @@ fn is_encoding_letter(octet: u8) -> bool
     matches!(octet, b'B' | b'b' | b'Q' | b'q')
 }
 
-fn is_in_part(part: Part, octet: u8) -> bool
+fn is_in_part(part: WordPart, octet: u8) -> bool
     ensures { result ≡ is_part_octet part octet }
 {
     match part {
-        Part::Charset => is_in_charset(octet),
-        Part::Text => is_in_text(octet),
+        WordPart::Charset => is_in_charset(octet),
+        WordPart::Text => is_in_text(octet),
     }
 }
 
 /// The rest after the first octet, if that is one of the part.
-fn after_part_octet(text: &[u8], part: Part) -> Option<&[u8]>
-    ensures { MatchOption result (take_while (is_part_octet part) (unfolded text.now) ≡
+fn after_part_octet(text: &[u8], part: WordPart) -> Option<&[u8]>
+    ensures { MatchOption result (take_while (is_part_octet part) (without_line_ends text.now) ≡
         []) (λ following. IsPartOctet part text.now following.now) }
 {
     match first_octet(text) {
@@ -184,10 +184,10 @@ fn after_part_octet(text: &[u8], part: Part) -> Option<&[u8]>
 }
 
 /// The octets at the front of a text that are the part's, and the rest.
-fn split_part(text: &[u8], part: Part) -> (&[u8], &[u8])
-    ensures front { unfolded result.0.now ≡ take_while (is_part_octet part) (unfolded text.now) }
-    ensures following { unfolded result.1.now ≡
-        drop (length (take_while (is_part_octet part) (unfolded text.now))) (unfolded text.now) }
+fn split_part(text: &[u8], part: WordPart) -> (&[u8], &[u8])
+    ensures front { without_line_ends result.0.now ≡ take_while (is_part_octet part) (without_line_ends text.now) }
+    ensures following { without_line_ends result.1.now ≡
+        drop (length (take_while (is_part_octet part) (without_line_ends text.now))) (without_line_ends text.now) }
 {
     let mut rest = text;
     while let Some(following) = after_part_octet(rest, part) {
@@ -199,8 +199,8 @@ fn split_part(text: &[u8], part: Part) -> (&[u8], &[u8])
 
 /// The rest after these two octets, if the text begins with them.
 fn after_pair(text: &[u8], first: u8, second: u8) -> Option<&[u8]>
-    ensures { MatchOption result (begins_with_pair first second (unfolded text.now) ≡
-        false) (λ following. unfolded text.now ≡ first ∷ second ∷ unfolded following.now) }
+    ensures { MatchOption result (begins_with_pair first second (without_line_ends text.now) ≡
+        false) (λ following. without_line_ends text.now ≡ first ∷ second ∷ without_line_ends following.now) }
 {
     let (octet, rest) = first_octet(text)?;
     let (next, following) = first_octet(rest)?;
@@ -213,8 +213,8 @@ fn after_pair(text: &[u8], first: u8, second: u8) -> Option<&[u8]>
 
 /// The letter of an encoding and the rest after it, if the text begins with one between two "?".
 fn after_encoding(text: &[u8]) -> Option<(u8, &[u8])>
-    ensures { MatchOption result (names_encoding (unfolded text.now) ≡
-        false) (λ e. (unfolded text.now ≡ 63 ∷ e.0 ∷ 63 ∷ unfolded e.1.now) × (is_encoding e.0 ≡ true)) }
+    ensures { MatchOption result (names_encoding (without_line_ends text.now) ≡
+        false) (λ e. (without_line_ends text.now ≡ 63 ∷ e.0 ∷ 63 ∷ without_line_ends e.1.now) × (is_encoding e.0 ≡ true)) }
 {
     let (first, rest) = first_octet(text)?;
     let (letter, rest) = first_octet(rest)?;
@@ -235,7 +235,7 @@ fn may_precede(octet: u8) -> bool
 
 /// Whether the text may stand directly after a word.
 fn may_follow(text: &[u8]) -> bool
-    ensures { result ≡ can_follow (unfolded text.now) }
+    ensures { result ≡ can_follow (without_line_ends text.now) }
 {
     match first_octet(text) {
         Some((octet, _)) => is_blank_octet(octet) || octet == b')',
@@ -245,12 +245,12 @@ fn may_follow(text: &[u8]) -> bool
 
 /// The word at the front of a text, if one stands there.
 fn front_word(text: &[u8]) -> Option<FrontWord<'_>>
-    ensures { result ≡ word_at (unfolded text.now) }
+    ensures { result ≡ word_at (without_line_ends text.now) }
 {
     let opened = after_pair(text, b'=', b'?')?;
-    let (charset, encoded) = split_part(opened, Part::Charset);
+    let (charset, encoded) = split_part(opened, WordPart::Charset);
     let (encoding, rest) = after_encoding(encoded)?;
-    let (text, closed) = split_part(rest, Part::Text);
+    let (text, closed) = split_part(rest, WordPart::Text);
     let following = after_pair(closed, b'?', b'=')?;
     if is_empty(charset) || is_empty(text) {
         return None;
@@ -265,7 +265,7 @@ fn front_word(text: &[u8]) -> Option<FrontWord<'_>>
 
 /// The word at the front of a text, if one stands there and the rest may follow a word.
 fn followed_word(text: &[u8]) -> Option<FrontWord<'_>>
-    ensures { result ≡ followed_word_at (unfolded text.now) }
+    ensures { result ≡ followed_word_at (without_line_ends text.now) }
 {
     match front_word(text) {
         Some(front) if may_follow(front.following) => Some(front),
@@ -275,7 +275,7 @@ fn followed_word(text: &[u8]) -> Option<FrontWord<'_>>
 
 /// Whether a word may stand directly after the gap.
 fn may_begin_after(gap: &[u8]) -> bool
-    ensures { result ≡ may_stand_after true (unfolded gap.now) }
+    ensures { result ≡ may_stand_after true (without_line_ends gap.now) }
 {
     match last_octet(gap) {
         Some((_, octet)) => may_precede(octet),
@@ -285,8 +285,8 @@ fn may_begin_after(gap: &[u8]) -> bool
 
 /// The first word that stands in a text. One may stand at the text's start.
 pub fn next_word(text: &[u8]) -> Option<StandingWord<'_>>
-    ensures first { result ≡ first_word true (unfolded text.now) }
-    ensures spelled { IfSome result (λ s. unfolded text.now ≡ s.0 ++ (spelling s.1 ++ s.2)) }
+    ensures first { result ≡ first_word true (without_line_ends text.now) }
+    ensures spelled { IfSome result (λ s. without_line_ends text.now ≡ s.0 ++ (spelling s.1 ++ s.2)) }
 {
     let mut from = 0;
     while let Some(step) = memchr(b'=', &text[from..]) {

@@ -8,7 +8,7 @@ use std::alloc::Global;
 use std::io::{BufRead, BufReader};
 use std::str;
 use std::time::{SystemTime, UNIX_EPOCH};
-use tool_texts::{Framed, Part, Payload, framed_line, parts, slots};
+use tool_texts::{Framed, LinePart, Payload, framed_line, parts, slots};
 
 /// The time of the clock, in seconds since 1970-01-01T00:00:00Z.
 pub fn now(rt: &HostRuntime) -> Result<u64, Failure> {
@@ -31,22 +31,24 @@ fn payload(rt: &HostRuntime, kind: Payload, path: &[u8]) -> Result<Vec<u8>, Fail
 }
 
 /// What replaces a part of a command in a session.
-fn framed<'a>(rt: &HostRuntime, part: Part<'a>) -> Result<Framed<'a>, Failure> {
+fn framed<'a>(rt: &HostRuntime, part: LinePart<'a>) -> Result<Framed<'a>, Failure> {
     match part {
-        Part::Word(word) => Ok(Framed::Word(word)),
-        Part::Here(word, count) => Ok(Framed::Here(word, count)),
-        Part::Moment => Ok(Framed::Moment(now(rt)?)),
-        Part::File(kind, path) => Ok(Framed::File(payload(rt, kind, path)?)),
+        LinePart::Word(word) => Ok(Framed::Word(word)),
+        LinePart::Here(word, count) => Ok(Framed::Here(word, count)),
+        LinePart::Moment => Ok(Framed::Moment(now(rt)?)),
+        LinePart::File(kind, path) => Ok(Framed::File(payload(rt, kind, path)?)),
     }
 }
 
 /// Whether a line names a file, but has another number of words than its command takes. The session would not read the
 /// octets of that file as a payload.
-fn is_misshapen(parts: &[Part<'_>]) -> bool {
-    let Some(Part::Word(command)) = parts.first() else {
+fn is_misshapen(parts: &[LinePart<'_>]) -> bool {
+    let Some(LinePart::Word(command)) = parts.first() else {
         return false;
     };
-    let names_file = parts.iter().any(|part| matches!(part, Part::File(_, _)));
+    let names_file = parts
+        .iter()
+        .any(|part| matches!(part, LinePart::File(_, _)));
     names_file && parts.len().saturating_sub(1) != slots(*command).len()
 }
 

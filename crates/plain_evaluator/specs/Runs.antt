@@ -10,7 +10,7 @@ use Rattle.sieve_meaning.specs.declared.words.CommandWord.TheVariants as words
 use Rattle.sieve_meaning.specs.Program.{Include, Test, Commands, Branches}
 use Rattle.sieve_meaning.specs.Truth.{truth}
 use Rattle.sieve_meaning.specs.Reading.{only_in, block_in, command_named, program_of, branches_of, string_lists, first_string, has_tag}
-use Rattle.sieve_meaning.specs.Meaning.{ScriptName, script_named, Library, Included, included, run, run_branches, and_then, filing, ending_of_include, entering}
+use Rattle.sieve_meaning.specs.Meaning.{ScriptName, script_named, Library, Included, inclusion_within, run, run_branches, and_then, filing, ending_of_include, with_entry}
 use Rattle.sieve_meaning.specs.Meaning as meaning
 use Rattle.script_library.specs.BorrowedShelves.{scripts_of}
 use Rattle.script_library.specs.Libraries.{library_of}
@@ -41,14 +41,14 @@ fault_of (endings.Faults fault) = Some fault
 -- what an `include` does in a scope where the number of further scripts that may be active is given (RFC 6609, section
 -- 3.2)
 abbrev pub includes_at : ℕ → Scope → Included
-includes_at left s = included (facts_of s.case.now) (library_of (scripts_of s.shelves)) left (map script_of s.chain.now)
+includes_at left s = inclusion_within (facts_of s.case.now) (library_of (scripts_of s.shelves)) left (map script_of s.chain.now)
 
 -- a script that an include enters after the active ones; without a further level it is a fault
 abbrev pub entry_ending : Facts → Library → ℕ → (chain : List ScriptName) → Include → Commands → meaning.Filing →
     meaning.Ending
 entry_ending facts lib zero chain i script f = meaning.Faults NestingTooDeep f
 entry_ending facts lib (suc left) chain i script f = ending_of_include
-    (run facts (included facts lib left (script_named i ∷ chain)) script (entering (script_named i) f))
+    (run facts (inclusion_within facts lib left (script_named i ∷ chain)) script (with_entry (script_named i) f))
 
 -- an include whose script is missing: nothing where it is optional (RFC 6609, section 3.2), otherwise a fault
 abbrev pub missing_ending : (optional : Bool) → meaning.Filing → meaning.Ending

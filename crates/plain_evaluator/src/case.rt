@@ -7,7 +7,7 @@ ghost use Rattle.plain_evaluator.specs.Case.{facts_by};
 use filing_case::{Case, OpenPaths};
 use mail_head::read_head;
 use mail_words::value_of;
-use sieve_meaning::is_word;
+use sieve_meaning::is_same_word;
 use std::alloc::{AllocError, Global};
 
 /// A field of the header: its name, a slice of the message, and its value with folding and encoded words undone.
@@ -70,7 +70,7 @@ impl<P: OpenPaths> Case for BorrowedCase<'_, P> {
     }
 
     fn is_named(&self, field: usize, name: &[u8]) -> bool {
-        is_word(self.fields[field].name, name)
+        is_same_word(self.fields[field].name, name)
     }
 
     fn value(&self, field: usize) -> &[u8] {

@@ -14,7 +14,7 @@ use crate::case::{BorrowedCase, BorrowedField};
 use class_paths::Paths;
 use sieve_match::key_matches;
 use sieve_meaning::reading::{comparator, has_tag, match_type, next_string_list, number};
-use sieve_meaning::{Comparator, MatchType, TestWord, is_word, test_word};
+use sieve_meaning::{Comparator, MatchType, TestWord, is_same_word, test_word};
 use sieve_syntax::{Argument, StringList, Test, Tests, Text};
 
 /// Whether a field has one of some names.
@@ -23,7 +23,7 @@ fn is_any_name(field: &BorrowedField<'_>, names: &[Text]) -> bool
 {
     names
         .iter()
-        .any(|name| is_word(field.name, name.as_slice()))
+        .any(|name| is_same_word(field.name, name.as_slice()))
 }
 
 /// Whether a field's value matches one of some keys.
@@ -42,7 +42,7 @@ fn is_any_match(
 fn has_listed_name(field: &BorrowedField<'_>, names: &StringList) -> bool
     ensures { result ≡ list_any (λ name. is_named name (field_of field.now)) (strings_of names.now) }
 {
-    is_word(field.name, names.first().as_slice()) || is_any_name(field, names.others())
+    is_same_word(field.name, names.first().as_slice()) || is_any_name(field, names.others())
 }
 
 /// Whether a field's value matches one of the listed keys.
@@ -102,7 +102,7 @@ fn is_header_true(case: &BorrowedCase<'_, Paths>, arguments: &[Argument]) -> boo
 fn has_field(fields: &[BorrowedField<'_>], name: &[u8]) -> bool
     ensures { result ≡ list_any (λ f. is_named name.now (field_of f)) fields.now }
 {
-    fields.iter().any(|field| is_word(field.name, name))
+    fields.iter().any(|field| is_same_word(field.name, name))
 }
 
 /// Whether a field is there for each name.

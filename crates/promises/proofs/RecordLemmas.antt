@@ -20,14 +20,14 @@ use Rattle.filing_case.specs.Message.{case_of}
 use Rattle.filing_image.specs.Program.{Program}
 use Rattle.filing_table.specs.Ends.{HasOutcome}
 use Rattle.record_tables.specs.Rows.{Record}
-use Rattle.record_store.specs.Archive.{Archive, Line, capture, after_capture, captured_lines, due_list, due_of, has_room, is_by, is_due, is_held, line_cmp, line_of, new_records, next_number, past_all, records_of}
+use Rattle.record_store.specs.Archive.{Archive, Line, capture, after_capture, capture_lines, due_list, due_of, has_room, is_by, is_due, is_held, line_cmp, line_of, new_records, next_number, past_all, records_of}
 use Rattle.record_store.specs.declared.fault.StoreFault.{StoreFault}
 use Rattle.record_store.specs.declared.fault.StoreFault.TheVariants.{Full}
 use Rattle.filing_commands.specs.Answers.{captured, listed, refused}
 use Rattle.filing_commands.specs.Answers as answers
 use Rattle.filing_commands.specs.Office.{Office, IsFiled, IsTried, due, file, try_image}
 use Rattle.filing_commands.specs.Parts.{IsGoodImage}
-use Rattle.filing_commands.specs.Pinning.{BeginState, Chosen, nothing, script, image_of, GivesOutcome, IsAlone, case_in}
+use Rattle.filing_commands.specs.Pinning.{BeginState, Choice, nothing, script, image_of, GivesOutcome, IsAlone, case_in}
 use Rattle.filing_commands.specs.Standing.{plain, finish, Flight, Standing, Step, FinishWhole, Files, flight_of}
 use Rattle.promises.specs.Records.{EndsWithinBudget, FilesAlone, IsDueBy, IsDueLine, IsFaultAlone, IsLineOf, IsMadeWhole}
 use Rattle.promises.proofs.Pinned.{budget_holds}
@@ -59,7 +59,7 @@ meaning_fault_alone facts lib known_as main = go (is_too_heavy lib known_as main
 run_fault_alone : (p : Program) (c : Facts) (n : ℕ) (o : Outcome) → HasOutcome p c n o → IsFaultAlone o
 run_fault_alone p c n o (fault, s, ends, e) = subst IsFaultAlone e (fault_alone_at fault s.filed s.kept s.cancelled)
 
-chosen_fault_alone : (c : Chosen) (lib : Library) (facts : Facts) (o : Outcome) → GivesOutcome c lib facts o → IsFaultAlone o
+chosen_fault_alone : (c : Choice) (lib : Library) (facts : Facts) (o : Outcome) → GivesOutcome c lib facts o → IsFaultAlone o
 chosen_fault_alone nothing lib facts o h = subst IsFaultAlone (sym h) (fault_alone_at None [] false false)
 chosen_fault_alone (script name s) lib facts o h = subst IsFaultAlone (sym h) (meaning_fault_alone facts lib (Some name) s)
 chosen_fault_alone (image_of p) lib facts o h = run_fault_alone p facts h.0 o h.1
@@ -128,7 +128,7 @@ lines_told : (a : Archive) (rs : List Record) → AllZip (IsLineOf a.plan) rs (m
 lines_told a [] = tt
 lines_told a (r ∷ rs) = (record { number = refl; class = refl; due = refl }, lines_told a rs)
 
-made_whole : (a : Archive) (at_begin : BeginState) (o : Outcome) (paths : List (List ℕ)) → o.classes ≡ paths → IsMadeWhole a at_begin o (captured_lines a at_begin.day paths) (after_capture a at_begin.message at_begin.day paths)
+made_whole : (a : Archive) (at_begin : BeginState) (o : Outcome) (paths : List (List ℕ)) → o.classes ≡ paths → IsMadeWhole a at_begin o (capture_lines a at_begin.day paths) (after_capture a at_begin.message at_begin.day paths)
 made_whole a at_begin o [] e = record {
   records = [];
   added = sym (append-nil a.records);
@@ -167,7 +167,7 @@ capture_is a body day paths new e = go (has_room a paths) e
 files_whole : (a : Archive) (at_begin : BeginState) (fault : Option RunFault) (lines : List Line) (new : Archive) → Files a at_begin (captured fault lines) new → FilesAlone a at_begin fault lines new
 files_whole a at_begin fault lines new h =
     let made = made_whole a at_begin h.0 h.0.classes refl in
-    let P : Archive → Type 0 = λ x. IsMadeWhole a at_begin h.0 (captured_lines a at_begin.day h.0.classes) x in
+    let P : Archive → Type 0 = λ x. IsMadeWhole a at_begin h.0 (capture_lines a at_begin.day h.0.classes) x in
     let Q : List Line → Type 0 = λ x. IsMadeWhole a at_begin h.0 x new in
     record {
       outcome = h.0;

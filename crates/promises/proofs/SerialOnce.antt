@@ -5,11 +5,11 @@ use Rattle.sieve_meaning.specs.Meaning.{Library}
 use Rattle.sieve_meaning.specs.Case.{Facts}
 use Rattle.sieve_meaning.specs.declared.outcome.Outcome.{Outcome}
 use Rattle.filing_table.proofs.Once.{one_outcome}
-use Rattle.record_store.specs.Archive.{Archive, capture, captured_lines}
+use Rattle.record_store.specs.Archive.{Archive, capture, capture_lines}
 use Rattle.record_store.specs.declared.fault.StoreFault.TheVariants.{Full}
 use Rattle.filing_commands.specs.Answers.{Answer, done, dry_run, begun, running, ended, captured, listed, refused}
 use Rattle.filing_commands.specs.Office.{with_archive}
-use Rattle.filing_commands.specs.Pinning.{BeginState, IsAlone, GivesOutcome, Chosen, nothing, script, image_of, case_in}
+use Rattle.filing_commands.specs.Pinning.{BeginState, IsAlone, GivesOutcome, Choice, nothing, script, image_of, case_in}
 use Rattle.filing_commands.specs.Standing.{Command, plain, begin, turn, finish, Standing, Files, is_refusal}
 use Rattle.promises.specs.Alike.{AreAlike, AllAlike}
 use Rattle.promises.specs.Runs.{Run}
@@ -18,7 +18,7 @@ use Rattle.promises.proofs.OfficeOnce.{office_once}
 use Rattle.promises.proofs.Sessions.{sessions}
 use Rattle.promises.proofs.Verdicts.{some_is}
 
-outcome_once : (c : Chosen) (lib : Library) (facts : Facts) (o q : Outcome) → GivesOutcome c lib facts o → GivesOutcome c lib facts q → o ≡ q
+outcome_once : (c : Choice) (lib : Library) (facts : Facts) (o q : Outcome) → GivesOutcome c lib facts o → GivesOutcome c lib facts q → o ≡ q
 outcome_once nothing lib facts o q h k = h ∙ sym k
 outcome_once (script name s) lib facts o q h k = h ∙ sym k
 outcome_once (image_of p) lib facts o q h k = one_outcome p facts h.0 k.0 o q h.1 k.1
@@ -50,7 +50,7 @@ files_once : (a : Archive) (at_begin : BeginState) (r q : Answer) (x y : Archive
 files_once a at_begin (captured f ls) (captured g ms) x y h k =
     let e = alone_once at_begin h.0 k.0 h.1 k.1 in
     let faults : f ≡ g = h.2 ∙ ap (λ (o : Outcome). o.fault) e ∙ sym k.2 in
-    let lines : ls ≡ ms = h.4 ∙ ap (λ (o : Outcome). captured_lines a at_begin.day o.classes) e ∙ sym k.4 in
+    let lines : ls ≡ ms = h.4 ∙ ap (λ (o : Outcome). capture_lines a at_begin.day o.classes) e ∙ sym k.4 in
     record { alike = λ i. captured (faults i) (lines i); archives = capture_once a at_begin h.0 k.0 x y e h.3 k.3; refusals = refl }
 files_once a at_begin (captured f ls) (refused n at) x y h k = absurd (full_or a at_begin h.0 k.3.0 x (alone_once at_begin h.0 k.3.0 h.1 k.3.1) h.3 k.3.2)
 files_once a at_begin (refused m at) (captured g ms) x y h k = absurd (full_or a at_begin k.0 h.3.0 y (alone_once at_begin k.0 h.3.0 k.1 h.3.1) k.3 h.3.2)

@@ -11,7 +11,7 @@ use Rattle.filing_image.specs.Program.{Program}
 use Rattle.record_store.specs.Archive.{Archive}
 use Rattle.filing_commands.specs.Answers.{Answer, done, dry_run, begun, running, ended, captured, listed, refused}
 use Rattle.filing_commands.specs.Office.{Office, PlainCommand, OfficeRule, OfficeStep, GivesUp, IsTrouble, add_class, set_plan, set_script, set_global, activate, deactivate, set_image, file, try_image, hold, release, due, destroy, with_archive}
-use Rattle.filing_commands.specs.Pinning.{BeginState, Chosen, nothing, script, image_of, Pins, PinsChosen, PinsScript, budget_of, budget_by}
+use Rattle.filing_commands.specs.Pinning.{BeginState, Choice, nothing, script, image_of, Pins, PinsChoice, PinsScript, budget_of, budget_by}
 use Rattle.filing_commands.specs.Standing.{Command, plain, begin, turn, finish, Flight, Standing, Step, BeginStep, TurnStep, FinishStep, FinishWhole, Files, flight_of, grant, without, with_turns, after_finish, begin_refusal, begin_state}
 use Rattle.promises.specs.Runs.{Run}
 use Rattle.promises.specs.Serial.{Serial, SerialStep, SerialRun, Ticket, next_ticket, ticket_of, stood_of, without_ticket, is_passing, is_struck, kept_commands, kept_answers, forget}
@@ -34,7 +34,7 @@ pinned_budget : (too_heavy : Bool) (lib : Library) (name : List ℕ) (c : Comman
 pinned_budget true lib name c p h = ap (λ (q : Program). q.budget) h
 pinned_budget false lib name c p h = h.budget
 
-chosen_budget : (c : Chosen) (lib : Library) (p : Program) → PinsChosen c lib p → p.budget ≡ budget_by c lib
+chosen_budget : (c : Choice) (lib : Library) (p : Program) → PinsChoice c lib p → p.budget ≡ budget_by c lib
 chosen_budget nothing lib p h = ap (λ (q : Program). q.budget) h
 chosen_budget (script name c) lib p h = pinned_budget _ lib name c p h
 chosen_budget (image_of q) lib p h = ap (λ (q : Program). q.budget) h

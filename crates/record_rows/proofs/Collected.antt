@@ -6,7 +6,7 @@ use Rattle.std.specs.Ordering.{match_ordering}
 use Rattle.std.specs.BTreeSet.{insert_key}
 use Rattle.record_tables.specs.declared.rows.RecordRow.{RecordRow}
 use Rattle.record_tables.specs.Rows.{Record}
-use Rattle.record_tables.specs.Typed.{record_of}
+use Rattle.record_tables.specs.CodeRows.{record_of}
 use Rattle.record_rows.specs.SoundRows.{is_of_live, is_one_of}
 
 or_again : (a b : Bool) → (a || b) ≡ (a || (a || b))

@@ -3,24 +3,24 @@ use Rattle.std.proofs.Common.{◌≡◌, ℕ, ◌+◌, ◌-◌, ◌<◌, ◌≤�
 use Rattle.std.proofs.lemmas.List.{drop_more, drop-drop, take_rest}
 use Rattle.class_plan.specs.declared.schedules.Schedule.{Schedule}
 use Rattle.class_plan.specs.Plans.{Row}
-use Rattle.class_plan.specs.Parts.{Part, Told, told_row, part_row}
+use Rattle.class_plan.specs.Parts.{Part, ClassAnswer, answer_row, part_row}
 use Rattle.record_tables.specs.declared.rows.HoldRow.{HoldRow}
 use Rattle.record_tables.specs.declared.rows.ScheduleRow.{ScheduleRow}
 use Rattle.record_tables.specs.declared.rows.ClassRow.{ClassRow}
-use Rattle.record_tables.specs.Typed.{rule_of, named_of, listed_of}
-use Rattle.record_rows.specs.Rules.{listed_row, told_listed}
+use Rattle.record_tables.specs.CodeRows.{rule_of, hold_entry_of, class_entry_of}
+use Rattle.record_rows.specs.Rules.{entry_of_row, answer_entry}
 use Rattle.record_rows.specs.Merge.{own_in, rest_in, merge}
 use Rattle.record_rows.specs.Tests.{rises_after}
 use Rattle.record_rows.proofs.Merged.{merged-more}
 
 -- ---- holds in order
 
-short_rises : (xs : List HoldRow) → length xs ≤ 1 → rises_after (map named_of xs) ≡ true
+short_rises : (xs : List HoldRow) → length xs ≤ 1 → rises_after (map hold_entry_of xs) ≡ true
 short_rises [] h = refl
 short_rises (x ∷ []) h = refl
 short_rises (x ∷ y ∷ xs) h = absurd (omega arith)
 
-pub holds-all : (xs : List HoldRow) (i : ℕ) → length xs ≤ i → rises_after (map named_of (drop (i - 1) xs)) ≡ true
+pub holds-all : (xs : List HoldRow) (i : ℕ) → length xs ≤ i → rises_after (map hold_entry_of (drop (i - 1) xs)) ≡ true
 holds-all xs i h = short_rises (drop (i - 1) xs) (omega (arith, length-drop (i - 1) xs))
 
 -- ---- classes that are merged with their schedules
@@ -49,13 +49,13 @@ left-within rules place next at h = omega arith
 pub merged-next : (ps : List Part) (p : Part) (rules : List ScheduleRow) (place next : ℕ) (o : Option Schedule) (cs : List ClassRow) (i : ℕ) (d : ClassRow) (whole : List Row) → i < length cs
     → o ≡ own_in (map rule_of (drop place rules)) (get_or cs i d).path.items → rest_in o (map rule_of (drop place rules)) ≡ map rule_of (drop next rules)
     → part_row p ≡ record { path = (get_or cs i d).path.items; is_open = (get_or cs i d).is_open; schedule = o }
-    → map part_row ps ++ merge (map rule_of (drop place rules)) (map listed_of (drop i cs)) ≡ whole → map part_row (ps ++ p ∷ []) ++ merge (map rule_of (drop next rules)) (map listed_of (drop (i + 1) cs)) ≡ whole
+    → map part_row ps ++ merge (map rule_of (drop place rules)) (map class_entry_of (drop i cs)) ≡ whole → map part_row (ps ++ p ∷ []) ++ merge (map rule_of (drop next rules)) (map class_entry_of (drop (i + 1) cs)) ≡ whole
 merged-next ps p rules place next o cs i d whole h own tail same so =
-    merged-more ps p (map rule_of (drop place rules)) (map rule_of (drop next rules)) (listed_of (get_or cs i d)) (map listed_of (drop (i + 1) cs)) o whole own tail same
-    (ap (λ z. map part_row ps ++ merge (map rule_of (drop place rules)) (map listed_of z)) (sym (drop_more cs i d h)) ∙ so)
+    merged-more ps p (map rule_of (drop place rules)) (map rule_of (drop next rules)) (class_entry_of (get_or cs i d)) (map class_entry_of (drop (i + 1) cs)) o whole own tail same
+    (ap (λ z. map part_row ps ++ merge (map rule_of (drop place rules)) (map class_entry_of z)) (sym (drop_more cs i d h)) ∙ so)
 
 -- ---- classes as a plan answers them
 
-pub told-are : (xs : List Told) → map told_listed xs ≡ map listed_row (map told_row xs)
+pub told-are : (xs : List ClassAnswer) → map answer_entry xs ≡ map entry_of_row (map answer_row xs)
 told-are [] = refl
-told-are (x ∷ xs) = ap (λ z. told_listed x ∷ z) (told-are xs)
+told-are (x ∷ xs) = ap (λ z. answer_entry x ∷ z) (told-are xs)

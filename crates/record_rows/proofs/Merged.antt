@@ -14,8 +14,8 @@ use Rattle.class_plan.specs.declared.schedules.Schedule.{Schedule}
 use Rattle.class_plan.specs.declared.schedules.Schedule.TheVariants.{Permanent, After}
 use Rattle.class_plan.specs.Plans.{Row, paths_of}
 use Rattle.class_plan.specs.Parts.{Part, part_row}
-use Rattle.record_tables.specs.Changes.{Listed, Rule}
-use Rattle.record_rows.specs.Rules.{action_number, flag, rule_at, with_own, own_rules, listed_row}
+use Rattle.record_tables.specs.Changes.{ClassEntry, Rule}
+use Rattle.record_rows.specs.Rules.{action_number, flag, rule_at, with_own, own_rules, entry_of_row}
 use Rattle.record_rows.specs.Merge.{action_at, schedule_in, own_in, rest_in, merge}
 
 action_is : (a : Action) → action_at (action_number a) ≡ a
@@ -57,18 +57,18 @@ rest_first q None rules = refl
 rest_first q (Some s) rules = refl
 
 -- the rows of a plan are merged to its classes
-pub merged-rows : (rs : List Row) → IsStrictlySortedBy path_cmp (paths_of rs) → merge (own_rules rs) (map listed_row rs) ≡ rs
+pub merged-rows : (rs : List Row) → IsStrictlySortedBy path_cmp (paths_of rs) → merge (own_rules rs) (map entry_of_row rs) ≡ rs
 unfolding IsStrictlySortedBy
 merged-rows [] h = refl
 merged-rows (r ∷ rs) h =
     let rules : List Rule = with_own r.path r.schedule (own_rules rs) in
     let first : own_in rules r.path ≡ r.schedule = own_first r.path r.schedule (own_rules rs) (own_apart r.path rs h.0) in
     let rest : rest_in r.schedule rules ≡ own_rules rs = rest_first r.path r.schedule (own_rules rs) in
-    (λ i. record { path = r.path; is_open = r.is_open; schedule = first i } ∷ merge (rest_in (first i) rules) (map listed_row rs))
-    ∙ ap (λ z. r ∷ merge z (map listed_row rs)) rest
+    (λ i. record { path = r.path; is_open = r.is_open; schedule = first i } ∷ merge (rest_in (first i) rules) (map entry_of_row rs))
+    ∙ ap (λ z. r ∷ merge z (map entry_of_row rs)) rest
     ∙ ap (λ z. r ∷ z) (merged-rows rs h.1)
 
-pub merged-more : (xs : List Part) (p : Part) (rules rest : List Rule) (c : Listed) (cs : List Listed) (o : Option Schedule) (whole : List Row) → o ≡ own_in rules c.path → rest_in o rules ≡ rest
+pub merged-more : (xs : List Part) (p : Part) (rules rest : List Rule) (c : ClassEntry) (cs : List ClassEntry) (o : Option Schedule) (whole : List Row) → o ≡ own_in rules c.path → rest_in o rules ≡ rest
     → part_row p ≡ record { path = c.path; is_open = c.is_open; schedule = o } → map part_row xs ++ merge rules (c ∷ cs) ≡ whole → map part_row (xs ++ p ∷ []) ++ merge rest cs ≡ whole
 merged-more xs p rules rest c cs o whole own tail same so =
     ap (λ l. l ++ merge rest cs) (map-append part_row xs (p ∷ []))

@@ -8,7 +8,7 @@ use Rattle.std.specs.Ordering.{is_lt, ordering_then}
 use Rattle.std.specs.Cmp.Lexicographic.{slice_cmp}
 use Rattle.std.specs.List.{AllByRecursion}
 use Rattle.std.specs.List.Sorted.{IsStrictlySortedBy}
-use Rattle.record_tables.specs.Reads.{Named}
+use Rattle.record_tables.specs.Reads.{HoldEntry}
 use Rattle.record_rows.specs.SoundRows.{is_one_of, hold_cmp}
 use Rattle.record_rows.specs.Tests.{rises_from, rises_over, rises_after, hold_rises}
 
@@ -59,7 +59,7 @@ sorted-rises xs s = sorted_rises 0 xs (none_low xs) s
 -- ---- holds
 
 hold_total : IsTotalOrder hold_cmp
-hold_total = then_total (on_total (λ (h : Named). h.number) nat_cmp_total) (on_total (λ (h : Named). h.name) nat_list_cmp_total)
+hold_total = then_total (on_total (λ (h : HoldEntry). h.number) nat_cmp_total) (on_total (λ (h : HoldEntry). h.name) nat_list_cmp_total)
 
 lt_less : (o : Ordering) → is_lt o ≡ true → o ≡ Less
 lt_less Less e = refl
@@ -72,14 +72,14 @@ cmp_equal x y e = grind (arith, nat_tests)
 cmp_below : (x y : ℕ) → nat_lt x y ≡ true → nat_cmp x y ≡ Less
 cmp_below x y e = grind (arith, nat_tests)
 
-hold_if : (b : Bool) (x y : Named) → (x.number == y.number) ≡ b → (if b then is_lt (slice_cmp nat_cmp x.name y.name) else nat_lt x.number y.number) ≡ true → hold_cmp x y ≡ Less
+hold_if : (b : Bool) (x y : HoldEntry) → (x.number == y.number) ≡ b → (if b then is_lt (slice_cmp nat_cmp x.name y.name) else nat_lt x.number y.number) ≡ true → hold_cmp x y ≡ Less
 hold_if true x y e h = ap (λ o. ordering_then o (slice_cmp nat_cmp x.name y.name)) (cmp_equal x.number y.number e) ∙ lt_less _ h
 hold_if false x y e h = ap (λ o. ordering_then o (slice_cmp nat_cmp x.name y.name)) (cmp_below x.number y.number h)
 
-hold_less : (x y : Named) → hold_rises x y ≡ true → hold_cmp x y ≡ Less
+hold_less : (x y : HoldEntry) → hold_rises x y ≡ true → hold_cmp x y ≡ Less
 hold_less x y e = hold_if (x.number == y.number) x y refl e
 
-less_if : (b : Bool) (o : Ordering) (x y : Named) → (x.number == y.number) ≡ b → nat_cmp x.number y.number ≡ o → ordering_then o (slice_cmp nat_cmp x.name y.name) ≡ Less → (if b then is_lt (slice_cmp nat_cmp x.name y.name) else nat_lt x.number y.number) ≡ true
+less_if : (b : Bool) (o : Ordering) (x y : HoldEntry) → (x.number == y.number) ≡ b → nat_cmp x.number y.number ≡ o → ordering_then o (slice_cmp nat_cmp x.name y.name) ≡ Less → (if b then is_lt (slice_cmp nat_cmp x.name y.name) else nat_lt x.number y.number) ≡ true
 less_if true Less x y e f h = absurd (let k : Equal ≡ Less = sym (cmp_equal x.number y.number e) ∙ f in cc)
 less_if true Equal x y e f h = ap is_lt h
 less_if true Greater x y e f h = absurd (cc)
@@ -87,10 +87,10 @@ less_if false Less x y e f h = grind (arith, nat_tests)
 less_if false Equal x y e f h = grind (arith, nat_tests)
 less_if false Greater x y e f h = absurd (cc)
 
-less_hold : (x y : Named) → hold_cmp x y ≡ Less → hold_rises x y ≡ true
+less_hold : (x y : HoldEntry) → hold_cmp x y ≡ Less → hold_rises x y ≡ true
 less_hold x y e = less_if (x.number == y.number) (nat_cmp x.number y.number) x y refl refl e
 
-over_sorted : (h : Named) (xs : List Named) → rises_over h xs ≡ true → AllByRecursion (λ y. hold_cmp h y ≡ Less) xs × IsStrictlySortedBy hold_cmp xs
+over_sorted : (h : HoldEntry) (xs : List HoldEntry) → rises_over h xs ≡ true → AllByRecursion (λ y. hold_cmp h y ≡ Less) xs × IsStrictlySortedBy hold_cmp xs
 unfolding IsStrictlySortedBy
 over_sorted h [] e = (tt, tt)
 over_sorted h (x ∷ xs) e = elim (cases_Bool (hold_rises h x)) [
@@ -101,17 +101,17 @@ over_sorted h (x ∷ xs) e = elim (cases_Bool (hold_rises h x)) [
   | inr other ↦ let k : false ≡ true = rw other at e in absurd (cc)
 ]
 
-sorted_over : (h : Named) (xs : List Named) → AllByRecursion (λ y. hold_cmp h y ≡ Less) xs → IsStrictlySortedBy hold_cmp xs → rises_over h xs ≡ true
+sorted_over : (h : HoldEntry) (xs : List HoldEntry) → AllByRecursion (λ y. hold_cmp h y ≡ Less) xs → IsStrictlySortedBy hold_cmp xs → rises_over h xs ≡ true
 unfolding IsStrictlySortedBy
 sorted_over h [] low s = refl
 sorted_over h (x ∷ xs) low s = rw (less_hold h x low.0) (sorted_over x xs s.0 s.1)
 
-pub holds-sorted : (hs : List Named) → rises_after hs ≡ true → IsStrictlySortedBy hold_cmp hs
+pub holds-sorted : (hs : List HoldEntry) → rises_after hs ≡ true → IsStrictlySortedBy hold_cmp hs
 unfolding IsStrictlySortedBy
 holds-sorted [] e = tt
 holds-sorted (h ∷ hs) e = over_sorted h hs e
 
-pub sorted-holds : (hs : List Named) → IsStrictlySortedBy hold_cmp hs → rises_after hs ≡ true
+pub sorted-holds : (hs : List HoldEntry) → IsStrictlySortedBy hold_cmp hs → rises_after hs ≡ true
 unfolding IsStrictlySortedBy
 sorted-holds [] s = refl
 sorted-holds (h ∷ hs) s = sorted_over h hs s.0 s.1

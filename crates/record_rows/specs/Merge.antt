@@ -8,7 +8,7 @@ use Rattle.class_plan.specs.declared.schedules.Action.TheVariants.{Review, Trans
 use Rattle.class_plan.specs.declared.schedules.Schedule.{Schedule}
 use Rattle.class_plan.specs.declared.schedules.Schedule.TheVariants.{Permanent, After}
 use Rattle.class_plan.specs.Plans.{Row}
-use Rattle.record_tables.specs.Changes.{Listed, Rule}
+use Rattle.record_tables.specs.Changes.{ClassEntry, Rule}
 
 -- the unit of a number, years for any other
 abbrev pub unit_at : ℕ → TimeUnit
@@ -33,6 +33,6 @@ rest_in None rs = rs
 rest_in (Some s) rs = drop 1 rs
 
 -- the classes, each with the schedule of its path where that comes next
-abbrev pub merge : List Rule → List Listed → List Row
+abbrev pub merge : List Rule → List ClassEntry → List Row
 merge rs [] = []
 merge rs (c ∷ cs) = record { path = c.path; is_open = c.is_open; schedule = own_in rs c.path } ∷ merge (rest_in (own_in rs c.path) rs) cs

@@ -9,8 +9,8 @@ use Rattle.class_plan.specs.declared.schedules.Action.TheVariants.{Review, Trans
 use Rattle.class_plan.specs.declared.schedules.Schedule.{Schedule}
 use Rattle.class_plan.specs.declared.schedules.Schedule.TheVariants.{Permanent, After}
 use Rattle.class_plan.specs.Plans.{Row, Listing, IsPlan}
-use Rattle.class_plan.specs.Parts.{Told, told_row}
-use Rattle.record_tables.specs.Changes.{Listed, Rule}
+use Rattle.class_plan.specs.Parts.{ClassAnswer, answer_row}
+use Rattle.record_tables.specs.Changes.{ClassEntry, Rule}
 
 abbrev pub unit_number : TimeUnit → ℕ
 unit_number Days = 1
@@ -61,20 +61,20 @@ abbrev pub rules_of : Listing → List Rule
 rules_of p = rule_at [] p.root ∷ own_rules p.rows
 
 -- the row of a class
-abbrev pub listed_row : Row → Listed
-listed_row r = record { path = r.path; is_open = r.is_open; schedule = None }
+abbrev pub entry_of_row : Row → ClassEntry
+entry_of_row r = record { path = r.path; is_open = r.is_open; schedule = None }
 
 -- the rows of a plan's classes, in byte order of the paths
-abbrev pub classes_of : Listing → List Listed
-classes_of p = map listed_row p.rows
+abbrev pub classes_of : Listing → List ClassEntry
+classes_of p = map entry_of_row p.rows
 
 -- the rows are those of the plan
-pub record HasRows (p : Listing) (rules : List Rule) (classes : List Listed) : Type 0 where
+pub record HasRows (p : Listing) (rules : List Rule) (classes : List ClassEntry) : Type 0 where
   pub same_rules : rules_of p ≡ rules
   pub same_classes : classes_of p ≡ classes
 
 -- no plan has these rows
-abbrev pub HasNoPlan : List Rule → List Listed → Type 0
+abbrev pub HasNoPlan : List Rule → List ClassEntry → Type 0
 HasNoPlan rules classes = (p : Listing) → IsPlan p → HasRows p rules classes → ⊥
 
 -- ---- comparisons
@@ -84,9 +84,9 @@ same_rule a b = bytes_eq a.path b.path && (a.count == b.count) && (a.unit == b.u
     (a.year_end == b.year_end)
 
 -- the same class, and the second row states no schedule
-abbrev pub same_class : Listed → Listed → Bool
+abbrev pub same_class : ClassEntry → ClassEntry → Bool
 same_class a b = bytes_eq a.path b.path && beq a.is_open b.is_open && is_none b.schedule
 
 -- the row of a class, as a plan answers it
-abbrev pub told_listed : Told → Listed
-told_listed c = listed_row (told_row c)
+abbrev pub answer_entry : ClassAnswer → ClassEntry
+answer_entry c = entry_of_row (answer_row c)

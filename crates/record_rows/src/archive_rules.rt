@@ -5,7 +5,7 @@ ghost use Rattle.std.specs.List.{list_all};
 ghost use Rattle.std.specs.List.Sorted.{IsStrictlySortedBy};
 ghost use Rattle.std.specs.Ordering.{nat_cmp};
 ghost use Rattle.std.specs.Str.{bytes_eq};
-ghost use Rattle.record_tables.specs.Typed.{record_of, named_of};
+ghost use Rattle.record_tables.specs.CodeRows.{record_of, hold_entry_of};
 ghost use Rattle.record_rows.specs.SoundRows.{is_named, is_live, is_one_of, AreRows};
 ghost use Rattle.record_rows.specs.Tests.{is_sound, rises_from, rises_after, hold_rises};
 
@@ -63,7 +63,7 @@ fn do_rise(numbers: &[u32]) -> bool
 
 /// Whether one hold comes before another, by record and then by name.
 fn is_before(one: &HoldRow, other: &HoldRow) -> bool
-    ensures { result ≡ hold_rises (named_of one.now) (named_of other.now) }
+    ensures { result ≡ hold_rises (hold_entry_of one.now) (hold_entry_of other.now) }
 {
     if one.record == other.record {
         one.name.as_slice().cmp(&other.name.as_slice()).is_lt()
@@ -74,7 +74,7 @@ fn is_before(one: &HoldRow, other: &HoldRow) -> bool
 
 /// Whether each hold comes after the one before it.
 fn do_holds_rise(holds: &[HoldRow]) -> bool
-    ensures { result ≡ rises_after (map named_of holds.now) }
+    ensures { result ≡ rises_after (map hold_entry_of holds.now) }
 {
     for i in 1..holds.len() {
         if !is_before(&holds[i - 1], &holds[i]) {
@@ -158,7 +158,7 @@ pub fn are_rows_of(
     holds: &[HoldRow],
 ) -> Result<bool, AllocError>
     ensures { IfOk result (λ b. Decides b
-        (AreRows plan.now (map record_of records.now) messages.now (map named_of holds.now))) }
+        (AreRows plan.now (map record_of records.now) messages.now (map hold_entry_of holds.now))) }
 {
     if !are_sound(plan, records) || !do_records_rise(records) {
         return Ok(false);

@@ -1,6 +1,6 @@
 //! The rows of version 1, in which schedules are texts.
 ghost use Rattle.std.specs.Prelude.{◌≡◌, IfOk, IfSome, IfNone, [], ◌∷◌, map, option_map};
-ghost use Rattle.record_tables.specs.Typed.{rule_of, listed_of};
+ghost use Rattle.record_tables.specs.CodeRows.{rule_of, class_entry_of};
 ghost use Rattle.record_rows.specs.Rules.{rule_at};
 ghost use Rattle.record_rows.specs.Texts.{HasTexts, HasNoTexts, without_schedule, text_rules, rules_of_texts};
 
@@ -18,7 +18,7 @@ fn rules_after(
     classes: &[ClassRow],
 ) -> Result<Option<Vec<ScheduleRow>>, AllocError>
     ensures { IfOk result (λ o. option_map (λ v. map rule_of v.items) o ≡
-        option_map (λ rs. rule_at [] root ∷ rs) (text_rules (map listed_of classes.now))) }
+        option_map (λ rs. rule_at [] root ∷ rs) (text_rules (map class_entry_of classes.now))) }
 {
     let mut rules = Vec::new(alloc);
     rules.push(rule_row(Vec::new(alloc), root))?;
@@ -44,7 +44,7 @@ pub fn rules_of_texts(
     classes: &[ClassRow],
 ) -> Result<Option<Vec<ScheduleRow>>, AllocError>
     ensures { IfOk result (λ o. option_map (λ v. map rule_of v.items) o ≡
-        rules_of_texts root.now (map listed_of classes.now)) }
+        rules_of_texts root.now (map class_entry_of classes.now)) }
 {
     match schedule_of_text(root) {
         Some(root) => rules_after(alloc, root, classes),
@@ -59,7 +59,7 @@ pub fn classes_without_texts(
     alloc: Global,
     classes: &[ClassRow],
 ) -> Result<Vec<ClassRow>, AllocError>
-    ensures { IfOk result (λ v. map listed_of v.items ≡ map (λ c. without_schedule (listed_of c)) classes.now) }
+    ensures { IfOk result (λ v. map class_entry_of v.items ≡ map (λ c. without_schedule (class_entry_of c)) classes.now) }
 {
     let mut rows = Vec::with_capacity(alloc, classes.len())?;
     for class in classes {
@@ -82,8 +82,8 @@ pub fn plan_of_texts(
     root: &[u8],
     classes: &[ClassRow],
 ) -> Result<Option<Plan>, AllocError>
-    ensures plan { IfOk result (λ o. IfSome o (λ p. HasTexts p root.now (map listed_of classes.now))) }
-    ensures none { IfOk result (λ o. IfNone o (HasNoTexts root.now (map listed_of classes.now))) }
+    ensures plan { IfOk result (λ o. IfSome o (λ p. HasTexts p root.now (map class_entry_of classes.now))) }
+    ensures none { IfOk result (λ o. IfNone o (HasNoTexts root.now (map class_entry_of classes.now))) }
 {
     let Some(rules) = rules_of_texts(alloc, root, classes)? else {
         return Ok(None);

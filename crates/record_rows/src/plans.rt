@@ -4,8 +4,8 @@ ghost use Rattle.std.specs.Bool.{Decides};
 ghost use Rattle.std.specs.Cmp.Lexicographic.{pointwise};
 ghost use Rattle.class_plan.specs.Plans.{IsPlan};
 ghost use Rattle.class_plan.specs.Parts.{part_row};
-ghost use Rattle.record_tables.specs.Typed.{rule_of, listed_of};
-ghost use Rattle.record_rows.specs.Rules.{HasRows, HasNoPlan, same_rule, same_class, told_listed};
+ghost use Rattle.record_tables.specs.CodeRows.{rule_of, class_entry_of};
+ghost use Rattle.record_rows.specs.Rules.{HasRows, HasNoPlan, same_rule, same_class, answer_entry};
 ghost use Rattle.record_rows.specs.Merge.{unit_at, action_at, schedule_in, own_in, merge};
 
 use crate::rules::rules_of;
@@ -71,7 +71,7 @@ fn parts_of(
     rules: &[ScheduleRow],
     classes: &[ClassRow],
 ) -> Result<Vec<(Vec<u8>, bool, Option<Schedule>)>, AllocError>
-    ensures { IfOk result (λ v. map part_row v.items ≡ merge (map rule_of rules.now) (map listed_of classes.now)) }
+    ensures { IfOk result (λ v. map part_row v.items ≡ merge (map rule_of rules.now) (map class_entry_of classes.now)) }
 {
     let mut parts = Vec::with_capacity(alloc, classes.len())?;
     let mut place = 0;
@@ -98,7 +98,7 @@ fn is_same_rule(one: &ScheduleRow, other: &ScheduleRow) -> bool
 
 /// Whether a row is that of a class, as a plan answers it.
 fn is_class_row(class: &(&[u8], bool, Option<Schedule>), row: &ClassRow) -> bool
-    ensures { result ≡ same_class (told_listed class.now) (listed_of row.now) }
+    ensures { result ≡ same_class (answer_entry class.now) (class_entry_of row.now) }
 {
     class.0 == row.path.as_slice() && class.1 == row.is_open && row.schedule.is_none()
 }
@@ -120,7 +120,7 @@ fn are_same_rules(rules: &[ScheduleRow], others: &[ScheduleRow]) -> bool
 
 /// Whether the rows are those of the classes, as a plan answers them, in the same order.
 fn are_class_rows(classes: &[(&[u8], bool, Option<Schedule>)], rows: &[ClassRow]) -> bool
-    ensures { result ≡ pointwise same_class (map told_listed classes.now) (map listed_of rows.now) }
+    ensures { result ≡ pointwise same_class (map answer_entry classes.now) (map class_entry_of rows.now) }
 {
     if classes.len() != rows.len() {
         return false;
@@ -140,7 +140,7 @@ fn has_rows(
     rules: &[ScheduleRow],
     classes: &[ClassRow],
 ) -> Result<bool, AllocError>
-    ensures { IfOk result (λ b. Decides b (HasRows plan.now (map rule_of rules.now) (map listed_of classes.now))) }
+    ensures { IfOk result (λ b. Decides b (HasRows plan.now (map rule_of rules.now) (map class_entry_of classes.now))) }
 {
     let own = rules_of(alloc, plan)?;
     let told = plan.classes(alloc)?;
@@ -156,8 +156,8 @@ pub fn plan_of_rows(
     rules: &[ScheduleRow],
     classes: &[ClassRow],
 ) -> Result<Option<Plan>, AllocError>
-    ensures plan { IfOk result (λ o. IfSome o (λ p. HasRows p (map rule_of rules.now) (map listed_of classes.now))) }
-    ensures none { IfOk result (λ o. IfNone o (HasNoPlan (map rule_of rules.now) (map listed_of classes.now))) }
+    ensures plan { IfOk result (λ o. IfSome o (λ p. HasRows p (map rule_of rules.now) (map class_entry_of classes.now))) }
+    ensures none { IfOk result (λ o. IfNone o (HasNoPlan (map rule_of rules.now) (map class_entry_of classes.now))) }
     ensures sound { IfOk result (λ o. IfSome o (λ p. IsPlan p)) }
 {
     let Some((root, own)) = rules.split_first() else {

@@ -1,8 +1,8 @@
 //! The rows of a plan.
 ghost use Rattle.std.specs.Prelude.{◌≡◌, IfOk, map, [], ◌∷◌};
-ghost use Rattle.class_plan.specs.Parts.{told_row};
-ghost use Rattle.record_tables.specs.Typed.{rule_of, listed_of};
-ghost use Rattle.record_rows.specs.Rules.{unit_number, action_number, rule_at, own_rules, rules_of, classes_of, told_listed};
+ghost use Rattle.class_plan.specs.Parts.{answer_row};
+ghost use Rattle.record_tables.specs.CodeRows.{rule_of, class_entry_of};
+ghost use Rattle.record_rows.specs.Rules.{unit_number, action_number, rule_at, own_rules, rules_of, classes_of, answer_entry};
 
 use class_plan::{Action, Plan, Schedule, Unit};
 use record_tables::rows::{ClassRow, ScheduleRow};
@@ -63,7 +63,7 @@ fn rules_from(
     root: Schedule,
     classes: &[(&[u8], bool, Option<Schedule>)],
 ) -> Result<Vec<ScheduleRow>, AllocError>
-    ensures { IfOk result (λ v. map rule_of v.items ≡ rule_at [] root ∷ own_rules (map told_row classes.now)) }
+    ensures { IfOk result (λ v. map rule_of v.items ≡ rule_at [] root ∷ own_rules (map answer_row classes.now)) }
 {
     let mut rules = Vec::new(alloc);
     rules.push(rule_row(Vec::new(alloc), root))?;
@@ -80,7 +80,7 @@ fn classes_from(
     alloc: Global,
     classes: &[(&[u8], bool, Option<Schedule>)],
 ) -> Result<Vec<ClassRow>, AllocError>
-    ensures { IfOk result (λ v. map listed_of v.items ≡ map told_listed classes.now) }
+    ensures { IfOk result (λ v. map class_entry_of v.items ≡ map answer_entry classes.now) }
 {
     let mut rows = Vec::with_capacity(alloc, classes.len())?;
     for class in classes {
@@ -109,7 +109,7 @@ pub fn rules_of(alloc: Global, plan: &Plan) -> Result<Vec<ScheduleRow>, AllocErr
 ///
 /// The only refusal is no memory (99).
 pub fn classes_of(alloc: Global, plan: &Plan) -> Result<Vec<ClassRow>, AllocError>
-    ensures { IfOk result (λ v. map listed_of v.items ≡ classes_of plan.now) }
+    ensures { IfOk result (λ v. map class_entry_of v.items ≡ classes_of plan.now) }
 {
     let classes = plan.classes(alloc)?;
     classes_from(alloc, classes.as_slice())

@@ -2,12 +2,12 @@
 use Rattle.std.proofs.Common.{◌≡◌, ◌≢◌, ◌⊎◌, inl, inr, ◌∙◌, subst}
 use Rattle.sqlite.specs.Schema.{Schema}
 use Rattle.sqlite.specs.Effect.{Database}
-use Rattle.record_tables.specs.Tables.{no_schema, first_schema, dated_schema, IsArchiveSchema, HasCommonTables}
+use Rattle.record_tables.specs.Tables.{no_schema, first_schema, first_schema_with_dues, IsArchiveSchema, HasCommonTables}
 use Rattle.record_tables.specs.declared.layout.Layout.{Layout}
 use Rattle.record_tables.specs.declared.layout.Layout.TheVariants.{Empty, First, FirstWithDues, Second}
 use Rattle.std.proofs.Common.{List}
 use Rattle.record_tables.specs.Rows.{Tables}
-use Rattle.record_tables.specs.Changes.{Listed, Rule}
+use Rattle.record_tables.specs.Changes.{ClassEntry, Rule}
 use Rattle.record_tables.specs.Reads.{Pair}
 use Rattle.record_store.specs.Archive.{Archive, IsArchive}
 use Rattle.record_store.specs.Adoption.{Finds, FindsRows, FindsSecond, FindsFirst, FindsNothing, HasNoArchive, HasRows, IsKeyed, IsLaidSchema, ReadsSecond, ReadsFirst}
@@ -18,10 +18,10 @@ use Rattle.record_store.proofs.AdoptReads.{archive_common, first_common}
 pub record Lays (schema : Schema) (l : Layout) : Type 0 where
   pub empty : schema ≡ no_schema → l ≡ Empty
   pub first : schema ≡ first_schema → l ≡ First
-  pub dated : schema ≡ dated_schema → l ≡ FirstWithDues
+  pub dated : schema ≡ first_schema_with_dues → l ≡ FirstWithDues
   pub second : IsArchiveSchema schema → l ≡ Second
 
-pub lays_at : (s t : Schema) (l : Layout) → s ≡ t → (s ≡ no_schema → l ≡ Empty) → (s ≡ first_schema → l ≡ First) → (s ≡ dated_schema → l ≡ FirstWithDues) → (IsArchiveSchema s → l ≡ Second) → Lays t l
+pub lays_at : (s t : Schema) (l : Layout) → s ≡ t → (s ≡ no_schema → l ≡ Empty) → (s ≡ first_schema → l ≡ First) → (s ≡ first_schema_with_dues → l ≡ FirstWithDues) → (IsArchiveSchema s → l ≡ Second) → Lays t l
 lays_at s t l e empty first dated second = subst (λ x. Lays x l) e (record { empty = empty; first = first; dated = dated; second = second })
 
 abbrev pub IsFirst : Layout → Type 0
@@ -35,7 +35,7 @@ first_not_empty : (l : Layout) → IsFirst l → l ≡ Empty → ⊥
 first_not_empty l (inl e) k = cc
 first_not_empty l (inr e) k = cc
 
-first_apart : (schema : Schema) (l : Layout) → Lays schema l → (schema ≡ first_schema) ⊎ (schema ≡ dated_schema) → IsFirst l
+first_apart : (schema : Schema) (l : Layout) → Lays schema l → (schema ≡ first_schema) ⊎ (schema ≡ first_schema_with_dues) → IsFirst l
 first_apart schema l lays (inl e) = inl (lays.first e)
 first_apart schema l lays (inr e) = inr (lays.dated e)
 
@@ -81,11 +81,11 @@ pub no_reads : (db : Database) (l : Layout) → Lays db.schema l → l ≡ Empty
 no_reads db l lays is (inl h) = let k : l ≡ Second = lays.second h.4.stored.schema in cc
 no_reads db l lays is (inr h) = first_not_empty l (first_apart db.schema l lays h.3.stored.schema) is
 
-pub second_reads : (db : Database) (l : Layout) → Lays db.schema l → l ≡ Second → HasRows db → (t : Tables) × (ps : List Pair) × (rs : List Rule) × (cs : List Listed) × ReadsSecond db t ps rs cs
+pub second_reads : (db : Database) (l : Layout) → Lays db.schema l → l ≡ Second → HasRows db → (t : Tables) × (ps : List Pair) × (rs : List Rule) × (cs : List ClassEntry) × ReadsSecond db t ps rs cs
 second_reads db l lays is (inl h) = h
 second_reads db l lays is (inr h) = absurd (first_not_second l (first_apart db.schema l lays h.3.stored.schema) is)
 
-pub first_reads : (db : Database) (l : Layout) → Lays db.schema l → IsFirst l → HasRows db → (t : Tables) × (ps : List Pair) × (cs : List Listed) × ReadsFirst db t ps cs
+pub first_reads : (db : Database) (l : Layout) → Lays db.schema l → IsFirst l → HasRows db → (t : Tables) × (ps : List Pair) × (cs : List ClassEntry) × ReadsFirst db t ps cs
 first_reads db l lays is (inl h) = absurd (first_not_second l is (lays.second h.4.stored.schema))
 first_reads db l lays is (inr h) = h
 

@@ -16,9 +16,9 @@ use Rattle.class_plan.specs.declared.schedules.Schedule.TheVariants.{Permanent, 
 use Rattle.class_plan.specs.Schedules.{IsInRange, IsInRangeIfAny}
 use Rattle.class_plan.specs.Plans.{Row, Listing, IsPlan, IsClass, paths_of}
 use Rattle.record_tables.specs.Rows.{Tables}
-use Rattle.record_tables.specs.Changes.{Listed, Rule}
-use Rattle.record_tables.specs.Reads.{listed, rule, paired, AreListed, AreRules, ArePaired, FitsRule}
-use Rattle.record_rows.specs.Rules.{rule_at, with_own, own_rules, rules_of, listed_row, classes_of, flag, action_number}
+use Rattle.record_tables.specs.Changes.{ClassEntry, Rule}
+use Rattle.record_tables.specs.Reads.{class_entry, rule, pair, AreClasses, AreRules, ArePairs, FitsRule}
+use Rattle.record_rows.specs.Rules.{rule_at, with_own, own_rules, rules_of, entry_of_row, classes_of, flag, action_number}
 use Rattle.record_rows.specs.Merge.{schedule_in, merge}
 use Rattle.record_rows.specs.Texts.{text_row, HasTexts}
 use Rattle.record_rows.proofs.FirstRows.{texts-rules, texts-classes}
@@ -41,8 +41,8 @@ unfolding IsStrictlySortedBy
 rows_rise path view same [] h = tt
 rows_rise path view same (r ∷ rows) h = (subst (λ q. AllByRecursion (λ x. path_cmp q (path x) ≡ Less) (map view rows)) (sym (same r)) (paths_above path view same r.path rows h.0), rows_rise path view same rows h.1)
 
-pub classes_listed : (t : Tables) (p : Listing) → IsPlan p → IsPermutation (map listed t.classes) (classes_of p) → AreListed t (classes_of p)
-classes_listed t p is same = record { same = same; in_order = rows_rise (λ (c : Listed). c.path) listed_row (λ r. refl) p.rows is.in_order }
+pub classes_listed : (t : Tables) (p : Listing) → IsPlan p → IsPermutation (map class_entry t.classes) (classes_of p) → AreClasses t (classes_of p)
+classes_listed t p is same = record { same = same; in_order = rows_rise (λ (c : ClassEntry). c.path) entry_of_row (λ r. refl) p.rows is.in_order }
 
 own_above : (q path : List ℕ) (o : Option Schedule) (rules : List Rule) → path_cmp q path ≡ Less → AllByRecursion (λ (r : Rule). path_cmp q r.path ≡ Less) rules → AllByRecursion (λ (r : Rule). path_cmp q r.path ≡ Less) (with_own path o rules)
 own_above q path None rules e h = h
@@ -78,13 +78,13 @@ rules_listed t p is same = record {
   in_order = (rules_above [] p.rows (root_above p.rows p.rows (recursion_from_All (IsClass p.rows) p.rows is.classes)), own_rise p.rows is.in_order);
 }
 
-pub version_paired : (t : Tables) → map paired t.settings ≡ record { key = codes "version"; value = codes "2" } ∷ [] → ArePaired t (record { key = codes "version"; value = codes "2" } ∷ [])
-version_paired t same = record { same = subst (IsPermutation (map paired t.settings)) same (IsPermutation-refl (map paired t.settings)); in_order = (tt, tt) }
+pub version_paired : (t : Tables) → map pair t.settings ≡ record { key = codes "version"; value = codes "2" } ∷ [] → ArePairs t (record { key = codes "version"; value = codes "2" } ∷ [])
+version_paired t same = record { same = subst (IsPermutation (map pair t.settings)) same (IsPermutation-refl (map pair t.settings)); in_order = (tt, tt) }
 
-pub texts_listed : (t : Tables) (p : Listing) → IsPlan p → IsPermutation (map listed t.classes) (map text_row p.rows) → AreListed t (map text_row p.rows)
-texts_listed t p is same = record { same = same; in_order = rows_rise (λ (c : Listed). c.path) text_row (λ r. refl) p.rows is.in_order }
+pub texts_listed : (t : Tables) (p : Listing) → IsPlan p → IsPermutation (map class_entry t.classes) (map text_row p.rows) → AreClasses t (map text_row p.rows)
+texts_listed t p is same = record { same = same; in_order = rows_rise (λ (c : ClassEntry). c.path) text_row (λ r. refl) p.rows is.in_order }
 
-pub first_paired : (t : Tables) (root : List ℕ) → IsPermutation (map paired t.settings) (first_pairs root) → ArePaired t (first_pairs root)
+pub first_paired : (t : Tables) (root : List ℕ) → IsPermutation (map pair t.settings) (first_pairs root) → ArePairs t (first_pairs root)
 first_paired t root same = record { same = same; in_order = ((refl, tt), (tt, tt)) }
 
 -- ---- numbers of 32 bits
@@ -117,12 +117,12 @@ rules_fit p is = (rule_fits [] p.root is.root, own_fit p.rows p.rows (recursion_
 
 -- ---- one plan alone
 
-listed_paths : (rows : List Row) → map (λ (l : Listed). l.path) (map listed_row rows) ≡ paths_of rows
-listed_paths rows = map-map (λ (l : Listed). l.path) listed_row rows
+listed_paths : (rows : List Row) → map (λ (l : ClassEntry). l.path) (map entry_of_row rows) ≡ paths_of rows
+listed_paths rows = map-map (λ (l : ClassEntry). l.path) entry_of_row rows
 
-same_rows : (xs ys : List Row) → IsStrictlySortedBy path_cmp (paths_of xs) → map listed_row xs ≡ map listed_row ys → own_rules xs ≡ own_rules ys → xs ≡ ys
+same_rows : (xs ys : List Row) → IsStrictlySortedBy path_cmp (paths_of xs) → map entry_of_row xs ≡ map entry_of_row ys → own_rules xs ≡ own_rules ys → xs ≡ ys
 same_rows xs ys sorted same rules =
-    let paths : paths_of xs ≡ paths_of ys = sym (listed_paths xs) ∙ ap (map (λ (l : Listed). l.path)) same ∙ listed_paths ys in
+    let paths : paths_of xs ≡ paths_of ys = sym (listed_paths xs) ∙ ap (map (λ (l : ClassEntry). l.path)) same ∙ listed_paths ys in
     sym (merged-rows xs sorted) ∙ (λ i. merge (rules i) (same i)) ∙ merged-rows ys (subst (IsStrictlySortedBy path_cmp) paths sorted)
 
 pub one_plan : (p q : Listing) → IsPlan p → rules_of p ≡ rules_of q → classes_of p ≡ classes_of q → p ≡ q
@@ -134,7 +134,7 @@ one_plan p q is rules classes =
     λ i. record { root = root i; rows = rows i }
 
 -- one plan has these texts
-pub one_text : (p q : Listing) (root : List ℕ) (classes : List Listed) → IsPlan p → IsPlan q → HasTexts p root classes → HasTexts q root classes → p ≡ q
+pub one_text : (p q : Listing) (root : List ℕ) (classes : List ClassEntry) → IsPlan p → IsPlan q → HasTexts p root classes → HasTexts q root classes → p ≡ q
 one_text p q root classes is other here there =
     let both : Some (rules_of p) ≡ Some (rules_of q) = sym (texts-rules p root classes is here) ∙ texts-rules q root classes other there in
     let rules : rules_of p ≡ rules_of q = cc in

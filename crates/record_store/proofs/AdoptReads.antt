@@ -6,15 +6,15 @@ use Rattle.sqlite.specs.Effect.{Database}
 use Rattle.sqlite.specs.State.{State, HasCleanDisk, IsUnchanged}
 use Rattle.sqlite.specs.Held.{Held, state}
 use Rattle.sqlite.proofs.StateLemmas.{survives_then, survives_weaker}
-use Rattle.record_tables.specs.Tables.{scheduled, none, dated, HasCommonTables, IsArchiveSchema, first_schema, dated_schema}
+use Rattle.record_tables.specs.Tables.{schedules_and_dues_beside, none, first_dues, HasCommonTables, IsArchiveSchema, first_schema, first_schema_with_dues}
 use Rattle.record_tables.specs.Rows.{Tables, Stores, StoresFirst, StoresCommon}
 use Rattle.record_store.specs.Archive.{Archive}
 use Rattle.std.proofs.Common.{IsPermutation}
 use Rattle.std.proofs.lemmas.List.Elements.{All-from_recursion, recursion_from_All}
 use Rattle.std.proofs.lemmas.List.Sorted.{IsPermutation-sym, length_permutation, All-permutation}
 use Rattle.class_plan.specs.Plans.{Listing}
-use Rattle.record_tables.specs.Changes.{Listed, Rule}
-use Rattle.record_tables.specs.Reads.{Pair, paired, listed, rule}
+use Rattle.record_tables.specs.Changes.{ClassEntry, Rule}
+use Rattle.record_tables.specs.Reads.{Pair, pair, class_entry, rule}
 use Rattle.record_store.specs.Adoption.{FindsSecond, FindsFirst, FindsCommon, ReadsSecond, ReadsFirst, TellsPlan, TellsTexts, ShowsPlan, ShowsTexts, first_pairs, Sees}
 use Rattle.record_store.specs.Stores.{hold_of}
 use Rattle.record_store.specs.declared.plan_rows.PlanRows.{PlanRows}
@@ -54,11 +54,11 @@ sees_as g Are More old new to one = record {
 }
 
 pub archive_common : (schema : Schema) → IsArchiveSchema schema → HasCommonTables schema
-archive_common schema h = record { foreign = scheduled h.foreign; is = h.is }
+archive_common schema h = record { foreign = schedules_and_dues_beside h.foreign; is = h.is }
 
-pub first_common : (schema : Schema) → (schema ≡ first_schema) ⊎ (schema ≡ dated_schema) → HasCommonTables schema
+pub first_common : (schema : Schema) → (schema ≡ first_schema) ⊎ (schema ≡ first_schema_with_dues) → HasCommonTables schema
 first_common schema (inl e) = record { foreign = none; is = e }
-first_common schema (inr e) = record { foreign = dated; is = e }
+first_common schema (inr e) = record { foreign = first_dues; is = e }
 
 pub stores_common : (db : Database) (t : Tables) → Stores db t → StoresCommon db t
 stores_common db t h = record {
@@ -80,10 +80,10 @@ stores_first_common db t h = record {
   classes = h.classes;
 }
 
-pub reads_after : (old new : State) (t : Tables) (ps : List Pair) (rs : List Rule) (cs : List Listed) → ReadsSecond old.now t ps rs cs → IsUnchanged old new → ReadsSecond new.now t ps rs cs
+pub reads_after : (old new : State) (t : Tables) (ps : List Pair) (rs : List Rule) (cs : List ClassEntry) → ReadsSecond old.now t ps rs cs → IsUnchanged old new → ReadsSecond new.now t ps rs cs
 reads_after old new t ps rs cs h kept = subst (λ (db : Database). ReadsSecond db t ps rs cs) (sym kept.0.now_is) h
 
-pub reads_first_after : (old new : State) (t : Tables) (ps : List Pair) (cs : List Listed) → ReadsFirst old.now t ps cs → IsUnchanged old new → ReadsFirst new.now t ps cs
+pub reads_first_after : (old new : State) (t : Tables) (ps : List Pair) (cs : List ClassEntry) → ReadsFirst old.now t ps cs → IsUnchanged old new → ReadsFirst new.now t ps cs
 reads_first_after old new t ps cs h kept = subst (λ (db : Database). ReadsFirst db t ps cs) (sym kept.0.now_is) h
 
 -- the archive of rows with a plan
@@ -95,7 +95,7 @@ one_left [] p same = absurd (omega (arith, length_permutation [] (p ∷ []) same
 one_left (x ∷ []) p same = ap (λ z. z ∷ []) (recursion_from_All (λ z. z ≡ p) (x ∷ []) (All-permutation (λ z. z ≡ p) (p ∷ []) (x ∷ []) (IsPermutation-sym (x ∷ []) (p ∷ []) same) (All-from_recursion (λ z. z ≡ p) (p ∷ []) (refl, tt)))).0
 one_left (x ∷ y ∷ xs) p same = absurd (omega (arith, length_permutation (x ∷ y ∷ xs) (p ∷ []) same))
 
-pub second_told : (db : Database) (t : Tables) (ps : List Pair) (rs : List Rule) (cs : List Listed) (r : PlanRows) (p : Listing) → ReadsSecond db t ps rs cs → ShowsPlan r ps rs cs → TellsPlan r p → FindsSecond db (archive_of t p)
+pub second_told : (db : Database) (t : Tables) (ps : List Pair) (rs : List Rule) (cs : List ClassEntry) (r : PlanRows) (p : Listing) → ReadsSecond db t ps rs cs → ShowsPlan r ps rs cs → TellsPlan r p → FindsSecond db (archive_of t p)
 second_told db t ps rs cs r p d told tells = record {
   tables = t;
   stored = d.stored;
@@ -104,13 +104,13 @@ second_told db t ps rs cs r p d told tells = record {
     messages = refl;
     records = refl;
     holds = refl;
-    settings = one_left (map paired t.settings) _ (subst (IsPermutation (map paired t.settings)) told.settings d.settings.same);
-    classes = subst (IsPermutation (map listed t.classes)) (sym told.classes ∙ tells.classes) d.classes.same;
+    settings = one_left (map pair t.settings) _ (subst (IsPermutation (map pair t.settings)) told.settings d.settings.same);
+    classes = subst (IsPermutation (map class_entry t.classes)) (sym told.classes ∙ tells.classes) d.classes.same;
     schedules = subst (IsPermutation (map rule t.schedules)) (sym told.rules ∙ tells.rules) d.schedules.same;
   };
 }
 
-pub first_told : (db : Database) (t : Tables) (ps : List Pair) (cs : List Listed) (r : TextRows) (p : Listing) → ReadsFirst db t ps cs → ShowsTexts r ps cs → TellsTexts r p → FindsFirst db (archive_of t p)
+pub first_told : (db : Database) (t : Tables) (ps : List Pair) (cs : List ClassEntry) (r : TextRows) (p : Listing) → ReadsFirst db t ps cs → ShowsTexts r ps cs → TellsTexts r p → FindsFirst db (archive_of t p)
 first_told db t ps cs r p d told tells = record {
   tables = t;
   stored = d.stored;
@@ -119,8 +119,8 @@ first_told db t ps cs r p d told tells = record {
     messages = refl;
     records = refl;
     holds = refl;
-    settings = subst (IsPermutation (map paired t.settings)) (told.settings ∙ ap first_pairs tells.root) d.settings.same;
-    classes = subst (IsPermutation (map listed t.classes)) (sym told.classes ∙ tells.classes) d.classes.same;
+    settings = subst (IsPermutation (map pair t.settings)) (told.settings ∙ ap first_pairs tells.root) d.settings.same;
+    classes = subst (IsPermutation (map class_entry t.classes)) (sym told.classes ∙ tells.classes) d.classes.same;
   };
 }
 

@@ -9,8 +9,8 @@ use Rattle.sqlite_trees.specs.Tree.{IsAscending}
 use Rattle.sqlite_keyed.proofs.ListLemmas.{all_map, all_unmap}
 use Rattle.class_plan.specs.Plans.{Listing}
 use Rattle.record_tables.specs.Rows.{Message, Record}
-use Rattle.record_tables.specs.Reads.{Named, FitsRecord, FitsNumber, FitsHold}
-use Rattle.record_tables.specs.Typed.{record_of, named_of, due_of as due_at}
+use Rattle.record_tables.specs.Reads.{HoldEntry, FitsRecord, FitsNumber, FitsHold}
+use Rattle.record_tables.specs.CodeRows.{record_of, hold_entry_of, due_of as due_at}
 use Rattle.record_tables.specs.declared.rows.HoldRow.{HoldRow}
 use Rattle.record_tables.specs.declared.rows.RecordRow.{RecordRow}
 use Rattle.record_rows.specs.SoundRows as judged
@@ -114,9 +114,9 @@ archive-rows a is = record {
       (named_from (is_named a.records) a.messages n (recursion_from_All (λ (m : Message). is_named a.records m.number ≡ true) a.messages is.named))
       (has_from a.messages a.records n (all_weaker (IsRecord a) (λ (r : Record). r.destroyed ≡ false → has_message a.messages r.message ≡ true) (λ r h. h.stored) a.records (recursion_from_All (IsRecord a) a.records is.records)));
   held =
-      All-permutation (λ (h : Named). judged.is_live a.records h.number ≡ true) (map named_hold a.holds) (sorted_holds a) (Rattle.std.proofs.lemmas.List.Sorted.IsPermutation-sym _ _ (holds_permuted a))
-      (All-from_recursion (λ (h : Named). judged.is_live a.records h.number ≡ true) (map named_hold a.holds)
-      (all_map (λ (h : Named). judged.is_live a.records h.number ≡ true) named_hold a.holds
+      All-permutation (λ (h : HoldEntry). judged.is_live a.records h.number ≡ true) (map named_hold a.holds) (sorted_holds a) (Rattle.std.proofs.lemmas.List.Sorted.IsPermutation-sym _ _ (holds_permuted a))
+      (All-from_recursion (λ (h : HoldEntry). judged.is_live a.records h.number ≡ true) (map named_hold a.holds)
+      (all_map (λ (h : HoldEntry). judged.is_live a.records h.number ≡ true) named_hold a.holds
       (recursion_from_All (λ (h : Hold). list_any (λ (r : Record). is_live r && has_number h.number r) a.records ≡ true) a.holds is.held)));
   once = holds_sorted a is.once;
 }
@@ -138,9 +138,9 @@ rows-archive a keyed small rows =
       messages = numbers_rise (λ (m : Message). m.number) a.messages rows.messages;
       named = All-from_recursion (λ (m : Message). is_named a.records m.number ≡ true) a.messages (has_each (is_named a.records) a.messages (λ n e. sym (has n) ∙ e));
       held = All-from_recursion (λ (h : Hold). list_any (λ (r : Record). is_live r && has_number h.number r) a.records ≡ true) a.holds
-          (all_unmap (λ (h : Named). judged.is_live a.records h.number ≡ true) named_hold a.holds
-          (recursion_from_All (λ (h : Named). judged.is_live a.records h.number ≡ true) (map named_hold a.holds)
-          (All-permutation (λ (h : Named). judged.is_live a.records h.number ≡ true) (sorted_holds a) (map named_hold a.holds) (holds_permuted a) rows.held)));
+          (all_unmap (λ (h : HoldEntry). judged.is_live a.records h.number ≡ true) named_hold a.holds
+          (recursion_from_All (λ (h : HoldEntry). judged.is_live a.records h.number ≡ true) (map named_hold a.holds)
+          (All-permutation (λ (h : HoldEntry). judged.is_live a.records h.number ≡ true) (sorted_holds a) (map named_hold a.holds) (holds_permuted a) rows.held)));
       once = keyed.once;
     }
 
@@ -159,10 +159,10 @@ small_below next rs e small = all_weaker (λ (r : Record). r.number < past_all 1
 
 -- ---- counts
 
-pub held_is : (a : Archive) (hs : List HoldRow) (n : ℕ) → map named_of hs ≡ sorted_holds a → tally (λ (h : HoldRow). h.record == n) hs ≡ hold_count a n
+pub held_is : (a : Archive) (hs : List HoldRow) (n : ℕ) → map hold_entry_of hs ≡ sorted_holds a → tally (λ (h : HoldRow). h.record == n) hs ≡ hold_count a n
 held_is a hs n same =
-    sym (tally-map (λ (h : Named). h.number == n) named_of hs) ∙ ap (tally (λ (h : Named). h.number == n)) same
-    ∙ tally-permutation (λ (h : Named). h.number == n) (sorted_holds a) (map named_hold a.holds) (holds_permuted a) ∙ tally-map (λ (h : Named). h.number == n) named_hold a.holds
+    sym (tally-map (λ (h : HoldEntry). h.number == n) hold_entry_of hs) ∙ ap (tally (λ (h : HoldEntry). h.number == n)) same
+    ∙ tally-permutation (λ (h : HoldEntry). h.number == n) (sorted_holds a) (map named_hold a.holds) (holds_permuted a) ∙ tally-map (λ (h : HoldEntry). h.number == n) named_hold a.holds
 
 none_tallied : {X : Type 0} (p : X → Bool) (xs : List X) → list_any p xs ≡ false → tally p xs ≡ 0
 none_tallied p [] h = refl
@@ -237,25 +237,25 @@ numbers_fit a is =
 
 pub holds_fit : (a : Archive) → IsArchive a → AllByRecursion FitsHold (sorted_holds a)
 holds_fit a is =
-    all_weaker (λ (h : Named). judged.is_live a.records h.number ≡ true) FitsHold (λ h e. small_if_live a.records h.number (records_fit a is) e) (sorted_holds a)
-    (recursion_from_All (λ (h : Named). judged.is_live a.records h.number ≡ true) (sorted_holds a) (archive-rows a is).held)
+    all_weaker (λ (h : HoldEntry). judged.is_live a.records h.number ≡ true) FitsHold (λ h e. small_if_live a.records h.number (records_fit a is) e) (sorted_holds a)
+    (recursion_from_All (λ (h : HoldEntry). judged.is_live a.records h.number ≡ true) (sorted_holds a) (archive-rows a is).held)
 
 -- ---- what was judged
 
-pub rows_told : (a : Archive) (plan : Listing) (rs : List RecordRow) (ms : List ℕ) (hs : List HoldRow) → plan ≡ a.plan → map record_of rs ≡ a.records → ms ≡ map (λ (m : Message). m.number) a.messages → map named_of hs ≡ sorted_holds a
-    → IsArchive a → AreRows plan (map record_of rs) ms (map named_of hs)
+pub rows_told : (a : Archive) (plan : Listing) (rs : List RecordRow) (ms : List ℕ) (hs : List HoldRow) → plan ≡ a.plan → map record_of rs ≡ a.records → ms ≡ map (λ (m : Message). m.number) a.messages → map hold_entry_of hs ≡ sorted_holds a
+    → IsArchive a → AreRows plan (map record_of rs) ms (map hold_entry_of hs)
 rows_told a plan rs ms hs same records messages holds is =
-    subst (λ p. AreRows p (map record_of rs) ms (map named_of hs)) (sym same)
-    (subst (λ l. AreRows a.plan l ms (map named_of hs)) (sym records) (subst (λ l. AreRows a.plan a.records l (map named_of hs)) (sym messages) (subst (λ l. AreRows a.plan a.records (map (λ (m : Message). m.number) a.messages) l) (sym holds) (archive-rows a is))))
+    subst (λ p. AreRows p (map record_of rs) ms (map hold_entry_of hs)) (sym same)
+    (subst (λ l. AreRows a.plan l ms (map hold_entry_of hs)) (sym records) (subst (λ l. AreRows a.plan a.records l (map hold_entry_of hs)) (sym messages) (subst (λ l. AreRows a.plan a.records (map (λ (m : Message). m.number) a.messages) l) (sym holds) (archive-rows a is))))
 
-rows_back : (a : Archive) (plan : Listing) (rs : List RecordRow) (ms : List ℕ) (hs : List HoldRow) → plan ≡ a.plan → map record_of rs ≡ a.records → ms ≡ map (λ (m : Message). m.number) a.messages → map named_of hs ≡ sorted_holds a
-    → AreRows plan (map record_of rs) ms (map named_of hs) → AreRows a.plan a.records (map (λ (m : Message). m.number) a.messages) (sorted_holds a)
+rows_back : (a : Archive) (plan : Listing) (rs : List RecordRow) (ms : List ℕ) (hs : List HoldRow) → plan ≡ a.plan → map record_of rs ≡ a.records → ms ≡ map (λ (m : Message). m.number) a.messages → map hold_entry_of hs ≡ sorted_holds a
+    → AreRows plan (map record_of rs) ms (map hold_entry_of hs) → AreRows a.plan a.records (map (λ (m : Message). m.number) a.messages) (sorted_holds a)
 rows_back a plan rs ms hs same records messages holds rows =
     subst (λ p. AreRows p a.records (map (λ (m : Message). m.number) a.messages) (sorted_holds a)) same
     (subst (λ l. AreRows plan l (map (λ (m : Message). m.number) a.messages) (sorted_holds a)) records (subst (λ l. AreRows plan (map record_of rs) l (sorted_holds a)) messages (subst (λ l. AreRows plan (map record_of rs) ms l) holds rows)))
 
 pub is_overview : (f : Overview) (a : Archive) (plan : Listing) (rs : List RecordRow) (ms : List ℕ) (hs : List HoldRow) → plan ≡ a.plan → IsKeyed a → map record_of rs ≡ a.records → ms ≡ map (λ (m : Message). m.number) a.messages
-    → map named_of hs ≡ sorted_holds a → AreRows plan (map record_of rs) ms (map named_of hs) → f.plan ≡ plan → f.next ≡ past_all 1 (map record_of rs) → f.next ≤ 2 ^ 32
+    → map hold_entry_of hs ≡ sorted_holds a → AreRows plan (map record_of rs) ms (map hold_entry_of hs) → f.plan ≡ plan → f.next ≡ past_all 1 (map record_of rs) → f.next ≤ 2 ^ 32
     → ((n : ℕ) → count_at f.held n ≡ tally (λ (h : HoldRow). h.record == n) hs)
     → ((m : ℕ) → count_at f.others m ≡ tally (λ (r : RecordRow). not r.destroyed && (r.message == m)) rs - tally (λ (k : ℕ). k == m) ms)
     → map due_at f.dues.items ≡ dues_in plan (map record_of rs) → IsOverview f a
@@ -272,9 +272,9 @@ is_overview f a plan rs ms hs same keyed records messages holds rows own next sm
     }
 
 pub judged_at : (plan : Listing) (r : ArchiveRows) (rs : List RecordRow) (ms : List ℕ) (hs : List HoldRow) (next : ℕ) → rs ≡ r.records.items → ms ≡ r.messages.items → hs ≡ r.holds.items
-    → AreRows plan (map record_of rs) ms (map named_of hs) → next ≡ past_all 1 (map record_of rs) → next ≤ 2 ^ 32 → IsJudged plan r
+    → AreRows plan (map record_of rs) ms (map hold_entry_of hs) → next ≡ past_all 1 (map record_of rs) → next ≤ 2 ^ 32 → IsJudged plan r
 judged_at plan r rs ms hs next records messages holds rows is small = record {
-  rows = subst (λ l. AreRows plan (map record_of l) r.messages.items (map named_of r.holds.items)) records (subst (λ l. AreRows plan (map record_of rs) l (map named_of r.holds.items)) messages (subst (λ l. AreRows plan (map record_of rs) ms (map named_of l)) holds rows));
+  rows = subst (λ l. AreRows plan (map record_of l) r.messages.items (map hold_entry_of r.holds.items)) records (subst (λ l. AreRows plan (map record_of rs) l (map hold_entry_of r.holds.items)) messages (subst (λ l. AreRows plan (map record_of rs) ms (map hold_entry_of l)) holds rows));
   small = subst (λ l. AllByRecursion (λ (x : Record). x.number < 2 ^ 32) (map record_of l)) records (small_below next (map record_of rs) is small);
 }
 

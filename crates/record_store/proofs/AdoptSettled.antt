@@ -12,7 +12,7 @@ use Rattle.class_plan.specs.Plans.{first_plan}
 use Rattle.record_tables.specs.declared.fault.Fault.{Fault}
 use Rattle.record_tables.specs.declared.fault.Fault.TheVariants.{NoArchive}
 use Rattle.record_tables.specs.Rows.{Due}
-use Rattle.record_tables.specs.Changes.{Listed, Rule, with_plan, with_version, IsRevised}
+use Rattle.record_tables.specs.Changes.{ClassEntry, Rule, with_plan, with_version, IsRevised}
 use Rattle.record_tables.specs.Layouts.{IsLaid, IsMoved}
 use Rattle.record_tables.specs.Reads.{Pair}
 use Rattle.record_tables.specs.Steps.{CommitsNothingOf}
@@ -41,7 +41,7 @@ unfolding first_value
 same_text s t e = ap first_value e
 
 -- the due days replace those that were there
-pub stores_settled : (was db : Database) (a : Archive) (rules : List Rule) (classes : List Listed) (dues : List Due) → FindsSecond was a → rules ≡ rules_of a.plan → classes ≡ classes_of a.plan → dues ≡ due_rows a
+pub stores_settled : (was db : Database) (a : Archive) (rules : List Rule) (classes : List ClassEntry) (dues : List Due) → FindsSecond was a → rules ≡ rules_of a.plan → classes ≡ classes_of a.plan → dues ≡ due_rows a
     → IsRevised rules classes dues was db → StoresArchive db a
 stores_settled was db a rules classes dues h same_rules same_classes same_dues turns =
     let made = turns.stored h.tables h.stored h.keyed tt in
@@ -60,7 +60,7 @@ stores_settled was db a rules classes dues h same_rules same_classes same_dues t
       dues = same_dues;
     }
 
-pub stores_moved : (was db : Database) (a : Archive) (rules : List Rule) (classes : List Listed) (dues : List Due) → FindsFirst was a → rules ≡ rules_of a.plan → classes ≡ classes_of a.plan → dues ≡ due_rows a
+pub stores_moved : (was db : Database) (a : Archive) (rules : List Rule) (classes : List ClassEntry) (dues : List Due) → FindsFirst was a → rules ≡ rules_of a.plan → classes ≡ classes_of a.plan → dues ≡ due_rows a
     → IsMoved rules classes dues was db → StoresArchive db a
 stores_moved was db a rules classes dues h same_rules same_classes same_dues moved =
     let made = moved.stored h.tables h.stored h.keyed in
@@ -117,12 +117,12 @@ pub leaves_made : {S : Type 0} (g : Ghosts S) (old new : Held S) (Is : Archive �
     → Survives (state g old) (state g new) (λ (trees : Trees). (db : Database) × Good db × (trees ≡ db.trees)) → LeavesArchive g old new Is
 leaves_made g old new Is Good made one = survives_weaker (state g old) (state g new) _ _ (λ clean trees left. (left.0, (λ a is. made left.0 left.1 a is), left.2)) one
 
-laid_is : (was db : Database) (rules : List Rule) (classes : List Listed) → rules ≡ rules_of first_plan → classes ≡ classes_of first_plan → IsLaid rules classes was db → (a : Archive) → FindsNothing was a → StoresArchive db a
+laid_is : (was db : Database) (rules : List Rule) (classes : List ClassEntry) → rules ≡ rules_of first_plan → classes ≡ classes_of first_plan → IsLaid rules classes was db → (a : Archive) → FindsNothing was a → StoresArchive db a
 laid_is was db rules classes same_rules same_classes laid a none =
     subst (StoresArchive db) (sym none.1)
     (stores_laid was db none.0 (subst (λ c. IsLaid (rules_of first_plan) c was db) same_classes (subst (λ r. IsLaid r classes was db) same_rules laid)))
 
-pub leaves_laid : {S : Type 0} (g : Ghosts S) (old new : Held S) (rules : List Rule) (classes : List Listed) → rules ≡ rules_of first_plan → classes ≡ classes_of first_plan
+pub leaves_laid : {S : Type 0} (g : Ghosts S) (old new : Held S) (rules : List Rule) (classes : List ClassEntry) → rules ≡ rules_of first_plan → classes ≡ classes_of first_plan
     → Survives (state g old) (state g new) (λ (trees : Trees). (db : Database) × IsLaid rules classes (state g old).now db × (trees ≡ db.trees)) → LeavesArchive g old new (FindsNothing (state g old).now)
 leaves_laid g old new rules classes same_rules same_classes one =
     leaves_made g old new (FindsNothing (state g old).now) (IsLaid rules classes (state g old).now) (λ db laid a none. laid_is (state g old).now db rules classes same_rules same_classes laid a none) one

@@ -8,7 +8,7 @@ use Rattle.sqlite.specs.Held.{Held, state}
 use Rattle.sqlite.proofs.StateLemmas.{survives_weaker}
 use Rattle.record_tables.specs.Rows.{Due}
 use Rattle.record_tables.specs.Changes.{Turns}
-use Rattle.record_store.specs.Archive.{Archive, Line, next_number, records_of, after_capture, captured_lines, capture, has_room}
+use Rattle.record_store.specs.Archive.{Archive, Line, next_number, records_of, after_capture, capture_lines, capture, has_room}
 use Rattle.record_store.specs.Captures.{with_captured, ArePast, lines_of, dues_of_lines}
 use Rattle.record_store.specs.Counts.{count_at, only_at}
 use Rattle.record_store.specs.Stores.{StandsFor, StoresArchive, AreClasses, Becomes, Leaves, LeavesMade}
@@ -90,7 +90,7 @@ pub is_captured : (a : Archive) (body : List ℕ) (day : ℕ) (ps : List (List �
 is_captured a body day ps h = rw h refl
 
 pub obeys_captured : {S : Type 0} (g : Ghosts S) (new : Store S) (a : Archive) (body : List ℕ) (day : ℕ) (ps : List (List ℕ)) (lines : List Line) → next_number a + length ps ≤ 2 ^ 32
-    → StandsFor g new (after_capture a body day ps) → lines ≡ lines_of a.plan (next_number a) day ps → Becomes g new (capture a body day ps) × (lines ≡ captured_lines a day ps)
+    → StandsFor g new (after_capture a body day ps) → lines ≡ lines_of a.plan (next_number a) day ps → Becomes g new (capture a body day ps) × (lines ≡ capture_lines a day ps)
 obeys_captured g new a body day ps lines room s told =
     (subst (Becomes g new) (sym (is_captured a body day ps (has_its_room a ps room))) s, told ∙ sym (lines_are a (next_number a) (next_number a) day ps))
 

@@ -20,9 +20,9 @@ use Rattle.class_plan.proofs.Put.{placed, put-cons, has-put, say-put}
 use Rattle.class_plan.proofs.Removed.{head_other, tail_other, added-new}
 use Rattle.record_tables.specs.Rows.{Record}
 use Rattle.record_tables.specs.Changes as tables
-use Rattle.record_tables.specs.Changes.{Listed}
-use Rattle.record_tables.specs.Reads.{listed}
-use Rattle.record_rows.specs.Rules.{rule_at, own_rules, with_own, listed_row}
+use Rattle.record_tables.specs.Changes.{ClassEntry}
+use Rattle.record_tables.specs.Reads.{class_entry}
+use Rattle.record_rows.specs.Rules.{rule_at, own_rules, with_own, entry_of_row}
 use Rattle.record_store.specs.Archive.{Archive, IsArchive, IsRecord, due_of, is_live, add_class, plan_answer}
 use Rattle.record_store.specs.Revisions.{with_plan, IsClassAdded}
 use Rattle.record_store.specs.Stores.{StoresArchive, Leaves, LeavesMade, has_due, due_row, due_rows}
@@ -131,10 +131,10 @@ dues_stay a path is h =
 pub stores_added : (a : Archive) (path : List ℕ) → IsArchive a → has a.plan.rows path ≡ false → (was db : Database) → StoresArchive was a → IsClassAdded path was db → StoresArchive db (with_plan a (with_class a.plan path))
 stores_added a path is h was db s turns =
     let made = turns.stored s.tables s.stored s.keyed tt in
-    let new : Listed = listed_row (open_row path) in
-    let classes : IsPermutation (map listed s.tables.classes ++ new ∷ []) (map listed_row (with_row (open_row path) a.plan.rows)) =
+    let new : ClassEntry = entry_of_row (open_row path) in
+    let classes : IsPermutation (map class_entry s.tables.classes ++ new ∷ []) (map entry_of_row (with_row (open_row path) a.plan.rows)) =
     IsPermutation-trans _ _ _ (IsPermutation-append_left (new ∷ []) _ _ s.keeps.classes)
-    (subst (λ l. IsPermutation l (map listed_row (with_row (open_row path) a.plan.rows))) (map-append listed_row a.plan.rows (open_row path ∷ [])) (IsPermutation-map listed_row _ _ (put_permutes (open_row path) a.plan.rows h))) in
+    (subst (λ l. IsPermutation l (map entry_of_row (with_row (open_row path) a.plan.rows))) (map-append entry_of_row a.plan.rows (open_row path ∷ [])) (IsPermutation-map entry_of_row _ _ (put_permutes (open_row path) a.plan.rows h))) in
     record {
       tables = tables.with_class path true None s.tables;
       stored = made.0;
@@ -144,7 +144,7 @@ stores_added a path is h was db s turns =
         records = s.keeps.records;
         holds = s.keeps.holds;
         settings = s.keeps.settings;
-        classes = subst (λ l. IsPermutation l (map listed_row (with_row (open_row path) a.plan.rows))) (sym (map-append listed s.tables.classes _)) classes;
+        classes = subst (λ l. IsPermutation l (map entry_of_row (with_row (open_row path) a.plan.rows))) (sym (map-append class_entry s.tables.classes _)) classes;
         schedules = subst (IsPermutation _) (ap (λ l. rule_at [] a.plan.root ∷ l) (sym (rules_stay path a.plan.rows h))) s.keeps.schedules;
       };
       dues = s.dues ∙ dues_stay a path is h;

@@ -12,7 +12,7 @@ use Rattle.record_tables.specs.Rows.{Message, Record, Due}
 use Rattle.record_tables.specs.Changes as tables
 use Rattle.class_plan.specs.Calendar.{due_on}
 use Rattle.class_plan.specs.Plans.{schedule_at}
-use Rattle.record_store.specs.Archive.{Archive, Hold, IsArchive, IsRecord, destroy, destroys, is_by, record_at, has_number, has_message, is_live, is_held, is_named, is_shared, next_number, past_all, destroyed, messages_without, without}
+use Rattle.record_store.specs.Archive.{Archive, Hold, IsArchive, IsRecord, destroy, destroys, is_by, record_at, has_number, has_message, is_live, is_held, is_named, is_shared, next_number, past_all, destruction_of, messages_without, without}
 use Rattle.record_store.specs.Counts.{count_at, only_at, tally}
 use Rattle.record_store.specs.Destruction.{IsFree, IsDestruction, against_destruction, with_destruction}
 use Rattle.record_store.specs.Stores.{StandsFor, StoresArchive, has_due, due_row, live_count}
@@ -61,10 +61,10 @@ tally_same_on p q (x ∷ xs) h = let one = h.0 in let more = tally_same_on p q x
 
 -- the records, with the one of this number destroyed
 abbrev gone : ℕ → List Record → List Record
-gone n rs = update_where (has_number n) destroyed rs
+gone n rs = update_where (has_number n) destruction_of rs
 
 abbrev gone_if : Bool → Record → Record
-gone_if b x = cond b (destroyed x) x
+gone_if b x = cond b (destruction_of x) x
 
 -- a live record of the message that has another number
 abbrev is_other : ℕ → ℕ → Record → Bool

@@ -13,9 +13,9 @@ use Rattle.class_plan.specs.Calendar.{due_on}
 use Rattle.class_plan.specs.Plans as plans
 use Rattle.class_plan.specs.Plans.{Listing, IsPlan, keeps, has}
 use Rattle.record_tables.specs.Lookups.{Looks}
-use Rattle.record_tables.specs.Tables.{HasCommonTables, IsArchiveSchema, scheduled}
+use Rattle.record_tables.specs.Tables.{HasCommonTables, IsArchiveSchema, schedules_and_dues_beside}
 use Rattle.record_tables.specs.Rows.{Tables, Record, Due, Stores, StoresCommon}
-use Rattle.record_tables.specs.Changes.{Listed, Rule, IsRevised, AreAscending}
+use Rattle.record_tables.specs.Changes.{ClassEntry, Rule, IsRevised, AreAscending}
 use Rattle.record_tables.specs.Changes as tables
 use Rattle.record_rows.specs.Rules.{rules_of, classes_of}
 use Rattle.record_store.specs.Archive.{Archive, IsArchive, revise}
@@ -59,7 +59,7 @@ is_revised a p h = rw h refl
 
 -- ---- the tables
 
-pub stores_revised : (a : Archive) (p : Listing) (rules : List Rule) (classes : List Listed) (dues : List Due) → rules ≡ rules_of p → classes ≡ classes_of p → dues ≡ dues_in p a.records
+pub stores_revised : (a : Archive) (p : Listing) (rules : List Rule) (classes : List ClassEntry) (dues : List Due) → rules ≡ rules_of p → classes ≡ classes_of p → dues ≡ dues_in p a.records
     → (was db : Database) → StoresArchive was a → IsRevised rules classes dues was db → StoresArchive db (with_plan a p)
 stores_revised a p rules classes dues same_rules same_classes same_dues was db s turns =
     let made = turns.stored s.tables s.stored s.keyed tt in
@@ -81,7 +81,7 @@ stores_revised a p rules classes dues same_rules same_classes same_dues was db s
 -- ---- the tables that both versions have
 
 pub common_schema : (schema : Rattle.sqlite.specs.Schema.Schema) → IsArchiveSchema schema → HasCommonTables schema
-common_schema schema is = record { foreign = scheduled is.foreign; is = is.is }
+common_schema schema is = record { foreign = schedules_and_dues_beside is.foreign; is = is.is }
 
 pub common_of : (db : Database) (t : Tables) → Stores db t → StoresCommon db t
 common_of db t s = record { schema = common_schema db.schema s.schema; messages = s.messages; records = s.records; holds = s.holds; settings = s.settings; classes = s.classes }

@@ -7,20 +7,20 @@ use Rattle.sqlite.specs.Effect.{Database}
 use Rattle.sqlite.specs.State.{HasCleanDisk}
 use Rattle.sqlite.specs.Held.{Held, state}
 use Rattle.record_tables.specs.Tables.{no_schema}
-use Rattle.record_tables.specs.Changes.{Listed, Rule, numbered, numbered_schedules, with_plan, with_version}
+use Rattle.record_tables.specs.Changes.{ClassEntry, Rule, classes_from, schedules_from, with_plan, with_version}
 use Rattle.record_tables.specs.Layouts.{IsLaid, no_rows}
-use Rattle.record_tables.specs.Reads.{listed, rule}
+use Rattle.record_tables.specs.Reads.{class_entry, rule}
 use Rattle.record_rows.specs.Rules.{rules_of, classes_of}
 use Rattle.record_store.specs.Archive.{empty_archive, IsArchive}
 use Rattle.record_store.specs.Counts.{count_at}
 use Rattle.record_store.specs.Stores.{StoresArchive, StandsFor}
 use Rattle.record_store.specs.declared.store.Store.{Store}
 
-pub listed-numbered : (id : ℤ) (cs : List Listed) → map listed (numbered id cs) ≡ cs
+pub listed-numbered : (id : ℤ) (cs : List ClassEntry) → map class_entry (classes_from id cs) ≡ cs
 listed-numbered id [] = refl
 listed-numbered id (c ∷ cs) = ap (λ l. c ∷ l) (listed-numbered (id +ℤ pos 1) cs)
 
-pub rules-numbered : (id : ℤ) (rs : List Rule) → map rule (numbered_schedules id rs) ≡ rs
+pub rules-numbered : (id : ℤ) (rs : List Rule) → map rule (schedules_from id rs) ≡ rs
 rules-numbered id [] = refl
 rules-numbered id (r ∷ rs) = ap (λ l. r ∷ l) (rules-numbered (id +ℤ pos 1) rs)
 
@@ -57,7 +57,7 @@ empty_is_archive plan = record {
   once = tt;
 }
 
-pub stands_laid : {S : Type 0} (g : Ghosts S) (old : Held S) (new : Store S) (rules : List Rule) (classes : List Listed) → IsPlan first_plan → rules ≡ rules_of first_plan → classes ≡ classes_of first_plan
+pub stands_laid : {S : Type 0} (g : Ghosts S) (old : Held S) (new : Store S) (rules : List Rule) (classes : List ClassEntry) → IsPlan first_plan → rules ≡ rules_of first_plan → classes ≡ classes_of first_plan
     → new.conn.in_transaction ≡ false → new.plan ≡ first_plan → new.next ≡ 1 → ((n : ℕ) → count_at new.held n ≡ 0) → ((m : ℕ) → count_at new.others m ≡ 0)
     → (state g old).now.schema ≡ no_schema → (HasCleanDisk (state g new.conn) → IsLaid rules classes (state g old).now (state g new.conn).now) → StandsFor g new empty_archive
 stands_laid g old new rules classes is same_rules same_classes idle plan next held others empty laid = record {

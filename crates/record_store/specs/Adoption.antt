@@ -11,11 +11,11 @@ use Rattle.sqlite_keyed.specs.Lists.{sort_by}
 use Rattle.sqlite_trees.specs.Tree.{IsAscending}
 use Rattle.class_plan.specs.Plans.{Listing, IsPlan}
 use Rattle.class_plan.specs.Texts.{text_of}
-use Rattle.record_tables.specs.Tables.{IsArchiveSchema, no_schema, first_schema, dated_schema}
+use Rattle.record_tables.specs.Tables.{IsArchiveSchema, no_schema, first_schema, first_schema_with_dues}
 use Rattle.record_tables.specs.Rows.{Tables, Message, Record, Stores, StoresFirst, StoresCommon, AreKeyed}
-use Rattle.record_tables.specs.Changes.{Listed, Rule}
-use Rattle.record_tables.specs.Reads.{Named, Pair, listed, paired, named_cmp, ArePaired, AreListed, AreRules}
-use Rattle.record_tables.specs.Typed.{record_of, named_of, listed_of, rule_of, due_of}
+use Rattle.record_tables.specs.Changes.{ClassEntry, Rule}
+use Rattle.record_tables.specs.Reads.{HoldEntry, Pair, class_entry, pair, hold_cmp, ArePairs, AreClasses, AreRules}
+use Rattle.record_tables.specs.CodeRows.{record_of, hold_entry_of, class_entry_of, rule_of, due_of}
 use Rattle.record_tables.specs.Steps.{IsIdle, Falls, IsStill, CommitsNothingOf}
 use Rattle.record_rows.specs.SoundRows.{AreRows}
 use Rattle.record_rows.specs.Rules.{rules_of, classes_of}
@@ -46,8 +46,8 @@ pub record KeepsFirst (t : Tables) (a : Archive) : Type 0 where
   pub messages : t.messages ≡ a.messages
   pub records : t.records ≡ a.records
   pub holds : map hold_of t.holds ≡ a.holds
-  pub settings : IsPermutation (map paired t.settings) (first_pairs (text_of a.plan.root))
-  pub classes : IsPermutation (map listed t.classes) (map text_row a.plan.rows)
+  pub settings : IsPermutation (map pair t.settings) (first_pairs (text_of a.plan.root))
+  pub classes : IsPermutation (map class_entry t.classes) (map text_row a.plan.rows)
 
 -- the rows of version 1 are those of the archive, with any due days or without the table of them
 pub record FindsFirst (db : Database) (a : Archive) : Type 0 where
@@ -98,68 +98,68 @@ pub record HasArchive (db : Database) : Type 0 where
 -- ---- rows of any kind
 
 -- rows of version 2, whatever they contain; each key is there once
-pub record ReadsSecond (db : Database) (t : Tables) (ps : List Pair) (rs : List Rule) (cs : List Listed) : Type 0 where
+pub record ReadsSecond (db : Database) (t : Tables) (ps : List Pair) (rs : List Rule) (cs : List ClassEntry) : Type 0 where
   pub stored : Stores db t
   pub keyed : AreKeyed t
-  pub settings : ArePaired t ps
+  pub settings : ArePairs t ps
   pub schedules : AreRules t rs
-  pub classes : AreListed t cs
+  pub classes : AreClasses t cs
   pub holds : AreOnce (map hold_of t.holds)
 
 -- rows of version 1, whatever they contain; each key is there once
-pub record ReadsFirst (db : Database) (t : Tables) (ps : List Pair) (cs : List Listed) : Type 0 where
+pub record ReadsFirst (db : Database) (t : Tables) (ps : List Pair) (cs : List ClassEntry) : Type 0 where
   pub stored : StoresFirst db t
   pub keyed : AreKeyed t
-  pub settings : ArePaired t ps
-  pub classes : AreListed t cs
+  pub settings : ArePairs t ps
+  pub classes : AreClasses t cs
   pub holds : AreOnce (map hold_of t.holds)
 
 -- the rows of either version
 abbrev pub HasRows : Database → Type 0
 HasRows db =
-    ((t : Tables) × (ps : List Pair) × (rs : List Rule) × (cs : List Listed) × ReadsSecond db t ps rs cs)
-    ⊎ ((t : Tables) × (ps : List Pair) × (cs : List Listed) × ReadsFirst db t ps cs)
+    ((t : Tables) × (ps : List Pair) × (rs : List Rule) × (cs : List ClassEntry) × ReadsSecond db t ps rs cs)
+    ⊎ ((t : Tables) × (ps : List Pair) × (cs : List ClassEntry) × ReadsFirst db t ps cs)
 
 -- a schema as a store creates it, in version 1 or 2, or none yet
 abbrev pub IsLaidSchema : Schema → Type 0
-IsLaidSchema schema = (schema ≡ no_schema) ⊎ (schema ≡ first_schema) ⊎ (schema ≡ dated_schema) ⊎ IsArchiveSchema schema
+IsLaidSchema schema = (schema ≡ no_schema) ⊎ (schema ≡ first_schema) ⊎ (schema ≡ first_schema_with_dues) ⊎ IsArchiveSchema schema
 
 -- ---- what is read
 
-abbrev pub named_hold : Hold → Named
+abbrev pub named_hold : Hold → HoldEntry
 named_hold h = record { name = h.name; number = h.number }
 
 -- the holds by record and then by name
-abbrev pub sorted_holds : Archive → List Named
-sorted_holds a = sort_by named_cmp (map named_hold a.holds)
+abbrev pub sorted_holds : Archive → List HoldEntry
+sorted_holds a = sort_by hold_cmp (map named_hold a.holds)
 
 pub record TellsRows (r : ArchiveRows) (a : Archive) : Type 0 where
   pub records : map record_of r.records.items ≡ a.records
   pub messages : r.messages.items ≡ map (λ (m : Message). m.number) a.messages
-  pub holds : map named_of r.holds.items ≡ sorted_holds a
+  pub holds : map hold_entry_of r.holds.items ≡ sorted_holds a
 
 pub record TellsPlan (r : PlanRows) (p : Listing) : Type 0 where
   pub rules : map rule_of r.rules.items ≡ rules_of p
-  pub classes : map listed_of r.classes.items ≡ classes_of p
+  pub classes : map class_entry_of r.classes.items ≡ classes_of p
 
 -- what is read from rows that may be no plan's
-pub record ShowsPlan (r : PlanRows) (ps : List Pair) (rs : List Rule) (cs : List Listed) : Type 0 where
+pub record ShowsPlan (r : PlanRows) (ps : List Pair) (rs : List Rule) (cs : List ClassEntry) : Type 0 where
   pub settings : ps ≡ record { key = codes "version"; value = codes "2" } ∷ []
   pub rules : map rule_of r.rules.items ≡ rs
-  pub classes : map listed_of r.classes.items ≡ cs
+  pub classes : map class_entry_of r.classes.items ≡ cs
 
-pub record ShowsTexts (r : TextRows) (ps : List Pair) (cs : List Listed) : Type 0 where
+pub record ShowsTexts (r : TextRows) (ps : List Pair) (cs : List ClassEntry) : Type 0 where
   pub settings : ps ≡ first_pairs r.root.items
-  pub classes : map listed_of r.classes.items ≡ cs
+  pub classes : map class_entry_of r.classes.items ≡ cs
 
 -- the accepted rows are an archive's, and the numbers of the records fit in 32 bits
 pub record IsJudged (p : Listing) (r : ArchiveRows) : Type 0 where
-  pub rows : AreRows p (map record_of r.records.items) r.messages.items (map named_of r.holds.items)
+  pub rows : AreRows p (map record_of r.records.items) r.messages.items (map hold_entry_of r.holds.items)
   pub small : AllByRecursion (λ (x : Record). x.number < 2 ^ 32) (map record_of r.records.items)
 
 pub record TellsTexts (r : TextRows) (p : Listing) : Type 0 where
   pub root : r.root.items ≡ text_of p.root
-  pub classes : map listed_of r.classes.items ≡ map text_row p.rows
+  pub classes : map class_entry_of r.classes.items ≡ map text_row p.rows
 
 -- what a store over the archive keeps beside the connection, and the due days
 pub record IsOverview (f : Overview) (a : Archive) : Type 0 where

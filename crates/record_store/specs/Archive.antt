@@ -110,8 +110,8 @@ abbrev pub capture : Archive → List ℕ → ℕ → List (List ℕ) → Result
 capture a body day paths = if has_room a paths then Ok (after_capture a body day paths) else Err fault.Full
 
 -- what a capture answers: a line for each new record
-abbrev pub captured_lines : Archive → ℕ → List (List ℕ) → List Line
-captured_lines a day paths = map (line_of a) (new_records a day paths)
+abbrev pub capture_lines : Archive → ℕ → List (List ℕ) → List Line
+capture_lines a day paths = map (line_of a) (new_records a day paths)
 
 -- ---- holds
 
@@ -142,8 +142,8 @@ release a name n = release_one a name n (record_at a n)
 
 -- ---- destruction
 
-abbrev pub destroyed : Record → Record
-destroyed r = record r { destroyed = true }
+abbrev pub destruction_of : Record → Record
+destruction_of r = record r { destroyed = true }
 
 -- another live record has the message
 abbrev pub is_shared : Archive → Record → Bool
@@ -156,7 +156,7 @@ messages_without a r = if is_shared a r then a.messages
 
 -- the record's number, path and day stay, and the message is removed with its last live record
 abbrev pub without : Archive → Record → Archive
-without a r = record a { messages = messages_without a r; records = update_where (has_number r.number) destroyed a.records }
+without a r = record a { messages = messages_without a r; records = update_where (has_number r.number) destruction_of a.records }
 
 abbrev pub destroy_one : Archive → ℕ → ℕ → Option Record → Result Archive StoreFault
 destroy_one a n day None = Err fault.NoRecord

@@ -11,7 +11,7 @@ use Rattle.sqlite.specs.State.{HasCleanDisk, Survives}
 use Rattle.sqlite.specs.Tree.{Trees}
 use Rattle.sqlite.specs.Held.{state}
 use Rattle.record_tables.specs.Rows.{Tables, Stores, AreKeyed, Record, Due, Hold as HoldRow}
-use Rattle.record_tables.specs.Reads.{listed, rule, paired}
+use Rattle.record_tables.specs.Reads.{class_entry, rule, pair}
 use Rattle.record_rows.specs.Rules.{rules_of, classes_of}
 use Rattle.record_store.specs.Archive.{Archive, Hold, Line, IsArchive, due_of, due_list, is_live, next_number}
 use Rattle.record_store.specs.declared.fault.StoreFault.{StoreFault}
@@ -41,8 +41,8 @@ pub record Keeps (t : Tables) (a : Archive) : Type 0 where
   pub messages : t.messages ≡ a.messages
   pub records : t.records ≡ a.records
   pub holds : map hold_of t.holds ≡ a.holds
-  pub settings : map paired t.settings ≡ record { key = codes "version"; value = codes "2" } ∷ []
-  pub classes : IsPermutation (map listed t.classes) (classes_of a.plan)
+  pub settings : map pair t.settings ≡ record { key = codes "version"; value = codes "2" } ∷ []
+  pub classes : IsPermutation (map class_entry t.classes) (classes_of a.plan)
   pub schedules : IsPermutation (map rule t.schedules) (rules_of a.plan)
 
 -- the database keeps the archive, with the due days by its plan

@@ -5,11 +5,11 @@ ghost use Rattle.sqlite.specs.State.{HasCleanDisk};
 ghost use Rattle.sqlite.specs.Held.{state};
 ghost use Rattle.record_tables.specs.Tables.{no_schema, HasCommonTables, IsArchiveSchema};
 ghost use Rattle.record_tables.specs.Rows.{Tables};
-ghost use Rattle.record_tables.specs.Changes.{AreAscending, Listed, Rule};
+ghost use Rattle.record_tables.specs.Changes.{AreAscending, ClassEntry, Rule};
 ghost use Rattle.record_tables.specs.Reads.{Pair};
 ghost use Rattle.record_tables.specs.Layout.{IsLayout};
 ghost use Rattle.record_tables.specs.Steps.{ReadsAlone};
-ghost use Rattle.record_tables.specs.Typed.{due_of};
+ghost use Rattle.record_tables.specs.CodeRows.{due_of};
 ghost use Rattle.record_store.specs.Archive.{Archive, IsArchive, empty_archive};
 ghost use Rattle.record_store.specs.Stores.{StandsFor, StoresArchive, due_rows, is_trouble};
 ghost use Rattle.record_store.specs.Adoption.{Finds, FindsRows, FindsSecond, FindsFirst, HasNoArchive, HasArchive, HasRows, IsKeyed, IsLaidSchema, ReadsSecond, ReadsFirst, TellsPlan, IsOverview, Sees, LeavesArchive};
@@ -90,7 +90,7 @@ fn move_over<S: Alter>(
 /// Reads version 2: the rows of its plan, and what a store keeps beside the connection.
 fn read_second<S: Alter>(alloc: Global, conn: &mut Connection<S>) -> Result<Contents, Fault>
     ensures sound { HasCleanDisk (state S.Store conn.new) →
-        IfOk result (λ r. (t : Tables) (ps : List Pair) (rs : List Rule) (cs : List Listed) →
+        IfOk result (λ r. (t : Tables) (ps : List Pair) (rs : List Rule) (cs : List ClassEntry) →
         ReadsSecond (state S.Store conn.old).now t ps rs cs → HasArchive (state S.Store conn.old).now) }
     ensures found { HasCleanDisk (state S.Store conn.new) →
         IfOk result (λ r. (a : Archive) → FindsSecond (state S.Store conn.old).now a → IsKeyed a →
@@ -114,7 +114,7 @@ fn read_second<S: Alter>(alloc: Global, conn: &mut Connection<S>) -> Result<Cont
 /// Reads version 1: the rows that its plan has in version 2, and what a store keeps beside the connection.
 fn read_first<S: Alter>(alloc: Global, conn: &mut Connection<S>) -> Result<Contents, Fault>
     ensures sound { HasCleanDisk (state S.Store conn.new) →
-        IfOk result (λ r. (t : Tables) (ps : List Pair) (cs : List Listed) →
+        IfOk result (λ r. (t : Tables) (ps : List Pair) (cs : List ClassEntry) →
         ReadsFirst (state S.Store conn.old).now t ps cs → HasArchive (state S.Store conn.old).now) }
     ensures found { HasCleanDisk (state S.Store conn.new) →
         IfOk result (λ r. (a : Archive) → FindsFirst (state S.Store conn.old).now a → IsKeyed a →
@@ -141,7 +141,7 @@ fn settle_second<S: Alter>(alloc: Global, conn: &mut Connection<S>) -> Result<Ov
     requires { conn.old.in_transaction ≡ false }
     ensures idle { conn.new.in_transaction ≡ false }
     ensures sound { HasCleanDisk (state S.Store conn.new) →
-        IfOk result (λ f. (t : Tables) (ps : List Pair) (rs : List Rule) (cs : List Listed) →
+        IfOk result (λ f. (t : Tables) (ps : List Pair) (rs : List Rule) (cs : List ClassEntry) →
         ReadsSecond (state S.Store conn.old).now t ps rs cs → HasArchive (state S.Store conn.old).now) }
     ensures found { HasCleanDisk (state S.Store conn.new) →
         IfOk result (λ f. (a : Archive) → FindsSecond (state S.Store conn.old).now a → IsKeyed a → IsOverview f a ×
@@ -165,7 +165,7 @@ fn settle_first<S: Alter>(alloc: Global, conn: &mut Connection<S>) -> Result<Ove
     requires { conn.old.in_transaction ≡ false }
     ensures idle { conn.new.in_transaction ≡ false }
     ensures sound { HasCleanDisk (state S.Store conn.new) →
-        IfOk result (λ f. (t : Tables) (ps : List Pair) (cs : List Listed) →
+        IfOk result (λ f. (t : Tables) (ps : List Pair) (cs : List ClassEntry) →
         ReadsFirst (state S.Store conn.old).now t ps cs → HasArchive (state S.Store conn.old).now) }
     ensures found { HasCleanDisk (state S.Store conn.new) →
         IfOk result (λ f. (a : Archive) → FindsFirst (state S.Store conn.old).now a → IsKeyed a → IsOverview f a ×
@@ -215,7 +215,7 @@ impl<S: Alter> Store<S> {
     ) -> Result<Store<S>, (StoreFault, Connection<S>)>
         requires { conn.in_transaction ≡ false }
         ensures sound { IfOk result (λ s. HasCleanDisk (state S.Store s.conn) →
-            (t : Tables) (ps : List Pair) (rs : List Rule) (cs : List Listed) →
+            (t : Tables) (ps : List Pair) (rs : List Rule) (cs : List ClassEntry) →
             ReadsSecond (state S.Store conn).now t ps rs cs → HasArchive (state S.Store conn).now) }
         ensures found { IfOk result (λ s. HasCleanDisk (state S.Store s.conn) → (a : Archive) →
             FindsSecond (state S.Store conn).now a → IsKeyed a → StandsFor S.Store s a) }
@@ -247,7 +247,7 @@ impl<S: Alter> Store<S> {
     ) -> Result<Store<S>, (StoreFault, Connection<S>)>
         requires { conn.in_transaction ≡ false }
         ensures sound { IfOk result (λ s. HasCleanDisk (state S.Store s.conn) →
-            (t : Tables) (ps : List Pair) (cs : List Listed) → ReadsFirst (state S.Store conn).now t ps cs →
+            (t : Tables) (ps : List Pair) (cs : List ClassEntry) → ReadsFirst (state S.Store conn).now t ps cs →
             HasArchive (state S.Store conn).now) }
         ensures found { IfOk result (λ s. HasCleanDisk (state S.Store s.conn) → (a : Archive) →
             FindsFirst (state S.Store conn).now a → IsKeyed a → StandsFor S.Store s a) }

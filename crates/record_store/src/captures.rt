@@ -5,7 +5,7 @@ ghost use Rattle.std.specs.List.{All};
 ghost use Rattle.jiff.specs.Words.{IsBetween, epoch_day};
 ghost use Rattle.class_plan.specs.Dates.{IsCaptureDay};
 ghost use Rattle.class_plan.specs.Calendar.{number_of_day, due_on};
-ghost use Rattle.record_tables.specs.Typed.{due_of};
+ghost use Rattle.record_tables.specs.CodeRows.{due_of};
 ghost use Rattle.record_store.specs.Archive as archive;
 ghost use Rattle.record_store.specs.Archive.{Archive};
 ghost use Rattle.record_store.specs.Captures.{HasDueDay, lines_of, dues_of_lines, due_before};

@@ -4,7 +4,7 @@ ghost use Rattle.std.specs.Prelude.{◌≡◌, ◌≤◌, ◌<◌, ◌++◌, [],
 ghost use Rattle.std.specs.List.{AllByRecursion};
 ghost use Rattle.class_plan.specs.Calendar.{due_on};
 ghost use Rattle.record_tables.specs.Changes.{AreAscending};
-ghost use Rattle.record_tables.specs.Typed.{record_of, due_of};
+ghost use Rattle.record_tables.specs.CodeRows.{record_of, due_of};
 ghost use Rattle.record_store.specs.Revisions.{dues_in};
 
 use crate::captures::number_of;

@@ -6,10 +6,10 @@ ghost use Rattle.sqlite.specs.Held.{state};
 ghost use Rattle.class_plan.specs.Plans.{Listing, IsPlan};
 ghost use Rattle.record_tables.specs.Tables.{IsArchiveSchema};
 ghost use Rattle.record_tables.specs.Rows.{Tables};
-ghost use Rattle.record_tables.specs.Changes.{Listed, Rule};
+ghost use Rattle.record_tables.specs.Changes.{ClassEntry, Rule};
 ghost use Rattle.record_tables.specs.Reads.{Pair};
 ghost use Rattle.record_tables.specs.Steps.{ReadsAlone};
-ghost use Rattle.record_tables.specs.Typed.{pair_of};
+ghost use Rattle.record_tables.specs.CodeRows.{pair_of};
 ghost use Rattle.record_store.specs.Archive.{Archive};
 ghost use Rattle.record_store.specs.Adoption.{FindsSecond, IsKeyed, ReadsSecond, TellsPlan, ShowsPlan, Sees};
 
@@ -52,7 +52,7 @@ pub(crate) fn plan_rows<S: Alter>(
     ensures tells { HasCleanDisk (state S.Store conn.new) →
         IfOk result (λ r. (a : Archive) → FindsSecond (state S.Store conn.old).now a → IsKeyed a → TellsPlan r a.plan) }
     ensures sound { HasCleanDisk (state S.Store conn.new) →
-        IfOk result (λ r. (t : Tables) (ps : List Pair) (rs : List Rule) (cs : List Listed) →
+        IfOk result (λ r. (t : Tables) (ps : List Pair) (rs : List Rule) (cs : List ClassEntry) →
         ReadsSecond (state S.Store conn.old).now t ps rs cs → ShowsPlan r ps rs cs) }
     ensures none { HasCleanDisk (state S.Store conn.new) → result ≡ Err Fault.NoArchive → (a : Archive) →
         FindsSecond (state S.Store conn.old).now a → IsKeyed a → ⊥ }

@@ -6,7 +6,7 @@ ghost use Rattle.sqlite.specs.Held.{state};
 ghost use Rattle.class_plan.specs.Plans.{keeps};
 ghost use Rattle.class_plan.specs.declared.faults.PlanFault.TheVariants.{PathDropped};
 ghost use Rattle.record_tables.specs.Changes.{AreAscending};
-ghost use Rattle.record_tables.specs.Typed.{record_of, due_of};
+ghost use Rattle.record_tables.specs.CodeRows.{record_of, due_of};
 ghost use Rattle.record_store.specs.Archive as archive;
 ghost use Rattle.record_store.specs.Archive.{Archive};
 ghost use Rattle.record_store.specs.Revisions.{IsRevision, with_plan, dues_in};

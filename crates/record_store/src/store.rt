@@ -4,7 +4,7 @@ ghost use Rattle.std.specs.Prelude.{◌≡◌, false, true, Some, None, Ok, Err,
 ghost use Rattle.sqlite.specs.State.{HasCleanDisk};
 ghost use Rattle.sqlite.specs.Held.{state};
 ghost use Rattle.record_tables.specs.Tables.{no_schema};
-ghost use Rattle.record_tables.specs.Typed.{record_of};
+ghost use Rattle.record_tables.specs.CodeRows.{record_of};
 ghost use Rattle.record_store.specs.Archive as archive;
 ghost use Rattle.record_store.specs.Archive.{Archive, empty_archive};
 ghost use Rattle.record_store.specs.Adoption.{FindsNothing, LeavesArchive};

@@ -1,7 +1,7 @@
 //! Counts over the rows of an archive.
 
 ghost use Rattle.std.specs.Prelude.{◌≡◌, ◌-◌, ◌≤◌, ◌^◌, ◌==◌, ◌&&◌, not, ℕ, map, IfOk};
-ghost use Rattle.record_tables.specs.Typed.{record_of};
+ghost use Rattle.record_tables.specs.CodeRows.{record_of};
 ghost use Rattle.record_store.specs.Archive.{past_all};
 ghost use Rattle.record_store.specs.Counts.{count_at, tally};
 

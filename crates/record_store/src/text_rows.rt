@@ -6,10 +6,10 @@ ghost use Rattle.sqlite.specs.Held.{state};
 ghost use Rattle.class_plan.specs.Plans.{Listing, IsPlan};
 ghost use Rattle.record_tables.specs.Tables.{HasCommonTables};
 ghost use Rattle.record_tables.specs.Rows.{Tables};
-ghost use Rattle.record_tables.specs.Changes.{Listed};
+ghost use Rattle.record_tables.specs.Changes.{ClassEntry};
 ghost use Rattle.record_tables.specs.Reads.{Pair};
 ghost use Rattle.record_tables.specs.Steps.{ReadsAlone};
-ghost use Rattle.record_tables.specs.Typed.{pair_of};
+ghost use Rattle.record_tables.specs.CodeRows.{pair_of};
 ghost use Rattle.record_store.specs.Archive.{Archive};
 ghost use Rattle.record_store.specs.Adoption.{FindsFirst, IsKeyed, ReadsFirst, TellsTexts, ShowsTexts, Sees, first_pairs};
 
@@ -65,7 +65,7 @@ pub(crate) fn text_rows<S: Alter>(
     ensures tells { HasCleanDisk (state S.Store conn.new) →
         IfOk result (λ r. (a : Archive) → FindsFirst (state S.Store conn.old).now a → IsKeyed a → TellsTexts r a.plan) }
     ensures sound { HasCleanDisk (state S.Store conn.new) →
-        IfOk result (λ r. (t : Tables) (ps : List Pair) (cs : List Listed) →
+        IfOk result (λ r. (t : Tables) (ps : List Pair) (cs : List ClassEntry) →
         ReadsFirst (state S.Store conn.old).now t ps cs → ShowsTexts r ps cs) }
     ensures none { HasCleanDisk (state S.Store conn.new) → result ≡ Err Fault.NoArchive → (a : Archive) →
         FindsFirst (state S.Store conn.old).now a → IsKeyed a → ⊥ }

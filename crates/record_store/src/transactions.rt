@@ -5,7 +5,7 @@ ghost use Rattle.sqlite.specs.State.{HasCleanDisk, KeepsCommit, Survives};
 ghost use Rattle.sqlite.specs.Held.{state};
 ghost use Rattle.sqlite.specs.Effect.{Database};
 ghost use Rattle.record_tables.specs.Changes.{Puts, Turns, Always, IsPastRecords, with_hold, without_hold};
-ghost use Rattle.record_tables.specs.Typed.{due_of};
+ghost use Rattle.record_tables.specs.CodeRows.{due_of};
 ghost use Rattle.record_store.specs.Archive.{records_of};
 ghost use Rattle.record_store.specs.Captures.{AreAfter, ArePast, with_records, with_more_dues, with_captured};
 

@@ -6,10 +6,10 @@ use Rattle.sqlite_catalog.specs.Change.{KeepsRows, without_table}
 use Rattle.sqlite.specs.Does.{Tally, Does}
 use Rattle.sqlite.specs.Effect.{Database}
 use Rattle.sqlite.specs.Listing.{understood}
-use Rattle.sqlite.specs.State.{State, Writes, ExecutesInside, mode_of}
+use Rattle.sqlite.specs.State.{State, ExecutesInside, mode_of}
 use Rattle.sqlite.proofs.Callers.{runs_as, statement_of}
 use Rattle.sqlite_tied.specs.Compute.{everything}
-use Rattle.record_tables.specs.Tables.{none, first_schema, dated_schema, archive_schema, schedule_table, due_table}
+use Rattle.record_tables.specs.Tables.{none, first_schema, first_schema_with_dues, archive_schema, schedule_table, due_table}
 use Rattle.record_tables.specs.Rows.{Tables, Stores, StoresFirst, StoresKeyed}
 use Rattle.record_tables.specs.Changes.{Puts, Always, without_dues}
 use Rattle.record_tables.specs.Shapes.{schema_6}
@@ -21,7 +21,7 @@ use Rattle.record_tables.proofs.WriteLemmas.{went, same_value}
 abbrev pub drop_dues : List ℕ
 drop_dues = codes "DROP TABLE due_day"
 
-pub drop_dues_is : Means dated_schema drop_dues (DropTable 5)
+pub drop_dues_is : Means first_schema_with_dues drop_dues (DropTable 5)
 unfolding understood everything
 drop_dues_is = record { is = refl; plain = (refl, refl) }
 
@@ -30,7 +30,7 @@ unfolding understood everything
 drop_last_is = record { is = refl; plain = (refl, refl) }
 
 -- without the due days, the schema is that from before their creation, so they may be created again in their place
-pub left_is : without_table dated_schema 8 ≡ first_schema
+pub left_is : without_table first_schema_with_dues 8 ≡ first_schema
 unfolding everything
 left_is = refl
 
@@ -38,11 +38,11 @@ pub left_last_is : without_table archive_schema 10 ≡ schema_6
 unfolding everything
 left_last_is = refl
 
-dropped_first : (old new : State) (count : ℕ) → ExecutesInside 0 drop_dues [] old new (Ok count) → old.now.schema ≡ dated_schema
+dropped_first : (old new : State) (count : ℕ) → ExecutesInside 0 drop_dues [] old new (Ok count) → old.now.schema ≡ first_schema_with_dues
     → (new.now.schema ≡ first_schema) × KeepsRows first_schema.tables old.now.trees new.now.trees
 dropped_first old new count h has =
-    let w = runs_as drop_dues [] old new dated_schema has (DropTable 5) drop_dues_is.is drop_dues_is.plain count h.0 in
-    let whole = subst (λ s. Does old.step_limit (mode_of old) [] (record old.now { schema = s }) (statement_of drop_dues (understood dated_schema drop_dues)) None (DropTable 5) (Ok (w.tally, new.now))) has w.changed in
+    let w = runs_as drop_dues [] old new first_schema_with_dues has (DropTable 5) drop_dues_is.is drop_dues_is.plain count h.0 in
+    let whole = subst (λ s. Does old.step_limit (mode_of old) [] (record old.now { schema = s }) (statement_of drop_dues (understood first_schema_with_dues drop_dues)) None (DropTable 5) (Ok (w.tally, new.now))) has w.changed in
     let emptied = went whole in
     let uncounted = went emptied.2 in
     let tested = went uncounted.2 in
@@ -70,7 +70,7 @@ dropped_last old new count h has =
       subst (λ (d : Database). KeepsRows schema_6.tables old.now.trees d.trees) (sym now) (subst (λ (t : Trees). KeepsRows schema_6.tables t left.0.trees) (second ∙ first) left.1.1),
     )
 
-pub drops_dues : (old new : State) (count : ℕ) → IsTrue old.in_transaction → ExecutesInside 0 drop_dues [] old new (Ok count) → Drops old new dated_schema first_schema
+pub drops_dues : (old new : State) (count : ℕ) → IsTrue old.in_transaction → ExecutesInside 0 drop_dues [] old new (Ok count) → Drops old new first_schema_with_dues first_schema
 drops_dues old new count inside h = record {
   schema = λ has. (dropped_first old new count h has).0;
   kept = λ has. (dropped_first old new count h has).1;
@@ -123,7 +123,7 @@ renewed old mid new change same tells e p = record {
 }
 
 -- the rows of version 1 stay where its due days are dropped and the later tables created
-pub widened : (old mid new : State) (t : Tables) → Drops old mid dated_schema first_schema → Lays mid new first_schema (schedule_table ∷ due_table ∷ []) archive_schema → old.now.schema ≡ dated_schema → StoresFirst old.now t → Stores new.now t
+pub widened : (old mid new : State) (t : Tables) → Drops old mid first_schema_with_dues first_schema → Lays mid new first_schema (schedule_table ∷ due_table ∷ []) archive_schema → old.now.schema ≡ first_schema_with_dues → StoresFirst old.now t → Stores new.now t
 widened old mid new t d l has s =
     let k = d.kept has in
     let first : StoresFirst mid.now t = record {
@@ -142,13 +142,13 @@ widened old mid new t d l has s =
 pub told_without : {P : Type 0} (db : Database) (t : Tables) → StoresFirst db t → TellsDues db.schema false → (db.schema ≡ first_schema → P) → P
 told_without {P} db t s tells go = by_schema s.schema
   where
-    by_schema : (db.schema ≡ first_schema) ⊎ (db.schema ≡ dated_schema) → P
+    by_schema : (db.schema ≡ first_schema) ⊎ (db.schema ≡ first_schema_with_dues) → P
     by_schema (inl h) = go h
     by_schema (inr h) = absurd (let e = tells.with_them h in cc)
 
-pub told_with : {P : Type 0} (db : Database) (t : Tables) → StoresFirst db t → TellsDues db.schema true → (db.schema ≡ dated_schema → P) → P
+pub told_with : {P : Type 0} (db : Database) (t : Tables) → StoresFirst db t → TellsDues db.schema true → (db.schema ≡ first_schema_with_dues → P) → P
 told_with {P} db t s tells go = by_schema s.schema
   where
-    by_schema : (db.schema ≡ first_schema) ⊎ (db.schema ≡ dated_schema) → P
+    by_schema : (db.schema ≡ first_schema) ⊎ (db.schema ≡ first_schema_with_dues) → P
     by_schema (inl h) = absurd (let e = tells.without h in cc)
     by_schema (inr h) = go h

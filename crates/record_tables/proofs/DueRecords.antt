@@ -1,20 +1,19 @@
 -- What the query of due records shows of the tables.
-use Rattle.std.proofs.Common.{◌≡◌, ◌≤◌, ℕ, ℤ, pos, List, [], ◌∷◌, ◌++◌, map, filter, flat_map, length, Bool, true, false, cond, ◌&&◌, codes, refl, sym, ap, ap₂, subst, ◌∙◌, Ordering, Less, Equal, Greater, is_gt, is_eq, int_cmp, int_eq, true≢false, IsPermutation, arith}
-use Rattle.std.specs.List.{AllByRecursion, list_all}
+use Rattle.std.proofs.Common.{◌≡◌, ◌≤◌, ℕ, pos, List, [], ◌∷◌, ◌++◌, map, filter, flat_map, length, Bool, true, false, cond, ◌&&◌, codes, refl, sym, ap, ap₂, subst, ◌∙◌, Ordering, Less, Equal, Greater, is_gt, is_eq, int_cmp, true≢false, IsPermutation, arith}
+use Rattle.std.specs.List.{AllByRecursion}
 use Rattle.std.specs.Cmp.{IsTotalOrder}
 use Rattle.std.specs.Ordering.{ordering_reverse}
 use Rattle.std.proofs.lemmas.Cmp.{int_cmp_total, on_total, then_total}
 use Rattle.std.proofs.lemmas.List.Elements.{filter-append}
-use Rattle.std.proofs.lemmas.List.Sorted.{IsPermutation-map, IsPermutation-trans, IsPermutation-sym}
-use Rattle.sqlite.specs.declared.types.Value.TheVariants.{Null, Int, Text}
+use Rattle.std.proofs.lemmas.List.Sorted.{IsPermutation-map, IsPermutation-trans}
+use Rattle.sqlite.specs.declared.types.Value.TheVariants.{Null, Int}
 use Rattle.sqlite.specs.Order.{Row}
 use Rattle.sqlite.specs.Term.{Term, col, op2, holds}
 use Rattle.sqlite.specs.Query.{Query, inner, end, IsAnswer, Output, output, output_cmp}
 use Rattle.sqlite.specs.Command.TheVariants.{Select}
-use Rattle.sqlite.specs.Compile.{table_defined_by}
 use Rattle.sqlite.specs.Listing.{understood}
 use Rattle.sqlite.specs.State.{State, Shown}
-use Rattle.sqlite.proofs.Callers.{reads_as, IsPlain}
+use Rattle.sqlite.proofs.Callers.{reads_as}
 use Rattle.sqlite_tied.specs.Compute.{everything}
 use Rattle.sqlite_sql.specs.Program.{overlay}
 use Rattle.sqlite_sql.proofs.QueryLemmas.{output_cmp_total}
@@ -23,9 +22,9 @@ use Rattle.sqlite_sql.specs.declared.ops.CompareOp.TheVariants.{Eq, Le}
 use Rattle.sqlite.specs.Collation.TheVariants.{Binary}
 use Rattle.sqlite_value.specs.Keys.{ascending}
 use Rattle.sqlite_value.proofs.OrderLemmas.{value_cmp-Int}
-use Rattle.sqlite_trees.specs.Tree.{Trees, IsAscending}
+use Rattle.sqlite_trees.specs.Tree.{IsAscending}
 use Rattle.sqlite_keyed.specs.Lists.{sort_by, insert_sorted, pairs}
-use Rattle.sqlite_keyed.proofs.ListLemmas.{IsPermutation-flat_map, all_weaker, all_of, all-map, all_map, all-flat_map, ascending-append, ascending-map, ascending_weaker, ascending-filter, filter-map, filter_none, map-map, map-flat_map, flat_map_same_on}
+use Rattle.sqlite_keyed.proofs.ListLemmas.{IsPermutation-flat_map, all_weaker, all-map, all-flat_map, ascending-append, ascending-map, ascending_weaker, ascending-filter, filter-map, map-map, map-flat_map, flat_map_same_on}
 use Rattle.sqlite_keyed.proofs.KeyedLemmas.{Less-from_lt}
 use Rattle.sqlite_keyed.proofs.SortLemmas.{sorted_unique, IsPermutation-sort_by}
 use Rattle.sqlite_keyed.proofs.RuleLemmas.{at_most_one}
@@ -34,7 +33,7 @@ use Rattle.sqlite_typed.proofs.TestLemmas.{last_key, then_key, last_term, then_t
 use Rattle.record_tables.specs.Tables.{Foreign, archive_beside}
 use Rattle.record_tables.specs.Rows.{Tables, Stores, AreKeyed, Record, record_key, record_row, Due, due_key, due_row}
 use Rattle.record_tables.specs.Reads.{is_by, due_cmp, dues_by}
-use Rattle.record_tables.specs.DueRecords.{DueRecord, due_record, is_of, with_records, due_records_by, shown_due_record, ReadsDueRecord, FitsDueRecord}
+use Rattle.record_tables.specs.DueRecords.{DueRecord, due_record, is_of, with_records, due_records_by, due_record_values, ReadsDueRecord, FitsDueRecord}
 use Rattle.record_tables.proofs.Texts.{Asks, on_table, alone}
 
 abbrev pub select_due_records : List ℕ
@@ -144,14 +143,14 @@ joined_rises rs (d ∷ ds) few up =
     ascending-append R (map (beside d) (filter (is_of d) rs)) (joined rs ds) (few_rise R d (filter (is_of d) rs) (few d)) (joined_rises rs ds few up.1)
     (all-map _ (beside d) (λ r. all-flat_map (R (beside d r)) _ ds (all_weaker _ (λ e. AllByRecursion (R (beside d r)) (map (beside e) (filter (is_of e) rs))) (λ e low. all-map (R (beside d r)) (beside e) (λ q. low) (filter (is_of e) rs)) ds up.0)) (filter (is_of d) rs))
 
-shown_joined : (rs : List Record) (ds : List Due) → map (λ (a : Pair). shown_due_record (due_record a.0 a.1)) (joined rs ds) ≡ map shown_due_record (with_records rs ds)
+shown_joined : (rs : List Record) (ds : List Due) → map (λ (a : Pair). due_record_values (due_record a.0 a.1)) (joined rs ds) ≡ map due_record_values (with_records rs ds)
 shown_joined rs ds =
     map-flat_map _ _ ds
-    ∙ flat_map_same_on _ _ (λ d. map-map (λ (a : Pair). shown_due_record (due_record a.0 a.1)) (beside d) (filter (is_of d) rs) ∙ sym (map-map shown_due_record (due_record d) (filter (is_of d) rs))) ds
-    ∙ sym (map-flat_map shown_due_record _ ds)
+    ∙ flat_map_same_on _ _ (λ d. map-map (λ (a : Pair). due_record_values (due_record a.0 a.1)) (beside d) (filter (is_of d) rs) ∙ sym (map-map due_record_values (due_record d) (filter (is_of d) rs))) ds
+    ∙ sym (map-flat_map due_record_values _ ds)
 
 -- the due records are answered by their days, and on the same day by their numbers
-pub shows_due_records : (old new : State) (rows : List Row) (day : ℕ) (t : Tables) → Stores old.now t → AreKeyed t → Shown select_due_records (Int (pos day) ∷ []) old new rows → rows ≡ map shown_due_record (due_records_by day t)
+pub shows_due_records : (old new : State) (rows : List Row) (day : ℕ) (t : Tables) → Stores old.now t → AreKeyed t → Shown select_due_records (Int (pos day) ∷ []) old new rows → rows ≡ map due_record_values (due_records_by day t)
 shows_due_records old new rows day t s keyed h =
     let f = s.schema.foreign in
     let is = select_due_records_is f in
@@ -177,14 +176,14 @@ shows_due_records old new rows day t s keyed h =
 
 -- ---- what is read of a row
 
-pub one_due_record : (r q : DueRecord) → ReadsDueRecord (shown_due_record r) q → q ≡ r
+pub one_due_record : (r q : DueRecord) → ReadsDueRecord (due_record_values r) q → q ≡ r
 one_due_record r q h =
     let number : q.number ≡ r.number = let e = h.number in cc in
     let day : q.day ≡ r.day = let e = h.day in cc in
     let path : q.path ≡ r.path = let e = h.path in cc in
     λ i. record { number = number i; day = day i; path = path i }
 
-pub can_due_record : (r : DueRecord) → FitsDueRecord r → (q : DueRecord) × (FitsDueRecord q × ReadsDueRecord (shown_due_record r) q)
+pub can_due_record : (r : DueRecord) → FitsDueRecord r → (q : DueRecord) × (FitsDueRecord q × ReadsDueRecord (due_record_values r) q)
 can_due_record r fits = (r, (fits, record { number = refl; day = refl; path = refl }))
 
 -- ---- a worked row

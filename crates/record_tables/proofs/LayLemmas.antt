@@ -1,11 +1,10 @@
 -- What CREATE TABLE and CREATE INDEX make of the schema.
-use Rattle.std.proofs.Common.{◌≡◌, map, ℕ, List, [], ◌∷◌, ◌++◌, false, None, Ok, Result, IsTrue, refl, sym, ap, subst, ◌∙◌, codes, slice_get, Some}
+use Rattle.std.proofs.Common.{◌≡◌, map, ℕ, List, [], ◌∷◌, ◌++◌, false, None, Ok, IsTrue, refl, sym, ap, subst, ◌∙◌, codes}
 use Rattle.std.specs.List.{AllByRecursion}
 use Rattle.sqlite.specs.Table.{Table}
 use Rattle.sqlite.specs.Schema.{Schema}
 use Rattle.sqlite.specs.Tree.{Trees}
 use Rattle.sqlite.specs.Command.TheVariants.{CreateTable, CreateIndex}
-use Rattle.sqlite.specs.Compile.{table_defined_by, index_defined_by}
 use Rattle.sqlite.specs.Change.{created, indexed, next_tree}
 use Rattle.sqlite_schema.specs.declared.schema.Index.{Index}
 use Rattle.sqlite_catalog.specs.Change.{KeepsRows}
@@ -13,7 +12,7 @@ use Rattle.sqlite.specs.Does.{Tally, Does, lacks_sequence}
 use Rattle.sqlite.specs.Effect.{Database}
 use Rattle.sqlite.specs.Listing.{understood}
 use Rattle.sqlite.specs.State.{State, Writes, ExecutesInside, mode_of}
-use Rattle.sqlite.proofs.Callers.{IsPlain, command_of, statement_of, runs_as}
+use Rattle.sqlite.proofs.Callers.{runs_as}
 use Rattle.sqlite_tied.specs.Compute.{everything}
 use Rattle.record_tables.specs.Tables.{none, no_schema, first_schema, archive_schema, message_table, record_table, hold_table, meta_table, class_table, schedule_table, due_table, due_index}
 use Rattle.record_tables.specs.Rows.{Tables, Stores, StoresFirst, StoresKeyed, schedule_row, due_row}

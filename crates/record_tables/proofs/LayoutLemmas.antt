@@ -1,10 +1,10 @@
 -- A schema of a version has the tables of that version alone.
-use Rattle.std.proofs.Common.{◌≡◌, ◌↔◌, Bool, true, false, not, IsTrue, ℕ, List, [], ◌∷◌, None, Some, codes, refl, subst, sym}
+use Rattle.std.proofs.Common.{◌≡◌, ◌↔◌, Bool, true, false, not, IsTrue, codes, refl, subst, sym}
 use Rattle.sqlite.specs.Schema.{Schema}
 use Rattle.sqlite_tied.specs.Compute.{everything}
-use Rattle.record_tables.specs.Tables.{Foreign, none, dated, no_schema, first_schema, dated_schema, common_beside, archive_beside, IsArchiveSchema, schedule_table, due_table, message_table}
+use Rattle.record_tables.specs.Tables.{Foreign, none, first_dues, no_schema, first_schema, first_schema_with_dues, common_beside, archive_beside, IsArchiveSchema, schedule_table, due_table, message_table}
 use Rattle.record_tables.specs.Layouts.{TellsDues}
-use Rattle.record_tables.specs.Layout.{HasNone, HasCommon, HasTable, HasFirst, HasFirstWithDues, HasSecond, IsLayout, Lacks}
+use Rattle.record_tables.specs.Layout.{HasNone, HasCommon, HasTable, IsLayout, Lacks}
 use Rattle.record_tables.specs.declared.layout.Layout.{Layout}
 use Rattle.record_tables.specs.declared.layout.Layout.TheVariants.{Empty, First, FirstWithDues, Second, Other}
 
@@ -28,11 +28,11 @@ first_lacks : Lacks first_schema (codes "schedule") × Lacks first_schema (codes
 unfolding everything
 first_lacks = (refl, refl)
 
-dated_has : Lacks dated_schema (codes "schedule") × HasTable dated_schema due_table
+dated_has : Lacks first_schema_with_dues (codes "schedule") × HasTable first_schema_with_dues due_table
 unfolding everything
 dated_has = (refl, refl)
 
-dated_due : Lacks dated_schema (codes "due_day") → ⊥
+dated_due : Lacks first_schema_with_dues (codes "due_day") → ⊥
 unfolding everything
 dated_due h = cc
 
@@ -44,7 +44,7 @@ first_schedule : HasTable first_schema schedule_table → ⊥
 unfolding everything
 first_schedule h = h
 
-dated_schedule : HasTable dated_schema schedule_table → ⊥
+dated_schedule : HasTable first_schema_with_dues schedule_table → ⊥
 unfolding everything
 dated_schedule h = h
 
@@ -68,12 +68,12 @@ of_first FirstWithDues h = absurd (first_due h.2)
 of_first Second h = absurd (first_schedule h.1)
 of_first Other h = absurd (h.1 (has_common none, first_lacks.0, first_lacks.1))
 
-of_dated : (r : Layout) → IsLayout dated_schema r → r ≡ FirstWithDues
-of_dated Empty h = absurd (has_message dated h.messages)
+of_dated : (r : Layout) → IsLayout first_schema_with_dues r → r ≡ FirstWithDues
+of_dated Empty h = absurd (has_message first_dues h.messages)
 of_dated First h = absurd (dated_due h.2)
 of_dated FirstWithDues h = refl
 of_dated Second h = absurd (dated_schedule h.1)
-of_dated Other h = absurd (h.2 (has_common dated, dated_has.0, dated_has.1))
+of_dated Other h = absurd (h.2 (has_common first_dues, dated_has.0, dated_has.1))
 
 of_none : (r : Layout) → IsLayout no_schema r → r ≡ Empty
 of_none Empty h = refl
@@ -88,7 +88,7 @@ is_empty schema r h e = of_none r (subst (λ s. IsLayout s r) e h)
 pub is_first : (schema : Schema) (r : Layout) → IsLayout schema r → schema ≡ first_schema → r ≡ First
 is_first schema r h e = of_first r (subst (λ s. IsLayout s r) e h)
 
-pub is_dated : (schema : Schema) (r : Layout) → IsLayout schema r → schema ≡ dated_schema → r ≡ FirstWithDues
+pub is_dated : (schema : Schema) (r : Layout) → IsLayout schema r → schema ≡ first_schema_with_dues → r ≡ FirstWithDues
 is_dated schema r h e = of_dated r (subst (λ s. IsLayout s r) e h)
 
 pub is_second : (schema : Schema) (r : Layout) → IsLayout schema r → IsArchiveSchema schema → r ≡ Second

@@ -8,14 +8,12 @@ use Rattle.sqlite.specs.declared.types.Value.TheVariants.{Null, Int, Text, Blob}
 use Rattle.sqlite.specs.Order.{Row}
 use Rattle.sqlite.specs.Schema.{Schema}
 use Rattle.sqlite.specs.Term.{Term, col}
-use Rattle.sqlite.specs.Query.{Query, IsAnswer}
 use Rattle.sqlite.specs.Command.TheVariants.{Select}
 use Rattle.std.proofs.Common.{IsTrue}
 use Rattle.sqlite.specs.State.{State, Shown, ShowsRows, Survives, CommitsShowing}
 use Rattle.sqlite.specs.Clock.{timed}
 use Rattle.sqlite_schema.specs.declared.command.Returning.{Returning}
 use Rattle.sqlite.proofs.StateLemmas.{survives_weaker}
-use Rattle.sqlite.specs.Compile.{table_defined_by}
 use Rattle.sqlite_tied.specs.Compute.{everything}
 use Rattle.sqlite.specs.Listing.{understood}
 use Rattle.sqlite.proofs.Callers.{reads_as, IsPlain, never_commits}
@@ -30,7 +28,7 @@ use Rattle.std.specs.List.{list_all}
 use Rattle.std.proofs.Common.{slice_get}
 use Rattle.sqlite.specs.Term.{holds}
 use Rattle.sqlite.specs.Order.{column}
-use Rattle.record_tables.specs.Reads.{shown_record}
+use Rattle.record_tables.specs.Reads.{record_values}
 use Rattle.record_tables.specs.Lookups.{record_with, body_with, has_hold_of, TellsRecord}
 use Rattle.record_tables.proofs.Texts.{Asks, on_table, alone, key_test, hold_test}
 use Rattle.record_tables.proofs.AnswerLemmas.{row_alone, rows_permuted}
@@ -88,7 +86,7 @@ find-filter p q (x ∷ xs) same = go (p x) (q x) (same x) (find-filter p q xs sa
 abbrev records_asked : ℕ → Tables → List Record
 records_asked n t = filter (λ (r : Record). int_eq (pos r.number) (pos n)) t.records
 
-pub shows_record : (old new : State) (rows : List Row) (n : ℕ) (t : Tables) → Stores old.now t → AreKeyed t → Shown select_record (Int (pos n) ∷ []) old new rows → rows ≡ map shown_record (records_asked n t)
+pub shows_record : (old new : State) (rows : List Row) (n : ℕ) (t : Tables) → Stores old.now t → AreKeyed t → Shown select_record (Int (pos n) ∷ []) old new rows → rows ≡ map record_values (records_asked n t)
 shows_record old new rows n t s keyed h =
     let is = select_record_is s.schema.foreign in
     let params : Row = Int (pos n) ∷ [] in
@@ -129,7 +127,7 @@ shows_hold old new rows name n t s keyed h =
 
 -- ---- what is read of them
 
-one_record : (y q : Record) → TellsRecord (shown_record y) q → q ≡ y
+one_record : (y q : Record) → TellsRecord (record_values y) q → q ≡ y
 one_record y q h =
     let number : q.number ≡ y.number = let e = h.number in cc in
     let message : q.message ≡ y.message = let e = h.message in cc in
@@ -142,17 +140,17 @@ one_record y q h =
     flag true h = let e : pos 1 ≡ h.0 = let f = h.1 in cc in h.2 ∙ ap (λ k. not (int_eq k (pos 0))) (sym e)
     flag false h = let e : pos 0 ≡ h.0 = let f = h.1 in cc in h.2 ∙ ap (λ k. not (int_eq k (pos 0))) (sym e)
 
-pub record_is : (n : ℕ) (t : Tables) (rows : List Row) (row : Row) (q : Record) → rows ≡ map shown_record (records_asked n t) → Some row ≡ slice_get rows 0 → TellsRecord row q → Some q ≡ record_with n t
+pub record_is : (n : ℕ) (t : Tables) (rows : List Row) (row : Row) (q : Record) → rows ≡ map record_values (records_asked n t) → Some row ≡ slice_get rows 0 → TellsRecord row q → Some q ≡ record_with n t
 record_is n t rows row q is first tells = go (records_asked n t) (first ∙ ap (λ l. slice_get l 0) is) ∙ sym (find-filter (λ (r : Record). int_eq (pos r.number) (pos n)) (λ (r : Record). r.number == n) t.records (λ r. same_test r.number n))
   where
-    go : (ys : List Record) → Some row ≡ slice_get (map shown_record ys) 0 → Some q ≡ slice_get ys 0
+    go : (ys : List Record) → Some row ≡ slice_get (map record_values ys) 0 → Some q ≡ slice_get ys 0
     go [] e = absurd cc
-    go (y ∷ ys) e = let same : row ≡ shown_record y = cc in ap (λ z. Some z) (one_record y q (subst (λ z. TellsRecord z q) same tells))
+    go (y ∷ ys) e = let same : row ≡ record_values y = cc in ap (λ z. Some z) (one_record y q (subst (λ z. TellsRecord z q) same tells))
 
-pub record_none : (n : ℕ) (t : Tables) (rows : List Row) → rows ≡ map shown_record (records_asked n t) → None ≡ slice_get rows 0 → None ≡ record_with n t
+pub record_none : (n : ℕ) (t : Tables) (rows : List Row) → rows ≡ map record_values (records_asked n t) → None ≡ slice_get rows 0 → None ≡ record_with n t
 record_none n t rows is first = go (records_asked n t) (first ∙ ap (λ l. slice_get l 0) is) ∙ sym (find-filter (λ (r : Record). int_eq (pos r.number) (pos n)) (λ (r : Record). r.number == n) t.records (λ r. same_test r.number n))
   where
-    go : (ys : List Record) → None ≡ slice_get (map shown_record ys) 0 → None ≡ slice_get ys 0
+    go : (ys : List Record) → None ≡ slice_get (map record_values ys) 0 → None ≡ slice_get ys 0
     go [] e = refl
     go (y ∷ ys) e = absurd cc
 

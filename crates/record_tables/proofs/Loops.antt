@@ -1,10 +1,8 @@
 -- Statements one after another.
-use Rattle.std.proofs.Common.{◌≡◌, ◌<◌, ◌+◌, ◌+ℤ◌, ℕ, ℤ, zero, suc, pos, List, [], ◌∷◌, ◌++◌, map, take, length, get_or, fold, false, true, refl, sym, ap, subst, ◌∙◌, arith, rules}
+use Rattle.std.proofs.Common.{◌≡◌, ◌<◌, ◌+◌, ◌+ℤ◌, ℕ, ℤ, zero, suc, pos, List, [], ◌∷◌, ◌++◌, map, take, length, get_or, fold, true, refl, sym, ap, subst, ◌∙◌, arith}
 use Rattle.std.proofs.lemmas.List.{take_more, map-append}
 use Rattle.std.specs.List.{AllByRecursion}
-use Rattle.std.proofs.lemmas.Int.{ints}
 use Rattle.sqlite_trees.specs.Tree.{Trees, IsAscending}
-use Rattle.sqlite_keyed.specs.Keyed.{next_key}
 use Rattle.sqlite_keyed.proofs.ListLemmas.{ascending_from_map, all_map}
 use Rattle.sqlite.specs.Store.{Ghosts}
 use Rattle.sqlite.specs.Effect.{Database}
@@ -12,8 +10,8 @@ use Rattle.sqlite.specs.State.{State, HasCleanDisk, Survives}
 use Rattle.sqlite.specs.Held.{Held, state}
 use Rattle.sqlite.proofs.StateLemmas.{survives_then}
 use Rattle.sqlite.proofs.Callers.{survives_begin}
-use Rattle.record_tables.specs.Rows.{Tables, StoresKeyed, Due, Class, class_key, schedule_key}
-use Rattle.record_tables.specs.Changes.{Puts, Turns, Always, HasNoDues, HasNoClasses, HasNoSchedules, IsPastDues, Listed, Rule, schedule_at, numbered, numbered_schedules, with_due, with_dues, with_class, with_classes, with_schedule, with_schedules}
+use Rattle.record_tables.specs.Rows.{Tables, StoresKeyed, Due, class_key, schedule_key}
+use Rattle.record_tables.specs.Changes.{Puts, Turns, Always, HasNoDues, HasNoClasses, HasNoSchedules, IsPastDues, ClassEntry, Rule, schedule_at, classes_from, schedules_from, with_due, with_dues, with_class, with_classes, with_schedule, with_schedules}
 
 pub puts_then : (a b c : State) (A B : Tables → Type 0) (f h : Tables → Tables) → ((t : Tables) → A t → B (f t)) → Puts a b A f → Puts b c B h → Puts a c A (λ t. h (f t))
 puts_then a b c A B f h fits one two = record {
@@ -71,21 +69,21 @@ dues_next f old mid new vs v i low is up one two =
 
 -- ---- classes
 
-numbered-push : (id : ℤ) (cs : List Listed) (c : Listed)
-    → numbered id (cs ++ c ∷ []) ≡ numbered id cs ++ record { id = fold (λ _ x. class_key x +ℤ pos 1) id (numbered id cs); path = c.path; is_open = c.is_open; schedule = c.schedule } ∷ []
+numbered-push : (id : ℤ) (cs : List ClassEntry) (c : ClassEntry)
+    → classes_from id (cs ++ c ∷ []) ≡ classes_from id cs ++ record { id = fold (λ _ x. class_key x +ℤ pos 1) id (classes_from id cs); path = c.path; is_open = c.is_open; schedule = c.schedule } ∷ []
 numbered-push id [] c = refl
 numbered-push id (x ∷ cs) c = ap (λ l. record { id = id; path = x.path; is_open = x.is_open; schedule = x.schedule } ∷ l) (numbered-push (id +ℤ pos 1) cs c)
 
-pub classes_next : {V : Type 0} (f : V → Listed) (old mid new : State) (vs : List V) (v : V) (i : ℕ) → i < length vs → v ≡ get_or vs i v
+pub classes_next : {V : Type 0} (f : V → ClassEntry) (old mid new : State) (vs : List V) (v : V) (i : ℕ) → i < length vs → v ≡ get_or vs i v
     → Puts old mid HasNoClasses (with_classes (map f (take i vs))) → Puts mid new Always (with_class (f v).path (f v).is_open (f v).schedule) → Puts old new HasNoClasses (with_classes (map f (take (i + 1) vs)))
 classes_next f old mid new vs v i low is one two =
     let next : map f (take i vs) ++ f v ∷ [] ≡ map f (take (i + 1) vs) = sym (ap (map f) (take_more vs i v low) ∙ map-append f (take i vs) _ ∙ ap (λ x. map f (take i vs) ++ f x ∷ []) (sym is)) in
-    puts_as old new HasNoClasses HasNoClasses _ _ (λ t h. h) (λ t h. ap (λ l. record t { classes = l }) (sym (numbered-push (pos 1) (map f (take i vs)) (f v)) ∙ ap (numbered (pos 1)) next))
+    puts_as old new HasNoClasses HasNoClasses _ _ (λ t h. h) (λ t h. ap (λ l. record t { classes = l }) (sym (numbered-push (pos 1) (map f (take i vs)) (f v)) ∙ ap (classes_from (pos 1)) next))
     (puts_then old mid new HasNoClasses Always _ (with_class (f v).path (f v).is_open (f v).schedule) (λ t h. tt) one two)
 
 -- ---- schedules
 
-numbered_schedules-push : (id : ℤ) (rs : List Rule) (r : Rule) → numbered_schedules id (rs ++ r ∷ []) ≡ numbered_schedules id rs ++ schedule_at (fold (λ _ x. schedule_key x +ℤ pos 1) id (numbered_schedules id rs)) r ∷ []
+numbered_schedules-push : (id : ℤ) (rs : List Rule) (r : Rule) → schedules_from id (rs ++ r ∷ []) ≡ schedules_from id rs ++ schedule_at (fold (λ _ x. schedule_key x +ℤ pos 1) id (schedules_from id rs)) r ∷ []
 numbered_schedules-push id [] r = refl
 numbered_schedules-push id (x ∷ rs) r = ap (λ l. schedule_at id x ∷ l) (numbered_schedules-push (id +ℤ pos 1) rs r)
 
@@ -93,7 +91,7 @@ pub schedules_next : {V : Type 0} (f : V → Rule) (old mid new : State) (vs : L
     → Puts old mid HasNoSchedules (with_schedules (map f (take i vs))) → Puts mid new Always (with_schedule (f v)) → Puts old new HasNoSchedules (with_schedules (map f (take (i + 1) vs)))
 schedules_next f old mid new vs v i low is one two =
     let next : map f (take i vs) ++ f v ∷ [] ≡ map f (take (i + 1) vs) = sym (ap (map f) (take_more vs i v low) ∙ map-append f (take i vs) _ ∙ ap (λ x. map f (take i vs) ++ f x ∷ []) (sym is)) in
-    puts_as old new HasNoSchedules HasNoSchedules _ _ (λ t h. h) (λ t h. ap (λ l. record t { schedules = l }) (sym (numbered_schedules-push (pos 1) (map f (take i vs)) (f v)) ∙ ap (numbered_schedules (pos 1)) next))
+    puts_as old new HasNoSchedules HasNoSchedules _ _ (λ t h. h) (λ t h. ap (λ l. record t { schedules = l }) (sym (numbered_schedules-push (pos 1) (map f (take i vs)) (f v)) ∙ ap (schedules_from (pos 1)) next))
     (puts_then old mid new HasNoSchedules Always _ (with_schedule (f v)) (λ t h. tt) one two)
 
 pub none_yet_dues : (a : State) → Puts a a HasNoDues (with_dues [])

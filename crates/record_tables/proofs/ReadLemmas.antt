@@ -1,15 +1,10 @@
 -- What each query shows of the tables.
 use Rattle.sqlite_sql.proofs.QueryLemmas.{output_cmp_total}
-use Rattle.std.proofs.Common.{◌≡◌, ℕ, ℤ, pos, List, [], ◌∷◌, map, map-id, filter, Bool, true, false, cond, ◌++◌, ◌+◌, ◌<◌, length, take, get_or, refl, sym, ap, subst, ◌∙◌, Less, int_cmp, Option, Some, None, IsPermutation, arith}
-use Rattle.std.proofs.lemmas.List.{take_more, map-append}
+use Rattle.std.proofs.Common.{◌≡◌, ℕ, ℤ, pos, List, [], ◌∷◌, map, map-id, filter, true, false, refl, sym, ap, subst, ◌∙◌, Less, Option, Some, None, IsPermutation}
 use Rattle.std.proofs.lemmas.List.Sorted.{IsPermutation-map, IsPermutation-trans, IsPermutation-sym}
-use Rattle.std.specs.List.{AllByRecursion, list_all}
-use Rattle.std.specs.Ordering.{nat_cmp, is_gt}
-use Rattle.std.specs.declared.cmp.Ordering.{Ordering}
-use Rattle.std.specs.Cmp.Lexicographic.{slice_cmp}
 use Rattle.sqlite.specs.declared.types.Value.TheVariants.{Null, Int, Text}
 use Rattle.sqlite.specs.Order.{Row}
-use Rattle.sqlite.specs.Term.{Term, holds, eval_all}
+use Rattle.sqlite.specs.Term.{holds}
 use Rattle.sqlite.specs.Tree.{Trees}
 use Rattle.sqlite.specs.Query.{Query, IsAnswer, Output, output, output_cmp}
 use Rattle.sqlite_sql.specs.Program.{overlay}
@@ -24,19 +19,17 @@ use Rattle.sqlite.specs.Listing.{understood}
 use Rattle.sqlite_value.proofs.OrderLemmas.{value_cmp-Int, value_cmp-Text}
 use Rattle.sqlite_trees.specs.Tree.{IsAscending}
 use Rattle.sqlite_keyed.specs.Keyed.{IsKeyedBy}
-use Rattle.sqlite_keyed.specs.Lists.{sort_by, insert_sorted}
 use Rattle.sqlite_keyed.proofs.ListLemmas.{ascending-map, ascending_weaker, map-map}
 use Rattle.sqlite_keyed.proofs.SortLemmas.{sorted_unique}
-use Rattle.sqlite_typed.proofs.AnswerLemmas.{Source, last_table, at_end, answer_by_keys, answer_sorted, unfiltered, no_tie, no_tie_after, matches_are}
-use Rattle.sqlite_typed.proofs.TestLemmas.{last_key, then_key, last_term, at_ints}
-use Rattle.sqlite_sql.specs.declared.ops.CompareOp.TheVariants.{Le}
-use Rattle.record_tables.specs.Tables.{Foreign, common_beside, archive_beside, scheduled, HasCommonTables, IsArchiveSchema}
-use Rattle.record_tables.specs.Rows.{Tables, Stores, StoresCommon, AreKeyed, Message, message_key, message_row, Record, record_key, record_row, Hold, hold_key, hold_row, Setting, setting_key, setting_row, Class, class_key, class_row, Schedule, schedule_key, schedule_row, Due, due_key, due_row, as_flag}
-use Rattle.record_tables.specs.Changes.{Listed, Rule}
-use Rattle.record_tables.specs.Reads.{shown_record, ReadsRecord, shown_number, ReadsNumber, numbers_of, shown_class, ReadsClass, listed, AreListed, shown_rule, ReadsRule, rule, AreRules, Named, named, shown_hold, ReadsHold, named_cmp, AreNamed, Pair, paired, shown_pair, ReadsPair, ArePaired}
+use Rattle.sqlite_typed.proofs.AnswerLemmas.{last_table, at_end, answer_by_keys, unfiltered}
+use Rattle.sqlite_typed.proofs.TestLemmas.{last_key, then_key}
+use Rattle.record_tables.specs.Tables.{common_beside, archive_beside}
+use Rattle.record_tables.specs.Rows.{Tables, Stores, StoresCommon, AreKeyed, Message, message_key, message_row, record_key, record_row, hold_key, hold_row, setting_key, setting_row, class_key, class_row, schedule_key, schedule_row}
+use Rattle.record_tables.specs.Changes.{ClassEntry, Rule}
+use Rattle.record_tables.specs.Reads.{record_values, number_values, numbers_of, class_values, class_entry, AreClasses, rule_values, rule, AreRules, HoldEntry, hold_entry, hold_values, AreHolds, Pair, pair, pair_values, ArePairs}
 use Rattle.record_tables.proofs.Texts
 
-pub shows_records : (old new : State) (rows : List Row) (t : Tables) → StoresCommon old.now t → AreKeyed t → Shown Texts.select_records [] old new rows → rows ≡ map shown_record t.records
+pub shows_records : (old new : State) (rows : List Row) (t : Tables) → StoresCommon old.now t → AreKeyed t → Shown Texts.select_records [] old new rows → rows ≡ map record_values t.records
 shows_records old new rows t s keyed h =
     let f = s.schema.foreign in
     let is = Texts.select_records_is f in
@@ -44,10 +37,10 @@ shows_records old new rows t s keyed h =
     let db = overlay old.now.trees [] in
     let answer : IsAnswer Texts.records_query db [] rows = read.answer Null in
     let source = last_table db 1 record_row record_key t.records s.records keyed.records (at_end db) in
-    let all = answer_by_keys Texts.records_query db [] source (λ _. true) (λ r. refl) (λ r. r) shown_record (λ r. refl) refl refl (λ x y. last_key (value_cmp-Int (record_key x) (record_key y))) rows answer in
-    sym (map-id rows) ∙ all ∙ ap (map shown_record) (unfiltered t.records refl)
+    let all = answer_by_keys Texts.records_query db [] source (λ _. true) (λ r. refl) (λ r. r) record_values (λ r. refl) refl refl (λ x y. last_key (value_cmp-Int (record_key x) (record_key y))) rows answer in
+    sym (map-id rows) ∙ all ∙ ap (map record_values) (unfiltered t.records refl)
 
-pub shows_numbers : (old new : State) (rows : List Row) (t : Tables) → StoresCommon old.now t → AreKeyed t → Shown Texts.select_numbers [] old new rows → rows ≡ map shown_number (numbers_of t)
+pub shows_numbers : (old new : State) (rows : List Row) (t : Tables) → StoresCommon old.now t → AreKeyed t → Shown Texts.select_numbers [] old new rows → rows ≡ map number_values (numbers_of t)
 shows_numbers old new rows t s keyed h =
     let f = s.schema.foreign in
     let is = Texts.select_numbers_is f in
@@ -55,8 +48,8 @@ shows_numbers old new rows t s keyed h =
     let db = overlay old.now.trees [] in
     let answer : IsAnswer Texts.numbers_query db [] rows = read.answer Null in
     let source = last_table db 0 message_row message_key t.messages s.messages keyed.messages (at_end db) in
-    let all = answer_by_keys Texts.numbers_query db [] source (λ _. true) (λ r. refl) (λ r. r) (λ (m : Message). shown_number m.number) (λ r. refl) refl refl (λ x y. last_key (value_cmp-Int (message_key x) (message_key y))) rows answer in
-    sym (map-id rows) ∙ all ∙ ap (map (λ (m : Message). shown_number m.number)) (unfiltered t.messages refl) ∙ sym (map-map shown_number (λ (m : Message). m.number) t.messages)
+    let all = answer_by_keys Texts.numbers_query db [] source (λ _. true) (λ r. refl) (λ r. r) (λ (m : Message). number_values m.number) (λ r. refl) refl refl (λ x y. last_key (value_cmp-Int (message_key x) (message_key y))) rows answer in
+    sym (map-id rows) ∙ all ∙ ap (map (λ (m : Message). number_values m.number)) (unfiltered t.messages refl) ∙ sym (map-map number_values (λ (m : Message). m.number) t.messages)
 
 -- an answer in an order that has no ties among these values
 module _ {X Y : Type 0} (q : Query) (db : Trees) (params : Row) (key : X → ℤ) (to_row : X → Row) (tree : ℕ) (xs : List X) (stored : db tree ≡ map to_row xs) (in_order : IsKeyedBy key xs)
@@ -76,52 +69,52 @@ module _ {X Y : Type 0} (q : Query) (db : Trees) (params : Row) (key : X → ℤ
       let whole = IsPermutation-trans (map out ys) (map out (map view xs)) a.ordered (IsPermutation-sym _ _ (IsPermutation-map out _ _ same)) permuted in
       sorted_unique (output_cmp q) (output_cmp_total q) (map out ys) a.ordered (ascending-map (λ x y. output_cmp q x y ≡ Less) out ys rises) whole a.sorted
 
-pub shows_classes : (old new : State) (rows : List Row) (t : Tables) (cs : List Listed) → StoresCommon old.now t → AreKeyed t → AreListed t cs → Shown Texts.select_classes [] old new rows → rows ≡ map shown_class cs
+pub shows_classes : (old new : State) (rows : List Row) (t : Tables) (cs : List ClassEntry) → StoresCommon old.now t → AreKeyed t → AreClasses t cs → Shown Texts.select_classes [] old new rows → rows ≡ map class_values cs
 shows_classes old new rows t cs s keyed are h =
     let f = s.schema.foreign in
     let is = Texts.select_classes_is f in
     let read = reads_as Texts.select_classes [] old new (common_beside f) s.schema.is _ is.is is.plain is.unlisted rows h in
     let db = overlay old.now.trees [] in
     let answer : IsAnswer Texts.classes_query db [] rows = read.answer Null in
-    let out : Listed → Output = λ c. (Text c.path ∷ [], shown_class c) in
+    let out : ClassEntry → Output = λ c. (Text c.path ∷ [], class_values c) in
     let rises = ascending_weaker _ (λ x y. output_cmp Texts.classes_query (out x) (out y) ≡ Less) (λ x y less. last_key (value_cmp-Text x.path y.path) ∙ less) cs are.in_order in
-    let ordered = ordered_is Texts.classes_query db [] class_key class_row 6 t.classes s.classes keyed.classes refl refl refl refl listed out (λ x. refl) rows answer cs are.same rises in
+    let ordered = ordered_is Texts.classes_query db [] class_key class_row 6 t.classes s.classes keyed.classes refl refl refl refl class_entry out (λ x. refl) rows answer cs are.same rises in
     answer.shown ∙ ap (map (λ (o : Output). o.1)) ordered ∙ map-map (λ (o : Output). o.1) out cs
 
-pub shows_schedules : (old new : State) (rows : List Row) (t : Tables) (rs : List Rule) → Stores old.now t → AreKeyed t → AreRules t rs → Shown Texts.select_schedules [] old new rows → rows ≡ map shown_rule rs
+pub shows_schedules : (old new : State) (rows : List Row) (t : Tables) (rs : List Rule) → Stores old.now t → AreKeyed t → AreRules t rs → Shown Texts.select_schedules [] old new rows → rows ≡ map rule_values rs
 shows_schedules old new rows t rs s keyed are h =
     let f = s.schema.foreign in
     let is = Texts.select_schedules_is f in
     let read = reads_as Texts.select_schedules [] old new (archive_beside f) s.schema.is _ is.is is.plain is.unlisted rows h in
     let db = overlay old.now.trees [] in
     let answer : IsAnswer Texts.schedules_query db [] rows = read.answer Null in
-    let out : Rule → Output = λ r. (Text r.path ∷ [], shown_rule r) in
+    let out : Rule → Output = λ r. (Text r.path ∷ [], rule_values r) in
     let rises = ascending_weaker _ (λ x y. output_cmp Texts.schedules_query (out x) (out y) ≡ Less) (λ x y less. last_key (value_cmp-Text x.path y.path) ∙ less) rs are.in_order in
     let ordered = ordered_is Texts.schedules_query db [] schedule_key schedule_row 8 t.schedules s.schedules keyed.schedules refl refl refl refl rule out (λ x. refl) rows answer rs are.same rises in
     answer.shown ∙ ap (map (λ (o : Output). o.1)) ordered ∙ map-map (λ (o : Output). o.1) out rs
 
-pub shows_holds : (old new : State) (rows : List Row) (t : Tables) (hs : List Named) → StoresCommon old.now t → AreKeyed t → AreNamed t hs → Shown Texts.select_holds [] old new rows → rows ≡ map shown_hold hs
+pub shows_holds : (old new : State) (rows : List Row) (t : Tables) (hs : List HoldEntry) → StoresCommon old.now t → AreKeyed t → AreHolds t hs → Shown Texts.select_holds [] old new rows → rows ≡ map hold_values hs
 shows_holds old new rows t hs s keyed are h =
     let f = s.schema.foreign in
     let is = Texts.select_holds_is f in
     let read = reads_as Texts.select_holds [] old new (common_beside f) s.schema.is _ is.is is.plain is.unlisted rows h in
     let db = overlay old.now.trees [] in
     let answer : IsAnswer Texts.holds_query db [] rows = read.answer Null in
-    let out : Named → Output = λ x. (Int (pos x.number) ∷ Text x.name ∷ [], shown_hold x) in
+    let out : HoldEntry → Output = λ x. (Int (pos x.number) ∷ Text x.name ∷ [], hold_values x) in
     let rises = ascending_weaker _ (λ x y. output_cmp Texts.holds_query (out x) (out y) ≡ Less) (λ x y less. then_key (value_cmp-Int (pos x.number) (pos y.number)) (last_key (value_cmp-Text x.name y.name)) ∙ less) hs are.in_order in
-    let ordered = ordered_is Texts.holds_query db [] hold_key hold_row 2 t.holds s.holds keyed.holds refl refl refl refl named out (λ x. refl) rows answer hs are.same rises in
+    let ordered = ordered_is Texts.holds_query db [] hold_key hold_row 2 t.holds s.holds keyed.holds refl refl refl refl hold_entry out (λ x. refl) rows answer hs are.same rises in
     answer.shown ∙ ap (map (λ (o : Output). o.1)) ordered ∙ map-map (λ (o : Output). o.1) out hs
 
-pub shows_settings : (old new : State) (rows : List Row) (t : Tables) (ps : List Pair) → StoresCommon old.now t → AreKeyed t → ArePaired t ps → Shown Texts.select_settings [] old new rows → rows ≡ map shown_pair ps
+pub shows_settings : (old new : State) (rows : List Row) (t : Tables) (ps : List Pair) → StoresCommon old.now t → AreKeyed t → ArePairs t ps → Shown Texts.select_settings [] old new rows → rows ≡ map pair_values ps
 shows_settings old new rows t ps s keyed are h =
     let f = s.schema.foreign in
     let is = Texts.select_settings_is f in
     let read = reads_as Texts.select_settings [] old new (common_beside f) s.schema.is _ is.is is.plain is.unlisted rows h in
     let db = overlay old.now.trees [] in
     let answer : IsAnswer Texts.settings_query db [] rows = read.answer Null in
-    let out : Pair → Output = λ x. (Text x.key ∷ [], shown_pair x) in
+    let out : Pair → Output = λ x. (Text x.key ∷ [], pair_values x) in
     let rises = ascending_weaker _ (λ x y. output_cmp Texts.settings_query (out x) (out y) ≡ Less) (λ x y less. last_key (value_cmp-Text x.key y.key) ∙ less) ps are.in_order in
-    let ordered = ordered_is Texts.settings_query db [] setting_key setting_row 4 t.settings s.settings keyed.settings refl refl refl refl paired out (λ x. refl) rows answer ps are.same rises in
+    let ordered = ordered_is Texts.settings_query db [] setting_key setting_row 4 t.settings s.settings keyed.settings refl refl refl refl pair out (λ x. refl) rows answer ps are.same rises in
     answer.shown ∙ ap (map (λ (o : Output). o.1)) ordered ∙ map-map (λ (o : Output). o.1) out ps
 
 -- a query of the tables writes nothing

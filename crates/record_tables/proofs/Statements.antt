@@ -1,9 +1,8 @@
 -- What each statement makes of the tables.
-use Rattle.std.proofs.Common.{◌≡◌, ◌≢◌, ◌<◌, ◌<ℤ◌, ◌≤◌, ◌/◌, ℕ, ℤ, pos, List, [], ◌∷◌, ◌++◌, map, fold, filter, length, Bool, true, false, cond, None, Some, Option, Ok, refl, sym, ap, subst, ◌∙◌, arith, int_cmp, int_eq, IsTrue, ◌+◌, ◌+ℤ◌, not}
+use Rattle.std.proofs.Common.{◌≡◌, ◌≢◌, ◌<◌, ◌<ℤ◌, ◌≤◌, ℕ, ℤ, pos, List, [], ◌∷◌, ◌++◌, map, fold, filter, length, Bool, true, false, None, Some, Option, Ok, refl, sym, ap, subst, ◌∙◌, arith, int_eq, IsTrue, ◌+◌, ◌+ℤ◌}
 use Rattle.std.specs.List.{AllByRecursion, list_all}
 use Rattle.std.specs.Ordering.{match_ordering}
 use Rattle.std.proofs.lemmas.Int.{ints}
-use Rattle.sqlite.specs.declared.types.Value.{Value}
 use Rattle.sqlite.specs.declared.types.Value.TheVariants.{Null, Int, Text, Blob}
 use Rattle.sqlite.specs.Order.{Row}
 use Rattle.sqlite.specs.Table.{Table}
@@ -12,12 +11,10 @@ use Rattle.sqlite.specs.Tree.{Trees, put_row, rowid}
 use Rattle.sqlite.specs.Edit.{edit_of, edited, id_in}
 use Rattle.sqlite.specs.Rowids.TheVariants.{Chosen, Given}
 use Rattle.sqlite.specs.Effect.{Database, value_rows}
-use Rattle.sqlite.specs.State.{State, ExecutesInside, Writes, mode_of}
-use Rattle.sqlite.specs.Command.TheVariants.{Insert, Delete, Update}
-use Rattle.sqlite.specs.Source.TheVariants.{Values}
-use Rattle.sqlite.proofs.Callers.{runs_as, statement_of}
-use Rattle.sqlite.specs.Listing.{understood}
-use Rattle.sqlite_rules.specs.Edit.{Applies, next_rowid, without_all, put_all}
+use Rattle.sqlite.specs.State.{State, ExecutesInside, Writes}
+use Rattle.sqlite.specs.Command.TheVariants.{Delete}
+use Rattle.sqlite.proofs.Callers.{runs_as}
+use Rattle.sqlite_rules.specs.Edit.{next_rowid, without_all, put_all}
 use Rattle.sqlite_rules.specs.Calls.{ids_of}
 use Rattle.sqlite_rules.specs.Action.{work_for}
 use Rattle.sqlite_schema.specs.declared.schema.Keys.{Keys}
@@ -28,17 +25,17 @@ use Rattle.sqlite_keyed.specs.Lists.{delete_where, update_where}
 use Rattle.sqlite_keyed.proofs.KeyedLemmas.{Less-from_lt, IsKeyedBy-insert_by, IsKeyedBy-delete_where}
 use Rattle.sqlite_keyed.proofs.SliceLemmas.{insert_next}
 use Rattle.sqlite_keyed.proofs.RuleLemmas.{at_most_one}
-use Rattle.sqlite_keyed.proofs.ListLemmas.{filter_none, all_of, filter_all}
+use Rattle.sqlite_keyed.proofs.ListLemmas.{filter_none, all_of}
 use Rattle.sqlite_keyed.proofs.WriteLemmas.{puts_update}
 use Rattle.sqlite_typed.specs.Columns.{or_null}
 use Rattle.sqlite_typed.proofs.RowLemmas.{puts-map}
 use Rattle.sqlite_typed.proofs.TestLemmas.{at_texts, at_ints, then_term, last_term}
 use Rattle.sqlite_sql.specs.declared.ops.CompareOp.TheVariants.{Eq}
-use Rattle.record_tables.specs.Tables.{Foreign, HasNoReferences, IsArchiveSchema, archive_beside, scheduled, message_table, record_table, hold_table, meta_table, class_table, schedule_table, due_table}
+use Rattle.record_tables.specs.Tables.{Foreign, HasNoReferences, archive_beside, message_table, record_table, hold_table, meta_table, class_table, schedule_table, due_table}
 use Rattle.record_tables.specs.Rows.{Tables, Message, message_key, message_row, Record, record_key, record_row, Hold, hold_key, hold_row, Setting, setting_key, setting_row, Class, class_key, class_row, Schedule, schedule_key, schedule_row, Due, due_key, due_row, Stores, AreKeyed, as_flag}
-use Rattle.record_tables.specs.Changes.{Puts, Always, IsPastMessages, IsPastRecords, IsPastDues, with_message, with_record, with_due, with_hold, with_setting, with_class, Rule, schedule_at, with_schedule, without_dues, without_classes, without_schedules, without_settings, without_due, without_message, without_hold, is_hold, destroyed, with_destroyed}
+use Rattle.record_tables.specs.Changes.{Puts, Always, IsPastMessages, IsPastRecords, IsPastDues, with_message, with_record, with_due, with_hold, with_setting, with_class, Rule, schedule_at, with_schedule, without_dues, without_classes, without_schedules, without_settings, without_due, without_message, without_hold, is_hold, destruction_of, with_destruction}
 use Rattle.record_tables.proofs.Texts
-use Rattle.record_tables.proofs.Texts.{Means, on_table, deleting, alone}
+use Rattle.record_tables.proofs.Texts.{deleting, alone}
 use Rattle.record_tables.proofs.WriteLemmas.{IsQuiet, inserts, cast_int, cast_null}
 use Rattle.record_tables.proofs.DeleteLemmas.{deletes, deleted_rows}
 use Rattle.record_tables.proofs.AnswerLemmas.{row_alone}
@@ -502,19 +499,19 @@ abbrev given_row : Record → Row
 given_row r = Int (pos r.number) ∷ Int (pos r.number) ∷ Null ∷ Int (pos r.message) ∷ Text r.path ∷ Int (pos r.day) ∷ Int (pos 1) ∷ []
 
 update_edit : (db : Trees) (ys : List Record) → length ys ≤ 1
-    → edited db (edit_of db record_table (ids_of (map given_row ys)) Given 1 (map given_row ys)) ≡ put_all (without_all (db 1) (map record_key ys)) (map (λ y. record_row (destroyed y)) ys)
+    → edited db (edit_of db record_table (ids_of (map given_row ys)) Given 1 (map given_row ys)) ≡ put_all (without_all (db 1) (map record_key ys)) (map (λ y. record_row (destruction_of y)) ys)
 update_edit db [] few = refl
 update_edit db (y ∷ []) few = rw (cast_null, cast_int (pos y.number), cast_int (pos y.message), cast_int (pos y.day), cast_int (pos 1))
 update_edit db (y ∷ z ∷ zs) few = absurd (omega arith)
 
-keyed_destroyed : (n : ℕ) (xs : List Record) → IsKeyedBy record_key xs → IsKeyedBy record_key (update_where (asked n) destroyed xs)
-keyed_destroyed n xs up = subst (IsKeyedBy record_key) (puts_update record_key (asked n) destroyed (λ x. refl) xs up) (all_put xs (map destroyed (filter (asked n) xs)) up)
+keyed_destroyed : (n : ℕ) (xs : List Record) → IsKeyedBy record_key xs → IsKeyedBy record_key (update_where (asked n) destruction_of xs)
+keyed_destroyed n xs up = subst (IsKeyedBy record_key) (puts_update record_key (asked n) destruction_of (λ x. refl) xs up) (all_put xs (map destruction_of (filter (asked n) xs)) up)
   where
     all_put : (xs ys : List Record) → IsKeyedBy record_key xs → IsKeyedBy record_key (fold (insert_by record_key) xs ys)
     all_put xs [] up = up
     all_put xs (y ∷ ys) up = all_put (insert_by record_key xs y) ys (IsKeyedBy-insert_by record_key xs y up)
 
-pub destroys : (old new : State) (n : ℕ) (count : ℕ) → IsTrue old.in_transaction → ExecutesInside 0 Texts.set_destroyed (Int (pos n) ∷ []) old new (Ok count) → Puts old new Always (with_destroyed n)
+pub destroys : (old new : State) (n : ℕ) (count : ℕ) → IsTrue old.in_transaction → ExecutesInside 0 Texts.set_destroyed (Int (pos n) ∷ []) old new (Ok count) → Puts old new Always (with_destruction n)
 destroys old new n count inside h = record {
   stored = λ (t : Tables) (s : Stores old.now t) keyed _.
       let f = s.schema.foreign in
@@ -527,8 +524,8 @@ destroys old new n count inside h = record {
       let few : length ys ≤ 1 = at_most_one record_key (pos n) (asked n) (λ x e. e) t.records keyed.records in
       let rows : done.1.0 ≡ map given_row ys = row_alone record_key record_row db 1 t.records s.records keyed.records Texts.key_test _ params (asked n) (λ x. test_key n x.number) done.1.0 (done.1.1.answer Null) ys refl few in
       let tree = done.1.2.rows ∙ ap (λ l. edited old.now.trees (edit_of old.now.trees record_table (ids_of l) Given 1 l)) rows ∙ update_edit old.now.trees ys few
-      ∙ ap (λ l. put_all (without_all l (map record_key ys)) (map (λ y. record_row (destroyed y)) ys)) s.records
-      ∙ changed record_key record_row (λ x. refl) (pos n) destroyed (λ x. refl) t.records keyed.records ys refl few in
+      ∙ ap (λ l. put_all (without_all l (map record_key ys)) (map (λ y. record_row (destruction_of y)) ys)) s.records
+      ∙ changed record_key record_row (λ x. refl) (pos n) destruction_of (λ x. refl) t.records keyed.records ys refl few in
       (stores_records old.now new.now t _ s done.0 done.1.2.tables tree, keyed_records t _ keyed (keyed_destroyed n t.records keyed.records));
   committed = h.1.committed_is;
   mode = h.1.mode ∙ sym inside;

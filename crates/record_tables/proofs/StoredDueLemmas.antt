@@ -1,11 +1,9 @@
 -- Due days that rows show.
-use Rattle.std.proofs.Common.{◌≡◌, ◌==◌, ◌&&◌, ℕ, pos, Bool, true, false, List, [], ◌∷◌, map, map-id, length, drop, get_or, codes, refl, sym, ap, ◌∙◌, arith, ◌<◌, ◌≤◌, ◌+◌, inl, inr}
-use Rattle.std.proofs.lemmas.Bool.{cases_Bool}
+use Rattle.std.proofs.Common.{◌≡◌, ◌==◌, ◌&&◌, ℕ, Bool, true, false, List, [], ◌∷◌, map, map-id, codes, refl, sym, ap, ◌∙◌, arith}
 use Rattle.std.proofs.lemmas.Bool.Decides.{nat_tests}
 use Rattle.std.specs.Bool.{Decides}
 use Rattle.std.specs.Cmp.Lexicographic.{pointwise}
-use Rattle.std.proofs.lemmas.List.{drop_more, drop_all}
-use Rattle.sqlite.specs.declared.types.Value.TheVariants.{Null, Int}
+use Rattle.sqlite.specs.declared.types.Value.TheVariants.{Null}
 use Rattle.sqlite.specs.Order.{Row}
 use Rattle.sqlite.specs.Term.{col}
 use Rattle.sqlite.specs.Query.{Query, IsAnswer}
@@ -20,12 +18,10 @@ use Rattle.sqlite_value.specs.Keys.{ascending}
 use Rattle.sqlite_value.proofs.OrderLemmas.{value_cmp-Int}
 use Rattle.sqlite_typed.proofs.AnswerLemmas.{last_table, at_end, answer_by_keys, unfiltered}
 use Rattle.sqlite_typed.proofs.TestLemmas.{last_key}
-use Rattle.record_tables.specs.declared.rows.DueRow.{DueRow}
 use Rattle.record_tables.specs.Tables.{Foreign, archive_beside}
 use Rattle.record_tables.specs.Rows.{Tables, Stores, AreKeyed, Due, due_key, due_row}
-use Rattle.record_tables.specs.Reads.{shown_due}
+use Rattle.record_tables.specs.Reads.{due_values}
 use Rattle.record_tables.specs.StoredDues.{shows_due}
-use Rattle.record_tables.specs.Typed.{due_of}
 use Rattle.record_tables.proofs.Texts.{Asks, alone, on_table}
 
 -- ---- the query
@@ -40,7 +36,7 @@ pub select_stored_is : (foreign : Foreign) → Asks (archive_beside foreign) sel
 unfolding understood everything
 select_stored_is foreign = record { is = refl; plain = (refl, refl); unlisted = refl }
 
-pub shows_stored : (old new : State) (rows : List Row) (t : Tables) → Stores old.now t → AreKeyed t → Shown select_stored [] old new rows → rows ≡ map shown_due t.dues
+pub shows_stored : (old new : State) (rows : List Row) (t : Tables) → Stores old.now t → AreKeyed t → Shown select_stored [] old new rows → rows ≡ map due_values t.dues
 shows_stored old new rows t s keyed h =
     let f = s.schema.foreign in
     let is = select_stored_is f in
@@ -48,8 +44,8 @@ shows_stored old new rows t s keyed h =
     let db = overlay old.now.trees [] in
     let answer : IsAnswer stored_query db [] rows = read.answer Null in
     let source = last_table db 10 due_row due_key t.dues s.dues keyed.dues (at_end db) in
-    let all = answer_by_keys stored_query db [] source (λ _. true) (λ r. refl) (λ r. r) shown_due (λ r. refl) refl refl (λ x y. last_key (value_cmp-Int (due_key x) (due_key y))) rows answer in
-    sym (map-id rows) ∙ all ∙ ap (map shown_due) (unfiltered t.dues refl)
+    let all = answer_by_keys stored_query db [] source (λ _. true) (λ r. refl) (λ r. r) due_values (λ r. refl) refl refl (λ x y. last_key (value_cmp-Int (due_key x) (due_key y))) rows answer in
+    sym (map-id rows) ∙ all ∙ ap (map due_values) (unfiltered t.dues refl)
 
 -- ---- what the rows tell
 
@@ -63,7 +59,7 @@ is_number m n h = grind (arith, nat_tests)
 itself : (n : ℕ) → (n == n) ≡ true
 itself n = grind (arith, nat_tests)
 
-one_told : (d e : Due) → Decides (shows_due (shown_due d) e) (d ≡ e)
+one_told : (d e : Due) → Decides (shows_due (due_values d) e) (d ≡ e)
 one_told d e = (
   λ h.
       let parts = both_true (d.number == e.number) (d.day == e.day) h in
@@ -75,12 +71,12 @@ head_is : {C : Type 0} (x y : C) (b : Bool) → (b ≡ true → x ≡ y) → (xs
 head_is x y true one xs ys r rest e = λ i. one refl i ∷ rest e i
 head_is x y false one xs ys r rest e = absurd (cc)
 
-pub dues-told : (ds es : List Due) → Decides (pointwise shows_due (map shown_due ds) es) (ds ≡ es)
+pub dues-told : (ds es : List Due) → Decides (pointwise shows_due (map due_values ds) es) (ds ≡ es)
 dues-told [] [] = (λ _. refl, λ _. refl)
 dues-told [] (e ∷ es) = (λ h. absurd (cc), λ h. absurd (cc))
 dues-told (d ∷ ds) [] = (λ h. absurd (cc), λ h. absurd (cc))
 dues-told (d ∷ ds) (e ∷ es) =
     let rest = dues-told ds es in (
-      λ h. head_is d e (shows_due (shown_due d) e) (one_told d e).0 ds es (pointwise shows_due (map shown_due ds) es) rest.0 h,
+      λ h. head_is d e (shows_due (due_values d) e) (one_told d e).0 ds es (pointwise shows_due (map due_values ds) es) rest.0 h,
       λ h. let one : d ≡ e = cc in let more : ds ≡ es = cc in rw ((one_told d e).1 one, rest.1 more) refl,
     )

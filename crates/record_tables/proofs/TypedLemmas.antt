@@ -1,22 +1,20 @@
 -- The values read from rows are those that the rows show.
-use Rattle.std.proofs.Common.{◌≡◌, ◌≢◌, ◌<◌, ◌+◌, ◌++◌, ℕ, ℤ, zero, suc, pos, List, [], ◌∷◌, Bool, true, false, Option, Some, None, map, filter, length, take, get_or, Result, Ok, Err, refl, sym, ap, subst, ◌∙◌, arith, IfOk, IfErr, OnOk, OnErr, IsErrAnd}
+use Rattle.std.proofs.Common.{◌≡◌, ◌<◌, ◌+◌, ◌++◌, ℕ, zero, suc, List, [], ◌∷◌, Bool, true, false, Option, Some, None, map, length, take, get_or, Result, Ok, Err, refl, sym, ap, subst, ◌∙◌, arith, IfOk, IfErr, OnOk, OnErr, IsErrAnd}
 use Rattle.std.proofs.lemmas.List.{take_more}
 use Rattle.std.proofs.lemmas.Result.{err_from_is_err_and}
 use Rattle.std.specs.List.{AllZip, AllByRecursion}
 use Rattle.sqlite.specs.declared.types.Value.{Value}
-use Rattle.sqlite.specs.declared.types.Value.TheVariants.{Null, Int, Text}
+use Rattle.sqlite.specs.declared.types.Value.TheVariants.{Int, Text}
 use Rattle.sqlite.specs.declared.error.Error.{Error}
 use Rattle.sqlite.specs.declared.error.Error.TheVariants.{SqliteFailure}
 use Rattle.sqlite.specs.declared.error.ErrorCode.TheVariants.{OutOfMemory}
-use Rattle.sqlite.specs.Order.{Row, column}
 use Rattle.sqlite_typed.specs.Columns.{or_null}
-use Rattle.sqlite_keyed.specs.Lists.{sort_by}
 use Rattle.record_tables.specs.declared.fault.Fault.{Fault}
 use Rattle.record_tables.specs.declared.fault.Fault.TheVariants.{NoArchive}
 use Rattle.record_tables.specs.Faults.{fault_of}
 use Rattle.record_tables.specs.Rows.{Record, as_flag}
-use Rattle.record_tables.specs.Changes.{Listed, Rule}
-use Rattle.record_tables.specs.Reads.{Named, Pair, shown_record, ReadsRecord, FitsRecord, shown_number, ReadsNumber, FitsNumber, shown_hold, ReadsHold, FitsHold, shown_pair, ReadsPair, shown_class, ReadsClass, shown_rule, ReadsRule, FitsRule}
+use Rattle.record_tables.specs.Changes.{ClassEntry, Rule}
+use Rattle.record_tables.specs.Reads.{HoldEntry, Pair, record_values, ReadsRecord, FitsRecord, number_values, ReadsNumber, FitsNumber, hold_values, ReadsHold, FitsHold, pair_values, ReadsPair, class_values, ReadsClass, rule_values, ReadsRule, FitsRule}
 
 pub on_err : {T E : Type 0} (r : Result T E) (P : Type 0) → P → OnErr r P
 on_err (Ok x) P p = tt
@@ -93,7 +91,7 @@ text_is None (Some b) h = absurd (let x = h in cc)
 text_is (Some a) None h = absurd (let x = h in cc)
 text_is (Some a) (Some b) h = let x : b ≡ a = cc in ap Some x
 
-pub one_record : (r q : Record) → ReadsRecord (shown_record r) q → q ≡ r
+pub one_record : (r q : Record) → ReadsRecord (record_values r) q → q ≡ r
 one_record r q h =
     let number : q.number ≡ r.number = let e = h.number in cc in
     let message : q.message ≡ r.message = let e = h.message in cc in
@@ -102,38 +100,38 @@ one_record r q h =
     let destroyed : q.destroyed ≡ r.destroyed = flag_is r.destroyed q.destroyed h.destroyed in
     λ i. record { number = number i; message = message i; path = path i; day = day i; destroyed = destroyed i }
 
-pub can_record : (r : Record) → FitsRecord r → (q : Record) × (FitsRecord q × ReadsRecord (shown_record r) q)
+pub can_record : (r : Record) → FitsRecord r → (q : Record) × (FitsRecord q × ReadsRecord (record_values r) q)
 can_record r fits = (r, (fits, record { number = refl; message = refl; path = refl; day = refl; destroyed = refl }))
 
-pub one_hold : (r q : Named) → ReadsHold (shown_hold r) q → q ≡ r
+pub one_hold : (r q : HoldEntry) → ReadsHold (hold_values r) q → q ≡ r
 one_hold r q h =
     let name : q.name ≡ r.name = let e = h.name in cc in
     let number : q.number ≡ r.number = let e = h.number in cc in
     λ i. record { name = name i; number = number i }
 
-pub can_hold : (r : Named) → FitsHold r → (q : Named) × (FitsHold q × ReadsHold (shown_hold r) q)
+pub can_hold : (r : HoldEntry) → FitsHold r → (q : HoldEntry) × (FitsHold q × ReadsHold (hold_values r) q)
 can_hold r fits = (r, (fits, record { name = refl; number = refl }))
 
-pub one_setting : (r q : Pair) → ReadsPair (shown_pair r) q → q ≡ r
+pub one_setting : (r q : Pair) → ReadsPair (pair_values r) q → q ≡ r
 one_setting r q h =
     let key : q.key ≡ r.key = let e = h.key in cc in
     let value : q.value ≡ r.value = let e = h.value in cc in
     λ i. record { key = key i; value = value i }
 
-pub can_setting : (r : Pair) → (q : Pair) × ReadsPair (shown_pair r) q
+pub can_setting : (r : Pair) → (q : Pair) × ReadsPair (pair_values r) q
 can_setting r = (r, record { key = refl; value = refl })
 
-pub one_class : (r q : Listed) → ReadsClass (shown_class r) q → q ≡ r
+pub one_class : (r q : ClassEntry) → ReadsClass (class_values r) q → q ≡ r
 one_class r q h =
     let path : q.path ≡ r.path = let e = h.path in cc in
     let is_open : q.is_open ≡ r.is_open = flag_is r.is_open q.is_open h.is_open in
     let schedule : q.schedule ≡ r.schedule = text_is r.schedule q.schedule h.schedule in
     λ i. record { path = path i; is_open = is_open i; schedule = schedule i }
 
-pub can_class : (r : Listed) → (q : Listed) × ReadsClass (shown_class r) q
+pub can_class : (r : ClassEntry) → (q : ClassEntry) × ReadsClass (class_values r) q
 can_class r = (r, record { path = refl; is_open = refl; schedule = refl })
 
-pub one_rule : (r q : Rule) → ReadsRule (shown_rule r) q → q ≡ r
+pub one_rule : (r q : Rule) → ReadsRule (rule_values r) q → q ≡ r
 one_rule r q h =
     let path : q.path ≡ r.path = let e = h.path in cc in
     let count : q.count ≡ r.count = let e = h.count in cc in
@@ -142,11 +140,11 @@ one_rule r q h =
     let year_end : q.year_end ≡ r.year_end = let e = h.year_end in cc in
     λ i. record { path = path i; count = count i; unit = unit i; action = action i; year_end = year_end i }
 
-pub can_rule : (r : Rule) → FitsRule r → (q : Rule) × (FitsRule q × ReadsRule (shown_rule r) q)
+pub can_rule : (r : Rule) → FitsRule r → (q : Rule) × (FitsRule q × ReadsRule (rule_values r) q)
 can_rule r fits = (r, (fits, record { path = refl; count = refl; unit = refl; action = refl; year_end = refl }))
 
-pub one_number : (r q : ℕ) → ReadsNumber (shown_number r) q → q ≡ r
+pub one_number : (r q : ℕ) → ReadsNumber (number_values r) q → q ≡ r
 one_number r q h = let e = h in cc
 
-pub can_number : (r : ℕ) → FitsNumber r → (q : ℕ) × (FitsNumber q × ReadsNumber (shown_number r) q)
+pub can_number : (r : ℕ) → FitsNumber r → (q : ℕ) × (FitsNumber q × ReadsNumber (number_values r) q)
 can_number r fits = (r, (fits, refl))

@@ -50,11 +50,11 @@ without_settings t = record t { settings = [] }
 abbrev pub without_schedules : Tables → Tables
 without_schedules t = record t { schedules = [] }
 
-abbrev pub destroyed : Record → Record
-destroyed r = record r { destroyed = true }
+abbrev pub destruction_of : Record → Record
+destruction_of r = record r { destroyed = true }
 
-abbrev pub with_destroyed : ℕ → Tables → Tables
-with_destroyed n t = record t { records = update_where (λ (r : Record). int_eq (pos r.number) (pos n)) destroyed t.records }
+abbrev pub with_destruction : ℕ → Tables → Tables
+with_destruction n t = record t { records = update_where (λ (r : Record). int_eq (pos r.number) (pos n)) destruction_of t.records }
 
 abbrev pub with_class : List ℕ → Bool → Option (List ℕ) → Tables → Tables
 with_class path is_open schedule t = record t { classes = t.classes ++ record { id = next_key class_key t.classes; path = path; is_open = is_open; schedule = schedule } ∷ [] }
@@ -98,29 +98,29 @@ pub record Turns (old new : Database) (Allows : Tables → Type 0) (change : Tab
   pub stored : (t : Tables) → Stores old t → AreKeyed t → Allows t → StoresKeyed new (change t)
 
 -- a class as it is listed, without its rowid
-pub record Listed : Type 0 where
+pub record ClassEntry : Type 0 where
   pub path : List ℕ
   pub is_open : Bool
   pub schedule : Option (List ℕ)
 
 -- the classes in this order, with rowids from this one on
-abbrev pub numbered : ℤ → List Listed → List Class
-numbered id [] = []
-numbered id (c ∷ cs) = record { id = id; path = c.path; is_open = c.is_open; schedule = c.schedule } ∷ numbered (id +ℤ pos 1) cs
+abbrev pub classes_from : ℤ → List ClassEntry → List Class
+classes_from id [] = []
+classes_from id (c ∷ cs) = record { id = id; path = c.path; is_open = c.is_open; schedule = c.schedule } ∷ classes_from (id +ℤ pos 1) cs
 
 abbrev pub with_dues : List Due → Tables → Tables
 with_dues ds t = record t { dues = ds }
 
-abbrev pub with_classes : List Listed → Tables → Tables
-with_classes cs t = record t { classes = numbered (pos 1) cs }
+abbrev pub with_classes : List ClassEntry → Tables → Tables
+with_classes cs t = record t { classes = classes_from (pos 1) cs }
 
 -- the schedules in this order, with rowids from this one on
-abbrev pub numbered_schedules : ℤ → List Rule → List Schedule
-numbered_schedules id [] = []
-numbered_schedules id (r ∷ rs) = schedule_at id r ∷ numbered_schedules (id +ℤ pos 1) rs
+abbrev pub schedules_from : ℤ → List Rule → List Schedule
+schedules_from id [] = []
+schedules_from id (r ∷ rs) = schedule_at id r ∷ schedules_from (id +ℤ pos 1) rs
 
 abbrev pub with_schedules : List Rule → Tables → Tables
-with_schedules rs t = record t { schedules = numbered_schedules (pos 1) rs }
+with_schedules rs t = record t { schedules = schedules_from (pos 1) rs }
 
 -- the one row of `meta` in version 2
 abbrev pub version_2 : List Setting
@@ -130,11 +130,11 @@ abbrev pub with_version : Tables → Tables
 with_version t = record t { settings = version_2 }
 
 -- the rows of a plan and the due days by it, in place of those that were there
-abbrev pub with_plan : List Rule → List Listed → List Due → Tables → Tables
-with_plan rs cs ds t = record t { classes = numbered (pos 1) cs; schedules = numbered_schedules (pos 1) rs; dues = ds }
+abbrev pub with_plan : List Rule → List ClassEntry → List Due → Tables → Tables
+with_plan rs cs ds t = record t { classes = classes_from (pos 1) cs; schedules = schedules_from (pos 1) rs; dues = ds }
 
 -- what replacing a plan makes of a database
-abbrev pub IsRevised : List Rule → List Listed → List Due → Database → Database → Type 0
+abbrev pub IsRevised : List Rule → List ClassEntry → List Due → Database → Database → Type 0
 IsRevised rs cs ds old new = Turns old new Always (with_plan rs cs ds)
 
 abbrev pub HasNoClasses : Tables → Type 0

@@ -27,8 +27,8 @@ with_records rs = flat_map (λ d. map (due_record d) (filter (is_of d) rs))
 abbrev pub due_records_by : ℕ → Tables → List DueRecord
 due_records_by day t = with_records t.records (dues_by day t)
 
-abbrev pub shown_due_record : DueRecord → Row
-shown_due_record d = Int (pos d.number) ∷ Int (pos d.day) ∷ Words d.path ∷ []
+abbrev pub due_record_values : DueRecord → Row
+due_record_values d = Int (pos d.number) ∷ Int (pos d.day) ∷ Words d.path ∷ []
 
 -- the columns of the row are the due record's
 pub record ReadsDueRecord (row : Row) (d : DueRecord) : Type 0 where

@@ -16,9 +16,9 @@ use Rattle.sqlite.specs.Store.{Ghosts}
 use Rattle.sqlite.specs.State.{State, HasCleanDisk}
 use Rattle.sqlite.specs.Held.{Held, state}
 use Rattle.sqlite_catalog.specs.Change.{KeepsRows}
-use Rattle.record_tables.specs.Tables.{no_schema, first_schema, dated_schema, archive_schema, IsArchiveSchema}
+use Rattle.record_tables.specs.Tables.{no_schema, first_schema, first_schema_with_dues, archive_schema, IsArchiveSchema}
 use Rattle.record_tables.specs.Rows.{Tables, Due, Stores, StoresFirst, StoresKeyed, AreKeyed}
-use Rattle.record_tables.specs.Changes.{Listed, Rule, with_version, with_plan, without_dues}
+use Rattle.record_tables.specs.Changes.{ClassEntry, Rule, with_version, with_plan, without_dues}
 
 abbrev pub AreEmpty : List Table → Trees → Type 0
 AreEmpty tables trees = AllByRecursion (λ (t : Table). trees t.tree ≡ []) tables
@@ -62,7 +62,7 @@ pub record Drops (old new : State) (before after : Schema) : Type 0 where
 -- the flag says whether version 1 has due days
 pub record TellsDues (schema : Schema) (has_dues : Bool) : Type 0 where
   pub without : schema ≡ first_schema → has_dues ≡ false
-  pub with_them : schema ≡ dated_schema → has_dues ≡ true
+  pub with_them : schema ≡ first_schema_with_dues → has_dues ≡ true
 
 -- in version 2 without other tables, all due days are removed, and nothing else
 pub record Empties (old new : State) : Type 0 where
@@ -77,7 +77,7 @@ abbrev pub TellsAlone : Schema → Bool → Type 0
 TellsAlone schema is_alone = is_alone ≡ true → IsArchiveSchema schema → schema ≡ archive_schema
 
 -- the tables are created where there were none, and have this plan and no other row
-pub record IsLaid (schedules : List Rule) (classes : List Listed) (old new : Database) : Type 0 where
+pub record IsLaid (schedules : List Rule) (classes : List ClassEntry) (old new : Database) : Type 0 where
   pub stored : old.schema ≡ no_schema → StoresKeyed new (with_version (with_plan schedules classes [] no_rows))
 
 -- the rows of version 1 are in the tables of version 2, which have no schedules and no due days
@@ -85,7 +85,7 @@ pub record IsWidened (old new : Database) : Type 0 where
   pub stored : (t : Tables) → StoresFirst old t → Stores new t
 
 -- the rows of version 1 are now in version 2, where this plan and these due days replace the plan that was there
-pub record IsMoved (schedules : List Rule) (classes : List Listed) (dues : List Due) (old new : Database) : Type 0 where
+pub record IsMoved (schedules : List Rule) (classes : List ClassEntry) (dues : List Due) (old new : Database) : Type 0 where
   pub stored : (t : Tables) → StoresFirst old t → AreKeyed t →
       StoresKeyed new (with_version (with_plan schedules classes dues t))
 

@@ -3,7 +3,7 @@ pub mod Rows
 pub mod Changes
 pub mod Steps
 pub mod Reads
-pub mod Typed
+pub mod CodeRows
 pub mod Layouts
 pub mod Shapes
 pub mod Layout

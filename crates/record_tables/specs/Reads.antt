@@ -10,12 +10,12 @@ use Rattle.sqlite_typed.specs.Columns.{or_null}
 use Rattle.sqlite_keyed.specs.Lists.{sort_by}
 use Rattle.sqlite_trees.specs.Tree.{IsAscending}
 use Rattle.record_tables.specs.Rows.{Tables, Message, Record, Hold, Setting, Class, Schedule, Due, as_flag}
-use Rattle.record_tables.specs.Changes.{Listed, Rule}
+use Rattle.record_tables.specs.Changes.{ClassEntry, Rule}
 
 -- ---- records
 
-abbrev pub shown_record : Record → Row
-shown_record r = Int (pos r.number) ∷ Int (pos r.message) ∷ Words r.path ∷ Int (pos r.day) ∷
+abbrev pub record_values : Record → Row
+record_values r = Int (pos r.number) ∷ Int (pos r.message) ∷ Words r.path ∷ Int (pos r.day) ∷
     Int (as_flag r.destroyed) ∷ []
 
 -- the columns of the row are the record's
@@ -34,8 +34,8 @@ pub record FitsRecord (r : Record) : Type 0 where
 
 -- ---- numbers of messages
 
-abbrev pub shown_number : ℕ → Row
-shown_number n = Int (pos n) ∷ []
+abbrev pub number_values : ℕ → Row
+number_values n = Int (pos n) ∷ []
 
 abbrev pub ReadsNumber : Row → ℕ → Type 0
 ReadsNumber row n = column row 0 ≡ Int (pos n)
@@ -48,8 +48,8 @@ numbers_of t = map (λ (m : Message). m.number) t.messages
 
 -- ---- due days
 
-abbrev pub shown_due : Due → Row
-shown_due d = Int (pos d.number) ∷ Int (pos d.day) ∷ []
+abbrev pub due_values : Due → Row
+due_values d = Int (pos d.number) ∷ Int (pos d.day) ∷ []
 
 -- not later than the day
 abbrev pub is_by : ℕ → Due → Bool
@@ -65,26 +65,26 @@ dues_by day t = sort_by due_cmp (filter (is_by day) t.dues)
 
 -- ---- classes
 
-abbrev pub shown_class : Listed → Row
-shown_class c = Words c.path ∷ Int (as_flag c.is_open) ∷ or_null Words c.schedule ∷ []
+abbrev pub class_values : ClassEntry → Row
+class_values c = Words c.path ∷ Int (as_flag c.is_open) ∷ or_null Words c.schedule ∷ []
 
-pub record ReadsClass (row : Row) (c : Listed) : Type 0 where
+pub record ReadsClass (row : Row) (c : ClassEntry) : Type 0 where
   pub path : column row 0 ≡ Words c.path
   pub is_open : column row 1 ≡ Int (as_flag c.is_open)
   pub schedule : column row 2 ≡ or_null Words c.schedule
 
-abbrev pub listed : Class → Listed
-listed c = record { path = c.path; is_open = c.is_open; schedule = c.schedule }
+abbrev pub class_entry : Class → ClassEntry
+class_entry c = record { path = c.path; is_open = c.is_open; schedule = c.schedule }
 
 -- these are the classes of the table, in byte order of their paths
-pub record AreListed (t : Tables) (cs : List Listed) : Type 0 where
-  pub same : IsPermutation (map listed t.classes) cs
-  pub in_order : IsAscending (λ (x y : Listed). slice_cmp nat_cmp x.path y.path ≡ Less) cs
+pub record AreClasses (t : Tables) (cs : List ClassEntry) : Type 0 where
+  pub same : IsPermutation (map class_entry t.classes) cs
+  pub in_order : IsAscending (λ (x y : ClassEntry). slice_cmp nat_cmp x.path y.path ≡ Less) cs
 
 -- ---- schedules
 
-abbrev pub shown_rule : Rule → Row
-shown_rule r = Words r.path ∷ Int (pos r.count) ∷ Int (pos r.unit) ∷ Int (pos r.action) ∷ Int (pos r.year_end) ∷ []
+abbrev pub rule_values : Rule → Row
+rule_values r = Words r.path ∷ Int (pos r.count) ∷ Int (pos r.unit) ∷ Int (pos r.action) ∷ Int (pos r.year_end) ∷ []
 
 pub record ReadsRule (row : Row) (r : Rule) : Type 0 where
   pub path : column row 0 ≡ Words r.path
@@ -110,31 +110,31 @@ pub record AreRules (t : Tables) (rs : List Rule) : Type 0 where
 -- ---- holds
 
 -- a hold without its rowid
-pub record Named : Type 0 where
+pub record HoldEntry : Type 0 where
   pub name : List ℕ
   pub number : ℕ
 
-abbrev pub named : Hold → Named
-named h = record { name = h.name; number = h.number }
+abbrev pub hold_entry : Hold → HoldEntry
+hold_entry h = record { name = h.name; number = h.number }
 
-abbrev pub shown_hold : Named → Row
-shown_hold h = Words h.name ∷ Int (pos h.number) ∷ []
+abbrev pub hold_values : HoldEntry → Row
+hold_values h = Words h.name ∷ Int (pos h.number) ∷ []
 
-pub record ReadsHold (row : Row) (h : Named) : Type 0 where
+pub record ReadsHold (row : Row) (h : HoldEntry) : Type 0 where
   pub name : column row 0 ≡ Words h.name
   pub number : column row 1 ≡ Int (pos h.number)
 
-abbrev pub FitsHold : Named → Type 0
+abbrev pub FitsHold : HoldEntry → Type 0
 FitsHold h = h.number < 2 ^ 32
 
 -- by record, then by name
-abbrev pub named_cmp : Named → Named → Ordering
-named_cmp x y = ordering_then (int_cmp (pos x.number) (pos y.number)) (slice_cmp nat_cmp x.name y.name)
+abbrev pub hold_cmp : HoldEntry → HoldEntry → Ordering
+hold_cmp x y = ordering_then (int_cmp (pos x.number) (pos y.number)) (slice_cmp nat_cmp x.name y.name)
 
 -- these are the holds of the table, in order
-pub record AreNamed (t : Tables) (hs : List Named) : Type 0 where
-  pub same : IsPermutation (map named t.holds) hs
-  pub in_order : IsAscending (λ (x y : Named). named_cmp x y ≡ Less) hs
+pub record AreHolds (t : Tables) (hs : List HoldEntry) : Type 0 where
+  pub same : IsPermutation (map hold_entry t.holds) hs
+  pub in_order : IsAscending (λ (x y : HoldEntry). hold_cmp x y ≡ Less) hs
 
 -- ---- settings
 
@@ -143,16 +143,16 @@ pub record Pair : Type 0 where
   pub key : List ℕ
   pub value : List ℕ
 
-abbrev pub paired : Setting → Pair
-paired s = record { key = s.key; value = s.value }
+abbrev pub pair : Setting → Pair
+pair s = record { key = s.key; value = s.value }
 
-abbrev pub shown_pair : Pair → Row
-shown_pair p = Words p.key ∷ Words p.value ∷ []
+abbrev pub pair_values : Pair → Row
+pair_values p = Words p.key ∷ Words p.value ∷ []
 
 pub record ReadsPair (row : Row) (p : Pair) : Type 0 where
   pub key : column row 0 ≡ Words p.key
   pub value : column row 1 ≡ Words p.value
 
-pub record ArePaired (t : Tables) (ps : List Pair) : Type 0 where
-  pub same : IsPermutation (map paired t.settings) ps
+pub record ArePairs (t : Tables) (ps : List Pair) : Type 0 where
+  pub same : IsPermutation (map pair t.settings) ps
   pub in_order : IsAscending (λ (x y : Pair). slice_cmp nat_cmp x.key y.key ≡ Less) ps

@@ -9,7 +9,7 @@ use Rattle.sqlite_typed.specs.Columns.{or_null}
 use Rattle.sqlite_keyed.specs.Keyed.{IsKeyedBy}
 use Rattle.sqlite.specs.Effect.{Database}
 use Rattle.sqlite.specs.State.{State}
-use Rattle.record_tables.specs.Tables.{IsArchiveSchema, HasCommonTables, first_schema, dated_schema}
+use Rattle.record_tables.specs.Tables.{IsArchiveSchema, HasCommonTables, first_schema, first_schema_with_dues}
 
 pub record Message : Type 0 where
   pub number : ℕ
@@ -131,7 +131,7 @@ pub record StoresCommon (db : Database) (t : Tables) : Type 0 where
 
 -- the rows of a database of version 1, with any due days or without the table of them
 pub record StoresFirst (db : Database) (t : Tables) : Type 0 where
-  pub schema : (db.schema ≡ first_schema) ⊎ (db.schema ≡ dated_schema)
+  pub schema : (db.schema ≡ first_schema) ⊎ (db.schema ≡ first_schema_with_dues)
   pub messages : db.trees 0 ≡ map message_row t.messages
   pub records : db.trees 1 ≡ map record_row t.records
   pub holds : db.trees 2 ≡ map hold_row t.holds

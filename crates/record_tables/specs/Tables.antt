@@ -16,8 +16,8 @@ use Rattle.sqlite_value.specs.Keys.{plain}
 abbrev pub strict_column : List ℕ → Kind → Bool → Column
 strict_column name kind not_null = record { name = name; kind = kind; is_strict = true; not_null = not_null; default = Null; collation = Binary }
 
-abbrev pub needed : List ℕ → Kind → Column
-needed name kind = strict_column name kind true
+abbrev pub not_null_column : List ℕ → Kind → Column
+not_null_column name kind = strict_column name kind true
 
 abbrev pub optional : List ℕ → Kind → Column
 optional name kind = strict_column name kind false
@@ -57,34 +57,34 @@ uniquely_keyed_table name tree key columns = record {
 }
 
 abbrev pub message_table : Table
-message_table = keyed_table (codes "message") 0 (optional (codes "number") Integer ∷ needed (codes "body") Blob ∷ [])
+message_table = keyed_table (codes "message") 0 (optional (codes "number") Integer ∷ not_null_column (codes "body") Blob ∷ [])
 
 abbrev pub record_table : Table
 record_table = keyed_table (codes "record") 1
-    (optional (codes "number") Integer ∷ needed (codes "message") Integer ∷ needed (codes "path") Text ∷
-    needed (codes "day") Integer ∷ needed (codes "destroyed") Integer ∷ [])
+    (optional (codes "number") Integer ∷ not_null_column (codes "message") Integer ∷ not_null_column (codes "path") Text ∷
+    not_null_column (codes "day") Integer ∷ not_null_column (codes "destroyed") Integer ∷ [])
 
 abbrev pub hold_table : Table
-hold_table = uniquely_keyed_table (codes "hold") 2 (1 ∷ 2 ∷ []) (needed (codes "name") Text ∷
-    needed (codes "record") Integer ∷ [])
+hold_table = uniquely_keyed_table (codes "hold") 2 (1 ∷ 2 ∷ []) (not_null_column (codes "name") Text ∷
+    not_null_column (codes "record") Integer ∷ [])
 
 abbrev pub meta_table : Table
-meta_table = uniquely_keyed_table (codes "meta") 4 (1 ∷ []) (needed (codes "key") Text ∷ needed (codes "value") Text ∷
+meta_table = uniquely_keyed_table (codes "meta") 4 (1 ∷ []) (not_null_column (codes "key") Text ∷ not_null_column (codes "value") Text ∷
     [])
 
 abbrev pub class_table : Table
-class_table = uniquely_keyed_table (codes "class") 6 (1 ∷ []) (needed (codes "path") Text ∷
-    needed (codes "is_open") Integer ∷ optional (codes "schedule") Text ∷ [])
+class_table = uniquely_keyed_table (codes "class") 6 (1 ∷ []) (not_null_column (codes "path") Text ∷
+    not_null_column (codes "is_open") Integer ∷ optional (codes "schedule") Text ∷ [])
 
 abbrev pub schedule_table : Table
 schedule_table = uniquely_keyed_table (codes "schedule") 8 (1 ∷ [])
-    (needed (codes "path") Text ∷ needed (codes "count") Integer ∷ needed (codes "unit") Integer ∷
-    needed (codes "action") Integer ∷ needed (codes "year_end") Integer ∷ [])
+    (not_null_column (codes "path") Text ∷ not_null_column (codes "count") Integer ∷ not_null_column (codes "unit") Integer ∷
+    not_null_column (codes "action") Integer ∷ not_null_column (codes "year_end") Integer ∷ [])
 
 -- its tree is 10 in version 2, and 8 in version 1
 abbrev pub due_table_at : ℕ → Table
 due_table_at tree = keyed_table (codes "due_day") tree (optional (codes "record") Integer ∷
-    needed (codes "day") Integer ∷ [])
+    not_null_column (codes "day") Integer ∷ [])
 
 abbrev pub due_table : Table
 due_table = due_table_at 10
@@ -119,20 +119,20 @@ common_beside f = record {
 }
 
 -- the schedules and the due days of version 2, before others
-abbrev pub scheduled : Foreign → Foreign
-scheduled f = record {
+abbrev pub schedules_and_dues_beside : Foreign → Foreign
+schedules_and_dues_beside f = record {
   tables = schedule_table ∷ due_table ∷ f.tables;
   indexes = key_index (codes "sqlite_autoindex_schedule_1") 9 8 (1 ∷ []) ∷ due_index ∷ f.indexes;
   views = f.views;
 }
 
 -- the due days of version 1
-abbrev pub dated : Foreign
-dated = record { tables = due_table_at 8 ∷ []; indexes = due_index_at 9 8 ∷ []; views = [] }
+abbrev pub first_dues : Foreign
+first_dues = record { tables = due_table_at 8 ∷ []; indexes = due_index_at 9 8 ∷ []; views = [] }
 
 -- the tables of version 2, before others
 abbrev pub archive_beside : Foreign → Schema
-archive_beside f = common_beside (scheduled f)
+archive_beside f = common_beside (schedules_and_dues_beside f)
 
 abbrev pub no_schema : Schema
 no_schema = record { tables = []; indexes = []; views = [] }
@@ -144,8 +144,8 @@ archive_schema = archive_beside none
 abbrev pub first_schema : Schema
 first_schema = common_beside none
 
-abbrev pub dated_schema : Schema
-dated_schema = common_beside dated
+abbrev pub first_schema_with_dues : Schema
+first_schema_with_dues = common_beside first_dues
 
 -- none of these tables has a foreign key
 abbrev pub HasNoReferences : Foreign → Type 0

@@ -6,12 +6,12 @@ ghost use Rattle.sqlite.specs.Table.{Table};
 ghost use Rattle.sqlite.specs.Change.{created, indexed, next_tree};
 ghost use Rattle.sqlite.specs.Held.{state};
 ghost use Rattle.sqlite.specs.State.{HasCleanDisk};
-ghost use Rattle.record_tables.specs.Tables.{no_schema, first_schema, dated_schema, archive_schema, schedule_table, due_table};
+ghost use Rattle.record_tables.specs.Tables.{no_schema, first_schema, first_schema_with_dues, archive_schema, schedule_table, due_table};
 ghost use Rattle.record_tables.specs.Shapes.{schema_6, archive_tables};
 ghost use Rattle.record_tables.specs.Layouts.{Defines, DefinesIndex, LaysIn, GoesOnIn, Drops, Empties, TellsDues, IsLaid, IsWidened, IsMoved};
 ghost use Rattle.record_tables.specs.Steps.{Inside, PutsIn, KeepsIn, CommitsNothing, CommitsWhole, Makes, IsCommitted, IsUndone, WasOpen};
 ghost use Rattle.record_tables.specs.Changes.{Always, AreAscending, with_plan, with_version};
-ghost use Rattle.record_tables.specs.Typed.{due_of, listed_of, rule_of};
+ghost use Rattle.record_tables.specs.CodeRows.{due_of, class_entry_of, rule_of};
 
 use crate::layout::has_dues;
 use crate::renew::{put_plan, put_version};
@@ -118,7 +118,7 @@ fn fill<S: Alter>(
     ensures same_reference { tx.new.conn.ghost_name ≡ tx.old.conn.ghost_name }
     ensures ok { OnOk result
         (PutsIn S.Store tx.old.conn.now tx.new.conn.now Always
-        (λ t. with_version (with_plan (map rule_of schedules.now) (map listed_of classes.now)
+        (λ t. with_version (with_plan (map rule_of schedules.now) (map class_entry_of classes.now)
         (map due_of dues.now) t))) }
     ensures err { KeepsIn S.Store tx.old.conn.now tx.new.conn.now result }
     ensures survives { CommitsNothing S.Store tx.old.conn.now tx.new.conn.now }
@@ -136,7 +136,7 @@ fn lay_all<S: Alter>(
     ensures same_reference { tx.new.conn.ghost_name ≡ tx.old.conn.ghost_name }
     ensures ok { OnOk result
         (Inside S.Store tx.old.conn.now tx.new.conn.now
-        (IsLaid (map rule_of schedules.now) (map listed_of classes.now) (state S.Store tx.old.conn.now).now
+        (IsLaid (map rule_of schedules.now) (map class_entry_of classes.now) (state S.Store tx.old.conn.now).now
         (state S.Store tx.new.conn.now).now)) }
     ensures goes_on { GoesOnIn S.Store tx.old.conn.now tx.new.conn.now result }
     ensures err { KeepsIn S.Store tx.old.conn.now tx.new.conn.now result }
@@ -158,12 +158,12 @@ pub fn lay<S: Alter>(
     requires { conn.old.in_transaction ≡ false }
     ensures idle { conn.new.in_transaction ≡ false }
     ensures ok { Makes S.Store conn.old conn.new result
-        (IsLaid (map rule_of schedules.now) (map listed_of classes.now)) }
+        (IsLaid (map rule_of schedules.now) (map class_entry_of classes.now)) }
     ensures committed { IsCommitted S.Store conn.old conn.new result }
     ensures err { IsUndone S.Store conn.old conn.new result }
     ensures was_open { WasOpen S.Store conn.old conn.new }
     ensures crash { CommitsWhole S.Store conn.old conn.new
-        (IsLaid (map rule_of schedules.now) (map listed_of classes.now)) }
+        (IsLaid (map rule_of schedules.now) (map class_entry_of classes.now)) }
 {
     let _settled = conn.is_autocommit();
     let mut tx = conn.transaction();
@@ -176,7 +176,7 @@ fn drop_dues<S: Alter>(tx: &mut Transaction<'_, S>) -> Result<(), Error>
     ensures same_reference { tx.new.conn.ghost_name ≡ tx.old.conn.ghost_name }
     ensures first { OnOk result
         (Inside S.Store tx.old.conn.now tx.new.conn.now
-        (Drops (state S.Store tx.old.conn.now) (state S.Store tx.new.conn.now) dated_schema first_schema)) }
+        (Drops (state S.Store tx.old.conn.now) (state S.Store tx.new.conn.now) first_schema_with_dues first_schema)) }
     ensures second { OnOk result
         (Inside S.Store tx.old.conn.now tx.new.conn.now
         (Drops (state S.Store tx.old.conn.now) (state S.Store tx.new.conn.now) archive_schema schema_6)) }
@@ -234,7 +234,7 @@ fn move_all<S: Alter>(
     ensures same_reference { tx.new.conn.ghost_name ≡ tx.old.conn.ghost_name }
     ensures ok { OnOk result
         (Inside S.Store tx.old.conn.now tx.new.conn.now
-        (IsMoved (map rule_of schedules.now) (map listed_of classes.now) (map due_of dues.now)
+        (IsMoved (map rule_of schedules.now) (map class_entry_of classes.now) (map due_of dues.now)
         (state S.Store tx.old.conn.now).now (state S.Store tx.new.conn.now).now)) }
     ensures goes_on { GoesOnIn S.Store tx.old.conn.now tx.new.conn.now result }
     ensures err { KeepsIn S.Store tx.old.conn.now tx.new.conn.now result }
@@ -259,12 +259,12 @@ pub fn move_first<S: Alter>(
     requires ascending { AreAscending (map due_of dues.now) }
     ensures idle { conn.new.in_transaction ≡ false }
     ensures ok { Makes S.Store conn.old conn.new result
-        (IsMoved (map rule_of schedules.now) (map listed_of classes.now) (map due_of dues.now)) }
+        (IsMoved (map rule_of schedules.now) (map class_entry_of classes.now) (map due_of dues.now)) }
     ensures committed { IsCommitted S.Store conn.old conn.new result }
     ensures err { IsUndone S.Store conn.old conn.new result }
     ensures was_open { WasOpen S.Store conn.old conn.new }
     ensures crash { CommitsWhole S.Store conn.old conn.new
-        (IsMoved (map rule_of schedules.now) (map listed_of classes.now) (map due_of dues.now)) }
+        (IsMoved (map rule_of schedules.now) (map class_entry_of classes.now) (map due_of dues.now)) }
 {
     let dated = has_dues(conn.schema());
     let _settled = conn.is_autocommit();

@@ -9,7 +9,7 @@ ghost use Rattle.sqlite.proofs.Callers.{IsPlain};
 ghost use Rattle.record_tables.specs.Tables.{Foreign, archive_beside};
 ghost use Rattle.record_tables.specs.Rows.{Tables, Stores, AreKeyed};
 ghost use Rattle.record_tables.specs.Lookups.{Looks, record_with, body_with, has_hold_of, TellsRecord};
-ghost use Rattle.record_tables.specs.Typed.{record_of};
+ghost use Rattle.record_tables.specs.CodeRows.{record_of};
 
 use crate::rows::RecordRow;
 use sqlite::types::{ToSql, ValueRef};

@@ -9,9 +9,9 @@ ghost use Rattle.sqlite.specs.State.{HasCleanDisk};
 ghost use Rattle.sqlite.specs.Held.{state};
 ghost use Rattle.record_tables.specs.Tables.{HasCommonTables, IsArchiveSchema};
 ghost use Rattle.record_tables.specs.Rows.{Tables, Stores, StoresCommon, AreKeyed};
-ghost use Rattle.record_tables.specs.Changes.{Listed, Rule};
-ghost use Rattle.record_tables.specs.Reads.{Named, Pair, FitsRecord, FitsNumber, FitsHold, FitsRule, AreNamed, ArePaired, AreListed, AreRules, numbers_of};
-ghost use Rattle.record_tables.specs.Typed.{record_of, named_of, pair_of, listed_of, rule_of};
+ghost use Rattle.record_tables.specs.Changes.{ClassEntry, Rule};
+ghost use Rattle.record_tables.specs.Reads.{HoldEntry, Pair, FitsRecord, FitsNumber, FitsHold, FitsRule, AreHolds, ArePairs, AreClasses, AreRules, numbers_of};
+ghost use Rattle.record_tables.specs.CodeRows.{record_of, hold_entry_of, pair_of, class_entry_of, rule_of};
 ghost use Rattle.record_tables.specs.Steps.{CommitsNothingOf, IsStill, Falls, IsIdle, ReadsAlone};
 
 use crate::fault::Fault;
@@ -66,10 +66,10 @@ pub fn message_numbers<S: Alter>(alloc: Global, conn: &mut Connection<S>) -> Res
 /// All holds, by record and then in byte order of their names.
 pub fn holds<S: Alter>(alloc: Global, conn: &mut Connection<S>) -> Result<Vec<HoldRow>, Fault>
     ensures all { HasCleanDisk (state S.Store conn.new) →
-        IfOk result (λ all. (t : Tables) → (hs : List Named) → AreNamed t hs →
-        StoresCommon (state S.Store conn.old).now t → AreKeyed t → map named_of all.items ≡ hs) }
+        IfOk result (λ all. (t : Tables) → (hs : List HoldEntry) → AreHolds t hs →
+        StoresCommon (state S.Store conn.old).now t → AreKeyed t → map hold_entry_of all.items ≡ hs) }
     ensures none { HasCleanDisk (state S.Store conn.new) → result ≡ Err Fault.NoArchive → (t : Tables) →
-        (hs : List Named) → AreNamed t hs → StoresCommon (state S.Store conn.old).now t → AreKeyed t →
+        (hs : List HoldEntry) → AreHolds t hs → StoresCommon (state S.Store conn.old).now t → AreKeyed t →
         AllByRecursion FitsHold hs → ⊥ }
     ensures same { ReadsAlone S.Store conn.old conn.new result (HasCommonTables (state S.Store conn.old).now.schema) }
     ensures still { IsStill S.Store conn.old conn.new (HasCommonTables (state S.Store conn.old).now.schema) }
@@ -90,10 +90,10 @@ pub fn holds<S: Alter>(alloc: Global, conn: &mut Connection<S>) -> Result<Vec<Ho
 /// All settings, in byte order of their keys.
 pub fn settings<S: Alter>(alloc: Global, conn: &mut Connection<S>) -> Result<Vec<SettingRow>, Fault>
     ensures all { HasCleanDisk (state S.Store conn.new) →
-        IfOk result (λ all. (t : Tables) → (ps : List Pair) → ArePaired t ps →
+        IfOk result (λ all. (t : Tables) → (ps : List Pair) → ArePairs t ps →
         StoresCommon (state S.Store conn.old).now t → AreKeyed t → map pair_of all.items ≡ ps) }
     ensures none { HasCleanDisk (state S.Store conn.new) → result ≡ Err Fault.NoArchive → (t : Tables) →
-        (ps : List Pair) → ArePaired t ps → StoresCommon (state S.Store conn.old).now t → AreKeyed t → ⊥ }
+        (ps : List Pair) → ArePairs t ps → StoresCommon (state S.Store conn.old).now t → AreKeyed t → ⊥ }
     ensures same { ReadsAlone S.Store conn.old conn.new result (HasCommonTables (state S.Store conn.old).now.schema) }
     ensures still { IsStill S.Store conn.old conn.new (HasCommonTables (state S.Store conn.old).now.schema) }
     ensures was_open { HasCleanDisk (state S.Store conn.new) → OnOk result (IsTrue (state S.Store conn.old).is_open) }
@@ -109,10 +109,10 @@ pub fn settings<S: Alter>(alloc: Global, conn: &mut Connection<S>) -> Result<Vec
 /// All classes, in byte order of their paths.
 pub fn classes<S: Alter>(alloc: Global, conn: &mut Connection<S>) -> Result<Vec<ClassRow>, Fault>
     ensures all { HasCleanDisk (state S.Store conn.new) →
-        IfOk result (λ all. (t : Tables) → (cs : List Listed) → AreListed t cs →
-        StoresCommon (state S.Store conn.old).now t → AreKeyed t → map listed_of all.items ≡ cs) }
+        IfOk result (λ all. (t : Tables) → (cs : List ClassEntry) → AreClasses t cs →
+        StoresCommon (state S.Store conn.old).now t → AreKeyed t → map class_entry_of all.items ≡ cs) }
     ensures none { HasCleanDisk (state S.Store conn.new) → result ≡ Err Fault.NoArchive → (t : Tables) →
-        (cs : List Listed) → AreListed t cs → StoresCommon (state S.Store conn.old).now t → AreKeyed t → ⊥ }
+        (cs : List ClassEntry) → AreClasses t cs → StoresCommon (state S.Store conn.old).now t → AreKeyed t → ⊥ }
     ensures same { ReadsAlone S.Store conn.old conn.new result (HasCommonTables (state S.Store conn.old).now.schema) }
     ensures still { IsStill S.Store conn.old conn.new (HasCommonTables (state S.Store conn.old).now.schema) }
     ensures was_open { HasCleanDisk (state S.Store conn.new) → OnOk result (IsTrue (state S.Store conn.old).is_open) }

@@ -4,7 +4,7 @@ ghost use Rattle.std.specs.Prelude.{◌≡◌, OnOk, false, map};
 ghost use Rattle.record_tables.specs.Changes.{Always, HasNoClasses, HasNoSchedules, HasNoDues, IsPastDues, AreAscending, with_due, with_dues, with_class, with_classes, with_schedules, with_version, with_plan, IsRevised};
 ghost use Rattle.sqlite.specs.Held.{state};
 ghost use Rattle.record_tables.specs.Layouts.{TellsAlone};
-ghost use Rattle.record_tables.specs.Typed.{due_of, listed_of, rule_of};
+ghost use Rattle.record_tables.specs.CodeRows.{due_of, class_entry_of, rule_of};
 ghost use Rattle.record_tables.specs.Steps.{PutsIn, KeepsIn, CommitsNothing, CommitsWhole, Makes, IsCommitted, IsUndone, WasOpen};
 
 use crate::lay::empty_dues;
@@ -60,7 +60,7 @@ fn insert_class_row<S: Alter>(tx: &mut Transaction<'_, S>, class: &ClassRow) -> 
     ensures same_reference { tx.new.conn.ghost_name ≡ tx.old.conn.ghost_name }
     ensures ok { OnOk result
         (PutsIn S.Store tx.old.conn.now tx.new.conn.now Always
-        (with_class (listed_of class.now).path (listed_of class.now).is_open (listed_of class.now).schedule)) }
+        (with_class (class_entry_of class.now).path (class_entry_of class.now).is_open (class_entry_of class.now).schedule)) }
     ensures err { KeepsIn S.Store tx.old.conn.now tx.new.conn.now result }
     ensures survives { CommitsNothing S.Store tx.old.conn.now tx.new.conn.now }
 {
@@ -80,7 +80,7 @@ fn insert_class_row<S: Alter>(tx: &mut Transaction<'_, S>, class: &ClassRow) -> 
 fn insert_classes<S: Alter>(tx: &mut Transaction<'_, S>, classes: &[ClassRow]) -> Result<(), Error>
     ensures same_reference { tx.new.conn.ghost_name ≡ tx.old.conn.ghost_name }
     ensures ok { OnOk result
-        (PutsIn S.Store tx.old.conn.now tx.new.conn.now HasNoClasses (with_classes (map listed_of classes.now))) }
+        (PutsIn S.Store tx.old.conn.now tx.new.conn.now HasNoClasses (with_classes (map class_entry_of classes.now))) }
     ensures err { KeepsIn S.Store tx.old.conn.now tx.new.conn.now result }
     ensures survives { CommitsNothing S.Store tx.old.conn.now tx.new.conn.now }
 {
@@ -93,7 +93,7 @@ fn insert_classes<S: Alter>(tx: &mut Transaction<'_, S>, classes: &[ClassRow]) -
 fn renew_classes<S: Alter>(tx: &mut Transaction<'_, S>, classes: &[ClassRow]) -> Result<(), Error>
     ensures same_reference { tx.new.conn.ghost_name ≡ tx.old.conn.ghost_name }
     ensures ok { OnOk result
-        (PutsIn S.Store tx.old.conn.now tx.new.conn.now Always (with_classes (map listed_of classes.now))) }
+        (PutsIn S.Store tx.old.conn.now tx.new.conn.now Always (with_classes (map class_entry_of classes.now))) }
     ensures err { KeepsIn S.Store tx.old.conn.now tx.new.conn.now result }
     ensures survives { CommitsNothing S.Store tx.old.conn.now tx.new.conn.now }
 {
@@ -156,7 +156,7 @@ pub(crate) fn put_plan<S: Alter>(
     ensures same_reference { tx.new.conn.ghost_name ≡ tx.old.conn.ghost_name }
     ensures ok { OnOk result
         (PutsIn S.Store tx.old.conn.now tx.new.conn.now Always
-        (with_plan (map rule_of schedules.now) (map listed_of classes.now) (map due_of dues.now))) }
+        (with_plan (map rule_of schedules.now) (map class_entry_of classes.now) (map due_of dues.now))) }
     ensures err { KeepsIn S.Store tx.old.conn.now tx.new.conn.now result }
     ensures survives { CommitsNothing S.Store tx.old.conn.now tx.new.conn.now }
 {
@@ -180,7 +180,7 @@ fn renew_plan<S: Alter>(
     ensures same_reference { tx.new.conn.ghost_name ≡ tx.old.conn.ghost_name }
     ensures ok { OnOk result
         (PutsIn S.Store tx.old.conn.now tx.new.conn.now Always
-        (with_plan (map rule_of schedules.now) (map listed_of classes.now) (map due_of dues.now))) }
+        (with_plan (map rule_of schedules.now) (map class_entry_of classes.now) (map due_of dues.now))) }
     ensures err { KeepsIn S.Store tx.old.conn.now tx.new.conn.now result }
     ensures survives { CommitsNothing S.Store tx.old.conn.now tx.new.conn.now }
 {
@@ -208,12 +208,12 @@ pub fn replace_plan<S: Alter>(
     requires ascending { AreAscending (map due_of dues.now) }
     ensures idle { conn.new.in_transaction ≡ false }
     ensures ok { Makes S.Store conn.old conn.new result
-        (IsRevised (map rule_of schedules.now) (map listed_of classes.now) (map due_of dues.now)) }
+        (IsRevised (map rule_of schedules.now) (map class_entry_of classes.now) (map due_of dues.now)) }
     ensures committed { IsCommitted S.Store conn.old conn.new result }
     ensures err { IsUndone S.Store conn.old conn.new result }
     ensures was_open { WasOpen S.Store conn.old conn.new }
     ensures crash { CommitsWhole S.Store conn.old conn.new
-        (IsRevised (map rule_of schedules.now) (map listed_of classes.now) (map due_of dues.now)) }
+        (IsRevised (map rule_of schedules.now) (map class_entry_of classes.now) (map due_of dues.now)) }
 {
     let alone = is_alone(conn.schema());
     let _settled = conn.is_autocommit();

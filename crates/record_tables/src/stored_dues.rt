@@ -9,7 +9,7 @@ ghost use Rattle.sqlite.specs.Order.{column};
 ghost use Rattle.record_tables.specs.Tables.{IsArchiveSchema};
 ghost use Rattle.record_tables.specs.Rows.{Tables, Stores, AreKeyed};
 ghost use Rattle.record_tables.specs.StoredDues.{is_number, shows_due};
-ghost use Rattle.record_tables.specs.Typed.{due_of};
+ghost use Rattle.record_tables.specs.CodeRows.{due_of};
 ghost use Rattle.record_tables.specs.Steps.{CommitsNothingOf, IsStill, Falls, IsIdle, ReadsAlone};
 
 use crate::query::rows_of;

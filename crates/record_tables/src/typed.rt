@@ -5,9 +5,9 @@ ghost use Rattle.std.specs.List.{AllZip, AllByRecursion};
 ghost use Rattle.sqlite.specs.Order.{column};
 ghost use Rattle.sqlite.specs.declared.types.Value.{Value};
 ghost use Rattle.record_tables.specs.Rows.{Record};
-ghost use Rattle.record_tables.specs.Changes.{Listed, Rule};
-ghost use Rattle.record_tables.specs.Reads.{Named, Pair, ReadsNumber, FitsNumber, ReadsRecord, FitsRecord, ReadsHold, FitsHold, ReadsPair, ReadsClass, ReadsRule, FitsRule};
-ghost use Rattle.record_tables.specs.Typed.{record_of, named_of, pair_of, listed_of, rule_of};
+ghost use Rattle.record_tables.specs.Changes.{ClassEntry, Rule};
+ghost use Rattle.record_tables.specs.Reads.{HoldEntry, Pair, ReadsNumber, FitsNumber, ReadsRecord, FitsRecord, ReadsHold, FitsHold, ReadsPair, ReadsClass, ReadsRule, FitsRule};
+ghost use Rattle.record_tables.specs.CodeRows.{record_of, hold_entry_of, pair_of, class_entry_of, rule_of};
 
 use crate::cells::{flag_at, is_null_at, number_at, text_at};
 use crate::fault::Fault;
@@ -59,9 +59,9 @@ impl FromRow for RecordRow {
 }
 
 impl FromRow for HoldRow {
-    ghost reads = { λ row r. ReadsHold row (named_of r) };
+    ghost reads = { λ row r. ReadsHold row (hold_entry_of r) };
 
-    ghost is_readable = { λ row. (r : Named) × (FitsHold r × ReadsHold row r) };
+    ghost is_readable = { λ row. (r : HoldEntry) × (FitsHold r × ReadsHold row r) };
 
     fn from_row(alloc: Global, row: &Row) -> Result<HoldRow, Fault> {
         let name = text_at(alloc, row, 0)?;
@@ -83,9 +83,9 @@ impl FromRow for SettingRow {
 }
 
 impl FromRow for ClassRow {
-    ghost reads = { λ row r. ReadsClass row (listed_of r) };
+    ghost reads = { λ row r. ReadsClass row (class_entry_of r) };
 
-    ghost is_readable = { λ row. (r : Listed) × ReadsClass row r };
+    ghost is_readable = { λ row. (r : ClassEntry) × ReadsClass row r };
 
     fn from_row(alloc: Global, row: &Row) -> Result<ClassRow, Fault> {
         let path = text_at(alloc, row, 0)?;

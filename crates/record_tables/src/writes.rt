@@ -9,8 +9,8 @@ ghost use Rattle.sqlite_value.specs.Value.{owned};
 ghost use Rattle.sqlite.specs.declared.types.Value.TheVariants.{Text as Words};
 ghost use Rattle.sqlite_typed.specs.Columns.{or_null};
 ghost use Rattle.record_tables.specs.Steps.{PutsIn, KeepsIn, CommitsNothing};
-ghost use Rattle.record_tables.specs.Typed.{rule_of};
-ghost use Rattle.record_tables.specs.Changes.{Always, IsPastMessages, IsPastRecords, IsPastDues, with_message, with_record, with_due, with_hold, with_setting, with_class, with_schedule, without_dues, without_classes, without_schedules, without_settings, without_due, without_message, without_hold, with_destroyed};
+ghost use Rattle.record_tables.specs.CodeRows.{rule_of};
+ghost use Rattle.record_tables.specs.Changes.{Always, IsPastMessages, IsPastRecords, IsPastDues, with_message, with_record, with_due, with_hold, with_setting, with_class, with_schedule, without_dues, without_classes, without_schedules, without_settings, without_due, without_message, without_hold, with_destruction};
 
 use crate::rows::ScheduleRow;
 use sqlite::types::{ToSql, ValueRef};
@@ -255,7 +255,7 @@ pub fn delete_hold<S: Alter>(
 /// Marks the record with a number as destroyed; where there is none, nothing changes.
 pub fn set_destroyed<S: Alter>(tx: &mut Transaction<'_, S>, number: u32) -> Result<(), Error>
     ensures same_reference { tx.new.conn.ghost_name ≡ tx.old.conn.ghost_name }
-    ensures ok { OnOk result (PutsIn S.Store tx.old.conn.now tx.new.conn.now Always (with_destroyed number)) }
+    ensures ok { OnOk result (PutsIn S.Store tx.old.conn.now tx.new.conn.now Always (with_destruction number)) }
     ensures err { KeepsIn S.Store tx.old.conn.now tx.new.conn.now result }
     ensures survives { CommitsNothing S.Store tx.old.conn.now tx.new.conn.now }
 {

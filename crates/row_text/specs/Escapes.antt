@@ -14,8 +14,8 @@ hex_value b =
     else 0
 
 -- what an octet after a backslash means: `n`, `r` and `s` are LF, CR and a space, and any other octet is itself
-abbrev pub escaped : ℕ → ℕ
-escaped b = if b == 110 then 10 else if b == 114 then 13 else if b == 115 then 32 else b
+abbrev pub escape_meaning : ℕ → ℕ
+escape_meaning b = if b == 110 then 10 else if b == 114 then 13 else if b == 115 then 32 else b
 
 abbrev mutual
   -- the octets that a text with escapes means
@@ -26,7 +26,7 @@ abbrev mutual
   -- and a text after a backslash
   pub after_backslash : List ℕ → List ℕ
   after_backslash [] = []
-  after_backslash (b ∷ bs) = if b == 120 then after_x bs else escaped b ∷ unescaped bs
+  after_backslash (b ∷ bs) = if b == 120 then after_x bs else escape_meaning b ∷ unescaped bs
 
   -- and after `\x`: two digits
   pub after_x : List ℕ → List ℕ

@@ -5,7 +5,7 @@
 #![tactic(auto)]
 
 ghost use Rattle.std.specs.Prelude.{◌≡◌, ◌∷◌, ◌++◌, ◌<◌, ◌≤◌, [], length, IfNone, IfSome, IfOk, OnOk};
-ghost use Rattle.row_text.specs.Escapes.{escaped as escaped_of, hex_value as hex_value_of, unescaped};
+ghost use Rattle.row_text.specs.Escapes.{escape_meaning, hex_value as hex_value_of, unescaped};
 
 use std::alloc::{AllocError, Global};
 
@@ -24,7 +24,7 @@ pub fn hex_value(octet: u8) -> u8
 
 /// The octet that an escape of one octet means: `n`, `r` or `s`, or the octet itself.
 fn escaped(octet: u8) -> u8
-    ensures { result ≡ escaped_of octet }
+    ensures { result ≡ escape_meaning octet }
 {
     match octet {
         b'n' => b'\n',

@@ -16,6 +16,10 @@ pub record NamedScript : Type 0 where
   pub name : List ℕ
   pub script : Script
 
+-- a script with its name
+abbrev pub named_script : List ℕ → Script → NamedScript
+named_script name script = record { name = name; script = script }
+
 abbrev pub is_named : List ℕ → NamedScript → Bool
 is_named name e = bytes_eq e.name name
 

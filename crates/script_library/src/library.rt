@@ -4,7 +4,7 @@ ghost use Rattle.std.specs.Prelude.{◌≡◌, ◌↔◌, Err, IsOk, IsSome, OnO
 ghost use Rattle.sieve_meaning.specs.Meaning.{no_library};
 ghost use Rattle.sieve_meaning.specs.Scripts.{is_global};
 ghost use Rattle.script_library.specs.BorrowedShelves.{scripts_of};
-ghost use Rattle.script_library.specs.Libraries.{script_under, with_entry, location_of, library_of, no_scripts, HasNoRoom, IsFoundIn};
+ghost use Rattle.script_library.specs.Libraries.{script_under, named_script, with_entry, location_of, library_of, no_scripts, HasNoRoom, IsFoundIn};
 ghost use Rattle.script_library.specs.declared.fault.LibraryFault.TheVariants.{Full};
 
 use crate::fault::LibraryFault;
@@ -50,8 +50,8 @@ impl Library {
     /// exactly where the name is new and thirty-two scripts are there, and with `NoMemory` (99) only for a new name.
     /// The library is then unchanged.
     pub fn set_personal(&mut self, name: &[u8], script: Rc<Checked>) -> Result<(), LibraryFault>
-        ensures ok { OnOk result (self.new ≡ record self.old { personal = with_entry (record { name = name.now; script = script.value.script }) self.old.personal }) }
-        ensures found { OnOk result (IsFoundIn (record { name = name.now; script = script.value.script }) self.old.personal self.new.personal) }
+        ensures ok { OnOk result (self.new ≡ record self.old { personal = with_entry (named_script name.now script.value.script) self.old.personal }) }
+        ensures found { OnOk result (IsFoundIn (named_script name.now script.value.script) self.old.personal self.new.personal) }
         ensures full { result ≡ Err Full ↔ HasNoRoom self.old.personal name.now }
         ensures replaced { IsSome (script_under name.now self.old.personal) → IsOk result }
         ensures err { OnErr result (self.new ≡ self.old) }
@@ -63,8 +63,8 @@ impl Library {
     /// (96) exactly where the name is new and thirty-two scripts are there, and with `NoMemory` (99) only for a new
     /// name. The library is then unchanged.
     pub fn set_global(&mut self, name: &[u8], script: Rc<Checked>) -> Result<(), LibraryFault>
-        ensures ok { OnOk result (self.new ≡ record self.old { global = with_entry (record { name = name.now; script = script.value.script }) self.old.global }) }
-        ensures found { OnOk result (IsFoundIn (record { name = name.now; script = script.value.script }) self.old.global self.new.global) }
+        ensures ok { OnOk result (self.new ≡ record self.old { global = with_entry (named_script name.now script.value.script) self.old.global }) }
+        ensures found { OnOk result (IsFoundIn (named_script name.now script.value.script) self.old.global self.new.global) }
         ensures full { result ≡ Err Full ↔ HasNoRoom self.old.global name.now }
         ensures replaced { IsSome (script_under name.now self.old.global) → IsOk result }
         ensures err { OnErr result (self.new ≡ self.old) }

@@ -10,12 +10,12 @@ use Rattle.sieve_check.specs.declared.findings.Findings.{Findings}
 use Rattle.sieve_check.specs.Tables.{TagWord, WordForm}
 use Rattle.sieve_check.specs.Pieces.{PieceWord, tagged, positional, is_tagged}
 use Rattle.sieve_check.specs.Rules.{has_kind, stands_twice, has_tag_twice, same_kind, tag_after}
-use Rattle.sieve_check.specs.Findings.{nothing_found, found_with, found_in}
+use Rattle.sieve_check.specs.Findings.{no_findings, findings_with, findings_in}
 
 -- a finding that each piece adds to by itself
-pub any_found : (has : Capability → Bool) (get : Findings → Bool) (test : PieceWord → Bool) → ((f : Findings) (p : PieceWord) → get (found_with has f p) ≡ (get f || test p)) → (f : Findings) (ps : List PieceWord) → get (found_in has f ps) ≡ (get f || list_any test ps)
+pub any_found : (has : Capability → Bool) (get : Findings → Bool) (test : PieceWord → Bool) → ((f : Findings) (p : PieceWord) → get (findings_with has f p) ≡ (get f || test p)) → (f : Findings) (ps : List PieceWord) → get (findings_in has f ps) ≡ (get f || list_any test ps)
 any_found has get test turn f [] = sym (or-false (get f))
-any_found has get test turn f (p ∷ ps) = any_found has get test turn (found_with has f p) ps ∙ ap (λ (b : Bool). b || list_any test ps) (turn f p) ∙ or_assoc (get f) (test p) (list_any test ps)
+any_found has get test turn f (p ∷ ps) = any_found has get test turn (findings_with has f p) ps ∙ ap (λ (b : Bool). b || list_any test ps) (turn f p) ∙ or_assoc (get f) (test p) (list_any test ps)
 
 -- whether a tag comes after a positional argument; the flag tells that one came before these pieces
 after_from : Bool → List PieceWord → Bool
@@ -38,13 +38,13 @@ nothing_after true q = refl
 nothing_after false true = refl
 nothing_after false false = refl
 
-after_found : (has : Capability → Bool) (f : Findings) (ps : List PieceWord) → (found_in has f ps).late_tag ≡ (f.late_tag || after_from f.positional ps)
+after_found : (has : Capability → Bool) (f : Findings) (ps : List PieceWord) → (findings_in has f ps).late_tag ≡ (f.late_tag || after_from f.positional ps)
 after_found has f [] = nothing_after f.late_tag f.positional
-after_found has f (p ∷ ps) = after_found has (found_with has f p) ps ∙ after_turn f.late_tag f.positional p ps
+after_found has f (p ∷ ps) = after_found has (findings_with has f p) ps ∙ after_turn f.late_tag f.positional p ps
 
-pub tag_after_found : (has : Capability → Bool) (ps : List PieceWord) → (found_in has nothing_found ps).late_tag ≡ tag_after ps
+pub tag_after_found : (has : Capability → Bool) (ps : List PieceWord) → (findings_in has no_findings ps).late_tag ≡ tag_after ps
 unfolding after_from
-tag_after_found has ps = after_found has nothing_found ps
+tag_after_found has ps = after_found has no_findings ps
 
 -- whether there is a second tag; the flag tells that one came before these pieces
 second_from : Bool → List PieceWord → Bool
@@ -64,9 +64,9 @@ nothing_second true q = refl
 nothing_second false true = refl
 nothing_second false false = refl
 
-second_found : (has : Capability → Bool) (f : Findings) (ps : List PieceWord) → (found_in has f ps).two_tags ≡ (f.two_tags || second_from f.tag ps)
+second_found : (has : Capability → Bool) (f : Findings) (ps : List PieceWord) → (findings_in has f ps).two_tags ≡ (f.two_tags || second_from f.tag ps)
 second_found has f [] = nothing_second f.two_tags f.tag
-second_found has f (p ∷ ps) = second_found has (found_with has f p) ps ∙ second_turn f.two_tags f.tag p ps
+second_found has f (p ∷ ps) = second_found has (findings_with has f p) ps ∙ second_turn f.two_tags f.tag p ps
 
 -- where there is no tag there is none of a kind
 no_kind : (k : TagKind) (ps : List PieceWord) → list_any is_tagged ps ≡ false → list_any (has_kind k) ps ≡ false
@@ -94,5 +94,5 @@ none_twice : (tags : List TagWord) (ps : List PieceWord) → ((k : TagKind) → 
 none_twice [] ps none = refl
 none_twice (w ∷ ws) ps none = or_from (stands_twice w.kind ps) (list_any (λ w. stands_twice w.kind ps) ws) (none w.kind) (none_twice ws ps none)
 
-pub two_tags_found : (has : Capability → Bool) (form : WordForm) (ps : List PieceWord) → (found_in has nothing_found ps).two_tags ≡ false → has_tag_twice form ps ≡ false
-two_tags_found has form ps none = none_twice form.tags ps (λ k. once_at_most k ps (sym (second_found has nothing_found ps) ∙ none))
+pub two_tags_found : (has : Capability → Bool) (form : WordForm) (ps : List PieceWord) → (findings_in has no_findings ps).two_tags ≡ false → has_tag_twice form ps ≡ false
+two_tags_found has form ps none = none_twice form.tags ps (λ k. once_at_most k ps (sym (second_found has no_findings ps) ∙ none))

@@ -1,7 +1,7 @@
 -- The least of numbers.
 use Rattle.std.proofs.Common.{◌≡◌, ℕ, ◌≤◌, min, true, false, List, [], ◌∷◌, ◌++◌, Option, Some, None, refl, ap, ◌∙◌, sym, arith}
-use Rattle.sieve_check.specs.Rules.{Rule, broken, lesser, least}
-use Rattle.sieve_check.specs.Walk.{first_broken}
+use Rattle.sieve_check.specs.Rules.{Rule, breaches, lesser, least}
+use Rattle.sieve_check.specs.Walk.{first_breach}
 
 pub lesser_none : (a : Option ℕ) → lesser a None ≡ a
 lesser_none None = refl
@@ -29,7 +29,7 @@ from_lower : (m n : ℕ) (rs : List Rule) → m ≤ n → Ascends n rs → Ascen
 from_lower m n [] h a = tt
 from_lower m n (r ∷ rs) h a = (omega (arith, h, a.0), a.1)
 
-lesser_above : (n : ℕ) (rs : List Rule) → Ascends n rs → lesser (Some n) (least (broken rs)) ≡ Some n
+lesser_above : (n : ℕ) (rs : List Rule) → Ascends n rs → lesser (Some n) (least (breaches rs)) ≡ Some n
 lesser_above n [] a = refl
 lesser_above n ((true, m) ∷ rs) a = ap (λ (o : Option ℕ). lesser (Some n) o) (lesser_above m rs a.1) ∙ ap (λ (x : ℕ). Some x) (at_most n m a.0)
   where
@@ -37,7 +37,7 @@ lesser_above n ((true, m) ∷ rs) a = ap (λ (o : Option ℕ). lesser (Some n) o
     at_most n m h = omega arith
 lesser_above n ((false, m) ∷ rs) a = lesser_above n rs (from_lower n m rs a.0 a.1)
 
-pub least_is_first : (low : ℕ) (rs : List Rule) → Ascends low rs → least (broken rs) ≡ first_broken rs
+pub least_is_first : (low : ℕ) (rs : List Rule) → Ascends low rs → least (breaches rs) ≡ first_breach rs
 least_is_first low [] a = refl
 least_is_first low ((true, m) ∷ rs) a = lesser_above m rs a.1
 least_is_first low ((false, m) ∷ rs) a = least_is_first m rs a.1

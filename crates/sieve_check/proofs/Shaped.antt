@@ -22,7 +22,7 @@ use Rattle.sieve_check.specs.Tables.{WordForm, CommandWord, TestWord, command_ta
 use Rattle.sieve_check.specs.Lookup.{same_name, row_where, command_named, test_named}
 use Rattle.sieve_check.specs.Pieces.{pieces, positional_arguments}
 use Rattle.sieve_check.specs.Rules
-use Rattle.sieve_check.specs.Rules.{Placed, Rule, broken, least, lesser, earlier, broken_in_form, broken_in_test, broken_in_place, broken_by_test, broken_by_inner, broken_by_row, broken_by, refusal_from, refusal_of, command_in_order, ending_in_order, in_order, is_block, is_branch, role_of, command_name, takes, has_wrong_tests, has_wrong_ending, lacks_branch, named_by, has_begun, place_rules}
+use Rattle.sieve_check.specs.Rules.{PlacedCommand, Rule, breaches, least, lesser, earlier, form_breaches, test_form_breaches, place_breaches, test_breaches, inner_breaches, row_breaches, command_breaches, refusal_from, refusal_of, command_in_order, ending_in_order, in_order, is_block, is_branch, role_of, command_name, takes, has_wrong_tests, has_wrong_ending, lacks_branch, named_by, has_begun, place_rules}
 use Rattle.sieve_check.specs.Shapes.{Takes, TakesEach, HasTests, HasEnding, HasForm, HasTestRow, TestShape, InnerShape, RowShape, CommandShape, EndingShape, CommandsShape, ShapeLaw, NameLaw, IfLaw, FileintoLaw, HeaderLaw, SizeLaw}
 
 -- ---- nothing is broken
@@ -31,7 +31,7 @@ nothing_before : (xs ys : List ℕ) → xs ++ ys ≡ [] → (xs ≡ []) × (ys �
 nothing_before [] ys h = (refl, h)
 nothing_before (x ∷ xs) ys h = absurd cc
 
-none_broken : (b : Bool) (n : ℕ) (rs : List Rule) → broken ((b, n) ∷ rs) ≡ [] → (b ≡ false) × (broken rs ≡ [])
+none_broken : (b : Bool) (n : ℕ) (rs : List Rule) → breaches ((b, n) ∷ rs) ≡ [] → (b ≡ false) × (breaches rs ≡ [])
 none_broken true n rs h = absurd cc
 none_broken false n rs h = (refl, h)
 
@@ -84,7 +84,7 @@ has_ending true (block cs) h = (cs, refl)
 has_ending false semicolon h = refl
 has_ending false (block cs) h = absurd cc
 
-form_shape : (has : Capability → Bool) (form : WordForm) (args : List Argument) (inner : InnerTests) → broken_in_form has form args inner ≡ [] → HasForm form args inner
+form_shape : (has : Capability → Bool) (form : WordForm) (args : List Argument) (inner : InnerTests) → form_breaches has form args inner ≡ [] → HasForm form args inner
 form_shape has form args inner h =
     let ps = pieces form.tags args in
     let a = none_broken (Rules.lacks_capability has form ps) 34 ((Rules.has_wrong_tag ps, 35) ∷ (Rules.has_tag_twice form ps, 36) ∷ (Rules.has_wrong_arguments form ps, 37) ∷ (list_any Rules.is_unknown_comparator ps, 38) ∷ (has_wrong_tests form.tests inner, 41) ∷ []) h in
@@ -101,30 +101,30 @@ form_shape has form args inner h =
 
 record KnownTest (has : Capability → Bool) (name : List ℕ) (args : List Argument) (inner : InnerTests) : Type 0 where
   row : HasTestRow name args inner
-  inside : broken_by_inner has inner ≡ []
+  inside : inner_breaches has inner ≡ []
 
-test_at : (has : Capability → Bool) (name : List ℕ) (args : List Argument) (inner : InnerTests) (o : Option TestWord) → test_named name ≡ o → broken_in_test has o args inner (broken_by_inner has inner) ≡ [] → KnownTest has name args inner
+test_at : (has : Capability → Bool) (name : List ℕ) (args : List Argument) (inner : InnerTests) (o : Option TestWord) → test_named name ≡ o → test_form_breaches has o args inner (inner_breaches has inner) ≡ [] → KnownTest has name args inner
 test_at has name args inner None e h = absurd cc
 test_at has name args inner (Some w) e h =
-    let n = nothing_before (broken_in_form has w.form args inner) (broken_by_inner has inner) h in
+    let n = nothing_before (form_breaches has w.form args inner) (inner_breaches has inner) h in
     record { row = record { word = w; named = e; form = form_shape has w.form args inner n.0 }; inside = n.1 }
 
 mutual
-  test_shape : (has : Capability → Bool) (t : TestTree) → broken_by_test has t ≡ [] → TestShape t
+  test_shape : (has : Capability → Bool) (t : TestTree) → test_breaches has t ≡ [] → TestShape t
   test_shape has (test name args inner) h = let k = test_at has name args inner (test_named name) refl h in (k.row, inner_shape has inner k.inside)
 
-  inner_shape : (has : Capability → Bool) (inner : InnerTests) → broken_by_inner has inner ≡ [] → InnerShape inner
+  inner_shape : (has : Capability → Bool) (inner : InnerTests) → inner_breaches has inner ≡ [] → InnerShape inner
   inner_shape has no_tests h = tt
   inner_shape has (one_test t) h = test_shape has t h
-  inner_shape has (listed_tests t row) h = let n = nothing_before (broken_by_test has t) (broken_by_row has row) h in (test_shape has t n.0, row_shape has row n.1)
+  inner_shape has (listed_tests t row) h = let n = nothing_before (test_breaches has t) (row_breaches has row) h in (test_shape has t n.0, row_shape has row n.1)
 
-  row_shape : (has : Capability → Bool) (row : TestRow) → broken_by_row has row ≡ [] → RowShape row
+  row_shape : (has : Capability → Bool) (row : TestRow) → row_breaches has row ≡ [] → RowShape row
   row_shape has last_test h = tt
-  row_shape has (next_test t row) h = let n = nothing_before (broken_by_test has t) (broken_by_row has row) h in (test_shape has t n.0, row_shape has row n.1)
+  row_shape has (next_test t row) h = let n = nothing_before (test_breaches has t) (row_breaches has row) h in (test_shape has t n.0, row_shape has row n.1)
 
 -- ---- commands
 
-record Fine (p : Placed) : Type 0 where
+record Fine (p : PlacedCommand) : Type 0 where
   word : CommandWord
   named : p.word ≡ Some word
   form : HasForm word.form p.args p.inner
@@ -132,29 +132,29 @@ record Fine (p : Placed) : Type 0 where
   branch : lacks_branch word.role p.follows_branch ≡ false
   tests : InnerShape p.inner
 
-fine_at : (has : Capability → Bool) (begun : Bool) (p : Placed) (o : Option CommandWord) → p.word ≡ o → broken_in_place has begun o p ≡ [] → Fine p
+fine_at : (has : Capability → Bool) (begun : Bool) (p : PlacedCommand) (o : Option CommandWord) → p.word ≡ o → place_breaches has begun o p ≡ [] → Fine p
 fine_at has begun p None e h = absurd cc
 fine_at has begun p (Some w) e h =
-    let n = nothing_before (broken (place_rules begun w p)) (broken_in_form has w.form p.args p.inner ++ broken_by_inner has p.inner) h in
-    let m = nothing_before (broken_in_form has w.form p.args p.inner) (broken_by_inner has p.inner) n.1 in
+    let n = nothing_before (breaches (place_rules begun w p)) (form_breaches has w.form p.args p.inner ++ inner_breaches has p.inner) h in
+    let m = nothing_before (form_breaches has w.form p.args p.inner) (inner_breaches has p.inner) n.1 in
     let a = none_broken (Rules.is_require w.role && Rules.names_unknown p.args) 30 ((Rules.is_require w.role && begun, 31) ∷ (lacks_branch w.role p.follows_branch, 39) ∷ (has_wrong_ending w.has_block p.has_block, 40) ∷ []) n.0 in
     let b = none_broken (Rules.is_require w.role && begun) 31 ((lacks_branch w.role p.follows_branch, 39) ∷ (has_wrong_ending w.has_block p.has_block, 40) ∷ []) a.1 in
     let d = none_broken (lacks_branch w.role p.follows_branch) 39 ((has_wrong_ending w.has_block p.has_block, 40) ∷ []) b.1 in
     let f = none_broken (has_wrong_ending w.has_block p.has_block) 40 [] d.1 in
     record { word = w; named = e; form = form_shape has w.form p.args p.inner m.0; ending = f.0; branch = d.0; tests = inner_shape has p.inner m.1 }
 
-abbrev EachFine : List Placed → Type 0
+abbrev EachFine : List PlacedCommand → Type 0
 EachFine [] = Unit {0}
 EachFine (p ∷ ps) = Fine p × EachFine ps
 
-each_fine : (before ps : List Placed) → refusal_from before ps ≡ None → EachFine ps
+each_fine : (before ps : List PlacedCommand) → refusal_from before ps ≡ None → EachFine ps
 unfolding refusal_from
 each_fine before [] h = tt
 each_fine before (p ∷ ps) h =
-    let n = none_earlier (least (broken_by before p)) (refusal_from (before ++ p ∷ []) ps) h in
-    (fine_at (named_by before) (has_begun before) p p.word refl (none_least (broken_by before p) n.0), each_fine (before ++ p ∷ []) ps n.1)
+    let n = none_earlier (least (command_breaches before p)) (refusal_from (before ++ p ∷ []) ps) h in
+    (fine_at (named_by before) (has_begun before) p p.word refl (none_least (command_breaches before p) n.0), each_fine (before ++ p ∷ []) ps n.1)
 
-parts_fine : (xs ys : List Placed) → EachFine (xs ++ ys) → EachFine xs × EachFine ys
+parts_fine : (xs ys : List PlacedCommand) → EachFine (xs ++ ys) → EachFine xs × EachFine ys
 parts_fine [] ys h = (tt, h)
 parts_fine (x ∷ xs) ys h = let m = parts_fine xs ys h.1 in ((h.0, m.0), m.1)
 

@@ -8,8 +8,8 @@ use Rattle.sieve_check.specs.declared.context.Context.{Context}
 use Rattle.sieve_check.specs.Lookup.{command_named}
 use Rattle.sieve_check.specs.Tables.{CommandWord}
 use Rattle.sieve_check.specs.Context.{has_of}
-use Rattle.sieve_check.specs.Rules.{Placed, least, broken_in_place, is_require, head_of, command_in_order, ending_in_order, in_order, is_branch, role_of, command_name}
-use Rattle.sieve_check.specs.Walk.{walk, unless, judged, context_after, after_command}
+use Rattle.sieve_check.specs.Rules.{PlacedCommand, least, place_breaches, is_require, head_of, command_in_order, ending_in_order, in_order, is_branch, role_of, command_name}
+use Rattle.sieve_check.specs.Walk.{walk, unless, breach_of, context_after, after_command}
 use Rattle.sieve_check.proofs.Strings.{drop_at}
 
 infixl 10 ◌>>=◌
@@ -21,10 +21,10 @@ unless_bind : (o : Option ℕ) (r : Result Context ℕ) (f : Context → Result 
 unless_bind None r f = refl
 unless_bind (Some n) r f = refl
 
-pub walk_append : (c : Context) (xs ys : List Placed) → walk c (xs ++ ys) ≡ (walk c xs >>= λ d. walk d ys)
+pub walk_append : (c : Context) (xs ys : List PlacedCommand) → walk c (xs ++ ys) ≡ (walk c xs >>= λ d. walk d ys)
 unfolding walk
 walk_append c [] ys = refl
-walk_append c (x ∷ xs) ys = ap (λ (r : Result Context ℕ). unless (judged c x) r) (walk_append (context_after c x) xs ys) ∙ sym (unless_bind (judged c x) (walk (context_after c x) xs) (λ d. walk d ys))
+walk_append c (x ∷ xs) ys = ap (λ (r : Result Context ℕ). unless (breach_of c x) r) (walk_append (context_after c x) xs ys) ∙ sym (unless_bind (breach_of c x) (walk (context_after c x) xs) (λ d. walk d ys))
 
 -- one more command of a block or a script
 pub walk_turn : (items : List Command) (i : ℕ) (x : Command) (known following : Context) (follows branch : Bool) (whole : Result Context ℕ) → i < length items → x ≡ get_or items i x → walk known (in_order follows (commands_of (map command_of (drop i items)))) ≡ whole → Ok following ≡ walk known (command_in_order follows (command_of x)) → branch ≡ is_branch (role_of (command_named (command_name (command_of x)))) → walk following (in_order branch (commands_of (map command_of (drop (i + 1) items)))) ≡ whole
@@ -35,7 +35,7 @@ walk_turn items i x known following follows branch whole lt is h ok eb =
     ∙ ap (λ (xs : List Command). walk known (in_order follows (commands_of (map command_of xs)))) (sym (drop_at items i x lt is))
     ∙ h
   where
-    rest : List Placed
+    rest : List PlacedCommand
     rest = in_order (is_branch (role_of (command_named (command_name (command_of x))))) (commands_of (map command_of (drop (i + 1) items)))
 
 -- the first refusal of a part is that of the whole
@@ -48,7 +48,7 @@ walk_stops items i x known follows n whole lt is h e =
 
 module _ (c : Context) (follows : Bool) (name : List ℕ) (args : List Argument) (inner : InnerTests) (finish : EndingTree) where
   abbrev at_row : Option CommandWord → Option ℕ
-  at_row o = least (broken_in_place (has_of c.named) c.begun o (head_of follows (command name args inner finish)))
+  at_row o = least (place_breaches (has_of c.named) c.begun o (head_of follows (command name args inner finish)))
 
   -- a command that the table does not have
   pub walk_unknown : None ≡ command_named name → Err 32 ≡ walk c (command_in_order follows (command name args inner finish))

@@ -5,12 +5,12 @@ use Rattle.sieve_check.specs.declared.findings.Findings.{Findings}
 use Rattle.sieve_check.specs.Pieces.{PieceWord, is_tagged}
 use Rattle.sieve_check.specs.Rules.{piece_lacks, is_unknown_tag, lacks_string, is_unknown_comparator}
 
-abbrev pub nothing_found : Findings
-nothing_found = record { lacks_capability = false; unknown_tag = false; lacks_string = false; unknown_comparator = false; positional = false; late_tag = false; tag = false; two_tags = false }
+abbrev pub no_findings : Findings
+no_findings = record { lacks_capability = false; unknown_tag = false; lacks_string = false; unknown_comparator = false; positional = false; late_tag = false; tag = false; two_tags = false }
 
 -- these, and what one more piece shows
-abbrev pub found_with : (Capability → Bool) → Findings → PieceWord → Findings
-found_with has f p = record {
+abbrev pub findings_with : (Capability → Bool) → Findings → PieceWord → Findings
+findings_with has f p = record {
   lacks_capability = f.lacks_capability || piece_lacks has p;
   unknown_tag = f.unknown_tag || is_unknown_tag p;
   lacks_string = f.lacks_string || lacks_string p;
@@ -22,6 +22,6 @@ found_with has f p = record {
 }
 
 -- these, and what more pieces show
-abbrev pub found_in : (Capability → Bool) → Findings → List PieceWord → Findings
-found_in has f [] = f
-found_in has f (p ∷ ps) = found_in has (found_with has f p) ps
+abbrev pub findings_in : (Capability → Bool) → Findings → List PieceWord → Findings
+findings_in has f [] = f
+findings_in has f (p ∷ ps) = findings_in has (findings_with has f p) ps

@@ -26,7 +26,7 @@ use Rattle.sieve_check.specs.Pieces.{PieceWord, tagged, positional, pieces, is_t
 -- A command without the commands of its block: its row, if the table has its name; what follows the name; and whether
 -- it ends with a block. The last field says whether the command directly before it, in the same block, is an `if` or
 -- `elsif`.
-pub record Placed : Type 0 where
+pub record PlacedCommand : Type 0 where
   pub word : Option CommandWord
   pub args : List Argument
   pub inner : InnerTests
@@ -68,20 +68,20 @@ is_block semicolon = false
 is_block (block cs) = true
 
 -- The flag says whether the command directly before, in the same block, is an `if` or `elsif`.
-abbrev pub head_of : Bool → CommandTree → Placed
+abbrev pub head_of : Bool → CommandTree → PlacedCommand
 head_of follows (command name args inner finish) = record { word = command_named name; args = args; inner = inner; has_block = is_block finish; follows_branch = follows }
 
 -- the commands in text order: a command comes before those of its block
 abbrev mutual
-  pub command_in_order : Bool → CommandTree → List Placed
+  pub command_in_order : Bool → CommandTree → List PlacedCommand
   command_in_order follows (command name args inner finish) = head_of follows (command name args inner finish) ∷
       ending_in_order finish
 
-  pub ending_in_order : EndingTree → List Placed
+  pub ending_in_order : EndingTree → List PlacedCommand
   ending_in_order semicolon = []
   ending_in_order (block cs) = in_order false cs
 
-  pub in_order : Bool → CommandTrees → List Placed
+  pub in_order : Bool → CommandTrees → List PlacedCommand
   in_order follows no_commands = []
   in_order follows (command_then c cs) = command_in_order follows c ++
       in_order (is_branch (role_of (command_named (command_name c)))) cs
@@ -98,11 +98,11 @@ abbrev pub strings_in : List Argument → List (List ℕ)
 strings_in = flat_map argument_strings
 
 -- whether this is a `require` that names the capability
-abbrev pub requires : Placed → Capability → Bool
+abbrev pub requires : PlacedCommand → Capability → Bool
 requires p c = is_require (role_of p.word) && list_any (λ s. names s c) (strings_in p.args)
 
 -- the capabilities that the commands before name in a `require`
-abbrev pub named_by : List Placed → Capability → Bool
+abbrev pub named_by : List PlacedCommand → Capability → Bool
 named_by before c = list_any (λ p. requires p c) before
 
 -- ---- the rules
@@ -112,7 +112,7 @@ abbrev pub names_unknown : List Argument → Bool
 names_unknown args = list_any (λ s. is_none (capability_named s)) (strings_in args)
 
 -- 31: a `require` comes after a command other than `require`, wherever that one is (RFC 5228, section 3.2).
-abbrev pub has_begun : List Placed → Bool
+abbrev pub has_begun : List PlacedCommand → Bool
 has_begun = list_any (λ p. not (is_require (role_of p.word)))
 
 -- 34: a capability that the command, or one of its tags, needs is named in no `require` before it (RFC 5228,
@@ -239,9 +239,9 @@ has_wrong_tests wanted inner = not (same_tests wanted (tests_there inner))
 abbrev pub Rule : Type 0
 Rule = Bool × ℕ
 
-abbrev pub broken : List Rule → List ℕ
-broken [] = []
-broken (r ∷ rs) = if r.0 then r.1 ∷ broken rs else broken rs
+abbrev pub breaches : List Rule → List ℕ
+breaches [] = []
+breaches (r ∷ rs) = if r.0 then r.1 ∷ breaches rs else breaches rs
 
 -- the rules on what follows a name of the table, without the tests inside
 abbrev pub form_rules : (Capability → Bool) → WordForm → List PieceWord → InnerTests → List Rule
@@ -249,44 +249,44 @@ form_rules has form ps inner = (lacks_capability has form ps, 34) ∷ (has_wrong
     (has_tag_twice form ps, 36) ∷ (has_wrong_arguments form ps, 37) ∷ (list_any is_unknown_comparator ps, 38) ∷
     (has_wrong_tests form.tests inner, 41) ∷ []
 
-abbrev pub broken_in_form : (Capability → Bool) → WordForm → List Argument → InnerTests → List ℕ
-broken_in_form has form args inner = broken (form_rules has form (pieces form.tags args) inner)
+abbrev pub form_breaches : (Capability → Bool) → WordForm → List Argument → InnerTests → List ℕ
+form_breaches has form args inner = breaches (form_rules has form (pieces form.tags args) inner)
 
 -- 33: an unknown test (RFC 5228, section 2.10.5). Nothing else of it is judged, nor the tests inside it.
-abbrev pub broken_in_test : (Capability → Bool) → Option TestWord → List Argument → InnerTests → List ℕ → List ℕ
-broken_in_test has None args inner inside = 33 ∷ []
-broken_in_test has (Some w) args inner inside = broken_in_form has w.form args inner ++ inside
+abbrev pub test_form_breaches : (Capability → Bool) → Option TestWord → List Argument → InnerTests → List ℕ → List ℕ
+test_form_breaches has None args inner inside = 33 ∷ []
+test_form_breaches has (Some w) args inner inside = form_breaches has w.form args inner ++ inside
 
 -- for a test, with the tests inside it at any depth
 abbrev mutual
-  pub broken_by_test : (Capability → Bool) → TestTree → List ℕ
-  broken_by_test has (test name args inner) = broken_in_test has (test_named name) args inner
-      (broken_by_inner has inner)
+  pub test_breaches : (Capability → Bool) → TestTree → List ℕ
+  test_breaches has (test name args inner) = test_form_breaches has (test_named name) args inner
+      (inner_breaches has inner)
 
-  pub broken_by_inner : (Capability → Bool) → InnerTests → List ℕ
-  broken_by_inner has no_tests = []
-  broken_by_inner has (one_test t) = broken_by_test has t
-  broken_by_inner has (listed_tests t row) = broken_by_test has t ++ broken_by_row has row
+  pub inner_breaches : (Capability → Bool) → InnerTests → List ℕ
+  inner_breaches has no_tests = []
+  inner_breaches has (one_test t) = test_breaches has t
+  inner_breaches has (listed_tests t row) = test_breaches has t ++ row_breaches has row
 
-  pub broken_by_row : (Capability → Bool) → TestRow → List ℕ
-  broken_by_row has last_test = []
-  broken_by_row has (next_test t row) = broken_by_test has t ++ broken_by_row has row
+  pub row_breaches : (Capability → Bool) → TestRow → List ℕ
+  row_breaches has last_test = []
+  row_breaches has (next_test t row) = test_breaches has t ++ row_breaches has row
 
 -- the rules on the place of a command, on what a `require` names and on how a command ends
-abbrev pub place_rules : Bool → CommandWord → Placed → List Rule
+abbrev pub place_rules : Bool → CommandWord → PlacedCommand → List Rule
 place_rules begun w p = (is_require w.role && names_unknown p.args, 30) ∷ (is_require w.role && begun, 31) ∷
     (lacks_branch w.role p.follows_branch, 39) ∷ (has_wrong_ending w.has_block p.has_block, 40) ∷ []
 
 -- 32: an unknown command (RFC 5228, section 2.10.5). Nothing else of it is judged. `has` tells the capabilities named
 -- before, and `begun` whether a command other than `require` comes before.
-abbrev pub broken_in_place : (Capability → Bool) → Bool → Option CommandWord → Placed → List ℕ
-broken_in_place has begun None p = 32 ∷ []
-broken_in_place has begun (Some w) p = broken (place_rules begun w p) ++
-    (broken_in_form has w.form p.args p.inner ++ broken_by_inner has p.inner)
+abbrev pub place_breaches : (Capability → Bool) → Bool → Option CommandWord → PlacedCommand → List ℕ
+place_breaches has begun None p = 32 ∷ []
+place_breaches has begun (Some w) p = breaches (place_rules begun w p) ++
+    (form_breaches has w.form p.args p.inner ++ inner_breaches has p.inner)
 
 -- the numbers of the rules that a command breaks after these commands
-abbrev pub broken_by : List Placed → Placed → List ℕ
-broken_by before p = broken_in_place (named_by before) (has_begun before) p.word p
+abbrev pub command_breaches : List PlacedCommand → PlacedCommand → List ℕ
+command_breaches before p = place_breaches (named_by before) (has_begun before) p.word p
 
 -- ---- the refusal
 
@@ -304,9 +304,9 @@ earlier None later = later
 earlier (Some n) later = Some n
 
 -- the least number of the first command that breaks a rule
-unfoldable pub refusal_from : List Placed → List Placed → Option ℕ
+unfoldable pub refusal_from : List PlacedCommand → List PlacedCommand → Option ℕ
 refusal_from before [] = None
-refusal_from before (p ∷ ps) = earlier (least (broken_by before p)) (refusal_from (before ++ p ∷ []) ps)
+refusal_from before (p ∷ ps) = earlier (least (command_breaches before p)) (refusal_from (before ++ p ∷ []) ps)
 
 -- The refusal of a script: the least number of the rules that the first faulty command breaks, in text order, or
 -- None where no command breaks a rule (RFC 5228, section 2.10.6: a faulty script is refused as a whole).

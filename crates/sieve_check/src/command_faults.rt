@@ -8,15 +8,15 @@ ghost use Rattle.sieve_syntax.specs.View.{test_of, inner_of, command_of, ending_
 ghost use Rattle.sieve_check.specs.Context.{has_of};
 ghost use Rattle.sieve_check.specs.Faults.{number_of};
 ghost use Rattle.sieve_check.specs.Pieces.{pieces};
-ghost use Rattle.sieve_check.specs.Rules.{lesser, least, form_rules, broken_by_test, broken_by_inner, place_rules, broken_in_place, head_of, is_block, has_wrong_ending};
+ghost use Rattle.sieve_check.specs.Rules.{lesser, least, form_rules, test_breaches, inner_breaches, place_rules, place_breaches, head_of, is_block, has_wrong_ending};
 ghost use Rattle.sieve_check.specs.Views.{form_view, command_view};
-ghost use Rattle.sieve_check.specs.Walk.{first_broken};
+ghost use Rattle.sieve_check.specs.Walk.{first_breach};
 
+use crate::capability_set::CapabilitySet;
 use crate::context::{Context, names_unknown};
 use crate::fault::CheckFault;
 use crate::findings::gather;
 use crate::lookup::find_test;
-use crate::named::Named;
 use crate::rules::has_wrong_tests;
 use crate::table::{CommandRow, Form};
 use sieve_syntax::{Arguments, Command, Ending, Test, Tests};
@@ -33,9 +33,14 @@ fn lesser(fault: Option<CheckFault>, other: Option<CheckFault>) -> Option<CheckF
 }
 
 /// The least rule that is broken by what follows a name, without the inner tests.
-fn form_fault(named: Named, form: &Form, arguments: &Arguments, tests: &Tests) -> Option<CheckFault>
+fn form_fault(
+    named: CapabilitySet,
+    form: &Form,
+    arguments: &Arguments,
+    tests: &Tests,
+) -> Option<CheckFault>
     ensures { option_map number_of result ≡
-        first_broken (form_rules (has_of named) (form_view form.now) (pieces (form_view form.now).tags arguments.now)
+        first_breach (form_rules (has_of named) (form_view form.now) (pieces (form_view form.now).tags arguments.now)
         (inner_of tests.now)) }
 {
     let found = gather(named, form, arguments);
@@ -58,8 +63,8 @@ fn form_fault(named: Named, form: &Form, arguments: &Arguments, tests: &Tests) -
 
 /// The least rule that a test breaks, or one of the tests inside it.
 #[cycle(judging)]
-fn test_fault(test: &Test, named: Named) -> Option<CheckFault>
-    ensures { option_map number_of result ≡ least (broken_by_test (has_of named) (test_of test.now)) }
+fn test_fault(test: &Test, named: CapabilitySet) -> Option<CheckFault>
+    ensures { option_map number_of result ≡ least (test_breaches (has_of named) (test_of test.now)) }
 {
     match find_test(test.name.as_slice()) {
         None => Some(CheckFault::UnknownTest),
@@ -72,8 +77,8 @@ fn test_fault(test: &Test, named: Named) -> Option<CheckFault>
 
 /// The least rule that one of the tests breaks.
 #[cycle(judging)]
-fn tests_fault(tests: &Tests, named: Named) -> Option<CheckFault>
-    ensures { option_map number_of result ≡ least (broken_by_inner (has_of named) (inner_of tests.now)) }
+fn tests_fault(tests: &Tests, named: CapabilitySet) -> Option<CheckFault>
+    ensures { option_map number_of result ≡ least (inner_breaches (has_of named) (inner_of tests.now)) }
 {
     match tests {
         Tests::None => None,
@@ -114,7 +119,7 @@ fn place_fault(
     follows_branch: bool,
 ) -> Option<CheckFault>
     ensures { option_map number_of result ≡
-        first_broken (place_rules context.begun (command_view row.now)
+        first_breach (place_rules context.begun (command_view row.now)
         (head_of follows_branch (command_of command.now))) }
 {
     if row.role.is_require() && names_unknown(&command.arguments) {
@@ -138,7 +143,7 @@ pub fn command_fault(
     follows_branch: bool,
 ) -> Option<CheckFault>
     ensures { option_map number_of result ≡
-        least (broken_in_place (has_of context.named) context.begun (Some (command_view row.now))
+        least (place_breaches (has_of context.named) context.begun (Some (command_view row.now))
         (head_of follows_branch (command_of command.now))) }
 {
     let place = place_fault(context, row, command, follows_branch);

@@ -7,15 +7,15 @@ ghost use Rattle.sieve_check.specs.Lookup.{capability_named};
 ghost use Rattle.sieve_check.specs.Rules.{argument_strings, names_unknown};
 ghost use Rattle.sieve_check.specs.Walk.{after_command, start};
 
+use crate::capability_set::CapabilitySet;
 use crate::lookup::find_capability;
-use crate::named::Named;
 use sieve_syntax::{Argument, Arguments, Text};
 
 /// What is known from the commands before a command.
 #[derive(Clone, Copy)]
 pub struct Context {
     /// The capabilities that their `require`s name.
-    pub named: Named,
+    pub named: CapabilitySet,
     /// Whether one of them is not a `require`.
     pub begun: bool,
 }
@@ -26,7 +26,7 @@ impl Context {
         ensures { result ≡ start }
     {
         Context {
-            named: Named::nothing(),
+            named: CapabilitySet::nothing(),
             begun: false,
         }
     }

@@ -3,13 +3,13 @@
 ghost use Rattle.std.specs.Prelude.{◌≡◌, false, ◌||◌};
 ghost use Rattle.std.specs.List.{list_any};
 ghost use Rattle.sieve_check.specs.Context.{has_of};
-ghost use Rattle.sieve_check.specs.Findings.{nothing_found, found_with, found_in};
+ghost use Rattle.sieve_check.specs.Findings.{no_findings, findings_with, findings_in};
 ghost use Rattle.sieve_check.specs.Pieces.{pieces};
 ghost use Rattle.sieve_check.specs.PieceViews.{piece_view};
 ghost use Rattle.sieve_check.specs.Rules.{piece_lacks, has_wrong_tag, has_tag_twice, lacks_string, is_unknown_comparator};
 ghost use Rattle.sieve_check.specs.Views.{form_view};
 
-use crate::named::Named;
+use crate::capability_set::CapabilitySet;
 use crate::pieces::{Piece, Pieces};
 use crate::table::Form;
 use sieve_syntax::Arguments;
@@ -37,7 +37,7 @@ pub struct Findings {
 
 impl Findings {
     fn nothing() -> Findings
-        ensures { result ≡ nothing_found }
+        ensures { result ≡ no_findings }
     {
         Findings {
             lacks_capability: false,
@@ -52,8 +52,8 @@ impl Findings {
     }
 
     /// These, with what another piece shows.
-    fn with(self, named: Named, piece: Piece<'_>) -> Findings
-        ensures { result ≡ found_with (has_of named) self (piece_view piece.entry) }
+    fn with(self, named: CapabilitySet, piece: Piece<'_>) -> Findings
+        ensures { result ≡ findings_with (has_of named) self (piece_view piece.entry) }
     {
         let is_tag = piece.is_tag();
         Findings {
@@ -70,8 +70,8 @@ impl Findings {
 }
 
 /// What all pieces show.
-fn go_over(named: Named, form: &Form, arguments: &Arguments) -> Findings
-    ensures { result ≡ found_in (has_of named) nothing_found (pieces (form_view form.now).tags arguments.now) }
+fn go_over(named: CapabilitySet, form: &Form, arguments: &Arguments) -> Findings
+    ensures { result ≡ findings_in (has_of named) no_findings (pieces (form_view form.now).tags arguments.now) }
 {
     let mut found = Findings::nothing();
     for piece in Pieces::new(form, arguments) {
@@ -82,7 +82,7 @@ fn go_over(named: Named, form: &Form, arguments: &Arguments) -> Findings
 
 /// What the pieces of arguments show after a name of this form, given the named capabilities. Fewer than two tags are
 /// never two of one kind.
-pub fn gather(named: Named, form: &Form, arguments: &Arguments) -> Findings
+pub fn gather(named: CapabilitySet, form: &Form, arguments: &Arguments) -> Findings
     ensures capability { result.lacks_capability ≡
         list_any (piece_lacks (has_of named)) (pieces (form_view form.now).tags arguments.now) }
     ensures tag { (result.unknown_tag || result.late_tag) ≡

@@ -10,7 +10,7 @@
 //! - `pieces`: arguments, each tag with its string;
 //! - `findings`: what one pass over the pieces shows;
 //! - `rules`: one function for each rule on what follows a name;
-//! - `named` and `context`: what is known from the commands before a command;
+//! - `capability_set` and `context`: what is known from the commands before a command;
 //! - `command_faults`: the least rule that a command breaks;
 //! - `walk`: the first faulty command;
 //! - `checked`: the check, and the scripts that passed it.
@@ -20,11 +20,13 @@
 //! Add its row to `COMMANDS` or `TESTS` in `table.rt`, and the same row to `command_table` or `test_table` in
 //! `specs/Tables.antt`; a tag is a row among the `tags` of its command or test. A tag of a new kind needs a variant of
 //! `TagKind` with its place in `kind_place` (`specs/Rules.antt`). A new capability needs a variant of `Capability`, its
-//! rows in `CAPABILITIES` and `capability_table`, its place in `capability_place`, its field in `Named` with the cases
-//! of that in `specs/Context.antt`, and the cases of `has_with` in `proofs/Known.antt`. No other function, definition
-//! or proof of the rules names a command, so nothing else changes, unless the command brings a rule of its own.
+//! rows in `CAPABILITIES` and `capability_table`, its place in `capability_place`, its field in `CapabilitySet` with the
+//! cases of that in `specs/Context.antt`, and the cases of `has_with` in `proofs/Known.antt`. No other function,
+//! definition or proof of the rules names a command, so nothing else changes, unless the command brings a rule of its
+//! own.
 #![tactic(auto)]
 
+mod capability_set;
 mod checked;
 mod command_faults;
 mod context;
@@ -32,7 +34,6 @@ mod fault;
 mod findings;
 mod laws;
 mod lookup;
-mod named;
 mod pieces;
 mod rules;
 mod table;

@@ -11,15 +11,15 @@ ghost use Rattle.sieve_check.specs.Lookup.{same_text};
 ghost use Rattle.sieve_check.specs.Tables.{comparator_table};
 ghost use Rattle.sieve_syntax.specs.View.{inner_of};
 
+use crate::capability_set::CapabilitySet;
 use crate::findings::Findings;
 use crate::lookup::is_same_text;
-use crate::named::Named;
 use crate::pieces::{Piece, Pieces};
 use crate::table::{Capability, Form, TagKind, TestsForm, comparators};
 use sieve_syntax::{Arguments, Tests};
 
 /// Whether a capability is needed that is not named.
-fn lacks(named: Named, needs: Option<Capability>) -> bool
+fn lacks(named: CapabilitySet, needs: Option<Capability>) -> bool
     ensures { result ≡ lacks (has_of named) needs }
 {
     match needs {
@@ -30,7 +30,7 @@ fn lacks(named: Named, needs: Option<Capability>) -> bool
 
 impl<'a> Piece<'a> {
     /// Whether it is a tag whose capability is not named.
-    pub fn lacks_capability(self, named: Named) -> bool
+    pub fn lacks_capability(self, named: CapabilitySet) -> bool
         ensures { result ≡ piece_lacks (has_of named) (piece_view self.entry) }
     {
         match self {
@@ -153,7 +153,7 @@ fn lacks_tag(form: &Form, arguments: &Arguments) -> bool
 
 impl Findings {
     /// 34: whether the command or one of its tags needs a capability that is not named.
-    pub fn lacks_capability(self, named: Named, form: &Form) -> bool
+    pub fn lacks_capability(self, named: CapabilitySet, form: &Form) -> bool
         ensures { result ≡ (lacks (has_of named) (form_view form.now).needs || self.lacks_capability) }
     {
         lacks(named, form.needs) || self.lacks_capability

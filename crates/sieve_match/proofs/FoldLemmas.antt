@@ -6,7 +6,7 @@ use Rattle.std.proofs.lemmas.Bool.Decides.{nat_tests, same_from_decides}
 use Rattle.std.proofs.lemmas.Slice.Eq.{bytes_eq-Decides}
 use Rattle.sieve_meaning.specs.declared.matching.Comparator.{Comparator}
 use Rattle.sieve_meaning.specs.declared.matching.Comparator.TheVariants.{Octet, Casemap}
-use Rattle.sieve_meaning.specs.Matching.{folded, fold, equals, contains, Contains, IsEqualUnder}
+use Rattle.sieve_meaning.specs.Matching.{fold_octet, fold, equals, contains, Contains, IsEqualUnder}
 use Rattle.sieve_meaning.proofs.MatchingLemmas.{equals_decided, contains_decided}
 
 -- `i;octet` compares texts as they are
@@ -14,10 +14,10 @@ pub fold-octet : (text : List ℕ) → fold Octet text ≡ text
 fold-octet [] = refl
 fold-octet (b ∷ bs) = ap (λ (t : List ℕ). b ∷ t) (fold-octet bs)
 
-upper_of_lower : (b : ℕ) → folded Casemap (to_ascii_lowercase b) ≡ folded Casemap b
+upper_of_lower : (b : ℕ) → fold_octet Casemap (to_ascii_lowercase b) ≡ fold_octet Casemap b
 upper_of_lower b = grind (arith, nat_tests)
 
-lower_of_upper : (b : ℕ) → to_ascii_lowercase (folded Casemap b) ≡ to_ascii_lowercase b
+lower_of_upper : (b : ℕ) → to_ascii_lowercase (fold_octet Casemap b) ≡ to_ascii_lowercase b
 lower_of_upper b = grind (arith, nat_tests)
 
 fold_of_lower : (text : List ℕ) → fold Casemap (map to_ascii_lowercase text) ≡ fold Casemap text

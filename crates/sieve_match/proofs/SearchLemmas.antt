@@ -9,7 +9,7 @@ use Rattle.sieve_meaning.specs.declared.matching.Comparator.{Comparator}
 use Rattle.sieve_meaning.specs.declared.matching.Item.{Item}
 use Rattle.sieve_meaning.specs.declared.matching.Item.TheVariants.{Octet, One, Any}
 use Rattle.sieve_meaning.proofs.MatchingLemmas.{covers_to, covers_from}
-use Rattle.sieve_meaning.specs.Matching.{covers, folded, item_of, items_from, items_of, Matches}
+use Rattle.sieve_meaning.specs.Matching.{covers, fold_octet, item_of, items_from, items_of, Matches}
 use Rattle.sieve_match.proofs.FoldLemmas.{nil_from_length}
 use Rattle.sieve_match.specs.Steps.{compared_length, octet_count, Turn, ends, star, goes, stuck, turn_of}
 
@@ -58,7 +58,7 @@ stuck_is : (c : Comparator) (items : List Item) (rest : List ℕ) → turn_of c 
 stuck_is c [] [] e m = cc
 stuck_is c [] (b ∷ bs) e m = m
 stuck_is c (Octet o ∷ is) [] e m = m
-stuck_is c (Octet o ∷ is) (b ∷ bs) e m = elim (chosen (eqb (folded c o) (folded c b)) (goes is bs) stuck stuck e) [ inl h ↦ absurd (apart h.1) | inr h ↦ absurd (not_same _ _ h.0 m.0) ]
+stuck_is c (Octet o ∷ is) (b ∷ bs) e m = elim (chosen (eqb (fold_octet c o) (fold_octet c b)) (goes is bs) stuck stuck e) [ inl h ↦ absurd (apart h.1) | inr h ↦ absurd (not_same _ _ h.0 m.0) ]
   where
     apart : goes is bs ≡ stuck → ⊥
     apart x = cc
@@ -73,7 +73,7 @@ pub ends_is : (c : Comparator) (items : List Item) (rest : List ℕ) → turn_of
 ends_is c [] [] e = (refl, refl)
 ends_is c [] (b ∷ bs) e = absurd cc
 ends_is c (Octet o ∷ is) [] e = absurd cc
-ends_is c (Octet o ∷ is) (b ∷ bs) e = elim (chosen (eqb (folded c o) (folded c b)) (goes is bs) stuck ends e) [ inl h ↦ absurd cc | inr h ↦ absurd cc ]
+ends_is c (Octet o ∷ is) (b ∷ bs) e = elim (chosen (eqb (fold_octet c o) (fold_octet c b)) (goes is bs) stuck ends e) [ inl h ↦ absurd cc | inr h ↦ absurd cc ]
 ends_is c (One ∷ is) [] e = absurd cc
 ends_is c (One ∷ is) (b ∷ bs) e = absurd cc
 ends_is c (Any ∷ is) text e = absurd cc
@@ -82,7 +82,7 @@ pub star_is : (c : Comparator) (items : List Item) (rest : List ℕ) (next : Lis
 star_is c [] [] next e = absurd cc
 star_is c [] (b ∷ bs) next e = absurd cc
 star_is c (Octet o ∷ is) [] next e = absurd cc
-star_is c (Octet o ∷ is) (b ∷ bs) next e = elim (chosen (eqb (folded c o) (folded c b)) (goes is bs) stuck (star next) e) [ inl h ↦ absurd cc | inr h ↦ absurd cc ]
+star_is c (Octet o ∷ is) (b ∷ bs) next e = elim (chosen (eqb (fold_octet c o) (fold_octet c b)) (goes is bs) stuck (star next) e) [ inl h ↦ absurd cc | inr h ↦ absurd cc ]
 star_is c (One ∷ is) [] next e = absurd cc
 star_is c (One ∷ is) (b ∷ bs) next e = absurd cc
 star_is c (Any ∷ is) text next e = cc
@@ -107,7 +107,7 @@ one_tail c is (x ∷ xs) m = m
 drop_both : (n b : ℕ) (bs : List ℕ) → drop 1 (drop n (b ∷ bs)) ≡ drop n bs
 drop_both n b bs = drop-drop 1 n (b ∷ bs) ∙ rw (add-one n) refl
 
-goes_made : (c : Comparator) (o b : ℕ) (is : List Item) (bs : List ℕ) → folded c o ≡ folded c b → Goes c (Octet o ∷ is) (b ∷ bs) is bs
+goes_made : (c : Comparator) (o b : ℕ) (is : List Item) (bs : List ℕ) → fold_octet c o ≡ fold_octet c b → Goes c (Octet o ∷ is) (b ∷ bs) is bs
 goes_made c o b is bs h = record {
   ahead = λ n m. subst (λ (t : List ℕ). Matches c is t) (drop_both n b bs) (octet_tail c o is (drop n (b ∷ bs)) m);
   back = λ m. (h, m);
@@ -137,7 +137,7 @@ goes_is : (c : Comparator) (items : List Item) (rest : List ℕ) (next : List It
 goes_is c [] [] next following e = absurd cc
 goes_is c [] (b ∷ bs) next following e = absurd cc
 goes_is c (Octet o ∷ is) [] next following e = absurd cc
-goes_is c (Octet o ∷ is) (b ∷ bs) next following e = elim (chosen (eqb (folded c o) (folded c b)) (goes is bs) stuck (goes next following) e) [ inl h ↦ moved c (Octet o ∷ is) (b ∷ bs) is next bs following (goes_made c o b is bs (eqb-true _ _ h.0)) h.1 | inr h ↦ absurd cc ]
+goes_is c (Octet o ∷ is) (b ∷ bs) next following e = elim (chosen (eqb (fold_octet c o) (fold_octet c b)) (goes is bs) stuck (goes next following) e) [ inl h ↦ moved c (Octet o ∷ is) (b ∷ bs) is next bs following (goes_made c o b is bs (eqb-true _ _ h.0)) h.1 | inr h ↦ absurd cc ]
 goes_is c (One ∷ is) [] next following e = absurd cc
 goes_is c (One ∷ is) (b ∷ bs) next following e = moved c (One ∷ is) (b ∷ bs) is next bs following (one_made c b is bs) e
 goes_is c (Any ∷ is) text next following e = absurd cc

@@ -4,7 +4,7 @@ use Rattle.std.specs.Borrow.{Bor}
 use Rattle.sieve_meaning.specs.declared.matching.Comparator.{Comparator}
 use Rattle.sieve_meaning.specs.declared.matching.Item.{Item}
 use Rattle.sieve_meaning.specs.declared.matching.Item.TheVariants.{Octet, One, Any}
-use Rattle.sieve_meaning.specs.Matching.{folded, items_of}
+use Rattle.sieve_meaning.specs.Matching.{fold_octet, items_of}
 use Rattle.sieve_match.specs.Search.{Trial, covered, to_star, misfit, trial, comparisons, Search, covers_all, at_star, at_front, at_end, next_place}
 use Rattle.sieve_match.specs.Steps.{compared_length, ends, star, goes, stuck, turn_of}
 use Rattle.sieve_match.proofs.FoldLemmas.{nil_from_length}
@@ -56,7 +56,7 @@ record SameTry (c : Comparator) (items : List Item) (rest : List ℕ) (next : Li
   trial_is : trial c items rest ≡ trial c next following
   count_is : comparisons c items rest ≡ compared_length items rest + comparisons c next following
 
-octet_goes : (c : Comparator) (o b : ℕ) (is next : List Item) (bs following : List ℕ) (t : Bool) → eqb (folded c o) (folded c b) ≡ t → cond t (goes is bs) stuck ≡ goes next following → SameTry c (Octet o ∷ is) (b ∷ bs) next following
+octet_goes : (c : Comparator) (o b : ℕ) (is next : List Item) (bs following : List ℕ) (t : Bool) → eqb (fold_octet c o) (fold_octet c b) ≡ t → cond t (goes is bs) stuck ≡ goes next following → SameTry c (Octet o ∷ is) (b ∷ bs) next following
 octet_goes c o b is next bs following true e f = let i : is ≡ next = cc in let r : bs ≡ following = cc in rw (← i, ← r) (record { trial_is = rw e refl; count_is = rw e (omega arith) })
 octet_goes c o b is next bs following false e f = absurd cc
 
@@ -64,7 +64,7 @@ goes_on : (c : Comparator) (items : List Item) (rest : List ℕ) (next : List It
 goes_on c [] [] next following e = absurd cc
 goes_on c [] (b ∷ bs) next following e = absurd cc
 goes_on c (Octet o ∷ is) [] next following e = absurd cc
-goes_on c (Octet o ∷ is) (b ∷ bs) next following e = octet_goes c o b is next bs following (eqb (folded c o) (folded c b)) refl e
+goes_on c (Octet o ∷ is) (b ∷ bs) next following e = octet_goes c o b is next bs following (eqb (fold_octet c o) (fold_octet c b)) refl e
 goes_on c (One ∷ is) [] next following e = absurd cc
 goes_on c (One ∷ is) (b ∷ bs) next following e = let i : is ≡ next = cc in let r : bs ≡ following = cc in rw (← i, ← r) (record { trial_is = refl; count_is = omega arith })
 goes_on c (Any ∷ is) text next following e = absurd cc
@@ -74,7 +74,7 @@ record EndsTry (c : Comparator) (items : List Item) (rest : List ℕ) (t : Trial
   trial_is : trial c items rest ≡ t
   count_is : comparisons c items rest ≡ compared_length items rest
 
-octet_stuck : (c : Comparator) (o b : ℕ) (is : List Item) (bs : List ℕ) (t : Bool) → eqb (folded c o) (folded c b) ≡ t → cond t (goes is bs) stuck ≡ stuck → EndsTry c (Octet o ∷ is) (b ∷ bs) misfit
+octet_stuck : (c : Comparator) (o b : ℕ) (is : List Item) (bs : List ℕ) (t : Bool) → eqb (fold_octet c o) (fold_octet c b) ≡ t → cond t (goes is bs) stuck ≡ stuck → EndsTry c (Octet o ∷ is) (b ∷ bs) misfit
 octet_stuck c o b is bs true e f = absurd cc
 octet_stuck c o b is bs false e f = record { trial_is = rw e refl; count_is = rw e refl }
 
@@ -82,7 +82,7 @@ misfits : (c : Comparator) (items : List Item) (rest : List ℕ) → turn_of c i
 misfits c [] [] e = absurd cc
 misfits c [] (b ∷ bs) e = record { trial_is = refl; count_is = refl }
 misfits c (Octet o ∷ is) [] e = record { trial_is = refl; count_is = refl }
-misfits c (Octet o ∷ is) (b ∷ bs) e = octet_stuck c o b is bs (eqb (folded c o) (folded c b)) refl e
+misfits c (Octet o ∷ is) (b ∷ bs) e = octet_stuck c o b is bs (eqb (fold_octet c o) (fold_octet c b)) refl e
 misfits c (One ∷ is) [] e = record { trial_is = refl; count_is = refl }
 misfits c (One ∷ is) (b ∷ bs) e = absurd cc
 misfits c (Any ∷ is) text e = absurd cc

@@ -12,7 +12,7 @@ use Rattle.memchr.proofs.lemmas.FindLemmas.{Nowhere-then}
 use Rattle.memchr.proofs.lemmas.SearchLemmas.{Nowhere-right, Nowhere-left, known-next, IsShift-large, IsShift-small}
 use Rattle.sieve_meaning.specs.declared.matching.Comparator.{Comparator}
 use Rattle.sieve_meaning.specs.declared.matching.Comparator.TheVariants.{Casemap}
-use Rattle.sieve_meaning.specs.Matching.{folded, fold, Contains}
+use Rattle.sieve_meaning.specs.Matching.{fold_octet, fold, Contains}
 use Rattle.sieve_match.specs.declared.two_way.Order.{Order}
 use Rattle.sieve_match.specs.declared.two_way.Order.TheVariants.{Rising, Falling}
 use Rattle.sieve_match.specs.declared.two_way.Plan.{Plan}
@@ -46,24 +46,24 @@ module _ (x : ℕ → ℕ) (m : ℕ) (p : Plan) (rare : p.rare < m) where
       record { below = h.below; critical = h.critical; some = s.0; fits = s.1; short = s.2; kept = inl kept; rare = rare }
 
 -- an octet that is equal to another as they are compared is that octet in one of its cases
-either_case : (b o : ℕ) → folded Casemap b ≡ folded Casemap o → (eqb b (to_ascii_uppercase o) || eqb b (to_ascii_lowercase o)) ≡ true
+either_case : (b o : ℕ) → fold_octet Casemap b ≡ fold_octet Casemap o → (eqb b (to_ascii_uppercase o) || eqb b (to_ascii_lowercase o)) ≡ true
 either_case b o e = grind (arith, nat_tests)
 
 -- a text as it is compared reads as its octets do
 read_fold : (text : List ℕ) (k : ℕ) → slice_index (fold Casemap text) k ≡ folded_octet text k
 unfolding folded_octet
-read_fold text k = get_or-map (folded Casemap) text k 0
+read_fold text k = get_or-map (fold_octet Casemap) text k 0
 
 occurs_from : (key value : List ℕ) (k : ℕ) → StandsAt value key k → OccursAt (fold Casemap value) (fold Casemap key) k
 occurs_from key value k h = record {
-  fits = rw (length-map value (folded Casemap), length-map key (folded Casemap)) h.fits;
-  reads = λ j l. read_fold value (k + j) ∙ h.reads j (rw (length-map key (folded Casemap)) at l) ∙ sym (read_fold key j);
+  fits = rw (length-map value (fold_octet Casemap), length-map key (fold_octet Casemap)) h.fits;
+  reads = λ j l. read_fold value (k + j) ∙ h.reads j (rw (length-map key (fold_octet Casemap)) at l) ∙ sym (read_fold key j);
 }
 
 stands_from : (key value : List ℕ) (k : ℕ) → OccursAt (fold Casemap value) (fold Casemap key) k → StandsAt value key k
 stands_from key value k h = record {
-  fits = rw (length-map value (folded Casemap), length-map key (folded Casemap)) at h.fits;
-  reads = λ j l. sym (read_fold value (k + j)) ∙ h.reads j (rw (length-map key (folded Casemap)) l) ∙ read_fold key j;
+  fits = rw (length-map value (fold_octet Casemap), length-map key (fold_octet Casemap)) at h.fits;
+  reads = λ j l. sym (read_fold value (k + j)) ∙ h.reads j (rw (length-map key (fold_octet Casemap)) l) ∙ read_fold key j;
 }
 
 -- what an answer on places says of a text around the key
@@ -90,7 +90,7 @@ module _ (key value : List ℕ) (at rare upper lower : ℕ) (inside : rare < len
   passes : (k : ℕ) → at ≤ k → k < length value + 1 - length key → StandsAt value key k → Passes (is_byte2 upper lower) ahead (k - at)
   unfolding folded_octet
   passes k low high h =
-      let e : folded Casemap (slice_index value (k + rare)) ≡ folded Casemap (slice_index key rare) = h.reads rare inside in
+      let e : fold_octet Casemap (slice_index value (k + rare)) ≡ fold_octet Casemap (slice_index key rare) = h.reads rare inside in
       let place : at + rare + (k - at) ≡ k + rare = omega arith in
       let octet : slice_index ahead (k - at) ≡ slice_index value (k + rare) = at-ahead (k - at) (omega arith) ∙ ap (λ (q : ℕ). slice_index value q) place in
       rw (octet, is_upper, is_lower) (either_case (slice_index value (k + rare)) (slice_index key rare) e)

@@ -4,7 +4,7 @@ use Rattle.std.specs.Prelude.{◌≡◌, ℕ, suc, ◌+◌, Bool, true, false, L
 use Rattle.sieve_meaning.specs.declared.matching.Comparator.{Comparator}
 use Rattle.sieve_meaning.specs.declared.matching.Item.{Item}
 use Rattle.sieve_meaning.specs.declared.matching.Item.TheVariants.{Octet, One, Any}
-use Rattle.sieve_meaning.specs.Matching.{folded}
+use Rattle.sieve_meaning.specs.Matching.{fold_octet}
 
 -- how a try ends: the items cover the text; or they fit up to a `*`, with the items after it and the rest of the text;
 -- or one does not fit
@@ -18,7 +18,7 @@ abbrev pub trial : Comparator → List Item → List ℕ → Trial
 trial c [] [] = covered
 trial c [] (b ∷ bs) = misfit
 trial c (Octet o ∷ is) [] = misfit
-trial c (Octet o ∷ is) (b ∷ bs) = if folded c o == folded c b then trial c is bs else misfit
+trial c (Octet o ∷ is) (b ∷ bs) = if fold_octet c o == fold_octet c b then trial c is bs else misfit
 trial c (One ∷ is) [] = misfit
 trial c (One ∷ is) (b ∷ bs) = trial c is bs
 trial c (Any ∷ is) text = to_star is text
@@ -27,7 +27,7 @@ trial c (Any ∷ is) text = to_star is text
 abbrev pub comparisons : Comparator → List Item → List ℕ → ℕ
 comparisons c [] text = 0
 comparisons c (Octet o ∷ is) [] = 0
-comparisons c (Octet o ∷ is) (b ∷ bs) = suc (if folded c o == folded c b then comparisons c is bs else 0)
+comparisons c (Octet o ∷ is) (b ∷ bs) = suc (if fold_octet c o == fold_octet c b then comparisons c is bs else 0)
 comparisons c (One ∷ is) [] = 0
 comparisons c (One ∷ is) (b ∷ bs) = comparisons c is bs
 comparisons c (Any ∷ is) text = 0

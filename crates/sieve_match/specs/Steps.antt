@@ -3,7 +3,7 @@ use Rattle.std.specs.Prelude.{ℕ, suc, List, [], ◌∷◌, ◌==◌, if◌then
 use Rattle.sieve_meaning.specs.declared.matching.Comparator.{Comparator}
 use Rattle.sieve_meaning.specs.declared.matching.Item.{Item}
 use Rattle.sieve_meaning.specs.declared.matching.Item.TheVariants.{Octet, One, Any}
-use Rattle.sieve_meaning.specs.Matching.{folded, items_of}
+use Rattle.sieve_meaning.specs.Matching.{fold_octet, items_of}
 use Rattle.sieve_match.specs.declared.wildcards.Step.{Step}
 use Rattle.sieve_match.specs.declared.wildcards.Step.TheVariants as steps
 
@@ -18,7 +18,7 @@ abbrev pub turn_of : Comparator → List Item → List ℕ → Turn
 turn_of c [] [] = ends
 turn_of c [] (b ∷ bs) = stuck
 turn_of c (Octet o ∷ is) [] = stuck
-turn_of c (Octet o ∷ is) (b ∷ bs) = if folded c o == folded c b then goes is bs else stuck
+turn_of c (Octet o ∷ is) (b ∷ bs) = if fold_octet c o == fold_octet c b then goes is bs else stuck
 turn_of c (One ∷ is) [] = stuck
 turn_of c (One ∷ is) (b ∷ bs) = goes is bs
 turn_of c (Any ∷ is) text = star is

@@ -3,14 +3,14 @@ use Rattle.std.specs.Prelude.{◌≡◌, ◌⊎◌, ℕ, ◌+◌, ◌<◌, ◌�
 use Rattle.memchr.specs.Critical.{IsPeriod, IsCritical, NoPeriodBelow}
 use Rattle.memchr.specs.TwoWay.{OccursIn}
 use Rattle.sieve_meaning.specs.declared.matching.Comparator.TheVariants.{Casemap}
-use Rattle.sieve_meaning.specs.Matching.{folded}
+use Rattle.sieve_meaning.specs.Matching.{fold_octet}
 use Rattle.sieve_match.specs.declared.two_way.Order.{Order}
 use Rattle.sieve_match.specs.declared.two_way.Order.TheVariants.{Rising, Falling}
 use Rattle.sieve_match.specs.declared.two_way.Plan.{Plan}
 
 -- an octet of a text, as it is compared
 unfoldable pub folded_octet : List ℕ → ℕ → ℕ
-folded_octet text k = folded Casemap (slice_index text k)
+folded_octet text k = fold_octet Casemap (slice_index text k)
 
 -- the key occurs in the value at this place
 abbrev pub StandsAt : (value key : List ℕ) → ℕ → Type 0

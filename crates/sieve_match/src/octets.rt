@@ -1,13 +1,13 @@
 //! Octets as they are compared (RFC 4790, sections 9.2 and 9.3), and `:is`.
 
 ghost use Rattle.std.specs.Prelude.{◌≡◌, ◌↔◌, IsTrue};
-ghost use Rattle.sieve_meaning.specs.Matching.{folded, equals, IsEqualUnder};
+ghost use Rattle.sieve_meaning.specs.Matching.{fold_octet, equals, IsEqualUnder};
 
 use crate::Comparator;
 
 /// An octet as it is compared: `i;ascii-casemap` maps a to z to A to Z, and keeps any other octet.
 pub(crate) fn fold(comparator: Comparator, octet: u8) -> u8
-    ensures { result ≡ folded comparator octet }
+    ensures { result ≡ fold_octet comparator octet }
 {
     match comparator {
         Comparator::Octet => octet,

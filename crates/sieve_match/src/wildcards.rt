@@ -4,7 +4,7 @@
 //! better place. So each item is compared at most once for each place of the value.
 
 ghost use Rattle.std.specs.Prelude.{◌≡◌, ◌≤◌, ◌+◌, ◌*◌, ◌↔◌, ◌∷◌, ◌==◌, [], length, false, IsTrue, MatchOption};
-ghost use Rattle.sieve_meaning.specs.Matching.{folded, items_of, covers, Matches};
+ghost use Rattle.sieve_meaning.specs.Matching.{fold_octet, items_of, covers, Matches};
 ghost use Rattle.sieve_match.specs.Search.{Search};
 ghost use Rattle.sieve_match.specs.Steps.{turn_of, turn_view, compared_length, octet_count};
 
@@ -46,7 +46,7 @@ fn next_item(pattern: &[u8]) -> Option<(Item, &[u8])>
 /// comparison of `matches_counted` is made here.
 #[inline(always)]
 fn compare(comparator: Comparator, item: u8, octet: u8) -> (bool, u128)
-    ensures answer { result.0 ≡ (folded comparator item == folded comparator octet) }
+    ensures answer { result.0 ≡ (fold_octet comparator item == fold_octet comparator octet) }
     ensures count { result.1 ≡ 1 }
 {
     (fold(comparator, item) == fold(comparator, octet), 1)

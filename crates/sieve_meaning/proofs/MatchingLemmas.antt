@@ -9,7 +9,7 @@ use Rattle.std.proofs.Math.Seq.{drop-nil, drop-append_seam}
 use Rattle.sieve_meaning.specs.declared.matching.Comparator.{Comparator}
 use Rattle.sieve_meaning.specs.declared.matching.Item.{Item}
 use Rattle.sieve_meaning.specs.declared.matching.Item.TheVariants.{Octet, One, Any}
-use Rattle.sieve_meaning.specs.Matching.{folded, fold, IsEqualUnder, Contains, Matches, suffixes, equals, contains, covers}
+use Rattle.sieve_meaning.specs.Matching.{fold_octet, fold, IsEqualUnder, Contains, Matches, suffixes, equals, contains, covers}
 
 -- if some suffix passes a test, the suffix from some place passes it
 pub suffix_from_any : (p : List ℕ → Bool) (text : List ℕ) → list_any p (suffixes text) ≡ true → (n : ℕ) × (p (drop n text) ≡ true)
@@ -49,7 +49,7 @@ unfolding covers
 covers_to c [] [] h = tt
 covers_to c [] (b ∷ bs) h = false≢true h
 covers_to c (Octet o ∷ is) [] h = false≢true h
-covers_to c (Octet o ∷ is) (b ∷ bs) h = let p = and_parts (eqb (folded c o) (folded c b)) (covers c is bs) h in (eqb-true (folded c o) (folded c b) p.0, covers_to c is bs p.1)
+covers_to c (Octet o ∷ is) (b ∷ bs) h = let p = and_parts (eqb (fold_octet c o) (fold_octet c b)) (covers c is bs) h in (eqb-true (fold_octet c o) (fold_octet c b) p.0, covers_to c is bs p.1)
 covers_to c (One ∷ is) [] h = false≢true h
 covers_to c (One ∷ is) (b ∷ bs) h = covers_to c is bs h
 covers_to c (Any ∷ is) text h = let r = suffix_from_any (covers c is) text h in (r.0, covers_to c is (drop r.0 text) r.1)
@@ -59,7 +59,7 @@ unfolding covers
 covers_from c [] [] h = refl
 covers_from c [] (b ∷ bs) h = absurd h
 covers_from c (Octet o ∷ is) [] h = absurd h
-covers_from c (Octet o ∷ is) (b ∷ bs) h = and_from (eqb (folded c o) (folded c b)) (covers c is bs) (eq-eqb (folded c o) (folded c b) h.0) (covers_from c is bs h.1)
+covers_from c (Octet o ∷ is) (b ∷ bs) h = and_from (eqb (fold_octet c o) (fold_octet c b)) (covers c is bs) (eq-eqb (fold_octet c o) (fold_octet c b) h.0) (covers_from c is bs h.1)
 covers_from c (One ∷ is) [] h = absurd h
 covers_from c (One ∷ is) (b ∷ bs) h = covers_from c is bs h
 covers_from c (Any ∷ is) text h = any_from_suffix (covers c is) text h.0 (covers_from c is (drop h.0 text) h.1)

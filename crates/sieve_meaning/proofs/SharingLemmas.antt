@@ -9,7 +9,7 @@ use Rattle.sieve_meaning.specs.declared.run_fault.RunFault.TheVariants.{NestingT
 use Rattle.sieve_meaning.specs.Case.{Facts}
 use Rattle.sieve_meaning.specs.Truth.{truth}
 use Rattle.sieve_meaning.specs.Program.{Include, Command, require, keep, discard, stop, return, file_into, branch, include, Commands, no_command, command_then, Branches, no_branch, otherwise, if_then}
-use Rattle.sieve_meaning.specs.Meaning.{ScriptName, script_named, same_bool, same_script, is_among, Library, Filing, Ending, GoesOn, Returns, Stops, Faults, Included, and_then, run, run_one, run_branches, included, inclusion, ending_of_include, entering, unless_entered, unless_missing, unless_active}
+use Rattle.sieve_meaning.specs.Meaning.{ScriptName, script_named, same_bool, same_script, is_among, Library, Filing, Ending, GoesOn, Returns, Stops, Faults, Included, and_then, run, run_one, run_branches, inclusion_within, inclusion, ending_of_include, with_entry, unless_entered, unless_missing, unless_active}
 use Rattle.sieve_meaning.specs.Weight as weights
 use Rattle.sieve_meaning.specs.Weight.{weight, weight_one, branches_weight}
 use Rattle.sieve_meaning.specs.Procedures.{includes_of, includes_in, branch_includes, once, included_names, holds_if_there, reaches_within, reaches, Procedure, same_first, are_among, is_shared, included_path}
@@ -253,15 +253,15 @@ including_case lib a b e k i f h =
 
 module _ (c : Facts) (lib : Library) where
   -- includes of a script run alike after chains that agree on what it reaches
-  pub included_alike : (left m : ℕ) → left ≤ m → (x : Commands) (a b : List ScriptName) → SameFor lib (suc m) x a b → RunsAlike (included c lib left a) (included c lib left b) (includes_of x)
+  pub included_alike : (left m : ℕ) → left ≤ m → (x : Commands) (a b : List ScriptName) → SameFor lib (suc m) x a b → RunsAlike (inclusion_within c lib left a) (inclusion_within c lib left b) (includes_of x)
   included_alike zero m le x a b same i is f = including_case lib a b (λ script g. Faults NestingTooDeep g) (λ script g. Faults NestingTooDeep g) i f (λ y there. (at_include lib m x y i a b is there same, λ g. refl))
   included_alike (suc left) zero le x a b same i is f = absurd (omega (arith, le))
   included_alike (suc left) (suc m) le x a b same i is f =
       let s = script_named i in
-      including_case lib a b (λ script g. ending_of_include (run c (included c lib left (s ∷ a)) script (entering s g))) (λ script g. ending_of_include (run c (included c lib left (s ∷ b)) script (entering s g))) i f
+      including_case lib a b (λ script g. ending_of_include (run c (inclusion_within c lib left (s ∷ a)) script (with_entry s g))) (λ script g. ending_of_include (run c (inclusion_within c lib left (s ∷ b)) script (with_entry s g))) i f
       (λ y there. (
         at_include lib (suc m) x y i a b is there same,
-        λ g. ap ending_of_include (run_alike c (included c lib left (s ∷ a)) (included c lib left (s ∷ b)) y (included_alike left m (omega (arith, le)) y (s ∷ a) (s ∷ b) (inside_include lib (suc m) x y i a b is there same)) (entering s g)),
+        λ g. ap ending_of_include (run_alike c (inclusion_within c lib left (s ∷ a)) (inclusion_within c lib left (s ∷ b)) y (included_alike left m (omega (arith, le)) y (s ∷ a) (s ∷ b) (inside_include lib (suc m) x y i a b is there same)) (with_entry s g)),
       ))
 
 module _ (lib : Library) where
@@ -294,11 +294,11 @@ module _ (lib : Library) (p q : Procedure) (same : p.script ≡ q.script) (few :
   as_many : p.left ≡ q.left
   as_many = eqb-true p.left q.left tests.1
 
-  pub shared_runs : (c : Facts) (f : Filing) → run c (included c lib p.left p.chain) p.script f ≡ run c (included c lib q.left q.chain) q.script f
+  pub shared_runs : (c : Facts) (f : Filing) → run c (inclusion_within c lib p.left p.chain) p.script f ≡ run c (inclusion_within c lib q.left q.chain) q.script f
   shared_runs c f =
-      run_alike c (included c lib p.left p.chain) (included c lib p.left q.chain) p.script (included_alike c lib p.left 63 (omega (arith, few)) p.script p.chain q.chain (same_reached lib p.script p.chain q.chain tests.2 tests.3)) f
-      ∙ ap (λ (n : ℕ). run c (included c lib n q.chain) p.script f) as_many
-      ∙ ap (λ (x : Commands). run c (included c lib q.left q.chain) x f) same
+      run_alike c (inclusion_within c lib p.left p.chain) (inclusion_within c lib p.left q.chain) p.script (included_alike c lib p.left 63 (omega (arith, few)) p.script p.chain q.chain (same_reached lib p.script p.chain q.chain tests.2 tests.3)) f
+      ∙ ap (λ (n : ℕ). run c (inclusion_within c lib n q.chain) p.script f) as_many
+      ∙ ap (λ (x : Commands). run c (inclusion_within c lib q.left q.chain) x f) same
 
   pub shared_path : weight (included_path lib p.left p.chain) p.script ≡ weight (included_path lib q.left q.chain) q.script
   shared_path =

@@ -10,13 +10,13 @@ use Rattle.sieve_meaning.specs.declared.matching.Item.{Item}
 use Rattle.sieve_meaning.specs.declared.matching.Item.TheVariants.{Octet, One, Any}
 
 -- an octet as it is compared: `i;ascii-casemap` maps a to z to A to Z
-abbrev pub folded : Comparator → ℕ → ℕ
-folded comparators.Octet b = b
-folded comparators.Casemap b = if nat_le 97 b && nat_le b 122 then b - 32 else b
+abbrev pub fold_octet : Comparator → ℕ → ℕ
+fold_octet comparators.Octet b = b
+fold_octet comparators.Casemap b = if nat_le 97 b && nat_le b 122 then b - 32 else b
 
 -- a text as it is compared
 abbrev pub fold : Comparator → List ℕ → List ℕ
-fold c text = map (folded c) text
+fold c text = map (fold_octet c) text
 
 -- `:is`: the texts compare as equal
 abbrev pub IsEqualUnder : Comparator → (key value : List ℕ) → Type 0
@@ -45,7 +45,7 @@ abbrev pub Matches : Comparator → List Item → List ℕ → Type 0
 Matches c [] [] = Unit {0}
 Matches c [] (b ∷ bs) = ⊥
 Matches c (Octet o ∷ is) [] = ⊥
-Matches c (Octet o ∷ is) (b ∷ bs) = (folded c o ≡ folded c b) × Matches c is bs
+Matches c (Octet o ∷ is) (b ∷ bs) = (fold_octet c o ≡ fold_octet c b) × Matches c is bs
 Matches c (One ∷ is) [] = ⊥
 Matches c (One ∷ is) (b ∷ bs) = Matches c is bs
 Matches c (Any ∷ is) text = (n : ℕ) × Matches c is (drop n text)
@@ -67,7 +67,7 @@ unfoldable pub covers : Comparator → List Item → List ℕ → Bool
 covers c [] [] = true
 covers c [] (b ∷ bs) = false
 covers c (Octet o ∷ is) [] = false
-covers c (Octet o ∷ is) (b ∷ bs) = (folded c o == folded c b) && covers c is bs
+covers c (Octet o ∷ is) (b ∷ bs) = (fold_octet c o == fold_octet c b) && covers c is bs
 covers c (One ∷ is) [] = false
 covers c (One ∷ is) (b ∷ bs) = covers c is bs
 covers c (Any ∷ is) text = list_any (covers c is) (suffixes text)

@@ -88,8 +88,8 @@ ending_of_include (GoesOn f) = GoesOn f
 ending_of_include (Stops f) = Stops f
 ending_of_include (Faults fault f) = Faults fault f
 
-abbrev pub entering : ScriptName → Filing → Filing
-entering s f = record f { entered = s ∷ f.entered }
+abbrev pub with_entry : ScriptName → Filing → Filing
+with_entry s f = record f { entered = s ∷ f.entered }
 
 abbrev pub unless_missing : Option Commands → Bool → (Commands → Filing → Ending) → Filing → Ending
 unless_missing None optional go f = if optional then GoesOn f else Faults ScriptMissing f
@@ -113,11 +113,11 @@ inclusion lib chain enter n f = unless_entered (n.once &&
 
 -- An `include`, given how many further scripts may be active, and the names of the active ones that have one. If no
 -- further script may be active, entering a script is a fault.
-abbrev pub included : Facts → Library → ℕ → (chain : List ScriptName) → Included
-included facts lib zero chain n = inclusion lib chain (λ script f. Faults NestingTooDeep f) n
-included facts lib (suc left) chain n = inclusion lib chain
-    (λ script f. ending_of_include (run facts (included facts lib left (script_named n ∷ chain)) script
-    (entering (script_named n) f))) n
+abbrev pub inclusion_within : Facts → Library → ℕ → (chain : List ScriptName) → Included
+inclusion_within facts lib zero chain n = inclusion lib chain (λ script f. Faults NestingTooDeep f) n
+inclusion_within facts lib (suc left) chain n = inclusion lib chain
+    (λ script f. ending_of_include (run facts (inclusion_within facts lib left (script_named n ∷ chain)) script
+    (with_entry (script_named n) f))) n
 
 -- the main script's personal name, if it has one
 abbrev pub main_names : Option (List ℕ) → List ScriptName
@@ -130,7 +130,7 @@ opening known_as = record { filed = []; kept = false; cancelled = false; entered
 
 -- the run of a main script; eight scripts may be active, the main one included
 abbrev pub meaning : Facts → Library → (known_as : Option (List ℕ)) → Commands → Ending
-meaning facts lib known_as main = run facts (included facts lib 7 (main_names known_as)) main (opening known_as)
+meaning facts lib known_as main = run facts (inclusion_within facts lib 7 (main_names known_as)) main (opening known_as)
 
 -- no script can be included
 abbrev pub no_library : Library

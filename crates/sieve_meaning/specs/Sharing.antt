@@ -2,7 +2,7 @@
 use Rattle.std.specs.Prelude.{◌≡◌, ◌↔◌, ◌≤◌, List, length, map, IsTrue, Some}
 use Rattle.sieve_meaning.specs.Case.{Facts}
 use Rattle.sieve_meaning.specs.Program.{Commands}
-use Rattle.sieve_meaning.specs.Meaning.{Library, ScriptName, script_named, is_among, Filing, run, included}
+use Rattle.sieve_meaning.specs.Meaning.{Library, ScriptName, script_named, is_among, Filing, run, inclusion_within}
 use Rattle.sieve_meaning.specs.Weight.{weight}
 use Rattle.sieve_meaning.specs.Procedures.{includes_of, reaches, Procedure, is_shared, included_path}
 
@@ -11,8 +11,8 @@ use Rattle.sieve_meaning.specs.Procedures.{includes_of, reaches, Procedure, is_s
 abbrev pub SharingLaw : Type 0
 SharingLaw =
     (lib : Library) (p q : Procedure) → p.script ≡ q.script → p.left ≤ 7 → IsTrue (is_shared lib p q)
-    → ((c : Facts) (f : Filing) → run c (included c lib p.left p.chain) p.script f ≡
-    run c (included c lib q.left q.chain) q.script f) ×
+    → ((c : Facts) (f : Filing) → run c (inclusion_within c lib p.left p.chain) p.script f ≡
+    run c (inclusion_within c lib q.left q.chain) q.script f) ×
     (weight (included_path lib p.left p.chain) p.script ≡ weight (included_path lib q.left q.chain) q.script)
 
 -- The script includes the one of the name, anywhere, and it is there.

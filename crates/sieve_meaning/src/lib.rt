@@ -38,4 +38,4 @@ pub use matching::{Comparator, Item, MatchType};
 pub use outcome::{Outcome, fault_alone, outcome_at_end};
 pub use run_fault::RunFault;
 pub use scripts::{Include, Location, ScriptName};
-pub use words::{CommandWord, TestWord, command_word, is_word, test_word};
+pub use words::{CommandWord, TestWord, command_word, is_same_word, test_word};

@@ -6,14 +6,14 @@ ghost use Rattle.sieve_meaning.specs.Scripts.{include_view, is_global};
 
 use crate::matching::{Comparator, MatchType};
 use crate::scripts::{Include, Location, ScriptName};
-use crate::words::is_word;
+use crate::words::is_same_word;
 use sieve_syntax::{Argument, StringList};
 
 fn is_tag_named(argument: &Argument, name: &[u8]) -> bool
     ensures { result ≡ is_tag name.now argument.now }
 {
     match argument {
-        Argument::Tag(tag) => is_word(tag.as_slice(), name),
+        Argument::Tag(tag) => is_same_word(tag.as_slice(), name),
         Argument::Number(_) | Argument::Strings(_) => false,
     }
 }
@@ -45,7 +45,7 @@ pub fn next_string_list(arguments: &[Argument]) -> Option<(&StringList, &[Argume
                 follows_tag = false;
             }
             Argument::Number(_) => follows_tag = false,
-            Argument::Tag(tag) => follows_tag = is_word(tag.as_slice(), b"comparator"),
+            Argument::Tag(tag) => follows_tag = is_same_word(tag.as_slice(), b"comparator"),
         }
         rest = after;
     }
@@ -88,7 +88,7 @@ pub fn comparator(arguments: &[Argument]) -> Comparator
                 follows_tag = false;
             }
             Argument::Number(_) => follows_tag = false,
-            Argument::Tag(tag) => follows_tag = is_word(tag.as_slice(), b"comparator"),
+            Argument::Tag(tag) => follows_tag = is_same_word(tag.as_slice(), b"comparator"),
         }
     }
     Comparator::Casemap

@@ -36,7 +36,7 @@ pub enum TestWord {
 }
 
 /// Whether two names are the same word: ASCII case is ignored.
-pub fn is_word(name: &[u8], word: &[u8]) -> bool
+pub fn is_same_word(name: &[u8], word: &[u8]) -> bool
     ensures { result ≡ same_word name.now word.now }
 {
     name.eq_ignore_ascii_case(word)
@@ -47,25 +47,25 @@ pub fn is_word(name: &[u8], word: &[u8]) -> bool
 pub fn command_word(name: &[u8]) -> CommandWord
     ensures { result ≡ command_word_of name.now }
 {
-    if is_word(name, b"if") {
+    if is_same_word(name, b"if") {
         CommandWord::If
-    } else if is_word(name, b"elsif") {
+    } else if is_same_word(name, b"elsif") {
         CommandWord::ElsIf
-    } else if is_word(name, b"else") {
+    } else if is_same_word(name, b"else") {
         CommandWord::Else
-    } else if is_word(name, b"require") {
+    } else if is_same_word(name, b"require") {
         CommandWord::Require
-    } else if is_word(name, b"stop") {
+    } else if is_same_word(name, b"stop") {
         CommandWord::Stop
-    } else if is_word(name, b"keep") {
+    } else if is_same_word(name, b"keep") {
         CommandWord::Keep
-    } else if is_word(name, b"discard") {
+    } else if is_same_word(name, b"discard") {
         CommandWord::Discard
-    } else if is_word(name, b"return") {
+    } else if is_same_word(name, b"return") {
         CommandWord::Return
-    } else if is_word(name, b"fileinto") {
+    } else if is_same_word(name, b"fileinto") {
         CommandWord::FileInto
-    } else if is_word(name, b"include") {
+    } else if is_same_word(name, b"include") {
         CommandWord::Include
     } else {
         CommandWord::Other
@@ -77,21 +77,21 @@ pub fn command_word(name: &[u8]) -> CommandWord
 pub fn test_word(name: &[u8]) -> TestWord
     ensures { result ≡ test_word_of name.now }
 {
-    if is_word(name, b"header") {
+    if is_same_word(name, b"header") {
         TestWord::Header
-    } else if is_word(name, b"not") {
+    } else if is_same_word(name, b"not") {
         TestWord::Not
-    } else if is_word(name, b"allof") {
+    } else if is_same_word(name, b"allof") {
         TestWord::AllOf
-    } else if is_word(name, b"anyof") {
+    } else if is_same_word(name, b"anyof") {
         TestWord::AnyOf
-    } else if is_word(name, b"exists") {
+    } else if is_same_word(name, b"exists") {
         TestWord::Exists
-    } else if is_word(name, b"size") {
+    } else if is_same_word(name, b"size") {
         TestWord::Size
-    } else if is_word(name, b"true") {
+    } else if is_same_word(name, b"true") {
         TestWord::True
-    } else if is_word(name, b"false") {
+    } else if is_same_word(name, b"false") {
         TestWord::False
     } else {
         TestWord::Other

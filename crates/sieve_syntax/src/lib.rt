@@ -3,8 +3,8 @@
 //!
 //! The scanner and parser (`sieve_text`), the checker (`sieve_check`) and every reader of a checked script share these
 //! types. In `specs/`, `Tree` defines the same trees without their layout in memory, their only spelling as tokens and
-//! their two depths. `View` maps the trees of this crate to those. `Held` and `HeldArguments` define what texts and
-//! arguments hold, whatever their layout.
+//! their two depths. `View` maps the trees of this crate to those. `TextOctets` and `ArgumentItems` define what
+//! texts and arguments hold, whatever their layout.
 #![tactic(auto)]
 
 mod text;

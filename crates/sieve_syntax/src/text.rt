@@ -27,7 +27,7 @@ impl Model for Text {
 
     ghost Value = { List ℕ };
 
-    ghost use Rattle.sieve_syntax.specs.Held.{octets_in, IsWithin};
+    ghost use Rattle.sieve_syntax.specs.TextOctets.{octets_in, IsWithin};
 
     ghost view = { λ t. octets_in t.octets };
 

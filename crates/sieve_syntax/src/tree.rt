@@ -49,7 +49,7 @@ pub enum Argument {
 
 /// How arguments are stored.
 #[derive(Drop)]
-enum Held {
+enum ArgumentList {
     None,
     One(Box<Argument>),
     Many(Box<Vec<Argument>>),
@@ -58,7 +58,7 @@ enum Held {
 /// Arguments in order. No arguments need no allocation. Contracts see a list.
 #[derive(Drop)]
 pub struct Arguments {
-    held: Held,
+    items: ArgumentList,
 }
 
 impl Model for Arguments {
@@ -67,9 +67,9 @@ impl Model for Arguments {
 
     ghost Value = { List Argument };
 
-    ghost use Rattle.sieve_syntax.specs.HeldArguments.{arguments_in};
+    ghost use Rattle.sieve_syntax.specs.ArgumentItems.{arguments_in};
 
-    ghost view = { λ a. arguments_in a.held };
+    ghost view = { λ a. arguments_in a.items };
 }
 
 impl Arguments {
@@ -77,7 +77,9 @@ impl Arguments {
     pub fn none() -> Arguments
         ensures { result ≡ [] }
     {
-        Arguments { held: Held::None }
+        Arguments {
+            items: ArgumentList::None,
+        }
     }
 
     /// These arguments, in order, without spare capacity. Fails only if memory runs out.
@@ -87,14 +89,14 @@ impl Arguments {
         if items.len() > 1 {
             items.shrink_to_fit();
             return Ok(Arguments {
-                held: Held::Many(Box::new(alloc, items)?),
+                items: ArgumentList::Many(Box::new(alloc, items)?),
             });
         }
         let Some(only) = items.pop() else {
             return Ok(Arguments::none());
         };
         Ok(Arguments {
-            held: Held::One(Box::new(alloc, only)?),
+            items: ArgumentList::One(Box::new(alloc, only)?),
         })
     }
 
@@ -102,10 +104,10 @@ impl Arguments {
     pub fn as_slice(&self) -> &[Argument]
         ensures { result.now ≡ self.now }
     {
-        match &self.held {
-            Held::None => &[],
-            Held::One(only) => slice::from_ref(only),
-            Held::Many(items) => items.as_slice(),
+        match &self.items {
+            ArgumentList::None => &[],
+            ArgumentList::One(only) => slice::from_ref(only),
+            ArgumentList::Many(items) => items.as_slice(),
         }
     }
 }

@@ -1,5 +1,5 @@
 -- The tokens of a script and its refusal, by the grammar and as they are read.
-use Rattle.std.proofs.Common.{◌≡◌, ℕ, suc, ◌+◌, ◌<◌, ◌≤◌, ◌⊎◌, List, [], ◌∷◌, ◌++◌, length, drop, nat_lt, Option, Some, None, Result, Ok, Err, refl, sym, ap, subst, ◌∙◌, arith, inl, inr, length-append}
+use Rattle.std.proofs.Common.{◌≡◌, ℕ, ◌+◌, ◌<◌, ◌≤◌, List, [], ◌∷◌, ◌++◌, length, drop, Option, Some, None, Result, Ok, Err, refl, sym, ap, subst, ◌∙◌, arith, inl, inr, length-append}
 use Rattle.std.specs.Prelude.{◌↔◌}
 use Rattle.std.proofs.lemmas.Bool.{cases_lt, lt-ltb, le-ltb}
 use Rattle.std.proofs.lemmas.List.{append-nil, length-drop}
@@ -10,7 +10,7 @@ use Rattle.sieve_text.specs.declared.fault.ScanRefusal.TheVariants.{NotUtf8, NoT
 use Rattle.sieve_text.specs.declared.fault.ScanFault.TheVariants.{Refused}
 use Rattle.sieve_text.specs.Octets.{stray_len}
 use Rattle.sieve_text.specs.Gaps.{gap_len}
-use Rattle.sieve_text.specs.Tokens.{kind_at, token_at, Reads, IsSound, IsScan, IsFaulty, StandsIn, either_place, text_len, fault_place, ◌>>=◌}
+use Rattle.sieve_text.specs.Tokens.{kind_at, token_at, Reads, IsSound, IsScan, IsFaulty, StandsIn, either_place, text_len, fault_place}
 use Rattle.sieve_text.specs.TokenGrammar.{Gap, IsFirst, IsCut, IsFront}
 use Rattle.sieve_text.specs.FaultGrammar.{IsFaultHere, IsFaultAt, IsText, IsRefusedAt}
 use Rattle.sieve_text.proofs.CutLemmas.{cut_from, token_cut}

@@ -1,9 +1,9 @@
 -- A faulty place by the grammar is refused there.
-use Rattle.std.proofs.Common.{◌≡◌, ℕ, zero, suc, ◌+◌, ◌<◌, ◌≤◌, ◌⊎◌, Bool, true, false, List, [], ◌∷◌, ◌++◌, length, take, drop, nat_lt, Option, Some, None, Result, Ok, Err, refl, sym, ap, ◌∙◌, arith, inl, inr, length-append, append_assoc}
+use Rattle.std.proofs.Common.{◌≡◌, ℕ, suc, ◌+◌, ◌<◌, ◌⊎◌, Bool, true, false, List, [], ◌∷◌, ◌++◌, length, take, drop, nat_lt, Option, Some, None, Ok, Err, refl, sym, ap, ◌∙◌, arith, inl, inr, length-append, append_assoc}
 use Rattle.std.specs.Prelude.{if◌then◌else◌, ◌==◌, ◌&&◌, ◌||◌, codes}
 use Rattle.std.specs.List.{prefix_len, list_all}
 use Rattle.std.specs.Char.{is_ascii_digit, to_ascii_lowercase}
-use Rattle.std.proofs.lemmas.Bool.{false≢true, true≢false, both_ways, cases_Bool, cases_lt, eqb-true, not-true, ne_eqb, lt-ltb, le-ltb, ltb-true, and_parts}
+use Rattle.std.proofs.lemmas.Bool.{false≢true, true≢false, both_ways, cases_Bool, cases_lt, eqb-true, not-true, ne_eqb, lt-ltb, le-ltb, and_parts}
 use Rattle.std.proofs.lemmas.List.{append-nil, length-map, take-append-drop}
 use Rattle.sieve_syntax.specs.declared.token.Mark.{Mark}
 use Rattle.sieve_syntax.specs.declared.token.Mark.TheVariants.{Semicolon, OpenBrace, CloseBrace, OpenParen, CloseParen, OpenBracket, CloseBracket, Comma}
@@ -11,10 +11,10 @@ use Rattle.sieve_syntax.specs.declared.token.TokenKind.{TokenKind}
 use Rattle.sieve_syntax.specs.declared.token.TokenKind.TheVariants as kinds
 use Rattle.sieve_text.specs.declared.fault.ScanRefusal.{ScanRefusal}
 use Rattle.sieve_text.specs.declared.fault.ScanRefusal.TheVariants.{NotUtf8, NoToken, StringNotClosed, CommentNotClosed, NumberTooLarge, ScriptTooLong, StringTooLong}
-use Rattle.sieve_text.specs.Octets.{is_blank, is_white, is_start, is_word, not_lf, begins, begins_with, line_end_len}
-use Rattle.sieve_text.specs.Gaps.{bracketed_len, opens_bracketed, closed_len, comment_len, gap_len}
-use Rattle.sieve_text.specs.Strings.{with_crlf, quoted_len, quoted_value, begins_as, begins_text, opening_end_at, is_last_line, lines_len, lines_value}
-use Rattle.sieve_text.specs.Tokens.{mark_of, mark_kind, string_kind, quoted_at, lines_at, multi_line_at, tag_at, number_at, kind_at, either_place, text_len, ◌>>=◌}
+use Rattle.sieve_text.specs.Octets.{is_blank, is_white, is_start, not_lf, begins, begins_with, line_end_len}
+use Rattle.sieve_text.specs.Gaps.{bracketed_len, opens_bracketed, comment_len, gap_len}
+use Rattle.sieve_text.specs.Strings.{quoted_len, begins_as, begins_text, opening_end_at, is_last_line, lines_len}
+use Rattle.sieve_text.specs.Tokens.{mark_of, string_kind, quoted_at, lines_at, multi_line_at, tag_at, kind_at, either_place, text_len}
 use Rattle.sieve_text.specs.TokenGrammar.{IsNumber, QuotedText, quoted_end, quoted_plain, quoted_pair, IsLineEnd, Lines, no_lines, line, IsTextColon, IsHashComment, IsQuoted, IsMultiLine, octet_of, Lexeme, closes}
 use Rattle.sieve_text.specs.FaultGrammar.{IsNoBeginning, IsNoOpening, NoTokenAt, no_beginning, no_tag, no_opening, OpenString, open_quoted, open_escape, open_opening, open_lines, IsLargeNumber, IsLongString, IsFaultHere}
 use Rattle.sieve_text.proofs.GapFound.{exactly, closes_after, closes_rest}
@@ -22,7 +22,7 @@ use Rattle.sieve_text.proofs.GapGrammar.{before}
 use Rattle.sieve_text.proofs.GapLemmas.{gap_none}
 use Rattle.sieve_text.proofs.GrammarParts.{mark_octet}
 use Rattle.sieve_text.proofs.KindGrammar.{line_rest, line_alone, no_last, dot_line, suc_eqb, line_end_taken}
-use Rattle.sieve_text.proofs.Longest.{t_starts, hash_first, opening_whole, after_opening, after_line}
+use Rattle.sieve_text.proofs.Longest.{t_starts, opening_whole, after_opening, after_line}
 use Rattle.sieve_text.proofs.KindFound.{number_found, quoted_found, multi_line_found, text_kind, unbound, blanks_read, opening_read, quote_kind, tag_kind}
 
 -- the refusal, and its place

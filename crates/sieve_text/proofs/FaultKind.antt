@@ -1,11 +1,11 @@
 -- What is refused is a faulty place by the grammar.
-use Rattle.std.proofs.Common.{◌≡◌, ℕ, zero, suc, ◌+◌, ◌*◌, ◌<◌, ◌≤◌, ◌⊎◌, Bool, true, false, List, [], ◌∷◌, ◌++◌, length, map, take, drop, nat_lt, Option, Some, None, Result, Ok, Err, refl, sym, ap, subst, ◌∙◌, arith, inl, inr, length-append, append_assoc}
-use Rattle.std.specs.Prelude.{if◌then◌else◌, ◌==◌, ◌&&◌, ◌||◌, codes}
+use Rattle.std.proofs.Common.{◌≡◌, ℕ, zero, suc, ◌+◌, ◌*◌, ◌<◌, ◌≤◌, ◌⊎◌, Bool, true, false, List, [], ◌∷◌, ◌++◌, length, take, drop, nat_lt, Option, Some, None, Result, Ok, Err, refl, sym, ap, subst, ◌∙◌, arith, inl, inr, length-append, append_assoc}
+use Rattle.std.specs.Prelude.{if◌then◌else◌, ◌==◌, codes}
 use Rattle.std.specs.List.{prefix_len, list_all}
-use Rattle.std.specs.Char.{is_ascii_digit, to_ascii_lowercase}
+use Rattle.std.specs.Char.{is_ascii_digit}
 use Rattle.std.specs.Str.Parse.{digits_value}
-use Rattle.std.proofs.lemmas.Bool.{false≢true, true≢false, both_ways, cases_Bool, cases_lt, eqb-true, eqb-false, ltb-true, ltb-false, and_parts}
-use Rattle.std.proofs.lemmas.List.{append-nil, length-drop, length-take-le, take-append-drop, nil_from_length}
+use Rattle.std.proofs.lemmas.Bool.{false≢true, both_ways, cases_Bool, cases_lt, eqb-true, eqb-false, ltb-true, ltb-false, and_parts}
+use Rattle.std.proofs.lemmas.List.{length-drop, length-take-le, take-append-drop, nil_from_length}
 use Rattle.std.proofs.lemmas.List.Sums.{prefix_len-le-length}
 use Rattle.sieve_syntax.specs.declared.token.Mark.{Mark}
 use Rattle.sieve_syntax.specs.declared.token.TokenKind.{TokenKind}
@@ -13,16 +13,15 @@ use Rattle.sieve_syntax.specs.declared.token.TokenKind.TheVariants as kinds
 use Rattle.sieve_text.specs.declared.fault.ScanRefusal.{ScanRefusal}
 use Rattle.sieve_text.specs.declared.fault.ScanRefusal.TheVariants.{NoToken, StringNotClosed, CommentNotClosed, NumberTooLarge, StringTooLong}
 use Rattle.sieve_text.specs.Octets.{is_blank, is_white, is_start, is_word, not_lf, begins, begins_with, line_end_len}
-use Rattle.sieve_text.specs.Gaps.{bracketed_len, opens_bracketed, closed_len, comment_len, gap_len}
-use Rattle.sieve_text.specs.Strings.{quoted_len, unescaped, quoted_value, begins_text, opening_end_at, is_last_line, lines_len, unstuffed, lines_value}
+use Rattle.sieve_text.specs.Gaps.{bracketed_len, opens_bracketed, comment_len, gap_len}
+use Rattle.sieve_text.specs.Strings.{quoted_len, quoted_value, begins_text, opening_end_at, is_last_line, lines_len, lines_value}
 use Rattle.sieve_text.specs.Tokens.{mark_of, mark_kind, string_kind, quoted_at, lines_at, multi_line_at, tag_at, factor_at, number_at, identifier_at, kind_at, either_place, text_len, ◌>>=◌}
 use Rattle.sieve_text.specs.TokenGrammar.{IsNumber, QuotedText, quoted_end, quoted_plain, quoted_pair, IsLineEnd, is_dot, without_dot, Lines, no_lines, line, IsTextColon, IsHashComment, octet_of, closes}
-use Rattle.sieve_text.specs.FaultGrammar.{IsNoBeginning, IsNoOpening, NoTokenAt, no_beginning, no_tag, no_opening, OpenString, open_quoted, open_escape, open_opening, open_lines, IsLargeNumber, IsLongString, IsFaultHere}
+use Rattle.sieve_text.specs.FaultGrammar.{no_beginning, no_tag, no_opening, OpenString, open_quoted, open_escape, open_opening, open_lines, IsLargeNumber, IsFaultHere}
 use Rattle.sieve_text.proofs.GapLemmas.{drop_more}
 use Rattle.sieve_text.proofs.GapGrammar.{before, closes_from_after, prefix_passes, prefix_ends}
 use Rattle.sieve_text.proofs.GrammarParts.{octet_mark, quantifier_taken, quantifier_counts}
-use Rattle.sieve_text.proofs.KindGrammar.{IsString, IsOpening, quoted_cut, lines_cut, opening_sound, word_taken, last_here, no_last, line_rest, line_says, dot_line, at_line_feed}
-use Rattle.sieve_text.proofs.KindLemmas.{read_as}
+use Rattle.sieve_text.proofs.KindGrammar.{IsString, IsOpening, quoted_cut, lines_cut, opening_sound, word_taken, last_here, no_last, line_rest, dot_line, at_line_feed}
 use Rattle.sieve_text.proofs.Longest.{digits_short}
 use Rattle.sieve_text.proofs.WithinLemmas.{one_more, factor_within, text_within}
 

@@ -1,11 +1,11 @@
 -- A gap by the grammar is as long as the gap that is read, if no more of it follows.
-use Rattle.std.proofs.Common.{◌≡◌, ℕ, zero, suc, ◌+◌, ◌-◌, ◌<◌, ◌≤◌, ◌⊎◌, Bool, true, false, List, [], ◌∷◌, ◌++◌, length, drop, nat_lt, refl, sym, ap, ◌∙◌, arith, inl, inr, length-append, append_assoc}
+use Rattle.std.proofs.Common.{◌≡◌, ℕ, suc, ◌+◌, ◌-◌, ◌<◌, Bool, true, false, List, [], ◌∷◌, ◌++◌, length, drop, refl, sym, ap, ◌∙◌, arith, inl, inr, length-append, append_assoc}
 use Rattle.std.specs.Prelude.{◌==◌, ◌&&◌, ◌||◌}
 use Rattle.std.specs.List.{prefix_len, list_all}
-use Rattle.std.proofs.lemmas.Bool.{false≢true, true≢false, both_ways, cases_Bool, eqb-true, lt-ltb, and_parts}
+use Rattle.std.proofs.lemmas.Bool.{true≢false, cases_Bool, eqb-true, lt-ltb, and_parts}
 use Rattle.std.proofs.Math.Seq.{drop-append_seam}
 use Rattle.sieve_text.specs.Octets.{is_white, not_lf, begins, begins_with}
-use Rattle.sieve_text.specs.Gaps.{bracketed_len, opens_bracketed, closed_len, comment_len, gap_len}
+use Rattle.sieve_text.specs.Gaps.{bracketed_len, comment_len, gap_len}
 use Rattle.sieve_text.specs.TokenGrammar.{closes, Gap, gap_end, gap_white, gap_hash, gap_bracketed}
 use Rattle.sieve_text.proofs.GapLemmas.{gap_comment}
 use Rattle.sieve_text.proofs.GapGrammar.{before, white_more}

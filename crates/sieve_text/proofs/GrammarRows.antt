@@ -1,11 +1,11 @@
 -- Worked examples of the grammar of tokens.
-use Rattle.std.proofs.Common.{◌≡◌, ℕ, ◌⊎◌, true, false, List, [], ◌∷◌, ◌++◌, length, refl, sym, ap, arith, inl, inr, ◌∙◌}
+use Rattle.std.proofs.Common.{◌≡◌, ℕ, true, false, List, [], ◌∷◌, ◌++◌, refl, arith, inl, inr}
 use Rattle.std.specs.Prelude.{codes}
 use Rattle.std.proofs.lemmas.Bool.{true≢false}
 use Rattle.sieve_syntax.specs.declared.token.TokenKind.TheVariants as kinds
 use Rattle.sieve_text.specs.declared.fault.ScanRefusal.TheVariants.{NoToken, StringNotClosed, CommentNotClosed}
 use Rattle.sieve_text.specs.Strings.{with_crlf}
-use Rattle.sieve_text.specs.TokenGrammar.{kilo, IsNumber, quoted_end, quoted_plain, quoted_pair, IsQuoted, IsLineEnd, Lines, no_lines, line, IsMultiLine, Lexeme, IsApart, Gap, gap_end, gap_white, gap_hash, gap_bracketed}
+use Rattle.sieve_text.specs.TokenGrammar.{kilo, quoted_end, quoted_plain, quoted_pair, IsLineEnd, no_lines, line, Lexeme, IsApart, Gap, gap_end, gap_white, gap_hash, gap_bracketed}
 use Rattle.sieve_text.specs.FaultGrammar.{no_opening, open_escape, open_opening, IsFaultHere}
 
 first_is : (a b : ℕ) (xs ys : List ℕ) → a ∷ xs ≡ b ∷ ys → a ≡ b

@@ -1,6 +1,6 @@
 -- A token by the grammar, the longest that fits, is what is read in its place.
 use Rattle.std.proofs.Common.{◌≡◌, ℕ, suc, ◌+◌, ◌*◌, ◌<◌, ◌≤◌, ◌⊎◌, Bool, true, false, List, [], ◌∷◌, ◌++◌, length, map, take, drop, nat_lt, Result, Ok, Err, refl, sym, ap, subst, ◌∙◌, arith, inl, inr, length-append, append_assoc}
-use Rattle.std.specs.Prelude.{if◌then◌else◌, ◌==◌, ◌||◌, ◌&&◌, codes}
+use Rattle.std.specs.Prelude.{if◌then◌else◌, ◌==◌, ◌||◌, codes}
 use Rattle.std.specs.List.{prefix_len, list_all}
 use Rattle.std.specs.Char.{is_ascii_digit, to_ascii_lowercase}
 use Rattle.std.specs.Str.Parse.{digits_value}
@@ -13,17 +13,17 @@ use Rattle.sieve_syntax.specs.declared.token.Mark.TheVariants.{Semicolon, OpenBr
 use Rattle.sieve_syntax.specs.declared.token.TokenKind.{TokenKind}
 use Rattle.sieve_syntax.specs.declared.token.TokenKind.TheVariants as kinds
 use Rattle.sieve_text.specs.declared.fault.ScanRefusal.{ScanRefusal}
-use Rattle.sieve_text.specs.declared.fault.ScanRefusal.TheVariants.{NoToken, StringNotClosed, NumberTooLarge, StringTooLong}
-use Rattle.sieve_text.specs.Octets.{is_blank, is_start, is_word, not_lf, begins, begins_with, line_end_len}
-use Rattle.sieve_text.specs.Strings.{with_crlf, quoted_len, unescaped, quoted_value, begins_as, begins_text, opening_end_at, lines_len, unstuffed, lines_value}
+use Rattle.sieve_text.specs.declared.fault.ScanRefusal.TheVariants.{StringNotClosed, NumberTooLarge}
+use Rattle.sieve_text.specs.Octets.{is_blank, is_start, is_word, begins, begins_with, line_end_len}
+use Rattle.sieve_text.specs.Strings.{with_crlf, without_escapes, quoted_value, begins_as, begins_text, opening_end_at, lines_len, without_stuffing, lines_value}
 use Rattle.sieve_text.specs.Tokens.{string_kind, quoted_at, lines_at, multi_line_at, tag_at, factor_at, number_at, identifier_at, kind_at, ◌>>=◌}
-use Rattle.sieve_text.specs.TokenGrammar.{IsName, Quantifier, no_quantifier, kilo, mega, giga, IsNumber, QuotedText, quoted_end, quoted_plain, quoted_pair, IsLineEnd, without_dot, Lines, no_lines, line, IsTextColon, IsHashComment, IsMultiLine, octet_of, Lexeme, IsWithinLimits, IsApart, IsToken}
+use Rattle.sieve_text.specs.TokenGrammar.{IsName, Quantifier, no_quantifier, kilo, mega, giga, IsNumber, QuotedText, quoted_end, quoted_plain, quoted_pair, IsLineEnd, without_dot, Lines, no_lines, line, IsTextColon, IsMultiLine, octet_of, Lexeme, IsToken}
 use Rattle.sieve_text.proofs.GapFound.{exactly}
 use Rattle.sieve_text.proofs.GapLemmas.{drop_more}
 use Rattle.sieve_text.proofs.GrammarParts.{quantifier_taken, quantifier_counts}
 use Rattle.sieve_text.proofs.KindGrammar.{line_says}
 use Rattle.sieve_text.proofs.WithinLemmas.{factor_within}
-use Rattle.sieve_text.proofs.Longest.{lower_below, lower_above, lower_between, colon_only, t_starts, digit_no_t, digit_no_start, digit_no_factor, no_word, quoted_whole, lines_whole, opening_whole, last_whole, after_opening, begins_word}
+use Rattle.sieve_text.proofs.Longest.{lower_below, lower_above, lower_between, colon_only, t_starts, digit_no_t, digit_no_start, no_word, quoted_whole, lines_whole, opening_whole, last_whole, after_opening, begins_word}
 
 -- NAMES
 
@@ -262,8 +262,8 @@ pub quote_kind : (bs : List ℕ) → kind_at (34 ∷ bs) ≡ quoted_at bs
 unfolding kind_at
 quote_kind bs = refl
 
-quoted_says : (body text : List ℕ) → QuotedText body text → unescaped false body ≡ text
-unfolding unescaped
+quoted_says : (body text : List ℕ) → QuotedText body text → without_escapes false body ≡ text
+unfolding without_escapes
 quoted_says _ _ quoted_end = refl
 quoted_says _ _ (quoted_plain b bs says n34 n92 q) = rw (ne_eqb b 92 n92) (ap (λ (cs : List ℕ). b ∷ cs) (quoted_says bs says q))
 quoted_says _ _ (quoted_pair b bs says q) = ap (λ (cs : List ℕ). b ∷ cs) (quoted_says bs says q)
@@ -328,8 +328,8 @@ opening_read blanks from n all stops opens =
     ∙ ap (λ (cs : List ℕ). lines_at (5 + (prefix_len is_blank all_of + n)) cs) (drop_more (prefix_len is_blank all_of) n all_of ∙ ap (λ (cs : List ℕ). drop n cs) p.1)
     ∙ ap (λ m. lines_at (5 + (m + n)) (drop n from)) p.0
 
-lines_say : (body text : List ℕ) → Lines body text → unstuffed true body ≡ text
-unfolding unstuffed
+lines_say : (body text : List ℕ) → Lines body text → without_stuffing true body ≡ text
+unfolding without_stuffing
 lines_say _ _ no_lines = refl
 lines_say _ _ (line content bs says all dot r) = line_says content bs all ∙ ap (λ (cs : List ℕ). without_dot content ++ 10 ∷ cs) (lines_say bs says r)
 

@@ -12,7 +12,7 @@ use Rattle.sieve_syntax.specs.declared.token.TokenKind.{TokenKind}
 use Rattle.sieve_syntax.specs.declared.token.TokenKind.TheVariants as kinds
 use Rattle.sieve_text.specs.declared.fault.ScanRefusal.TheVariants.{NoToken, StringNotClosed}
 use Rattle.sieve_text.specs.Octets.{is_blank, is_start, is_word, not_lf, begins, begins_with, line_end_len}
-use Rattle.sieve_text.specs.Strings.{quoted_len, unescaped, quoted_value, begins_as, begins_text, opening_end_at, is_last_line, lines_len, unstuffed, lines_value}
+use Rattle.sieve_text.specs.Strings.{quoted_len, without_escapes, quoted_value, begins_as, begins_text, opening_end_at, is_last_line, lines_len, without_stuffing, lines_value}
 use Rattle.sieve_text.specs.Tokens.{mark_of, lines_at, multi_line_at, factor_at, kind_at}
 use Rattle.sieve_text.specs.TokenGrammar.{IsName, QuotedText, quoted_end, quoted_plain, quoted_pair, IsLineEnd, is_dot, without_dot, Lines, no_lines, line, IsTextColon, IsHashComment, IsQuoted, IsMultiLine, Lexeme, IsWithinLimits}
 use Rattle.sieve_text.proofs.GapLemmas.{drop_more}
@@ -91,8 +91,8 @@ number_sound bs some small =
     }
 
 -- quoted strings
-quoted_text : (bs : List ℕ) → quoted_len false bs < length bs → QuotedText (take (quoted_len false bs) bs) (unescaped false (take (quoted_len false bs) bs)) × (drop (quoted_len false bs) bs ≡ 34 ∷ drop (suc (quoted_len false bs)) bs)
-unfolding quoted_len unescaped
+quoted_text : (bs : List ℕ) → quoted_len false bs < length bs → QuotedText (take (quoted_len false bs) bs) (without_escapes false (take (quoted_len false bs) bs)) × (drop (quoted_len false bs) bs ≡ 34 ∷ drop (suc (quoted_len false bs)) bs)
+unfolding quoted_len without_escapes
 quoted_text [] h = absurd (omega arith)
 quoted_text (b ∷ []) h = elim (cases_Bool (b == 34)) [
   | inl e ↦ rw e (quoted_end, ap (λ c. c ∷ []) (eqb-true b 34 e))
@@ -107,11 +107,11 @@ quoted_text (b ∷ c ∷ bs) h = elim (cases_Bool (b == 34)) [
     | inl f ↦ (
         let s = rw f at r in
         let t = quoted_text bs (omega arith) in
-        rw (e, f) (rw (eqb-true b 92 f) (quoted_pair c (take (quoted_len false bs) bs) (unescaped false (take (quoted_len false bs) bs)) t.0), t.1))
+        rw (e, f) (rw (eqb-true b 92 f) (quoted_pair c (take (quoted_len false bs) bs) (without_escapes false (take (quoted_len false bs) bs)) t.0), t.1))
     | inr f ↦ (
         let s = rw f at r in
         let t = quoted_text (c ∷ bs) (omega arith) in
-        rw (e, f) (quoted_plain b (take (quoted_len false (c ∷ bs)) (c ∷ bs)) (unescaped false (take (quoted_len false (c ∷ bs)) (c ∷ bs))) (eqb-false b 34 e) (eqb-false b 92 f) t.0, t.1))
+        rw (e, f) (quoted_plain b (take (quoted_len false (c ∷ bs)) (c ∷ bs)) (without_escapes false (take (quoted_len false (c ∷ bs)) (c ∷ bs))) (eqb-false b 34 e) (eqb-false b 92 f) t.0, t.1))
   ])
 ]
 
@@ -139,7 +139,7 @@ quoted_cut b bs e h =
       long = (let a = length-append (take n bs) (34 ∷ []) in omega arith);
       spelled = inl (record {
         body = take n bs;
-        text = unescaped false (take n bs);
+        text = without_escapes false (take n bs);
         cut = ap (λ c. c ∷ (take n bs ++ 34 ∷ [])) e;
         spells = t.0;
         says = refl;
@@ -187,8 +187,8 @@ last_line true (b ∷ bs) h = elim (cases_Bool (is_last_line (b ∷ bs))) [
 last_line false (b ∷ bs) h = last_line (b == 10) bs (omega arith)
 
 -- the content of a line
-inside : (content rest : List ℕ) → list_all not_lf content ≡ true → unstuffed false (content ++ 10 ∷ rest) ≡ content ++ 10 ∷ unstuffed true rest
-unfolding unstuffed
+inside : (content rest : List ℕ) → list_all not_lf content ≡ true → without_stuffing false (content ++ 10 ∷ rest) ≡ content ++ 10 ∷ without_stuffing true rest
+unfolding without_stuffing
 inside [] rest h = refl
 inside (b ∷ content) rest h =
     let p = and_parts (not_lf b) (list_all not_lf content) h in
@@ -198,8 +198,8 @@ begins_line : (content rest : List ℕ) → begins_with 46 (content ++ 10 ∷ re
 begins_line [] rest = refl
 begins_line (b ∷ content) rest = refl
 
-pub line_says : (content rest : List ℕ) → list_all not_lf content ≡ true → unstuffed true (content ++ 10 ∷ rest) ≡ without_dot content ++ 10 ∷ unstuffed true rest
-unfolding unstuffed
+pub line_says : (content rest : List ℕ) → list_all not_lf content ≡ true → without_stuffing true (content ++ 10 ∷ rest) ≡ without_dot content ++ 10 ∷ without_stuffing true rest
+unfolding without_stuffing
 line_says [] rest h = refl
 line_says (b ∷ content) rest h =
     let p = and_parts (not_lf b) (list_all not_lf content) h in
@@ -257,11 +257,11 @@ taken_line bs content rest m n e l =
     let a : suc m + n ≡ length content + suc n = omega arith in
     rw (e, a) (take-append-add content (10 ∷ rest) (suc n))
 
-no_lines_say : (bs : List ℕ) (n : ℕ) → n ≡ 0 → Lines (take n bs) (unstuffed true (take n bs))
-unfolding unstuffed
+no_lines_say : (bs : List ℕ) (n : ℕ) → n ≡ 0 → Lines (take n bs) (without_stuffing true (take n bs))
+unfolding without_stuffing
 no_lines_say bs n e = rw e no_lines
 
-lines_from : (turns : ℕ) (bs : List ℕ) → length bs < turns → lines_len true bs < length bs → Lines (take (lines_len true bs) bs) (unstuffed true (take (lines_len true bs) bs))
+lines_from : (turns : ℕ) (bs : List ℕ) → length bs < turns → lines_len true bs < length bs → Lines (take (lines_len true bs) bs) (without_stuffing true (take (lines_len true bs) bs))
 lines_from zero bs enough h = absurd (omega arith)
 lines_from (suc turns) bs enough h = elim (cases_Bool (is_last_line bs)) [
   | inl e ↦ no_lines_say bs (lines_len true bs) (last_here bs e)
@@ -279,7 +279,7 @@ lines_from (suc turns) bs enough h = elim (cases_Bool (is_last_line bs)) [
         let t : take (lines_len true bs) bs ≡ content ++ 10 ∷ take (lines_len true rest) rest = ap (λ k. take k bs) n ∙ taken_line bs content rest m (lines_len true rest) whole l in
         let dot : is_dot content ≡ false = sym (dot_line content rest all) ∙ sym (ap is_last_line whole) ∙ e in
         let r = lines_from turns rest (omega arith) (omega arith) in
-        rw (t, line_says content (take (lines_len true rest) rest) all) (line content (take (lines_len true rest) rest) (unstuffed true (take (lines_len true rest) rest)) all dot r))
+        rw (t, line_says content (take (lines_len true rest) rest) all) (line content (take (lines_len true rest) rest) (without_stuffing true (take (lines_len true rest) rest)) all dot r))
   ]
 ]
 
@@ -415,7 +415,7 @@ lines_cut bs word blanks comment end rest whole w b c en before count some =
         comment = comment;
         end = end;
         body = take n rest;
-        text = unstuffed true (take n rest);
+        text = without_stuffing true (take n rest);
         last = take m more;
         cut = refl;
         word_is = w;

@@ -5,13 +5,13 @@ use Rattle.sieve_syntax.specs.declared.token.TokenKind.{TokenKind}
 use Rattle.sieve_text.specs.declared.parser.stop.Misfit.{Misfit}
 use Rattle.sieve_text.specs.declared.parser.stop.Stop.{Stop}
 use Rattle.sieve_text.specs.declared.parser.stop.Stop.TheVariants.{NoMemory, Refused}
-use Rattle.sieve_text.specs.Reading.{◌>>=◌, Fails, Tries, many_at, following}
+use Rattle.sieve_text.specs.Reading.{◌>>=◌, Fails, Tries, many_at, with_before}
 
-after_none : {A : Type 0} (r : Result (List A × List TokenKind) Misfit) → following [] r ≡ r
+after_none : {A : Type 0} (r : Result (List A × List TokenKind) Misfit) → with_before [] r ≡ r
 after_none (Ok x) = refl
 after_none (Err e) = refl
 
-after_push : {A : Type 0} (before : List A) (a : A) (r : Result (List A × List TokenKind) Misfit) → following before (r >>= λ x. Ok (a ∷ x.0, x.1)) ≡ following (before ++ a ∷ []) r
+after_push : {A : Type 0} (before : List A) (a : A) (r : Result (List A × List TokenKind) Misfit) → with_before before (r >>= λ x. Ok (a ∷ x.0, x.1)) ≡ with_before (before ++ a ∷ []) r
 after_push before a (Ok x) = ap (λ (y : List _). Ok (y, x.1)) (sym (append_assoc before (a ∷ []) x.0))
 after_push before a (Err e) = refl
 
@@ -19,7 +19,7 @@ after_push before a (Err e) = refl
 pub record GoesOn {A : Type 0} (read : Tries A) (before : List A) (rest : List TokenKind) (whole : Result (List A × List TokenKind) Misfit) : Type 0 where
   pub turns : ℕ
   pub enough : length rest ≤ turns
-  pub same : following before (many_at read turns rest) ≡ whole
+  pub same : with_before before (many_at read turns rest) ≡ whole
 
 pub goes_on_first : {A : Type 0} (read : Tries A) (ts : List TokenKind) → GoesOn read [] ts (many_at read (length ts) ts)
 goes_on_first read ts = record { turns = length ts; enough = omega arith; same = after_none (many_at read (length ts) ts) }
@@ -28,7 +28,7 @@ pub goes_on_more : {A : Type 0} (read : Tries A) (before : List A) (rest after :
 unfolding many_at
 goes_on_more {A} read before rest after a whole h e l = from h.turns refl
   where
-    turn : (n : ℕ) → following before (many_at read (suc n) rest) ≡ following (before ++ a ∷ []) (many_at read n after)
+    turn : (n : ℕ) → with_before before (many_at read (suc n) rest) ≡ with_before (before ++ a ∷ []) (many_at read n after)
     turn n = rw e (after_push before a (many_at read n after))
 
     from : (n : ℕ) → n ≡ h.turns → GoesOn read (before ++ a ∷ []) after whole
@@ -39,7 +39,7 @@ pub goes_on_ends : {A : Type 0} (read : Tries A) (before : List A) (rest : List 
 unfolding many_at
 goes_on_ends {A} read before rest whole h e = sym h.same ∙ from h.turns
   where
-    from : (n : ℕ) → following before (many_at read n rest) ≡ Ok (before, rest)
+    from : (n : ℕ) → with_before before (many_at read n rest) ≡ Ok (before, rest)
     from zero = ap (λ (y : List A). Ok (y, rest)) (append-nil before)
     from (suc n) = rw e (ap (λ (y : List A). Ok (y, rest)) (append-nil before))
 
@@ -51,6 +51,6 @@ goes_on_fails {A} (Refused misfit left) read before rest whole none h f = sym h.
     clash : rest ≡ [] → ⊥
     clash e = let one : read [] ≡ Err misfit = rw e at f in let two : ◌≡◌ {A = Result (Option (A × List TokenKind)) Misfit} (Ok None) (Err misfit) = sym none ∙ one in cc
 
-    from : (n : ℕ) → n ≡ h.turns → following before (many_at read n rest) ≡ Err misfit
+    from : (n : ℕ) → n ≡ h.turns → with_before before (many_at read n rest) ≡ Err misfit
     from zero is = absurd (clash (nil_from_length rest (omega (arith, h.enough))))
     from (suc n) is = rw f refl

@@ -4,10 +4,10 @@ use Rattle.std.specs.Prelude.{◌==◌}
 use Rattle.std.specs.List.{prefix_len}
 use Rattle.std.proofs.lemmas.Bool.{cases_Bool}
 use Rattle.sieve_text.specs.Octets.{is_plain}
-use Rattle.sieve_text.specs.Strings.{with_crlf, unescaped, quoted_value}
+use Rattle.sieve_text.specs.Strings.{with_crlf, without_escapes, quoted_value}
 
-plain_stays : (after_cr : Bool) (bs : List ℕ) → prefix_len is_plain bs ≡ length bs → with_crlf after_cr (unescaped false bs) ≡ bs
-unfolding with_crlf unescaped
+plain_stays : (after_cr : Bool) (bs : List ℕ) → prefix_len is_plain bs ≡ length bs → with_crlf after_cr (without_escapes false bs) ≡ bs
+unfolding with_crlf without_escapes
 plain_stays after_cr [] h = refl
 plain_stays after_cr (b ∷ bs) h = elim (cases_Bool (b == 92)) [
   | inl e ↦ (let n : 0 ≡ suc (length bs) = rw e at h in absurd (omega (arith, n)))

@@ -5,7 +5,7 @@ use Rattle.sieve_syntax.specs.declared.token.TokenKind.TheVariants as kinds
 use Rattle.sieve_text.specs.declared.fault.ScanRefusal.TheVariants.{NoToken, StringNotClosed, CommentNotClosed, NumberTooLarge}
 use Rattle.sieve_text.specs.Octets.{stray_len}
 use Rattle.sieve_text.specs.Gaps.{bracketed_len, comment_len, gap_len}
-use Rattle.sieve_text.specs.Strings.{quoted_len, unescaped, with_crlf, lines_len, unstuffed}
+use Rattle.sieve_text.specs.Strings.{quoted_len, without_escapes, with_crlf, lines_len, without_stuffing}
 use Rattle.sieve_text.specs.Tokens.{kind_at, multi_line_at, lines_at, quoted_at, number_at}
 
 abbrev pub lf : List ℕ
@@ -47,11 +47,11 @@ hexadecimal = refl
 
 -- dots: a leading one is dropped only if another follows
 dots : kind_at (codes "text:" ++ lf ++ codes "..a" ++ lf ++ codes ".b" ++ lf ++ codes ".") ≡ Ok (kinds.StringValue (codes ".a" ++ crlf ++ codes ".b" ++ crlf), 14)
-unfolding kind_at multi_line_at lines_at lines_len unstuffed with_crlf
+unfolding kind_at multi_line_at lines_at lines_len without_stuffing with_crlf
 dots = refl
 
 empty_lines : kind_at (codes "TEXT: # c" ++ crlf ++ codes "." ++ crlf ++ codes "; ") ≡ Ok (kinds.StringValue [], 14)
-unfolding kind_at multi_line_at lines_at lines_len unstuffed with_crlf
+unfolding kind_at multi_line_at lines_at lines_len without_stuffing with_crlf
 empty_lines = refl
 
 text_foo : kind_at (codes "text:foo") ≡ Err NoToken
@@ -68,7 +68,7 @@ text_space = refl
 
 -- a backslash is dropped; a bare LF is CR LF
 escapes : kind_at (codes "\"a\\\"\\\\\\b\\" ++ lf ++ codes "\" x") ≡ Ok (kinds.StringValue (codes "a\"\\b" ++ crlf), 11)
-unfolding kind_at quoted_at quoted_len unescaped with_crlf
+unfolding kind_at quoted_at quoted_len without_escapes with_crlf
 escapes = refl
 
 not_closed : kind_at (codes "\"abc\\") ≡ Err StringNotClosed

@@ -1,5 +1,5 @@
 -- A text has the same tokens without the gap at its front.
-use Rattle.std.proofs.Common.{◌≡◌, ℕ, zero, suc, ◌+◌, ◌-◌, true, false, List, [], ◌∷◌, drop, nat_lt, Result, Ok, Err, refl, sym, subst, ◌∙◌, arith, inl, inr}
+use Rattle.std.proofs.Common.{◌≡◌, ℕ, zero, suc, ◌-◌, false, List, [], ◌∷◌, drop, nat_lt, Result, Ok, Err, refl, sym, subst, ◌∙◌, inl, inr}
 use Rattle.std.proofs.lemmas.Bool.{cases_Bool}
 use Rattle.std.specs.List.{prefix_len}
 use Rattle.sieve_syntax.specs.declared.token.TokenKind.{TokenKind}

@@ -54,9 +54,9 @@ many_at read zero ts = Ok ([], ts)
 many_at read (suc n) ts = read ts >>= many_with (many_at read n) ts
 
 -- what was read before, and then what is read now
-abbrev pub following : {A : Type 0} → List A → Result (List A × List TokenKind) Misfit → Result
+abbrev pub with_before : {A : Type 0} → List A → Result (List A × List TokenKind) Misfit → Result
     (List A × List TokenKind) Misfit
-following before r = r >>= λ x. Ok (before ++ x.0, x.1)
+with_before before r = r >>= λ x. Ok (before ++ x.0, x.1)
 
 -- a thing after a comma
 abbrev pub next_with : {A : Type 0} → Reads A → Tries A

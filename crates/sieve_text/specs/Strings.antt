@@ -20,14 +20,14 @@ quoted_len true (b ∷ bs) = suc (quoted_len false bs)
 quoted_len false (b ∷ bs) = if b == 34 then 0 else suc (quoted_len (b == 92) bs)
 
 -- a backslash is dropped, and the octet after it is kept
-unfoldable pub unescaped : Bool → List ℕ → List ℕ
-unescaped escaped [] = []
-unescaped true (b ∷ bs) = b ∷ unescaped false bs
-unescaped false (b ∷ bs) = if b == 92 then unescaped true bs else b ∷ unescaped false bs
+unfoldable pub without_escapes : Bool → List ℕ → List ℕ
+without_escapes escaped [] = []
+without_escapes true (b ∷ bs) = b ∷ without_escapes false bs
+without_escapes false (b ∷ bs) = if b == 92 then without_escapes true bs else b ∷ without_escapes false bs
 
 -- the value of the octets between quotation marks
 abbrev pub quoted_value : List ℕ → List ℕ
-quoted_value body = with_crlf false (unescaped false body)
+quoted_value body = with_crlf false (without_escapes false body)
 
 -- "text:", in letters of either case
 abbrev pub begins_as : List ℕ → List ℕ → Bool
@@ -57,11 +57,11 @@ lines_len at_start [] = 0
 lines_len at_start (b ∷ bs) = if at_start && is_last_line (b ∷ bs) then 0 else suc (lines_len (b == 10) bs)
 
 -- a line's leading dot is dropped where another dot follows it
-unfoldable pub unstuffed : Bool → List ℕ → List ℕ
-unstuffed at_start [] = []
-unstuffed at_start (b ∷ bs) = if (at_start && (b == 46)) && begins_with 46 bs then unstuffed false bs
-    else b ∷ unstuffed (b == 10) bs
+unfoldable pub without_stuffing : Bool → List ℕ → List ℕ
+without_stuffing at_start [] = []
+without_stuffing at_start (b ∷ bs) = if (at_start && (b == 46)) && begins_with 46 bs then without_stuffing false bs
+    else b ∷ without_stuffing (b == 10) bs
 
 -- the value of the lines of a multi-line string
 abbrev pub lines_value : List ℕ → List ℕ
-lines_value lines = with_crlf false (unstuffed true lines)
+lines_value lines = with_crlf false (without_stuffing true lines)

@@ -16,7 +16,7 @@ ghost use Rattle.sieve_text.specs.Reading.{Gives, GivesScript, script_at};
 mod arguments;
 mod commands;
 mod laws;
-mod rows;
+mod lists;
 mod stop;
 mod test_lists;
 

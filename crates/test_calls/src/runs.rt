@@ -3,7 +3,7 @@
 use anyhow::{Result, bail};
 use filing_machine::{Case, EndedRun, Machine, run};
 use filing_verify::Verified;
-use sieve_meaning::{Outcome, is_word};
+use sieve_meaning::{Outcome, is_same_word};
 use std::alloc::Global;
 
 /// A field of the tests' own case.
@@ -48,7 +48,7 @@ impl Case for OwnCase {
     }
 
     fn is_named(&self, field: usize, name: &[u8]) -> bool {
-        is_word(self.fields[field].name, name)
+        is_same_word(self.fields[field].name, name)
     }
 
     fn value(&self, field: usize) -> &[u8] {

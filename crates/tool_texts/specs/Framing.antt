@@ -3,8 +3,8 @@ use Rattle.std.specs.Prelude.{ℕ, Bool, List, [], ◌∷◌, ◌++◌, ◌==◌
 use Rattle.std.specs.List.{join_with_byte, slice_split}
 use Rattle.tool_texts.specs.declared.framing.Framed.{Framed}
 use Rattle.tool_texts.specs.declared.framing.Framed.TheVariants as framed
-use Rattle.tool_texts.specs.declared.framing.Part.{Part}
-use Rattle.tool_texts.specs.declared.framing.Part.TheVariants.{Word, Moment, File, Here}
+use Rattle.tool_texts.specs.declared.framing.LinePart.{LinePart}
+use Rattle.tool_texts.specs.declared.framing.LinePart.TheVariants.{Word, Moment, File, Here}
 
 abbrev pub is_space : ℕ → Bool
 is_space b = b == 32
@@ -14,19 +14,19 @@ abbrev pub words_of : List ℕ → List (List ℕ)
 words_of line = slice_split is_space line
 
 -- the word as typed
-abbrev pub word_of : Part → List ℕ
+abbrev pub word_of : LinePart → List ℕ
 word_of (Word w) = w.now
 word_of Moment = codes "@now"
 word_of (File payload path) = 64 ∷ path.now
 word_of (Here w count) = w.now
 
 -- the word in a session: for a file its number of octets
-abbrev pub spelled : Framed → List ℕ
-spelled (framed.Word w) = w.now
-spelled (framed.Moment seconds) = decimal seconds
-spelled (framed.File octets) = decimal (length octets.items)
-spelled (framed.Here w count) = w.now
+abbrev pub session_word : Framed → List ℕ
+session_word (framed.Word w) = w.now
+session_word (framed.Moment seconds) = decimal seconds
+session_word (framed.File octets) = decimal (length octets.items)
+session_word (framed.Here w count) = w.now
 
 -- the words with one space between each two, and a line feed
 abbrev pub line_of : List Framed → List ℕ
-line_of words = join_with_byte 32 (map spelled words) ++ 10 ∷ []
+line_of words = join_with_byte 32 (map session_word words) ++ 10 ∷ []

@@ -1,7 +1,7 @@
 //! Commands as a person types them, with the paths of files in place of lengths.
 
 ghost use Rattle.std.specs.Prelude.{◌≡◌, ◌++◌, map, IfOk, OnOk};
-ghost use Rattle.tool_texts.specs.Framing.{line_of, spelled, word_of, words_of};
+ghost use Rattle.tool_texts.specs.Framing.{line_of, session_word, word_of, words_of};
 
 use itoa::Buffer;
 use std::alloc::{AllocError, Global};
@@ -59,7 +59,7 @@ pub fn slots(command: &[u8]) -> &'static [Slot] {
 
 /// A word of a command, and what replaces it in a session.
 #[derive(Clone, Copy, Debug, PartialEq, Eq)]
-pub enum Part<'a> {
+pub enum LinePart<'a> {
     /// The word itself.
     Word(&'a [u8]),
     /// `@now`: replaced by the seconds of the clock.
@@ -71,17 +71,17 @@ pub enum Part<'a> {
 }
 
 /// The part that a word of this kind is.
-fn read_word(slot: Slot, word: &[u8]) -> Part<'_>
+fn read_word(slot: Slot, word: &[u8]) -> LinePart<'_>
     ensures { word_of result ≡ word.now }
 {
     match (slot, word) {
-        (Slot::Moment, b"@now") => Part::Moment,
-        (Slot::Length(payload), [b'@', path @ ..]) => Part::File(payload, path),
+        (Slot::Moment, b"@now") => LinePart::Moment,
+        (Slot::Length(payload), [b'@', path @ ..]) => LinePart::File(payload, path),
         (Slot::Length(_), _) => match length(word) {
-            Some(count) => Part::Here(word, count),
-            None => Part::Word(word),
+            Some(count) => LinePart::Here(word, count),
+            None => LinePart::Word(word),
         },
-        _ => Part::Word(word),
+        _ => LinePart::Word(word),
     }
 }
 
@@ -101,7 +101,7 @@ fn words(alloc: Global, line: &[u8]) -> Result<Vec<&[u8]>, AllocError>
 }
 
 /// The parts of a line without its line feed: one for each word, in order. Fails only if memory runs out.
-pub fn parts(alloc: Global, line: &[u8]) -> Result<Vec<Part<'_>>, AllocError>
+pub fn parts(alloc: Global, line: &[u8]) -> Result<Vec<LinePart<'_>>, AllocError>
     ensures { IfOk result (λ v. map word_of v.items ≡ words_of line.now) }
 {
     let words = words(alloc, line)?;
@@ -132,7 +132,7 @@ pub enum Framed<'a> {
 
 /// Puts a word at the end of a line.
 fn spell(line: &mut Vec<u8>, word: &Framed<'_>) -> Result<(), AllocError>
-    ensures { OnOk result (line.new.items ≡ line.old.items ++ spelled word.now) }
+    ensures { OnOk result (line.new.items ≡ line.old.items ++ session_word word.now) }
 {
     let mut buffer = Buffer::new();
     match word {

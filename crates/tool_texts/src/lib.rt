@@ -6,6 +6,6 @@ mod framing;
 mod numbers;
 mod places;
 
-pub use framing::{Framed, Part, Payload, Slot, framed_line, parts, slots};
+pub use framing::{Framed, LinePart, Payload, Slot, framed_line, parts, slots};
 pub use numbers::{fault_text, refusal_text};
 pub use places::{Place, line_at, place_of};

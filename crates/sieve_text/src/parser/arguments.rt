@@ -5,7 +5,7 @@ ghost use Rattle.sieve_text.specs.Lexemes.{kinds_in, left_in};
 ghost use Rattle.sieve_text.specs.Reading.{Gives, string_at, after_bracket, next_with, other_strings_at, string_list_at, argument_at, arguments_at};
 
 use crate::lexeme::Lexeme;
-use crate::parser::rows;
+use crate::parser::lists;
 use crate::parser::stop::{Stop, syntax};
 use crate::scanner::{begins_with_name, first_mark, split_lexeme, string_text};
 use sieve_syntax::{Argument, Arguments, Mark, StringList, Text, Texts};
@@ -56,7 +56,7 @@ fn other_strings(alloc: Global, text: &[u8]) -> Result<(Texts, &[u8]), Stop>
     let mut others = Vec::new(alloc);
     let mut rest = text;
     while let Some((next, after)) = next_string(alloc, rest)? {
-        rows::push(&mut others, next, rows::SEVERAL)?;
+        lists::push(&mut others, next, lists::SEVERAL)?;
         rest = after;
     }
     Ok((Texts::from_vec(alloc, others)?, rest))
@@ -126,7 +126,7 @@ fn some_arguments(alloc: Global, text: &[u8]) -> Result<(Arguments, &[u8]), Stop
     let mut arguments = Vec::new(alloc);
     let mut rest = text;
     while let Some((next, after)) = next_argument(alloc, rest)? {
-        rows::push(&mut arguments, next, rows::SEVERAL)?;
+        lists::push(&mut arguments, next, lists::SEVERAL)?;
         rest = after;
     }
     Ok((Arguments::from_vec(alloc, arguments)?, rest))

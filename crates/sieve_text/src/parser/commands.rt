@@ -7,7 +7,7 @@ ghost use Rattle.sieve_text.specs.Reading.{Gives, many_at, inside_at, inner_with
 
 use crate::lexeme::Lexeme;
 use crate::parser::arguments::arguments;
-use crate::parser::rows;
+use crate::parser::lists;
 use crate::parser::stop::{Misfit, Stop, left_from, syntax};
 use crate::parser::test_lists::{has_no_test, inner_tests};
 use crate::scanner::{first_mark, split_lexeme};
@@ -29,7 +29,7 @@ pub fn commands(alloc: Global, depth: u8, text: &[u8]) -> Result<(Vec<Command>, 
     let mut commands = Vec::new(alloc);
     let mut rest = text;
     while let Some((next, after)) = next_command(alloc, depth, rest)? {
-        rows::push(&mut commands, next, 1)?;
+        lists::push(&mut commands, next, 1)?;
         rest = after;
     }
     commands.shrink_to_fit();

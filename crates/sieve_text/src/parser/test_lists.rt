@@ -9,7 +9,7 @@ ghost use Rattle.sieve_text.specs.Reading.{Gives, Reads, after_paren, next_with,
 
 use crate::lexeme::Lexeme;
 use crate::parser::arguments::arguments;
-use crate::parser::rows;
+use crate::parser::lists;
 use crate::parser::stop::{Misfit, Stop, left_from, syntax};
 use crate::scanner::{first_mark, split_lexeme};
 use sieve_syntax::{Mark, Test, TestList, Tests, Text};
@@ -124,7 +124,7 @@ fn other_tests(alloc: Global, depth: u8, text: &[u8]) -> Result<(Vec<Test>, &[u8
     let mut tests = Vec::new(alloc);
     let mut rest = text;
     while let Some((next, after)) = next_test(alloc, depth, rest)? {
-        rows::push(&mut tests, next, rows::SEVERAL)?;
+        lists::push(&mut tests, next, lists::SEVERAL)?;
         rest = after;
     }
     tests.shrink_to_fit();

@@ -84,7 +84,7 @@ fn lines_length(lines: &[u8]) -> usize
 }
 
 /// The value of the lines: a leading dot is dropped if another dot follows it, and a bare LF becomes CR LF.
-#[tactic(auto, unfolding(crate::specs::Strings::unstuffed, crate::specs::Strings::with_crlf))]
+#[tactic(auto, unfolding(crate::specs::Strings::without_stuffing, crate::specs::Strings::with_crlf))]
 pub fn value(alloc: Global, lines: &[u8]) -> Result<Vec<u8>, AllocError>
     ensures { IfOk result (λ v. v.items ≡ lines_value lines.now) }
 {

@@ -31,7 +31,7 @@ fn body_length(rest: &[u8]) -> usize
 
 /// The value of the octets between the quotation marks: a backslash is dropped, the octet after it stays, and a bare LF
 /// becomes CR LF.
-#[tactic(auto, unfolding(crate::specs::Strings::unescaped, crate::specs::Strings::with_crlf))]
+#[tactic(auto, unfolding(crate::specs::Strings::without_escapes, crate::specs::Strings::with_crlf))]
 pub fn value(alloc: Global, body: &[u8]) -> Result<Vec<u8>, AllocError>
     ensures { IfOk result (λ v. v.items ≡ quoted_value body.now) }
 {

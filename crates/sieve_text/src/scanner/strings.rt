@@ -18,7 +18,7 @@ const MAX_OCTETS: usize = 65_535;
 const FEW_OCTETS: usize = 32_767;
 
 /// Whether the value of the octets between the quotation marks has more than 65,535 octets.
-#[tactic(auto, unfolding(crate::specs::Strings::unescaped, crate::specs::Strings::with_crlf))]
+#[tactic(auto, unfolding(crate::specs::Strings::without_escapes, crate::specs::Strings::with_crlf))]
 fn quoted_too_long(body: &[u8]) -> bool
     ensures { result ≡ nat_lt 65535 (length (quoted_value body.now)) }
 {
@@ -42,7 +42,7 @@ fn quoted_too_long(body: &[u8]) -> bool
 }
 
 /// Whether the value of the lines has more than 65,535 octets.
-#[tactic(auto, unfolding(crate::specs::Strings::unstuffed, crate::specs::Strings::with_crlf))]
+#[tactic(auto, unfolding(crate::specs::Strings::without_stuffing, crate::specs::Strings::with_crlf))]
 fn lines_too_long(lines: &[u8]) -> bool
     ensures { result ≡ nat_lt 65535 (length (lines_value lines.now)) }
 {

@@ -6,7 +6,7 @@ use Rattle.sieve_meaning.specs.Meaning.{Library}
 use Rattle.script_library.specs.BorrowedShelves.{scripts_of}
 use Rattle.script_library.specs.Libraries.{library_of}
 use Rattle.filing_image.specs.declared.instruction.Operation.TheVariants.{Fault}
-use Rattle.filing_commands.specs.Pinning.{PinsChosen, script}
+use Rattle.filing_commands.specs.Pinning.{PinsChoice, script}
 use Rattle.filing_officers.specs.Ends.{alone}
 use Rattle.filing_officers.proofs.MeaningLemmas.{library_meant}
 use Rattle.filing_officers.proofs.PinLemmas.{compiled_pins, heavy_pins}
@@ -23,7 +23,7 @@ pub returns-in-Ok : goal.returns-in-Ok
 returns-in-Ok c =
     let main = program_of (tree_of c.args.script.now.script) in
     let lib = scripts_of c.args.shelves in
-    let P : Library → Type 0 = λ l. PinsChosen (script c.args.name.now main) l c.in-Ok.program in
+    let P : Library → Type 0 = λ l. PinsChoice (script c.args.name.now main) l c.in-Ok.program in
     subst P (library_meant lib) (compiled_pins (library_of lib) c.args.name.now main c.in-Ok.program c.in-Ok.ensures.compiled (λ heavy. ok_not_err c.in-Ok.is ((c.compile_with.ensures.too_large (ok_not_err c.in-Ok.is)).1 heavy)))
 
 pub single-requires : goal.single-requires
@@ -36,5 +36,5 @@ returns-in-Err-TooLarge c =
     let refused = c.in-Err-TooLarge.is ∙ ap Err c.in-Err-TooLarge.field-0-is in
     let heavy = (c.compile_with.ensures.too_large (λ none. cc (refused, none))).0 refused in
     all_ok c.single.result c.single.ensures (λ v e.
-    let P : Library → Type 0 = λ l. PinsChosen (script c.args.name.now main) l v in
+    let P : Library → Type 0 = λ l. PinsChoice (script c.args.name.now main) l v in
     subst P (library_meant lib) (heavy_pins (library_of lib) c.args.name.now main v (e ∙ ap (λ n. alone (Fault n)) c.number.ensures) heavy))

@@ -1,5 +1,5 @@
 use Rattle.std.proofs.Common.{◌+◌, ap, sym, ◌∙◌, Some}
-use Rattle.mail_words.specs.Unfolding.{unfolded}
+use Rattle.mail_words.specs.Unfolding.{without_line_ends}
 use Rattle.mail_words.proofs.WordLemmas.{Searched-none, Placed-found, Searched-end, Placed-word, Placed-no, Placed-other}
 use Rattle.mail_words.proofs.SpellingLemmas.{first_word-spelled}
 use Rattle.mail_words.proofs.words.next_word.Goals as goal
@@ -16,7 +16,7 @@ returns-in-Some-followed_word-clause-first c =
 pub returns-in-Some-followed_word-clause-spelled : goal.returns-in-Some-followed_word-clause-spelled
 returns-in-Some-followed_word-clause-spelled c =
     let place = Placed-found c.args.text.now c.loop-step.from c.in-Some.step c.loop-step.invariant c.in-Some.ensures in
-    first_word-spelled (unfolded c.args.text.now) c.with_gap.result.0 c.with_gap.result.2 c.with_gap.result.1 (ap Some c.with_gap.ensures ∙ Placed-word c.args.text.now c.split_at.result.0.now c.split_at.result.1.now (c.loop-step.from + c.in-Some.step) c.in-Some-followed_word.front.0 c.in-Some-followed_word.front.1 place (sym c.if-may_begin_after.true ∙ c.may_begin_after.ensures) c.split_at.ensures.front c.split_at.ensures.back c.in-Some-followed_word.ensures)
+    first_word-spelled (without_line_ends c.args.text.now) c.with_gap.result.0 c.with_gap.result.2 c.with_gap.result.1 (ap Some c.with_gap.ensures ∙ Placed-word c.args.text.now c.split_at.result.0.now c.split_at.result.1.now (c.loop-step.from + c.in-Some.step) c.in-Some-followed_word.front.0 c.in-Some-followed_word.front.1 place (sym c.if-may_begin_after.true ∙ c.may_begin_after.ensures) c.split_at.ensures.front c.split_at.ensures.back c.in-Some-followed_word.ensures)
 
 pub loop-step-preserved : goal.loop-step-preserved
 loop-step-preserved c =

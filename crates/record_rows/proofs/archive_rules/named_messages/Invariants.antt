@@ -1,5 +1,5 @@
 use Rattle.std.proofs.Common.{◌≡◌, ℕ, ◌||◌, map, drop}
-use Rattle.record_tables.specs.Typed.{record_of}
+use Rattle.record_tables.specs.CodeRows.{record_of}
 use Rattle.record_rows.specs.SoundRows.{is_named, is_one_of}
 use Rattle.record_rows.proofs.archive_rules.named_messages.Given as goal
 

@@ -1,6 +1,6 @@
 use Rattle.std.proofs.Common.{◌≡◌, map, drop}
 use Rattle.std.specs.Cmp.Lexicographic.{pointwise}
-use Rattle.record_tables.specs.Typed.{rule_of}
+use Rattle.record_tables.specs.CodeRows.{rule_of}
 use Rattle.record_rows.specs.Rules.{same_rule}
 use Rattle.record_rows.proofs.plans.are_same_rules.Given as goal
 

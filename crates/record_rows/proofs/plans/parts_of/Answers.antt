@@ -1,7 +1,7 @@
 use Rattle.std.proofs.Common.{◌≡◌, ◌<◌, ◌≤◌, length, drop, map, get_or, sym, ap, ◌∙◌, rules}
 use Rattle.std.proofs.lemmas.List.{take_rest}
 use Rattle.class_plan.specs.Parts.{part_row}
-use Rattle.record_tables.specs.Typed.{rule_of}
+use Rattle.record_tables.specs.CodeRows.{rule_of}
 use Rattle.record_rows.specs.Merge.{own_in, rest_in}
 use Rattle.record_rows.proofs.Loops.{rest-taken, rest-left, taken-within, left-within, merged-next}
 use Rattle.record_rows.proofs.plans.parts_of.Goals as goal

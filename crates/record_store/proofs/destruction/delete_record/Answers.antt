@@ -1,6 +1,6 @@
 use Rattle.std.proofs.Common.{arith, ◌∙◌}
 use Rattle.sqlite.specs.Held.{state}
-use Rattle.record_tables.specs.Changes.{Always, with_destroyed, without_due}
+use Rattle.record_tables.specs.Changes.{Always, with_destruction, without_due}
 use Rattle.record_tables.proofs.Loops.{puts_then}
 use Rattle.record_store.specs.Destruction.{without_body}
 use Rattle.record_store.proofs.destruction.delete_record.Goals as goal
@@ -15,4 +15,4 @@ returns-clause-ok g c clean inside =
     let one = c.in_ok-delete_due.ensures.ok (omega (arith, c.set_destroyed.ensures.survives.clean, c.delete_body.ensures.survives.clean)) inside in
     let two = c.in_ok-set_destroyed.ensures.ok (omega (arith, c.delete_body.ensures.survives.clean)) (one.mode ∙ inside) in
     let three = c.in_ok-delete_body.ensures.ok clean (two.mode ∙ one.mode ∙ inside) in
-    puts_then first third last Always Always (λ t. with_destroyed n (without_due n t)) (without_body c.args.last) (λ t h. tt) (puts_then first second third Always Always (without_due n) (with_destroyed n) (λ t h. tt) one two) three
+    puts_then first third last Always Always (λ t. with_destruction n (without_due n t)) (without_body c.args.last) (λ t h. tt) (puts_then first second third Always Always (without_due n) (with_destruction n) (λ t h. tt) one two) three

@@ -1,5 +1,5 @@
 use Rattle.std.proofs.Common.{◌++◌, [], ◌∷◌, ◌∙◌, ap}
-use Rattle.record_tables.specs.Typed.{record_of}
+use Rattle.record_tables.specs.CodeRows.{record_of}
 use Rattle.record_store.specs.Revisions.{dues_in}
 use Rattle.record_store.proofs.ReviseLemmas.{dues_next}
 use Rattle.record_store.proofs.plan_days.due_rows_by.Goals as goal

@@ -1,6 +1,6 @@
 use Rattle.std.proofs.Common.{◌≡◌, map, take}
 use Rattle.record_tables.specs.Changes.{AreAscending}
-use Rattle.record_tables.specs.Typed.{due_of, record_of}
+use Rattle.record_tables.specs.CodeRows.{due_of, record_of}
 use Rattle.record_store.specs.Revisions.{dues_in}
 use Rattle.record_store.proofs.plan_days.due_rows_by.Given as goal
 

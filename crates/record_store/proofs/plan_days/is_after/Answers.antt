@@ -1,6 +1,6 @@
 use Rattle.std.proofs.Common.{◌<◌, arith}
 use borrow.Author.Tests.{ltb-true}
-use Rattle.record_tables.specs.Typed.{due_of}
+use Rattle.record_tables.specs.CodeRows.{due_of}
 use Rattle.record_store.proofs.ReviseLemmas.{after_last, after_none}
 use Rattle.record_store.proofs.plan_days.is_after.Goals as goal
 

@@ -2,7 +2,7 @@ use Rattle.std.proofs.Common.{◌<◌, map, sym, subst}
 use Rattle.std.specs.List.{AllByRecursion}
 use Rattle.record_tables.specs.Changes.{AreAscending}
 use Rattle.record_tables.specs.Rows.{Due}
-use Rattle.record_tables.specs.Typed.{due_of}
+use Rattle.record_tables.specs.CodeRows.{due_of}
 use Rattle.record_store.proofs.ReviseLemmas.{rises_after}
 use Rattle.record_store.proofs.plan_days.push_in_order.Goals as goal
 

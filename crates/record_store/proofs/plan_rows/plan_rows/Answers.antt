@@ -80,7 +80,7 @@ pub returns-then-not-is_second-clause-none : goal.returns-then-not-is_second-cla
 returns-then-not-is_second-clause-none g c clean is = λ (a : Archive) h keyed.
     let old = state g.S.Store c.args.conn.now in
     let pairs = c.in_ok-settings.ensures.all clean h.tables _ (version_paired h.tables h.keeps.settings) (second_stores old.now a h) h.keyed in
-    let yes : IsTrue c.is_second.result = c.is_second.ensures.1 (ap (map Rattle.record_tables.specs.Typed.pair_of) c.as_slice.ensures.value ∙ pairs) in
+    let yes : IsTrue c.is_second.result = c.is_second.ensures.1 (ap (map Rattle.record_tables.specs.CodeRows.pair_of) c.as_slice.ensures.value ∙ pairs) in
     let no = c.if-not-is_second.true in
     Rattle.std.proofs.Common.true≢false (sym yes ∙ no)
 
@@ -126,7 +126,7 @@ returns-clause-sound g c clean = λ t ps rs cs d.
     let k = reads_after old mid t ps rs cs d (c.in_ok-settings.ensures.same clean1 (archive_common old.now.schema d.stored.schema)) in
     let l = reads_after mid last t ps rs cs k (c.in_ok-rules.ensures.same clean2 k.stored.schema) in
     record {
-      settings = sym (c.in_ok-settings.ensures.all clean1 t ps d.settings (stores_common old.now t d.stored) d.keyed) ∙ ap (map Rattle.record_tables.specs.Typed.pair_of) (sym c.as_slice.ensures.value) ∙ c.is_second.ensures.0 c.if-not-is_second.false;
+      settings = sym (c.in_ok-settings.ensures.all clean1 t ps d.settings (stores_common old.now t d.stored) d.keyed) ∙ ap (map Rattle.record_tables.specs.CodeRows.pair_of) (sym c.as_slice.ensures.value) ∙ c.is_second.ensures.0 c.if-not-is_second.false;
       rules = c.in_ok-rules.ensures.all clean2 t rs k.schedules k.stored k.keyed;
       classes = c.in_ok-classes.ensures.all clean t cs l.classes (stores_common last.now t l.stored) l.keyed;
     }

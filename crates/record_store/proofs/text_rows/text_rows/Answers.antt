@@ -43,7 +43,7 @@ returns-in_err-root-clause-none g c clean is = λ (a : Archive) h keyed.
     let old = state g.S.Store c.args.conn.now in
     let e = handed_on c.from_residual-in_err-root.result c.in_err-root.field-0.0 c.from_residual-in_err-root.ensures.1 is in
     let pairs = c.in_ok-settings.ensures.all clean h.tables (first_pairs (text_of a.plan.root)) (first_paired h.tables (text_of a.plan.root) h.keeps.settings) (first_stores old.now a h) h.keyed in
-    c.in_err-root.ensures.none (ap (λ f. Err f) e) (text_of a.plan.root) (ap (map Rattle.record_tables.specs.Typed.pair_of) c.as_slice.ensures.value ∙ pairs)
+    c.in_err-root.ensures.none (ap (λ f. Err f) e) (text_of a.plan.root) (ap (map Rattle.record_tables.specs.CodeRows.pair_of) c.as_slice.ensures.value ∙ pairs)
 
 pub returns-in_err-classes-clause-none : goal.returns-in_err-classes-clause-none
 returns-in_err-classes-clause-none g c clean is = λ (a : Archive) h keyed.
@@ -61,7 +61,7 @@ returns-clause-tells g c clean = λ (a : Archive) h keyed.
     let k = first_after old mid a h (c.in_ok-settings.ensures.same clean1 (first_common old.now.schema h.stored.schema)) in
     let pairs = c.in_ok-settings.ensures.all clean1 h.tables (first_pairs (text_of a.plan.root)) (first_paired h.tables (text_of a.plan.root) h.keeps.settings) (first_stores old.now a h) h.keyed in
     record {
-      root = same_text _ _ (sym c.in_ok-root.ensures.root ∙ ap (map Rattle.record_tables.specs.Typed.pair_of) c.as_slice.ensures.value ∙ pairs);
+      root = same_text _ _ (sym c.in_ok-root.ensures.root ∙ ap (map Rattle.record_tables.specs.CodeRows.pair_of) c.as_slice.ensures.value ∙ pairs);
       classes = c.in_ok-classes.ensures.all clean k.tables (map text_row a.plan.rows) (texts_listed k.tables a.plan keyed.plan k.keeps.classes) (first_stores mid.now a k) k.keyed;
     }
 
@@ -72,6 +72,6 @@ returns-clause-sound g c clean = λ t ps cs d.
     let clean1 : HasCleanDisk mid = c.classes.ensures.falls clean in
     let k = reads_first_after old mid t ps cs d (c.in_ok-settings.ensures.same clean1 (first_common old.now.schema d.stored.schema)) in
     record {
-      settings = sym (c.in_ok-settings.ensures.all clean1 t ps d.settings (stores_first_common old.now t d.stored) d.keyed) ∙ ap (map Rattle.record_tables.specs.Typed.pair_of) (sym c.as_slice.ensures.value) ∙ c.in_ok-root.ensures.root;
+      settings = sym (c.in_ok-settings.ensures.all clean1 t ps d.settings (stores_first_common old.now t d.stored) d.keyed) ∙ ap (map Rattle.record_tables.specs.CodeRows.pair_of) (sym c.as_slice.ensures.value) ∙ c.in_ok-root.ensures.root;
       classes = c.in_ok-classes.ensures.all clean t cs k.classes (stores_first_common mid.now t k.stored) k.keyed;
     }

@@ -1,6 +1,6 @@
 use Rattle.std.proofs.Common.{arith, rules, refl, ◌∙◌, get_or}
 use Rattle.sqlite.specs.Held.{state}
-use Rattle.record_tables.specs.Typed.{due_of}
+use Rattle.record_tables.specs.CodeRows.{due_of}
 use Rattle.record_tables.specs.declared.rows.DueRow.{DueRow}
 use Rattle.record_tables.proofs.Loops.{get_or_any}
 use Rattle.record_store.proofs.CaptureLemmas.{more_dues_next, no_more_dues}

@@ -2,7 +2,7 @@ use Rattle.std.proofs.Common.{◌≡◌, map, take, IsTrue}
 use Rattle.sqlite.specs.State.{HasCleanDisk, Survives}
 use Rattle.sqlite.specs.Held.{state}
 use Rattle.record_tables.specs.Changes.{Puts}
-use Rattle.record_tables.specs.Typed.{due_of}
+use Rattle.record_tables.specs.CodeRows.{due_of}
 use Rattle.record_store.specs.Captures.{AreAfter, with_more_dues}
 use Rattle.record_store.proofs.transactions.insert_due_days.Given as goal
 

@@ -1,12 +1,10 @@
-use Rattle.std.proofs.Common.{◌≡◌, ◌∙◌, sym, ap, subst, map, map-id, List}
-use Rattle.std.specs.List.{AllZip, AllByRecursion}
+use Rattle.std.proofs.Common.{sym, subst}
 use Rattle.sqlite.specs.Held.{state}
 use Rattle.sqlite.specs.Listing.{understood}
 use Rattle.sqlite.proofs.Callers.{IsPlain}
-use Rattle.record_tables.specs.Tables.{archive_beside, HasCommonTables, IsArchiveSchema}
-use Rattle.record_tables.specs.Rows.{Tables}
+use Rattle.record_tables.specs.Tables.{IsArchiveSchema}
 use Rattle.record_tables.specs.declared.fault.Fault.TheVariants.{NoArchive}
-use Rattle.record_tables.specs.DueRecords.{shown_due_record, ReadsDueRecord, due_records_by, due_record_of}
+use Rattle.record_tables.specs.DueRecords.{due_record_values, ReadsDueRecord, due_records_by, due_record_of}
 use Rattle.record_tables.proofs.DueRecords.{select_due_records, select_due_records_is, shows_due_records, one_due_record, can_due_record}
 use Rattle.record_tables.proofs.ReadLemmas.{reads_nothing}
 use Rattle.record_tables.proofs.TypedLemmas.{on_ok, if_ok, if_err_is, never_none, back, readable}
@@ -18,14 +16,14 @@ plain schema has = subst (λ s. IsPlain (understood s select_due_records)) (sym 
 pub returns-clause-all : goal.returns-clause-all
 returns-clause-all g c clean =
     if_ok c.rows_in.result _ _
-    (λ all h t s keyed. back shown_due_record ReadsDueRecord due_record_of one_due_record (due_records_by c.args.day t) all.items (rw (c.as_slice.ensures.value, shows_due_records (state g.S.Store c.args.conn.now) (state g.S.Store c.rows_of.new.conn) c.in_ok-rows.rows.items c.args.day t s keyed (rw c.to_sql.ensures at (c.in_ok-rows.ensures.shown clean))) at h))
+    (λ all h t s keyed. back due_record_values ReadsDueRecord due_record_of one_due_record (due_records_by c.args.day t) all.items (rw (c.as_slice.ensures.value, shows_due_records (state g.S.Store c.args.conn.now) (state g.S.Store c.rows_of.new.conn) c.in_ok-rows.rows.items c.args.day t s keyed (rw c.to_sql.ensures at (c.in_ok-rows.ensures.shown clean))) at h))
     c.rows_in.ensures.all
 
 pub returns-clause-none : goal.returns-clause-none
 returns-clause-none g c clean is t s keyed fits =
     let none = if_err_is c.rows_in.result NoArchive _ is c.rows_in.ensures.none in
     let shown = shows_due_records (state g.S.Store c.args.conn.now) (state g.S.Store c.rows_of.new.conn) c.in_ok-rows.rows.items c.args.day t s keyed (rw c.to_sql.ensures at (c.in_ok-rows.ensures.shown clean)) in
-    (none (λ e. cc)).1 (rw (c.as_slice.ensures.value, shown) (readable shown_due_record _ _ can_due_record (due_records_by c.args.day t) fits))
+    (none (λ e. cc)).1 (rw (c.as_slice.ensures.value, shown) (readable due_record_values _ _ can_due_record (due_records_by c.args.day t) fits))
 
 pub returns-in_err-rows-clause-none : goal.returns-in_err-rows-clause-none
 returns-in_err-rows-clause-none g c clean is = absurd (never_none c.from_residual.result c.in_err-rows.field-0.0 c.from_residual.ensures.1 is)

@@ -1,4 +1,3 @@
-use Rattle.std.proofs.Common.{◌∙◌, sym}
 use Rattle.sqlite.specs.Held.{state}
 use Rattle.record_tables.proofs.DropLemmas.{drops_dues, drops_last}
 use Rattle.record_tables.proofs.lay.drop_dues.Goals as goal

@@ -1,6 +1,5 @@
 use Rattle.std.proofs.Common.{◌≡◌, true, false, subst, arith, ◌∙◌}
 use Rattle.sqlite.specs.Held.{state}
-use Rattle.sqlite.specs.State.{HasCleanDisk}
 use Rattle.record_tables.specs.Layouts.{TellsDues}
 use Rattle.record_tables.proofs.LayLemmas.{laid_beside}
 use Rattle.record_tables.proofs.DropLemmas.{widened, told_with, told_without}

@@ -1,7 +1,7 @@
-use Rattle.std.proofs.Common.{arith, ◌∙◌, refl, [], ◌∷◌, subst, ap, sym}
+use Rattle.std.proofs.Common.{arith, ◌∙◌, refl, [], ◌∷◌, subst}
 use Rattle.sqlite.specs.Held.{state}
 use Rattle.sqlite.specs.Change.{indexed}
-use Rattle.record_tables.specs.Tables.{archive_schema, due_table, due_index}
+use Rattle.record_tables.specs.Tables.{due_table, due_index}
 use Rattle.record_tables.specs.Shapes.{schema_6, schema_7}
 use Rattle.record_tables.specs.Layouts.{Lays}
 use Rattle.record_tables.proofs.LayLemmas.{lays_then, defines_due, defines_index}

@@ -1,10 +1,10 @@
-use Rattle.std.proofs.Common.{◌≡◌, sym, subst, arith, rules, map, refl, true, false}
+use Rattle.std.proofs.Common.{◌≡◌, subst, rules, map}
 use Rattle.sqlite.specs.Tree.{Trees}
 use Rattle.sqlite.specs.Effect.{Database}
-use Rattle.sqlite.specs.State.{State, HasCleanDisk, Survives}
-use Rattle.sqlite.specs.Held.{Held, state}
+use Rattle.sqlite.specs.State.{HasCleanDisk, Survives}
+use Rattle.sqlite.specs.Held.{state}
 use Rattle.record_tables.specs.Layouts.{IsMoved}
-use Rattle.record_tables.specs.Typed.{listed_of, rule_of, due_of}
+use Rattle.record_tables.specs.CodeRows.{class_entry_of, rule_of, due_of}
 use Rattle.record_tables.proofs.Loops.{survives_good}
 use Rattle.record_tables.proofs.lay.move_first.Goals as goal
 
@@ -13,7 +13,7 @@ returns-clause-crash g c =
     let old = c.args.conn.now in
     let begun = c.transaction-tx.ensures.begun in
     let last = c.move_all.new.tx.conn.now in
-    let Good = λ (db : Database). IsMoved (map rule_of c.args.schedules.now) (map listed_of c.args.classes.now) (map due_of c.args.dues.now) (state g.S.Store old).now db in
+    let Good = λ (db : Database). IsMoved (map rule_of c.args.schedules.now) (map class_entry_of c.args.classes.now) (map due_of c.args.dues.now) (state g.S.Store old).now db in
     let ran : HasCleanDisk (state g.S.Store last) → Good (state g.S.Store last).now = λ clean. rw begun at (c.in_ok-move_all.ensures.ok clean (rw begun)) in
     let whole = survives_good g.S.Store old last c.commit.new.self.0 Good ran (rw begun at c.move_all.ensures.survives) c.commit.ensures.survives in
     let same : c.commit.new.self.0 ≡ c.conn-2-1.given.0 = search rules in
@@ -24,7 +24,7 @@ returns-in_err-commit-clause-crash g c =
     let old = c.args.conn.now in
     let begun = c.transaction-tx.ensures.begun in
     let last = c.move_all.new.tx.conn.now in
-    let Good = λ (db : Database). IsMoved (map rule_of c.args.schedules.now) (map listed_of c.args.classes.now) (map due_of c.args.dues.now) (state g.S.Store old).now db in
+    let Good = λ (db : Database). IsMoved (map rule_of c.args.schedules.now) (map class_entry_of c.args.classes.now) (map due_of c.args.dues.now) (state g.S.Store old).now db in
     let ran : HasCleanDisk (state g.S.Store last) → Good (state g.S.Store last).now = λ clean. rw begun at (c.in_ok-move_all.ensures.ok clean (rw begun)) in
     let whole = survives_good g.S.Store old last c.commit.new.self.0 Good ran (rw begun at c.move_all.ensures.survives) c.commit.ensures.survives in
     let same : c.commit.new.self.0 ≡ c.conn-2-1.given.0 = search rules in

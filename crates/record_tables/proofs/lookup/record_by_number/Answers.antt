@@ -1,6 +1,6 @@
 use Rattle.std.proofs.Common.{◌∙◌, ap, slice_get}
 use Rattle.record_tables.specs.Rows.{Tables}
-use Rattle.record_tables.specs.Typed.{record_of}
+use Rattle.record_tables.specs.CodeRows.{record_of}
 use Rattle.record_tables.proofs.LookupLemmas.{select_record_is, shows_record, record_is, record_none}
 use Rattle.sqlite.specs.Held.{state}
 use Rattle.record_tables.proofs.lookup.record_by_number.Goals as goal

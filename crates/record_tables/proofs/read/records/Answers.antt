@@ -1,13 +1,11 @@
-use Rattle.std.proofs.Common.{◌≡◌, ◌∙◌, sym, ap, subst, map, map-id, List}
-use Rattle.std.specs.List.{AllZip, AllByRecursion}
+use Rattle.std.proofs.Common.{sym, subst}
 use Rattle.sqlite.specs.Held.{state}
 use Rattle.sqlite.specs.Listing.{understood}
 use Rattle.sqlite.proofs.Callers.{IsPlain}
-use Rattle.record_tables.specs.Tables.{common_beside, HasCommonTables, IsArchiveSchema}
-use Rattle.record_tables.specs.Rows.{Tables}
+use Rattle.record_tables.specs.Tables.{HasCommonTables}
 use Rattle.record_tables.specs.declared.fault.Fault.TheVariants.{NoArchive}
-use Rattle.record_tables.specs.Reads.{shown_record, ReadsRecord}
-use Rattle.record_tables.specs.Typed.{record_of}
+use Rattle.record_tables.specs.Reads.{record_values, ReadsRecord}
+use Rattle.record_tables.specs.CodeRows.{record_of}
 use Rattle.record_tables.proofs.Texts.{select_records, select_records_is}
 use Rattle.record_tables.proofs.ReadLemmas.{reads_nothing, shows_records}
 use Rattle.record_tables.proofs.TypedLemmas.{on_ok, if_ok, if_err_is, never_none, back, readable, one_record, can_record}
@@ -19,14 +17,14 @@ plain schema has = subst (λ s. IsPlain (understood s select_records)) (sym has.
 pub returns-clause-all : goal.returns-clause-all
 returns-clause-all g c clean =
     if_ok c.rows_in.result _ _
-    (λ all h t s keyed. back shown_record ReadsRecord record_of one_record t.records all.items (rw (c.as_slice.ensures.value, shows_records (state g.S.Store c.args.conn.now) (state g.S.Store c.rows_of.new.conn) c.in_ok-rows.rows.items t s keyed (c.in_ok-rows.ensures.shown clean)) at h))
+    (λ all h t s keyed. back record_values ReadsRecord record_of one_record t.records all.items (rw (c.as_slice.ensures.value, shows_records (state g.S.Store c.args.conn.now) (state g.S.Store c.rows_of.new.conn) c.in_ok-rows.rows.items t s keyed (c.in_ok-rows.ensures.shown clean)) at h))
     c.rows_in.ensures.all
 
 pub returns-clause-none : goal.returns-clause-none
 returns-clause-none g c clean is t s keyed fits =
     let none = if_err_is c.rows_in.result NoArchive _ is c.rows_in.ensures.none in
     let shown = shows_records (state g.S.Store c.args.conn.now) (state g.S.Store c.rows_of.new.conn) c.in_ok-rows.rows.items t s keyed (c.in_ok-rows.ensures.shown clean) in
-    (none (λ e. cc)).1 (rw (c.as_slice.ensures.value, shown) (readable shown_record _ _ can_record t.records fits))
+    (none (λ e. cc)).1 (rw (c.as_slice.ensures.value, shown) (readable record_values _ _ can_record t.records fits))
 
 pub returns-in_err-rows-clause-none : goal.returns-in_err-rows-clause-none
 returns-in_err-rows-clause-none g c clean is = absurd (never_none c.from_residual.result c.in_err-rows.field-0.0 c.from_residual.ensures.1 is)

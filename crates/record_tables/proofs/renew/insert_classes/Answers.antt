@@ -1,8 +1,7 @@
 use Rattle.std.proofs.Common.{arith, rules, ◌∙◌}
 use Rattle.sqlite.specs.Held.{state}
-use Rattle.sqlite.proofs.StateLemmas.{survives_then}
-use Rattle.record_tables.specs.Typed.{listed_of}
-use Rattle.record_tables.proofs.Loops.{classes_next, none_yet_classes}
+use Rattle.record_tables.specs.CodeRows.{class_entry_of}
+use Rattle.record_tables.proofs.Loops.{classes_next}
 use Rattle.record_tables.proofs.renew.insert_classes.Goals as goal
 
 pub loop-class-preserved : goal.loop-class-preserved
@@ -16,6 +15,6 @@ loop-class-preserved g c =
       puts = λ clean inside.
           let one = was.puts (omega (arith, c.insert_class_row.ensures.survives.clean)) inside in
           let two = c.in_ok-insert_class_row.ensures.ok clean (one.mode ∙ inside) in
-          classes_next listed_of old mid new c.args.classes.now c.class-item.result c.loop-class.class-index c.loop-class-test.true c.class-item.is one two;
+          classes_next class_entry_of old mid new c.args.classes.now c.class-item.result c.loop-class.class-index c.loop-class-test.true c.class-item.is one two;
       survives = search rules;
     }

@@ -1,7 +1,6 @@
 use Rattle.std.proofs.Common.{arith, rules, ◌∙◌, get_or}
 use Rattle.sqlite.specs.Held.{state}
-use Rattle.sqlite.proofs.StateLemmas.{survives_then}
-use Rattle.record_tables.specs.Typed.{due_of}
+use Rattle.record_tables.specs.CodeRows.{due_of}
 use Rattle.record_tables.specs.declared.rows.DueRow.{DueRow}
 use Rattle.record_tables.proofs.Loops.{dues_next, get_or_any}
 use Rattle.record_tables.proofs.renew.insert_dues.Goals as goal

@@ -1,8 +1,7 @@
 use Rattle.std.proofs.Common.{arith, rules, ◌∙◌}
 use Rattle.sqlite.specs.Held.{state}
-use Rattle.sqlite.proofs.StateLemmas.{survives_then}
-use Rattle.record_tables.specs.Typed.{rule_of}
-use Rattle.record_tables.proofs.Loops.{schedules_next, none_yet_schedules}
+use Rattle.record_tables.specs.CodeRows.{rule_of}
+use Rattle.record_tables.proofs.Loops.{schedules_next}
 use Rattle.record_tables.proofs.renew.insert_schedules.Goals as goal
 
 pub loop-schedule-preserved : goal.loop-schedule-preserved

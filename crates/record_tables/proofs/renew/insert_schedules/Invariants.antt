@@ -2,7 +2,7 @@ use Rattle.std.proofs.Common.{◌≡◌, map, take, IsTrue}
 use Rattle.sqlite.specs.State.{HasCleanDisk, Survives}
 use Rattle.sqlite.specs.Held.{state}
 use Rattle.record_tables.specs.Changes.{Puts, HasNoSchedules, with_schedules}
-use Rattle.record_tables.specs.Typed.{rule_of}
+use Rattle.record_tables.specs.CodeRows.{rule_of}
 use Rattle.record_tables.proofs.renew.insert_schedules.Given as goal
 
 abbrev pub invariant-loop-schedule : goal.invariant-loop-schedule

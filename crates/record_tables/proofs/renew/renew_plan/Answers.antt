@@ -2,7 +2,7 @@ use Rattle.std.proofs.Common.{◌≡◌, true, subst, arith, ◌∙◌, map, ref
 use Rattle.sqlite.specs.Held.{state}
 use Rattle.record_tables.specs.Changes.{with_plan}
 use Rattle.record_tables.specs.Layouts.{TellsAlone}
-use Rattle.record_tables.specs.Typed.{due_of, listed_of, rule_of}
+use Rattle.record_tables.specs.CodeRows.{due_of, class_entry_of, rule_of}
 use Rattle.record_tables.proofs.DropLemmas.{renewed}
 use Rattle.record_tables.proofs.renew.renew_plan.Goals as goal
 
@@ -14,4 +14,4 @@ returns-in_ok-put_plan-clause-ok g c clean inside =
     let gone = c.in_ok-empty_dues.ensures.ok (omega (arith, c.put_plan.ensures.survives.clean)) inside in
     let has : c.args.is_alone ≡ true = search in
     let tells = subst (TellsAlone old.now.schema) has c.requires.alone in
-    renewed old mid new (with_plan (map rule_of c.args.schedules.now) (map listed_of c.args.classes.now) (map due_of c.args.dues.now)) (λ t. refl) tells gone (c.in_ok-put_plan.ensures.ok clean (gone.mode ∙ inside))
+    renewed old mid new (with_plan (map rule_of c.args.schedules.now) (map class_entry_of c.args.classes.now) (map due_of c.args.dues.now)) (λ t. refl) tells gone (c.in_ok-put_plan.ensures.ok clean (gone.mode ∙ inside))

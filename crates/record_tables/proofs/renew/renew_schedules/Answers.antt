@@ -1,7 +1,7 @@
 use Rattle.std.proofs.Common.{arith, ◌∙◌, map, refl}
 use Rattle.sqlite.specs.Held.{state}
 use Rattle.record_tables.specs.Changes.{Always, HasNoSchedules, without_schedules, with_schedules}
-use Rattle.record_tables.specs.Typed.{rule_of}
+use Rattle.record_tables.specs.CodeRows.{rule_of}
 use Rattle.record_tables.proofs.Loops.{puts_then}
 use Rattle.record_tables.proofs.renew.renew_schedules.Goals as goal
 

@@ -1,10 +1,10 @@
-use Rattle.std.proofs.Common.{◌≡◌, sym, subst, arith, rules, map, refl, true, false}
+use Rattle.std.proofs.Common.{◌≡◌, subst, rules, map, true}
 use Rattle.sqlite.specs.Tree.{Trees}
 use Rattle.sqlite.specs.Effect.{Database}
-use Rattle.sqlite.specs.State.{State, HasCleanDisk, Survives}
-use Rattle.sqlite.specs.Held.{Held, state}
+use Rattle.sqlite.specs.State.{HasCleanDisk, Survives}
+use Rattle.sqlite.specs.Held.{state}
 use Rattle.record_tables.specs.Changes.{Turns, Always, with_plan}
-use Rattle.record_tables.specs.Typed.{due_of, listed_of, rule_of}
+use Rattle.record_tables.specs.CodeRows.{due_of, class_entry_of, rule_of}
 use Rattle.record_tables.proofs.Loops.{turned, survives_whole}
 use Rattle.record_tables.proofs.renew.replace_plan.Goals as goal
 
@@ -13,7 +13,7 @@ returns-clause-crash g c =
     let old = c.args.conn.now in
     let begun = c.transaction-tx.ensures.begun in
     let last = c.renew_plan.new.tx.conn.now in
-    let change = with_plan (map rule_of c.args.schedules.now) (map listed_of c.args.classes.now) (map due_of c.args.dues.now) in
+    let change = with_plan (map rule_of c.args.schedules.now) (map class_entry_of c.args.classes.now) (map due_of c.args.dues.now) in
     let P = λ (trees : Trees). (db : Database) × Turns (state g.S.Store old).now db Always change × (trees ≡ db.trees) in
     let ran : HasCleanDisk (state g.S.Store last) → Turns (state g.S.Store old).now (state g.S.Store last).now Always change =
     λ clean. turned (state g.S.Store (record old { in_transaction = true })) (state g.S.Store last) Always change (rw begun at (c.in_ok-renew_plan.ensures.ok clean (rw begun))) in
@@ -26,7 +26,7 @@ returns-in_err-commit-clause-crash g c =
     let old = c.args.conn.now in
     let begun = c.transaction-tx.ensures.begun in
     let last = c.renew_plan.new.tx.conn.now in
-    let change = with_plan (map rule_of c.args.schedules.now) (map listed_of c.args.classes.now) (map due_of c.args.dues.now) in
+    let change = with_plan (map rule_of c.args.schedules.now) (map class_entry_of c.args.classes.now) (map due_of c.args.dues.now) in
     let P = λ (trees : Trees). (db : Database) × Turns (state g.S.Store old).now db Always change × (trees ≡ db.trees) in
     let ran : HasCleanDisk (state g.S.Store last) → Turns (state g.S.Store old).now (state g.S.Store last).now Always change =
     λ clean. turned (state g.S.Store (record old { in_transaction = true })) (state g.S.Store last) Always change (rw begun at (c.in_ok-renew_plan.ensures.ok clean (rw begun))) in

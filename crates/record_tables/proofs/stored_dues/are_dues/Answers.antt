@@ -5,9 +5,9 @@ use Rattle.sqlite.specs.Held.{state}
 use Rattle.sqlite.specs.Listing.{understood}
 use Rattle.sqlite.proofs.Callers.{IsPlain}
 use Rattle.record_tables.specs.Tables.{IsArchiveSchema}
-use Rattle.record_tables.specs.Reads.{shown_due}
+use Rattle.record_tables.specs.Reads.{due_values}
 use Rattle.record_tables.specs.StoredDues.{shows_due}
-use Rattle.record_tables.specs.Typed.{due_of}
+use Rattle.record_tables.specs.CodeRows.{due_of}
 use Rattle.record_tables.proofs.ReadLemmas.{reads_nothing}
 use Rattle.record_tables.proofs.StoredDueLemmas.{select_stored, select_stored_is, shows_stored, dues-told}
 use Rattle.record_tables.proofs.stored_dues.are_dues.Goals as goal
@@ -19,7 +19,7 @@ pub returns-clause-are : goal.returns-clause-are
 returns-clause-are g c clean t s keyed =
     let dues = map due_of c.args.dues.now in
     let shown = shows_stored (state g.S.Store c.args.conn.now) (state g.S.Store c.rows_of.new.conn) c.in_ok-rows.rows.items t s keyed (c.in_ok-rows.ensures.shown clean) in
-    let same : c.show_dues.result ≡ pointwise shows_due (map shown_due t.dues) dues = c.show_dues.ensures ∙ ap (λ r. pointwise shows_due r dues) (c.as_slice.ensures.value ∙ shown) in
+    let same : c.show_dues.result ≡ pointwise shows_due (map due_values t.dues) dues = c.show_dues.ensures ∙ ap (λ r. pointwise shows_due r dues) (c.as_slice.ensures.value ∙ shown) in
     subst (λ b. Decides b (t.dues ≡ dues)) (sym same) (dues-told t.dues dues)
 
 pub returns-clause-same : goal.returns-clause-same

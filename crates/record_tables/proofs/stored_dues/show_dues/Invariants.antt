@@ -1,6 +1,6 @@
 use Rattle.std.proofs.Common.{◌≡◌, map, drop}
 use Rattle.std.specs.Cmp.Lexicographic.{pointwise}
-use Rattle.record_tables.specs.Typed.{due_of}
+use Rattle.record_tables.specs.CodeRows.{due_of}
 use Rattle.record_tables.specs.StoredDues.{shows_due}
 use Rattle.record_tables.proofs.stored_dues.show_dues.Given as goal
 

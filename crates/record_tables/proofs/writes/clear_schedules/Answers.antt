@@ -1,4 +1,3 @@
-use Rattle.std.proofs.Common.{refl, false, true, option_map}
 use Rattle.sqlite.specs.Held.{state}
 use Rattle.record_tables.proofs.Statements.{clears_schedules}
 use Rattle.record_tables.proofs.writes.clear_schedules.Goals as goal

@@ -1,5 +1,5 @@
 use Rattle.sqlite.specs.Held.{state}
-use Rattle.record_tables.specs.Typed.{rule_of}
+use Rattle.record_tables.specs.CodeRows.{rule_of}
 use Rattle.record_tables.proofs.Statements.{puts_schedule}
 use Rattle.record_tables.proofs.writes.insert_schedule.Goals as goal
 

@@ -3,7 +3,7 @@ use Rattle.std.proofs.lemmas.Bool.{false≢true}
 use Rattle.filing_image.specs.declared.instruction.Operation.TheVariants.{PushTrue}
 use Rattle.filing_table.specs.Machine.{step}
 use Rattle.filing_machine.specs.StateViews.{state, run_at, IsModest}
-use Rattle.filing_machine.specs.Runs.{Stands, Stored, run_view, IsModestAt}
+use Rattle.filing_machine.specs.Runs.{Stands, Snapshot, run_view, IsModestAt}
 use Rattle.filing_machine.proofs.Ready.{ready, one_more, modest_here}
 use Rattle.filing_machine.proofs.machine.Machine.step.Goals as goal
 
@@ -94,7 +94,7 @@ returns-clause-step g c =
     let code-is : c.code.result.now ≡ p.code = c.code.ensures.value ∙ ap (λ q. q.code) c.image-image.ensures.is in
     let does = rw (code-is, c.image-image.ensures.is) at c.in_ok-self-inside.ensures.does in
     let goes : run_at c.in_ok-self-inside.field-0 (state f c.act.new.at) ≡ step p f (run_at c.self.inside.progress (state f c.self.inside.at)) = sym does ∙ sym r.to in
-    goes ∙ ap (λ (m : Stored). step p f (run_view f m)) c.self.view_is
+    goes ∙ ap (λ (m : Snapshot). step p f (run_view f m)) c.self.view_is
 
 pub returns-clause-budget : goal.returns-clause-budget
 returns-clause-budget g c =
@@ -122,6 +122,6 @@ returns-in_err-self-inside-clause-modest g c =
     let r = ready p f _ c.image-image.ensures.well (rw (← c.self.view_is) at c.requires.running) stands in
     let code-is : c.code.result.now ≡ p.code = c.code.ensures.value ∙ ap (λ q. q.code) c.image-image.ensures.is in
     λ modest.
-    let there : IsModestAt p c.self.inside.at.place = subst (IsModestAt p) (sym (ap (λ (m : Stored). m.at.place) c.self.view_is)) modest in
+    let there : IsModestAt p c.self.inside.at.place = subst (IsModestAt p) (sym (ap (λ (m : Snapshot). m.at.place) c.self.view_is)) modest in
     let here : IsModest (get_or p.code c.self.inside.at.place PushTrue) = modest_here p c.self.inside.at.place r.within there in
     absurd (false≢true (c.in_err-self-inside.ensures.modest (rw code-is here)))

@@ -1,5 +1,5 @@
 use Rattle.std.proofs.Common.{subst}
-use Rattle.record_tables.specs.Typed.{record_of}
+use Rattle.record_tables.specs.CodeRows.{record_of}
 use Rattle.record_store.specs.Archive as archive
 use Rattle.record_store.specs.Archive.{Archive}
 use Rattle.record_store.specs.Destruction.{IsFree}

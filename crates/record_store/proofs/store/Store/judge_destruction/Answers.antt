@@ -1,5 +1,5 @@
 use Rattle.std.proofs.Common.{◌≡◌, ◌==◌, arith, subst, Some, None}
-use Rattle.record_tables.specs.Typed.{record_of}
+use Rattle.record_tables.specs.CodeRows.{record_of}
 use Rattle.record_store.specs.Archive.{Archive}
 use Rattle.record_store.specs.Destruction.{against_destruction}
 use Rattle.record_store.proofs.DueLemmas.{held_if, free_if}

@@ -3,7 +3,7 @@ use Rattle.std.proofs.Common.{◌+◌, ◌-◌, length, arith, refl, sym, ap, �
 use Rattle.sqlite.specs.State.{HasCleanDisk}
 use Rattle.sqlite.specs.Held.{state}
 use Rattle.std.proofs.lemmas.List.{length-map}
-use Rattle.record_tables.specs.Typed.{due_of}
+use Rattle.record_tables.specs.CodeRows.{due_of}
 use Rattle.record_store.specs.Archive.{Archive}
 use Rattle.record_store.proofs.CaptureStands.{Given, stands_captured, leaves_captured}
 use Rattle.record_store.proofs.store.Store.place_capture.Goals as goal

@@ -1,5 +1,5 @@
 use Rattle.std.proofs.Common.{◌∙◌, ap, map}
-use Rattle.record_tables.specs.Typed.{due_of, record_of}
+use Rattle.record_tables.specs.CodeRows.{due_of, record_of}
 use Rattle.record_store.specs.Archive as archive
 use Rattle.record_store.specs.Archive.{Archive}
 use Rattle.record_store.specs.Revisions.{IsRevision, dues_in, with_plan}

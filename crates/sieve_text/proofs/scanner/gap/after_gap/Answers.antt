@@ -1,7 +1,6 @@
 use Rattle.std.proofs.Common.{◌≡◌, false, drop, refl}
 use Rattle.std.specs.List.{prefix_len}
 use Rattle.sieve_text.specs.Octets.{is_white, begins_with}
-use Rattle.sieve_text.specs.Gaps.{gap_len}
 use Rattle.sieve_text.proofs.SkipLemmas.{white_gap}
 use Rattle.sieve_text.proofs.scanner.gap.after_gap.Goals as goal
 

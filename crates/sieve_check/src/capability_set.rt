@@ -1,7 +1,7 @@
 //! The capabilities that the `require`s of a script have named.
 
 ghost use Rattle.std.specs.Prelude.{◌≡◌};
-ghost use Rattle.sieve_check.specs.Context.{nothing_named, has_of, named_with, named_and, named_after};
+ghost use Rattle.sieve_check.specs.Context.{no_capabilities, has_of, set_with, set_and, set_after};
 ghost use Rattle.sieve_check.specs.Lookup.{capability_named};
 ghost use Rattle.sieve_check.specs.Rules.{argument_strings, strings_in};
 
@@ -11,7 +11,7 @@ use sieve_syntax::{Argument, Arguments, Text};
 
 /// Which capabilities are named so far.
 #[derive(Clone, Copy)]
-pub struct Named {
+pub struct CapabilitySet {
     fileinto: bool,
     copy: bool,
     include: bool,
@@ -19,12 +19,12 @@ pub struct Named {
     casemap_comparator: bool,
 }
 
-impl Named {
+impl CapabilitySet {
     /// No capability yet.
-    pub fn nothing() -> Named
-        ensures { result ≡ nothing_named }
+    pub fn nothing() -> CapabilitySet
+        ensures { result ≡ no_capabilities }
     {
-        Named {
+        CapabilitySet {
             fileinto: false,
             copy: false,
             include: false,
@@ -47,8 +47,8 @@ impl Named {
     }
 
     /// These and one more.
-    pub fn with(self, capability: Capability) -> Named
-        ensures { result ≡ named_with self capability }
+    pub fn with(self, capability: Capability) -> CapabilitySet
+        ensures { result ≡ set_with self capability }
     {
         let mut named = self;
         match capability {
@@ -62,8 +62,8 @@ impl Named {
     }
 
     /// These, and the capability that the text names.
-    fn and(self, text: &Text) -> Named
-        ensures { result ≡ named_and self (capability_named text.now) }
+    fn and(self, text: &Text) -> CapabilitySet
+        ensures { result ≡ set_and self (capability_named text.now) }
     {
         match find_capability(text.as_slice()) {
             Some(row) => self.with(row.capability),
@@ -72,8 +72,8 @@ impl Named {
     }
 
     /// These, and the capabilities that the texts name.
-    fn after_texts(self, texts: &[Text]) -> Named
-        ensures { result ≡ named_after self texts.now }
+    fn after_texts(self, texts: &[Text]) -> CapabilitySet
+        ensures { result ≡ set_after self texts.now }
     {
         let mut named = self;
         for text in texts {
@@ -83,8 +83,8 @@ impl Named {
     }
 
     /// These, and the capabilities that the argument names.
-    fn after_argument(self, argument: &Argument) -> Named
-        ensures { result ≡ named_after self (argument_strings argument.now) }
+    fn after_argument(self, argument: &Argument) -> CapabilitySet
+        ensures { result ≡ set_after self (argument_strings argument.now) }
     {
         match argument {
             Argument::Strings(list) => self.and(list.first()).after_texts(list.others()),
@@ -93,8 +93,8 @@ impl Named {
     }
 
     /// These, and the capabilities that a `require` with these arguments names.
-    pub fn after(self, arguments: &Arguments) -> Named
-        ensures { result ≡ named_after self (strings_in arguments.now) }
+    pub fn after(self, arguments: &Arguments) -> CapabilitySet
+        ensures { result ≡ set_after self (strings_in arguments.now) }
     {
         let mut named = self;
         for argument in arguments.as_slice() {

@@ -7,20 +7,20 @@ use Rattle.record_tables.specs.declared.rows.ClassRow.{ClassRow}
 use Rattle.record_tables.specs.declared.rows.ScheduleRow.{ScheduleRow}
 use Rattle.record_tables.specs.declared.rows.DueRow.{DueRow}
 use Rattle.record_tables.specs.Rows.{Record, Due}
-use Rattle.record_tables.specs.Changes.{Listed, Rule}
-use Rattle.record_tables.specs.Reads.{Named, Pair}
+use Rattle.record_tables.specs.Changes.{ClassEntry, Rule}
+use Rattle.record_tables.specs.Reads.{HoldEntry, Pair}
 
 abbrev pub record_of : RecordRow → Record
 record_of r = record { number = r.number; message = r.message; path = r.path.items; day = r.day; destroyed = r.destroyed }
 
-abbrev pub named_of : HoldRow → Named
-named_of h = record { name = h.name.items; number = h.record }
+abbrev pub hold_entry_of : HoldRow → HoldEntry
+hold_entry_of h = record { name = h.name.items; number = h.record }
 
 abbrev pub pair_of : SettingRow → Pair
 pair_of s = record { key = s.key.items; value = s.value.items }
 
-abbrev pub listed_of : ClassRow → Listed
-listed_of c = record { path = c.path.items; is_open = c.is_open; schedule = option_map (λ t. t.items) c.schedule }
+abbrev pub class_entry_of : ClassRow → ClassEntry
+class_entry_of c = record { path = c.path.items; is_open = c.is_open; schedule = option_map (λ t. t.items) c.schedule }
 
 abbrev pub rule_of : ScheduleRow → Rule
 rule_of s = record { path = s.path.items; count = s.count; unit = s.unit; action = s.action; year_end = s.year_end }

@@ -1,7 +1,7 @@
 use Rattle.std.proofs.Common.{arith}
 use Rattle.sieve_check.specs.Rules.{strings_in}
 use Rattle.sieve_check.proofs.Strings.{named_turn}
-use Rattle.sieve_check.proofs.named.Named.after.Goals as goal
+use Rattle.sieve_check.proofs.capability_set.CapabilitySet.after.Goals as goal
 
 pub loop-argument-preserved : goal.loop-argument-preserved
 loop-argument-preserved c =
