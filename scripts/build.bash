@@ -140,12 +140,13 @@ unlock_crates() {
     done
 }
 
-# Ends the builders, and moves what they made to the tree. When rt ends, it ends the provers that it started.
+# Ends the builders, and moves what they made to the tree. When rt ends, it ends the provers that it started. The shell knows all
+# of them as jobs, also one that a signal has left no time to note in `builders`.
 end_lanes() {
-    local name
-    for name in "${!builders[@]}"; do
-        kill "${builders[$name]}" 2> /dev/null
-        wait "${builders[$name]}" 2> /dev/null
+    local name process
+    for process in $(jobs -p); do
+        kill "$process" 2> /dev/null
+        wait "$process" 2> /dev/null
     done
     builders=()
     for name in "$lanes"/*/; do
@@ -272,8 +273,7 @@ build_program() {
     [[ -f $input ]] || input=/dev/null
     [[ ! -f $root/crates/$1/args ]] || mapfile -t words < "$root/crates/$1/args"
     (cd -- "$root/crates/$1" && exec rt run ${words:+--} "${words[@]}") > "$root/crates/$1/out/build.log" 2>&1 < "$input" &
-    builders[$1]=$!
-    wait "${builders[$1]}"
+    wait "$!"
 }
 
 # Builds a program and the libraries below it. The sources that are noted are those from before the build.
@@ -300,7 +300,6 @@ build() {
         fi
         give_up "the program was not built"
     fi
-    builders=()
     trap - HUP INT TERM
     note_sources "$name" "$sources"
     exec {lock}<&-

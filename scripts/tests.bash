@@ -24,7 +24,7 @@ stage=$(dirname "$0")/../..
 name=${PWD##*/}
 echo "$* $name" >> "$stage/calls"
 if [[ -f $stage/slow-$1 ]]; then
-    echo $$ > "$stage/rt"
+    echo $$ >> "$stage/rt"
     exec sleep 60
 fi
 if [[ $1 == run ]]; then
@@ -175,14 +175,17 @@ end_when() {
     wait "$script"
 }
 
-# Whether a start that is ended while rt works ends rt too, and the next start builds.
+# Whether a start that is ended while rt works ends each rt too, and the next start builds.
 ends_what_it_started() {
-    local status=0
+    local process status=0
     echo edited >> "$stage/tree/crates/low/src/lib.rt"
     touch "$stage/slow-$1"
     end_when "$stage/rt" || status=$?
     rm -- "$stage/slow-$1"
-    [[ $status -eq 143 && ! -e $stage/tree/.git/lanes ]] && ! kill -0 "$(< "$stage/rt")" 2> "$work/said" && builds
+    while read -r process; do
+        ! kill -0 "$process" 2> "$work/said" || status=1
+    done < "$stage/rt"
+    [[ $status -eq 143 && ! -e $stage/tree/.git/lanes ]] && builds
 }
 
 ends_the_program() {
@@ -198,8 +201,8 @@ gives_up_where_nothing_can_be_written() {
 
 leaves_the_page() {
     echo old > "$stage/tree/docs/PERFORMANCE.md"
-    gives_up 125 "the program ended with a fault" bench --write
-    [[ $(< "$stage/tree/docs/PERFORMANCE.md") == old ]]
+    gives_up 125 "the program ended with a fault" bench --write &&
+        [[ $(< "$stage/tree/docs/PERFORMANCE.md") == old ]]
 }
 
 scripts() {
