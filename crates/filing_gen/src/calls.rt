@@ -54,7 +54,9 @@ impl Linker for Calls<'_> {
     ghost use Rattle.filing_gen.specs.Scopes.{names_of};
     ghost use Rattle.filing_gen.specs.Procedures.{calling_flow};
 
-    ghost flow_of = { λ s. calling_flow (library_of (scripts_of s.callees.scope.shelves)) (slots_of (scripts_of s.callees.scope.shelves)) (names_of s.callees.scope.main) s.own (map procedure_of s.callees.later.now) (procedure_of s.callees.procedure.now) };
+    ghost flow_of = { λ s. calling_flow (library_of (scripts_of s.callees.scope.shelves))
+        (slots_of (scripts_of s.callees.scope.shelves)) (names_of s.callees.scope.main) s.own
+        (map procedure_of s.callees.later.now) (procedure_of s.callees.procedure.now) };
 
     /// Writes nothing, a fault, or the entry of a script; under `:once` a jump before the entry skips it where the
     /// script is marked.

@@ -74,7 +74,9 @@ pub struct Paths<'a, 'b> {
 impl Weights for Paths<'_, '_> {
     ghost use Rattle.filing_gen.specs.Procedures.{called_path};
 
-    ghost weight_of = { λ s. called_path (library_of (scripts_of s.callees.scope.shelves)) (map procedure_of s.callees.later.now) (path_weights_of (library_of (scripts_of s.callees.scope.shelves)) (map procedure_of s.callees.later.now)) s.callees.procedure.now.key.left (procedure_of s.callees.procedure.now).chain };
+    ghost weight_of = { λ s. called_path (library_of (scripts_of s.callees.scope.shelves)) (map procedure_of s.callees.later.now)
+        (path_weights_of (library_of (scripts_of s.callees.scope.shelves)) (map procedure_of s.callees.later.now))
+        s.callees.procedure.now.key.left (procedure_of s.callees.procedure.now).chain };
 
     fn weigh(&self, include: &Include<'_>, left: u32) -> Option<u32> {
         match self.callees.inclusion(include) {

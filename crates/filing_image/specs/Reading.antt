@@ -5,9 +5,11 @@ use Rattle.std.specs.Int.{Width, w8, w16, w32, w64, byte_len, from_be_bytes}
 use Rattle.filing_image.specs.declared.fault.FormFault.{FormFault}
 use Rattle.filing_image.specs.declared.fault.FormFault.TheVariants.{NoMemory, BadForm}
 use Rattle.filing_image.specs.declared.instruction.Instruction.{Instruction}
+use Rattle.filing_image.specs.declared.reading.Heading.{Heading}
+use Rattle.filing_image.specs.declared.reading.Written.{Written}
 use Rattle.filing_image.specs.declared.version.Version.{Version}
 use Rattle.filing_image.specs.declared.version.Version.TheVariants.{One, Two}
-use Rattle.filing_image.specs.Program.{Parts}
+use Rattle.filing_image.specs.Program.{Parts, parts_from, list_in}
 
 infixl 10 ◌>>=◌
 abbrev pub ◌>>=◌ : {A B : Type 0} → Option A → (A → Option B) → Option B
@@ -72,6 +74,9 @@ pub record Counts : Type 0 where
   pub procedures : Option ℕ
   pub instructions : ℕ
 
+abbrev pub counts_of : Heading → Counts
+counts_of h = record { texts = h.texts; numbers = h.numbers; slots = h.slots; procedures = h.procedures; instructions = h.instructions }
+
 unfoldable pub counts_at : Version → List ℕ → Option (Counts × List ℕ)
 counts_at version octets = do
   texts ← number_at w16 octets
@@ -80,6 +85,9 @@ counts_at version octets = do
   procedures ← procedure_count_at version slots.1
   instructions ← number_at w16 procedures.1
   Some (record { texts = texts.0; numbers = numbers.0; slots = slots.0; procedures = procedures.0; instructions = instructions.0 }, instructions.1)
+
+abbrev pub parts_of : Written → Parts
+parts_of w = parts_from w.budget w.texts.items w.numbers.items w.slots (list_in w.first_places) w.instructions.items
 
 unfoldable pub parts_at : List ℕ → Option (Parts × List ℕ)
 parts_at octets = do

@@ -26,7 +26,7 @@ pub struct Image {
 impl Model for Image {
     ghost Value = { Program };
 
-    ghost view = { λ i. record { budget = i.budget; texts = map (λ t. t.items) i.texts.items; numbers = i.numbers.items; slots = i.slots; procedures = list_in i.first_places; code = i.code.items } };
+    ghost view = { λ i. program_from i.budget i.texts.items i.numbers.items i.slots (list_in i.first_places) i.code.items };
 
     ghost invariant = { λ i. (length i.texts.items < 2 ^ 16) × (length i.numbers.items < 2 ^ 16) ×
         (length i.code.items < 2 ^ 16) × All (λ t. length t.items < 2 ^ 16) i.texts.items ×

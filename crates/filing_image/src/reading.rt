@@ -1,10 +1,10 @@
 //! Decodes images from octets.
 
-ghost use Rattle.std.specs.Prelude.{◌≡◌, List, map, option_map, IfOk, Err, Some, None};
+ghost use Rattle.std.specs.Prelude.{◌≡◌, map, IfOk, Err, Some, None};
 ghost use Rattle.std.specs.Int.{w8, w16, w32, w64};
-ghost use Rattle.filing_image.specs.Program.{Program, Parts, parts, list_in};
+ghost use Rattle.filing_image.specs.Program.{Program, parts, list_in};
 ghost use Rattle.filing_image.specs.Spelling.{spelling, Fits};
-ghost use Rattle.filing_image.specs.Reading.{Gives, number_at, text_at, instruction_at, many_at, version_of_octet, version_and_rest, procedure_count_at, procedures_at, counts_at, Counts, parts_at, all_of};
+ghost use Rattle.filing_image.specs.Reading.{Gives, number_at, text_at, instruction_at, many_at, version_of_octet, version_and_rest, procedure_count_at, procedures_at, counts_at, counts_of, parts_at, parts_of, all_of};
 
 use crate::fault::FormFault;
 use crate::image::Image;
@@ -53,7 +53,7 @@ struct Written {
 /// The parts that the octets spell, with no octet left over.
 #[tactic(auto, unfolding(crate::specs::Reading::all_of))]
 fn all(alloc: Global, octets: &[u8]) -> Result<Written, FormFault>
-    ensures { Gives (λ w. record { budget = w.budget; texts = map (λ t. t.items) w.texts.items; numbers = w.numbers.items; slots = w.slots; procedures = list_in w.first_places; instructions = w.instructions.items }) result (all_of octets.now) }
+    ensures { Gives parts_of result (all_of octets.now) }
 {
     let (written, rest) = written_at(alloc, octets)?;
     if !rest.is_empty() {
@@ -65,7 +65,7 @@ fn all(alloc: Global, octets: &[u8]) -> Result<Written, FormFault>
 /// Reads the parts of an image from the front; answers them and the rest.
 #[tactic(auto, unfolding(crate::specs::Reading::parts_at))]
 fn written_at(alloc: Global, octets: &[u8]) -> Result<(Written, &[u8]), FormFault>
-    ensures { Gives (λ x. (record { budget = x.0.budget; texts = map (λ t. t.items) x.0.texts.items; numbers = x.0.numbers.items; slots = x.0.slots; procedures = list_in x.0.first_places; instructions = x.0.instructions.items }, x.1.now)) result (parts_at octets.now) }
+    ensures { Gives (λ x. (parts_of x.0, x.1.now)) result (parts_at octets.now) }
 {
     let (version, rest) = after_mark(octets)?;
     let (budget, rest) = u32_at(rest)?;
@@ -121,7 +121,7 @@ struct Heading {
 /// Reads the counts; answers them and the rest.
 #[tactic(auto, unfolding(crate::specs::Reading::counts_at))]
 fn heading_of(version: Version, octets: &[u8]) -> Result<(Heading, &[u8]), FormFault>
-    ensures { Gives (λ x. (record { texts = x.0.texts; numbers = x.0.numbers; slots = x.0.slots; procedures = x.0.procedures; instructions = x.0.instructions }, x.1.now)) result (counts_at version octets.now) }
+    ensures { Gives (λ x. (counts_of x.0, x.1.now)) result (counts_at version octets.now) }
 {
     let (texts, rest) = u16_at(octets)?;
     let (numbers, rest) = u16_at(rest)?;

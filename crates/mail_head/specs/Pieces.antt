@@ -1,6 +1,7 @@
 -- A message that comes in pieces, and what a reader keeps of it.
 use Rattle.std.specs.Prelude.{ℕ, ◌-◌, Bool, false, List, length, take, nat_lt, not, slice_index, ◌==◌, ◌&&◌, ◌||◌}
 use Rattle.std.specs.List.{concat}
+use Rattle.mail_head.specs.Fields.{fields_of}
 use Rattle.mail_head.specs.Lines.{header_of}
 
 -- the octets of the header of a text: those of its lines, with their ends
@@ -22,6 +23,10 @@ pub record OwnedHeader : Type 0 where
   pub fields : List (List ℕ × List ℕ)
   pub size : ℕ
   pub octets : List ℕ
+
+-- the header of a message, with the octets that it owns
+abbrev pub owned_header_of : List ℕ → OwnedHeader
+owned_header_of message = record { fields = fields_of message; size = length message; octets = header_octets message }
 
 -- a text that is empty or ends in an LF
 abbrev pub at_line_start : List ℕ → Bool

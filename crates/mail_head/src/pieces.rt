@@ -1,9 +1,8 @@
 //! The header of a message that comes in pieces.
 
-ghost use Rattle.std.specs.Prelude.{◌≡◌, true, ◌+◌, ◌<◌, ◌≤◌, ◌↔◌, ◌⊎◌, ◌++◌, ◌==◌, [], ℕ, List, length, count_by, IsTrue, IfOk, OnOk, OnErr, IsErrOf};
+ghost use Rattle.std.specs.Prelude.{◌≡◌, true, ◌+◌, ◌<◌, ◌≤◌, ◌↔◌, ◌⊎◌, ◌++◌, ◌==◌, [], ℕ, List, length, count_by, IsTrue, IfOk, OnOk, IsErrOf};
 ghost use Rattle.std.specs.Vec.{vec_capacity};
-ghost use Rattle.mail_head.specs.Fields.{fields_of};
-ghost use Rattle.mail_head.specs.Pieces.{header_octets, reader_of};
+ghost use Rattle.mail_head.specs.Pieces.{owned_header_of, reader_of};
 ghost use Rattle.mail_head.specs.Parts.{gain, IsOfPiece};
 ghost use Rattle.mail_head.specs.declared.buffer.TheConstants.{MAX_OCTETS};
 ghost use Rattle.mail_head.specs.declared.buffer.HeadFault.TheVariants.{TooLong, NoMemory};
@@ -70,7 +69,7 @@ impl HeadReader {
     /// The header of the message that was fed. It allocates nothing. The one refusal is `TooLong` (1), exactly where a
     /// `feed` answered it.
     pub fn finish(self) -> Result<PieceHead, HeadFault>
-        ensures head { (message : List ℕ) → self ≡ reader_of message → IfOk result (λ h. h ≡ record { fields = fields_of message; size = length message; octets = header_octets message }) }
+        ensures head { (message : List ℕ) → self ≡ reader_of message → IfOk result (λ h. h ≡ owned_header_of message) }
         ensures too_long { IsErrOf result TooLong ↔ IsTrue self.refuses }
         ensures no_other { result ≡ Err NoMemory → ⊥ }
     {

@@ -4,7 +4,7 @@ ghost use Rattle.std.specs.Prelude.{◌≡◌, ◌+◌, ◌≤◌, ◌^◌, leng
 ghost use Rattle.sqlite.specs.State.{HasCleanDisk, KeepsCommit, Survives};
 ghost use Rattle.sqlite.specs.Held.{state};
 ghost use Rattle.sqlite.specs.Effect.{Database};
-ghost use Rattle.record_tables.specs.Changes.{Puts, Turns, Always, IsPastRecords, with_hold, without_hold};
+ghost use Rattle.record_tables.specs.Changes.{Puts, Turns, Always, IsPastRecords, new_message, with_hold, without_hold};
 ghost use Rattle.record_tables.specs.CodeRows.{due_of};
 ghost use Rattle.record_store.specs.Archive.{records_of};
 ghost use Rattle.record_store.specs.Captures.{AreAfter, ArePast, with_records, with_more_dues, with_captured};
@@ -112,7 +112,8 @@ fn insert_capture<S: Alter>(
     ensures ok { HasCleanDisk (state S.Store tx.new.conn.now) → IsTrue (state S.Store tx.old.conn.now).in_transaction
         → OnOk result (Puts (state S.Store tx.old.conn.now) (state S.Store tx.new.conn.now)
         (ArePast first (map due_of dues.now))
-        (with_captured (record { number = first; body = body.now }) (records_of first first day (map (λ p. p.items) paths.now)) (map due_of dues.now))) }
+        (with_captured (new_message first body.now) (records_of first first day (map (λ p. p.items) paths.now))
+        (map due_of dues.now))) }
     ensures kept { HasCleanDisk (state S.Store tx.new.conn.now) → IsTrue (state S.Store tx.old.conn.now).in_transaction
         → KeepsCommit (state S.Store tx.old.conn.now) (state S.Store tx.new.conn.now) }
     ensures survives { Survives (state S.Store tx.old.conn.now) (state S.Store tx.new.conn.now) (λ _. ⊥) }
@@ -138,14 +139,16 @@ pub(crate) fn put_capture<S: Alter>(
     ensures ok { HasCleanDisk (state S.Store conn.new) →
         OnOk result (Turns (state S.Store conn.old).now (state S.Store conn.new).now
         (ArePast first (map due_of dues.now))
-        (with_captured (record { number = first; body = body.now }) (records_of first first day (map (λ p. p.items) paths.now)) (map due_of dues.now))) }
+        (with_captured (new_message first body.now) (records_of first first day (map (λ p. p.items) paths.now))
+        (map due_of dues.now))) }
     ensures err { HasCleanDisk (state S.Store conn.new) → IsTrue (state S.Store conn.new).is_open →
         OnErr result ((state S.Store conn.new).now ≡ (state S.Store conn.old).now) }
     ensures was_open { HasCleanDisk (state S.Store conn.new) → IsTrue (state S.Store conn.new).is_open →
         IsTrue (state S.Store conn.old).is_open }
     ensures crash { Survives (state S.Store conn.old) (state S.Store conn.new)
         (λ trees. (db : Database) × Turns (state S.Store conn.old).now db (ArePast first (map due_of dues.now))
-        (with_captured (record { number = first; body = body.now }) (records_of first first day (map (λ p. p.items) paths.now)) (map due_of dues.now)) × (trees ≡ db.trees)) }
+        (with_captured (new_message first body.now) (records_of first first day (map (λ p. p.items) paths.now))
+        (map due_of dues.now)) × (trees ≡ db.trees)) }
 {
     let _settled = conn.is_autocommit();
     let mut tx = conn.transaction();

@@ -29,8 +29,15 @@ IsPastRecords n t = AllByRecursion (λ (r : Record). r.number < n) t.records
 abbrev pub IsPastDues : ℕ → Tables → Type 0
 IsPastDues n t = AllByRecursion (λ (d : Due). d.number < n) t.dues
 
+abbrev pub new_message : ℕ → List ℕ → Message
+new_message number body = record { number = number; body = body }
+
 abbrev pub with_message : Message → Tables → Tables
 with_message m t = record t { messages = t.messages ++ m ∷ [] }
+
+-- a record that is not destroyed
+abbrev pub new_record : (number message : ℕ) → List ℕ → (day : ℕ) → Record
+new_record number message path day = record { number = number; message = message; path = path; day = day; destroyed = false }
 
 abbrev pub with_record : Record → Tables → Tables
 with_record r t = record t { records = t.records ++ r ∷ [] }

@@ -55,7 +55,8 @@ pub fn record_by_number<S: Alter>(
     conn: &mut Connection<S>,
     number: u32,
 ) -> Result<Option<RecordRow>, Error>
-    ensures record { HasCleanDisk (state S.Store conn.new) → IfOk result (λ r. (t : Tables) → Stores (state S.Store conn.old).now t → AreKeyed t → option_map record_of r ≡ record_with number t) }
+    ensures record { HasCleanDisk (state S.Store conn.new) → IfOk result (λ r. (t : Tables) →
+        Stores (state S.Store conn.old).now t → AreKeyed t → option_map record_of r ≡ record_with number t) }
     ensures open { HasCleanDisk (state S.Store conn.new) →
         OnOk result (IsTrue (state S.Store conn.old).is_open × IsTrue (state S.Store conn.new).is_open) }
     ensures looks { Looks S.Store conn.old conn.new }

@@ -3,14 +3,14 @@
 //! A refusal is the error of `sqlite`; on a clean disk it keeps what was committed. A crash leaves nothing of a
 //! statement, as none of them commits.
 
-ghost use Rattle.std.specs.Prelude.{◌≡◌, option_map, OnOk, false};
+ghost use Rattle.std.specs.Prelude.{◌≡◌, option_map, OnOk};
 ghost use Rattle.sqlite.specs.Values.{bound_value};
 ghost use Rattle.sqlite_value.specs.Value.{owned};
 ghost use Rattle.sqlite.specs.declared.types.Value.TheVariants.{Text as Words};
 ghost use Rattle.sqlite_typed.specs.Columns.{or_null};
 ghost use Rattle.record_tables.specs.Steps.{PutsIn, KeepsIn, CommitsNothing};
 ghost use Rattle.record_tables.specs.CodeRows.{rule_of};
-ghost use Rattle.record_tables.specs.Changes.{Always, IsPastMessages, IsPastRecords, IsPastDues, with_message, with_record, with_due, with_hold, with_setting, with_class, with_schedule, without_dues, without_classes, without_schedules, without_settings, without_due, without_message, without_hold, with_destruction};
+ghost use Rattle.record_tables.specs.Changes.{Always, IsPastMessages, IsPastRecords, IsPastDues, new_message, new_record, with_message, with_record, with_due, with_hold, with_setting, with_class, with_schedule, without_dues, without_classes, without_schedules, without_settings, without_due, without_message, without_hold, with_destruction};
 
 use crate::rows::ScheduleRow;
 use sqlite::types::{ToSql, ValueRef};
@@ -32,7 +32,7 @@ pub fn insert_message<S: Alter>(
     body: &[u8],
 ) -> Result<(), Error>
     ensures same_reference { tx.new.conn.ghost_name ≡ tx.old.conn.ghost_name }
-    ensures ok { OnOk result (PutsIn S.Store tx.old.conn.now tx.new.conn.now (IsPastMessages number) (with_message (record { number = number; body = body.now }))) }
+    ensures ok { OnOk result (PutsIn S.Store tx.old.conn.now tx.new.conn.now (IsPastMessages number) (with_message (new_message number body.now))) }
     ensures err { KeepsIn S.Store tx.old.conn.now tx.new.conn.now result }
     ensures survives { CommitsNothing S.Store tx.old.conn.now tx.new.conn.now }
 {
@@ -53,7 +53,8 @@ pub fn insert_record<S: Alter>(
     day: u32,
 ) -> Result<(), Error>
     ensures same_reference { tx.new.conn.ghost_name ≡ tx.old.conn.ghost_name }
-    ensures ok { OnOk result (PutsIn S.Store tx.old.conn.now tx.new.conn.now (IsPastRecords number) (with_record (record { number = number; message = message; path = path.now; day = day; destroyed = false }))) }
+    ensures ok { OnOk result (PutsIn S.Store tx.old.conn.now tx.new.conn.now (IsPastRecords number)
+        (with_record (new_record number message path.now day))) }
     ensures err { KeepsIn S.Store tx.old.conn.now tx.new.conn.now result }
     ensures survives { CommitsNothing S.Store tx.old.conn.now tx.new.conn.now }
 {
