@@ -142,10 +142,10 @@ module _ (p : Program) (none : p.procedures ≡ None) where
     path_from zero q e = e
     path_from (suc n) q (i, path, (o, at, f)) = (i, path_from n i path, (o, at, follows_from o i q (old_at i o at) f))
 
-    reached_to : (q : ℕ) → IsReached p q → one.Reached p q
+    reached_to : (q : ℕ) → IsReached p q → one.IsReached p q
     reached_to q (n, path) = (n, path_to n q path)
 
-    reached_from : (q : ℕ) → one.Reached p q → IsReached p q
+    reached_from : (q : ℕ) → one.IsReached p q → IsReached p q
     reached_from q (n, path) = (n, path_from n q path)
 
     forward_to : GoesForward p → one.GoesForward p
@@ -194,7 +194,7 @@ module _ (p : Program) (none : p.procedures ≡ None) where
     stays_to : StaysInside p → one.StaysInside p
     stays_to h = record { some = h.some; inside = never }
       where
-        never : (i : ℕ) → one.Reached p i → one.Leads p i (length p.code) → ⊥
+        never : (i : ℕ) → one.IsReached p i → one.Leads p i (length p.code) → ⊥
         never i r (o, at, inl (g, e)) = let lt = (h.inside i (length p.code) (reached_from i r) (o, at, inl (goes_is o (old_at i o at) ∙ g, e))).0 in omega arith
         never i r (o, at, inr to) = let lt = (h.inside i (length p.code) (reached_from i r) (o, at, inr (jump_is o ∙ to))).0 in omega arith
 

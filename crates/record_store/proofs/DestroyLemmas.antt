@@ -360,7 +360,7 @@ abbrev pub Goes : Archive → Record → Option ℕ → Type 0
 Goes a r None = is_shared a r ≡ true
 Goes a r (Some m) = (m ≡ r.message) × (is_shared a r ≡ false)
 
-records_without : (n : ℕ) (rs : List Record) → update_where (λ (r : Record). int_eq (pos r.number) (pos n)) tables.destroyed rs ≡ gone n rs
+records_without : (n : ℕ) (rs : List Record) → update_where (λ (r : Record). int_eq (pos r.number) (pos n)) tables.destruction_of rs ≡ gone n rs
 records_without n [] = refl
 records_without n (x ∷ rs) = λ i. gone_if (same_number x.number n i) x ∷ records_without n rs i
 
@@ -376,7 +376,7 @@ stores_destroyed a r None goes was db s turns =
       keyed = made.1;
       keeps = record {
         messages = s.keeps.messages ∙ sym (ap (λ b. cond b a.messages (delete_where (λ (m : Message). m.number == r.message) a.messages)) goes);
-        records = ap (update_where (λ (x : Record). int_eq (pos x.number) (pos r.number)) tables.destroyed) s.keeps.records ∙ records_without r.number a.records;
+        records = ap (update_where (λ (x : Record). int_eq (pos x.number) (pos r.number)) tables.destruction_of) s.keeps.records ∙ records_without r.number a.records;
         holds = s.keeps.holds;
         settings = s.keeps.settings;
         classes = s.keeps.classes;
@@ -393,7 +393,7 @@ stores_destroyed a r (Some m) goes was db s turns =
       keeps = record {
         messages = ap (delete_where (λ (x : Message). int_eq (pos x.number) (pos m))) s.keeps.messages ∙ messages_less m a.messages ∙ ap (λ k. delete_where (λ (x : Message). x.number == k) a.messages) goes.0
             ∙ sym (ap (λ b. cond b a.messages (delete_where (λ (x : Message). x.number == r.message) a.messages)) goes.1);
-        records = ap (update_where (λ (x : Record). int_eq (pos x.number) (pos r.number)) tables.destroyed) s.keeps.records ∙ records_without r.number a.records;
+        records = ap (update_where (λ (x : Record). int_eq (pos x.number) (pos r.number)) tables.destruction_of) s.keeps.records ∙ records_without r.number a.records;
         holds = s.keeps.holds;
         settings = s.keeps.settings;
         classes = s.keeps.classes;

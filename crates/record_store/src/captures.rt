@@ -150,7 +150,7 @@ impl<S: Alter> Store<S> {
         requires paths { AreClasses self.old.plan (map (λ p. p.items) paths.now) }
         ensures obeys { Obeys S.Store self.old self.new result
             (λ a. archive.capture a body.now (number_of_day day) (map (λ p. p.items) paths.now))
-            (λ a lines. map line_view lines.items ≡ archive.captured_lines a (number_of_day day) (map (λ p. p.items) paths.now)) }
+            (λ a lines. map line_view lines.items ≡ archive.capture_lines a (number_of_day day) (map (λ p. p.items) paths.now)) }
         ensures falls { Falls S.Store self.old self.new }
         ensures crash { Leaves S.Store self.old self.new
             (λ a. archive.capture a body.now (number_of_day day) (map (λ p. p.items) paths.now)) }
