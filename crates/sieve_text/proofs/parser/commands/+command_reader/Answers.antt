@@ -23,7 +23,7 @@ commands-loop-commands-preserved t c =
     let e = rw c.in-Some.is at c.in_ok-next.ensures.value in
     let rest_left : left_in after ≡ left_in before = rw c.in-Some.is at c.in_ok-next.ensures.left in
     let l : length (kinds_in after) < length (kinds_in before) = rw c.in-Some.is at c.in_ok-next.ensures.fewer in
-    let pushed : map command_of c.push.new.rows.items ≡ map command_of c.loop-commands.commands.items ++ command_of c.in-Some.next ∷ [] = rw c.in_ok-push.ensures.ok (map_push _ c.loop-commands.commands.items c.in-Some.next) in
+    let pushed : map command_of c.push.new.list.items ≡ map command_of c.loop-commands.commands.items ++ command_of c.in-Some.next ∷ [] = rw c.in_ok-push.ensures.ok (map_push _ c.loop-commands.commands.items c.in-Some.next) in
     (rw pushed (goes_on_more read (map command_of c.loop-commands.commands.items) (kinds_in before) (kinds_in after) (command_of c.in-Some.next) (many_at read (length ts) ts) c.loop-commands.invariant.0 e l), omega (arith, c.loop-commands.invariant.1), rest_left ∙ c.loop-commands.invariant.2)
 
 pub commands-returns-clause-value : goal.commands-returns-clause-value

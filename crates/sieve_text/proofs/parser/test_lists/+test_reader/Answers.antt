@@ -25,7 +25,7 @@ other_tests-loop-tests-preserved t c =
     let e = rw c.in-Some.is at c.in_ok-next.ensures.value in
     let rest_left : left_in after ≡ left_in before = rw c.in-Some.is at c.in_ok-next.ensures.left in
     let l : length (kinds_in after) < length (kinds_in before) = rw c.in-Some.is at c.in_ok-next.ensures.fewer in
-    let pushed : map test_of c.push.new.rows.items ≡ map test_of c.loop-tests.tests.items ++ test_of c.in-Some.next ∷ [] = rw c.in_ok-push.ensures.ok (map_push _ c.loop-tests.tests.items c.in-Some.next) in
+    let pushed : map test_of c.push.new.list.items ≡ map test_of c.loop-tests.tests.items ++ test_of c.in-Some.next ∷ [] = rw c.in_ok-push.ensures.ok (map_push _ c.loop-tests.tests.items c.in-Some.next) in
     (rw pushed (goes_on_more (next_with (test_at c.args.depth)) (map test_of c.loop-tests.tests.items) (kinds_in before) (kinds_in after) (test_of c.in-Some.next) (many_at (next_with (test_at c.args.depth)) (length ts) ts) c.loop-tests.invariant.0 e l), omega (arith, c.loop-tests.invariant.1), rest_left ∙ c.loop-tests.invariant.2)
 
 pub other_tests-returns-clause-value : goal.other_tests-returns-clause-value
