@@ -15,7 +15,7 @@ use Rattle.sqlite_trees.specs.Tree.{IsAscending}
 use Rattle.sqlite_keyed.proofs.ListLemmas.{ascending-map, ascending_weaker, map-map, along_permutation}
 use Rattle.sqlite_keyed.proofs.SortLemmas.{IsPermutation-sort_by}
 use Rattle.record_tables.specs.Rows.{Tables}
-use Rattle.record_tables.specs.Reads.{HoldEntry, hold_entry, hold_cmp, AreHolds}
+use Rattle.record_tables.specs.Reads.{HoldEntry, hold_entry, hold_cmp as row_cmp, AreHolds}
 use Rattle.record_rows.specs.SoundRows.{hold_cmp}
 use Rattle.record_store.specs.Archive.{Archive, Hold, is_hold}
 use Rattle.record_store.specs.Adoption.{named_hold, sorted_holds}
@@ -25,7 +25,7 @@ use Rattle.record_store.proofs.DueLemmas.{rises-sort}
 
 -- ---- holds
 
-named_total : IsTotalOrder hold_cmp
+named_total : IsTotalOrder row_cmp
 named_total = then_total (on_total (λ (h : HoldEntry). pos h.number) int_cmp_total) (on_total (λ (h : HoldEntry). h.name) nat_list_cmp_total)
 
 cmp_is : (m n : ℕ) → int_cmp (pos m) (pos n) ≡ nat_cmp m n
@@ -54,19 +54,19 @@ and-swap true false = refl
 and-swap false true = refl
 and-swap false false = refl
 
-apart : (x y : Hold) → is_hold x.name x.number y ≡ false → is_eq (hold_cmp (named_hold x) (named_hold y)) ≡ false
+apart : (x y : Hold) → is_hold x.name x.number y ≡ false → is_eq (row_cmp (named_hold x) (named_hold y)) ≡ false
 apart x y h =
     eq_then (int_cmp (pos x.number) (pos y.number)) (slice_cmp nat_cmp x.name y.name)
     ∙ (λ i. (ap is_eq (cmp_is x.number y.number) ∙ eq_is x.number y.number ∙ number_eq-sym x.number y.number) i && (is_eq-slice_cmp x.name y.name ∙ bytes_eq-sym x.name y.name) i)
     ∙ and-swap (y.number == x.number) (bytes_eq y.name x.name) ∙ h
 
-holds_rise : (a : Archive) → IsAscending (λ (x y : Hold). is_hold x.name x.number y ≡ false) a.holds → IsAscending (λ x y. hold_cmp x y ≡ Less) (sorted_holds a)
+holds_rise : (a : Archive) → IsAscending (λ (x y : Hold). is_hold x.name x.number y ≡ false) a.holds → IsAscending (λ x y. row_cmp x y ≡ Less) (sorted_holds a)
 holds_rise a once =
-    rises-sort hold_cmp named_total (map named_hold a.holds)
-    (ascending-map (λ x y. is_eq (hold_cmp x y) ≡ false) named_hold a.holds (ascending_weaker _ (λ (x y : Hold). is_eq (hold_cmp (named_hold x) (named_hold y)) ≡ false) apart a.holds once))
+    rises-sort row_cmp named_total (map named_hold a.holds)
+    (ascending-map (λ x y. is_eq (row_cmp x y) ≡ false) named_hold a.holds (ascending_weaker _ (λ (x y : Hold). is_eq (row_cmp (named_hold x) (named_hold y)) ≡ false) apart a.holds once))
 
 pub holds_permuted : (a : Archive) → IsPermutation (sorted_holds a) (map named_hold a.holds)
-holds_permuted a = IsPermutation-sort_by hold_cmp named_total (map named_hold a.holds)
+holds_permuted a = IsPermutation-sort_by row_cmp named_total (map named_hold a.holds)
 
 -- the holds of the table are the archive's, in order
 pub are_named : (t : Tables) (a : Archive) → map hold_of t.holds ≡ a.holds → IsAscending (λ (x y : Hold). is_hold x.name x.number y ≡ false) a.holds → AreHolds t (sorted_holds a)
@@ -77,7 +77,7 @@ are_named t a same once =
       in_order = holds_rise a once;
     }
 
-less_is : (x y : HoldEntry) → hold_cmp x y ≡ Less → hold_cmp x y ≡ Less
+less_is : (x y : HoldEntry) → row_cmp x y ≡ Less → hold_cmp x y ≡ Less
 less_is x y h = ap (λ o. ordering_then o (slice_cmp nat_cmp x.name y.name)) (sym (cmp_is x.number y.number)) ∙ h
 
 sorted_by : {X : Type 0} (c : X → X → Ordering) (xs : List X) → IsAscending (λ x y. c x y ≡ Less) xs → IsStrictlySortedBy c xs

@@ -43,7 +43,7 @@ a4 = record a3 { messages = []; records = record tax_record { destroyed = true }
 abbrev tax_line : ℕ → Archive.Line
 tax_line due = record { number = 1; path = codes "tax"; due = Some due }
 
-captured_is : (Archive.capture a0 [] 19675 (codes "tax" ∷ []) ≡ Ok a1) × (Archive.captured_lines a0 19675 (codes "tax" ∷ []) ≡ tax_line 20041 ∷ [])
+captured_is : (Archive.capture a0 [] 19675 (codes "tax" ∷ []) ≡ Ok a1) × (Archive.capture_lines a0 19675 (codes "tax" ∷ []) ≡ tax_line 20041 ∷ [])
 unfolding days_from_civil day_count days_of_years days_of_months
 captured_is = (refl, refl)
 

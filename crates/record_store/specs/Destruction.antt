@@ -4,7 +4,7 @@ use Rattle.sqlite.specs.Effect.{Database}
 use Rattle.class_plan.specs.Calendar.{due_on}
 use Rattle.class_plan.specs.Plans.{Listing, schedule_at}
 use Rattle.record_tables.specs.Rows.{Tables, Record}
-use Rattle.record_tables.specs.Changes.{Turns, Always, with_destruction, without_due, without_message}
+use Rattle.record_tables.specs.Changes.{Turns, Always, with_destruction as with_mark, without_due, without_message}
 use Rattle.record_store.specs.Archive.{Archive, record_at, is_held, is_by, destroys}
 use Rattle.record_store.specs.declared.fault.StoreFault.{StoreFault}
 use Rattle.record_store.specs.declared.fault.StoreFault.TheVariants as fault
@@ -29,7 +29,7 @@ without_body (Some m) t = without_message m t
 
 -- the record is destroyed and has no due day, and the message is removed, if one is given
 abbrev pub with_destruction : ℕ → Option ℕ → Tables → Tables
-with_destruction n last t = without_body last (with_destruction n (without_due n t))
+with_destruction n last t = without_body last (with_mark n (without_due n t))
 
 abbrev pub IsDestruction : ℕ → Option ℕ → Database → Database → Type 0
 IsDestruction n last old new = Turns old new Always (with_destruction n last)
