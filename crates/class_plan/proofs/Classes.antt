@@ -1,16 +1,16 @@
 -- A class and the file, by what each part reads.
-use Rattle.std.proofs.Common.{◌≡◌, ℕ, Bool, true, false, not, ◌&&◌, ◌<◌, ◌≤◌, ◌+◌, List, [], ◌∷◌, ◌++◌, length, drop, get_or, codes, Option, Some, None, option_map, option_and_then, unwrap_or, refl, ap, ◌∙◌, sym, append_assoc, append-nil, cond}
+use Rattle.std.proofs.Common.{◌≡◌, ℕ, Bool, true, false, not, ◌&&◌, ◌<◌, ◌≤◌, ◌+◌, List, [], ◌∷◌, ◌++◌, length, drop, get_or, codes, Option, Some, None, option_map, option_and_then, refl, ap, ◌∙◌, sym, append_assoc, append-nil, cond}
 use Rattle.std.proofs.lemmas.List.{drop_all}
 use Rattle.std.specs.Str.{bytes_eq}
-use Rattle.toml.specs.Data.{Data, Members, get_member, as_str, as_bool, as_table}
+use Rattle.toml.specs.Data.{Data, Members, get_member, as_str, as_table}
 use Rattle.toml.specs.View.{view, items_view}
 use Rattle.toml.specs.declared.value.Value.{Value}
 use Rattle.toml.proofs.Views.{items_view-drop}
 use Rattle.class_paths.specs.Path.{unfiled}
 use Rattle.class_plan.specs.declared.entries.Stated.{Stated}
 use Rattle.class_plan.specs.Texts.{schedule_of_bytes}
-use Rattle.class_plan.specs.Entries.{Entry, stated_if}
-use Rattle.class_plan.specs.Document.{has_only, is_class_key, is_file_key, optional, class_of, entry_of, entries_of, listed_of, contents_of, if_listable}
+use Rattle.class_plan.specs.Entries.{Entry}
+use Rattle.class_plan.specs.Document.{has_only, is_class_key, is_file_key, openness_of, statement_of, class_of, entry_of, entries_of, listed_of, contents_of, if_listable}
 
 pub no_class-keys : (ms : Members) → false ≡ has_only is_class_key ms → None ≡ class_of ms
 unfolding class_of
@@ -20,19 +20,19 @@ pub no_class-path : (ms : Members) → true ≡ has_only is_class_key ms → Non
 unfolding class_of
 no_class-path ms a b = rw (← a, ← b)
 
-pub no_class-open : (ms : Members) (p : List ℕ) → true ≡ has_only is_class_key ms → Some p ≡ option_and_then as_str (get_member (codes "path") ms) → None ≡ optional as_bool (get_member (codes "open") ms) → None ≡ class_of ms
+pub no_class-open : (ms : Members) (p : List ℕ) → true ≡ has_only is_class_key ms → Some p ≡ option_and_then as_str (get_member (codes "path") ms) → None ≡ openness_of (get_member (codes "open") ms) → None ≡ class_of ms
 unfolding class_of
 no_class-open ms p a b d = rw (← a, ← b, ← d)
 
-pub no_class-schedule : (ms : Members) (p : List ℕ) (o : Option Bool) → true ≡ has_only is_class_key ms → Some p ≡ option_and_then as_str (get_member (codes "path") ms) → Some o ≡ optional as_bool (get_member (codes "open") ms)
-    → None ≡ optional as_str (get_member (codes "schedule") ms) → None ≡ class_of ms
+pub no_class-schedule : (ms : Members) (p : List ℕ) (o : Bool) → true ≡ has_only is_class_key ms → Some p ≡ option_and_then as_str (get_member (codes "path") ms) → Some o ≡ openness_of (get_member (codes "open") ms)
+    → None ≡ statement_of (get_member (codes "schedule") ms) → None ≡ class_of ms
 unfolding class_of
 no_class-schedule ms p o a b d e = rw (← a, ← b, ← d, ← e)
 
-pub class-made : (ms : Members) (p : List ℕ) (o : Option Bool) (t : Option (List ℕ)) → true ≡ has_only is_class_key ms → Some p ≡ option_and_then as_str (get_member (codes "path") ms) → Some o ≡ optional as_bool (get_member (codes "open") ms)
-    → Some t ≡ optional as_str (get_member (codes "schedule") ms) → if_listable (record { path = p; is_open = unwrap_or o true; stated = stated_if (option_map schedule_of_bytes t) }) ≡ class_of ms
+pub class-made : (ms : Members) (p : List ℕ) (o : Bool) (s : Stated) → true ≡ has_only is_class_key ms → Some p ≡ option_and_then as_str (get_member (codes "path") ms) → Some o ≡ openness_of (get_member (codes "open") ms)
+    → Some s ≡ statement_of (get_member (codes "schedule") ms) → if_listable (record { path = p; is_open = o; stated = s }) ≡ class_of ms
 unfolding class_of
-class-made ms p o t a b d e = rw (← a, ← b, ← d, ← e)
+class-made ms p o s a b d e = rw (← a, ← b, ← d, ← e)
 
 pub entry-table : (d : Data) (ms : Members) → Some ms ≡ as_table d → class_of ms ≡ entry_of d
 unfolding entry_of

@@ -1,19 +1,21 @@
 -- What a file lists has its schedules in range, and `unfiled` open.
-use Rattle.std.proofs.Common.{◌≡◌, ℕ, ◌≤◌, nat_le, Bool, true, false, not, ◌&&◌, if◌then◌else◌, List, [], ◌∷◌, codes, Option, Some, None, option_map, option_and_then, unwrap_or, refl, sym, subst, ◌∙◌, arith}
+use Rattle.std.proofs.Common.{◌≡◌, ℕ, ◌≤◌, nat_le, Bool, true, false, not, ◌&&◌, if◌then◌else◌, List, [], ◌∷◌, codes, Option, Some, None, option_map, option_and_then, refl, sym, subst, ◌∙◌, arith}
 use Rattle.std.proofs.lemmas.Bool.Decides.{nat_tests}
 use Rattle.std.proofs.lemmas.List.Elements.{All-from_recursion}
 use Rattle.std.specs.Str.{bytes_eq}
 use Rattle.std.specs.List.{AllByRecursion}
-use Rattle.toml.specs.Data.{Data, Items, no_items, item, Members, get_member, as_str, as_bool, as_table, as_array}
+use Rattle.toml.specs.Data.{Data, Items, no_items, item, Members, get_member, as_str, as_table, as_array}
 use Rattle.class_paths.specs.Path.{unfiled}
 use Rattle.class_plan.specs.declared.schedules.Unit.{Unit as TimeUnit}
 use Rattle.class_plan.specs.declared.schedules.Action.{Action}
 use Rattle.class_plan.specs.declared.schedules.Schedule.{Schedule}
 use Rattle.class_plan.specs.declared.schedules.Schedule.TheVariants.{Permanent, After}
+use Rattle.class_plan.specs.declared.entries.Stated.{Stated}
+use Rattle.class_plan.specs.declared.entries.Stated.TheVariants.{Nothing}
 use Rattle.class_plan.specs.Schedules.{most, IsInRange, IsInRangeIfAny}
 use Rattle.class_plan.specs.Texts.{count_of, unit_of, ending_of, period_of, schedule_of_bytes}
 use Rattle.class_plan.specs.Entries.{Entry, Contents, stated_if, own_of, IsListable, IsListableEntry}
-use Rattle.class_plan.specs.Document.{has_only, is_file_key, is_class_key, optional, class_of, class_of_parts, entry_of, entries_of, listed_of, contents_of, contents_of_parts}
+use Rattle.class_plan.specs.Document.{has_only, is_file_key, is_class_key, openness_of, statement_of, class_of, class_of_parts, entry_of, entries_of, listed_of, contents_of, contents_of_parts}
 
 range_if : (b : Bool) (n : ℕ) (u : TimeUnit) (x : Action × Bool) (s : Schedule) → (b ≡ true → (1 ≤ n) × (n ≤ most u)) → Some s ≡ (if b then Some (After n u x.0 x.1) else None) → IsInRange s
 range_if true n u x s h e = let is : After n u x.0 x.1 ≡ s = cc in subst IsInRange is (h refl)
@@ -48,26 +50,30 @@ own_range : (t : List ℕ) (o : Option Schedule) → o ≡ schedule_of_bytes t �
 own_range t None h = tt
 own_range t (Some s) h = schedule-range t s h
 
-stated_range : (o : Option (List ℕ)) → IsInRangeIfAny (own_of (stated_if (option_map schedule_of_bytes o)))
-stated_range None = tt
-stated_range (Some t) = own_range t (schedule_of_bytes t) refl
+stated_range : (o : Option (List ℕ)) (s : Stated) → Some s ≡ option_map (λ t. stated_if (Some (schedule_of_bytes t))) o → IsInRangeIfAny (own_of s)
+stated_range None s h = absurd (cc)
+stated_range (Some t) s h = let k : stated_if (Some (schedule_of_bytes t)) ≡ s = cc in subst (λ x. IsInRangeIfAny (own_of x)) k (own_range t (schedule_of_bytes t) refl)
+
+statement_range : (o : Option Data) (s : Stated) → Some s ≡ statement_of o → IsInRangeIfAny (own_of s)
+statement_range None s h = let k : Nothing ≡ s = cc in subst (λ x. IsInRangeIfAny (own_of x)) k tt
+statement_range (Some d) s h = stated_range (as_str d) s h
 
 checked_if : (b o : Bool) (e f : Entry) → o ≡ e.is_open → b ≡ bytes_eq e.path unfiled → IsInRangeIfAny (own_of e.stated) → Some f ≡ (if b && not o then None else Some e) → IsListableEntry f
 checked_if true true e f is same range h = let k : e ≡ f = cc in subst IsListableEntry k (record { range = range; unfiled_open = λ _. sym is })
 checked_if true false e f is same range h = absurd (cc)
 checked_if false o e f is same range h = let k : e ≡ f = cc in subst IsListableEntry k (record { range = range; unfiled_open = λ t. absurd (let x : true ≡ false = sym t ∙ sym same in (cc)) })
 
-class_parts : (b : Bool) (p : Option (List ℕ)) (o : Option (Option Bool)) (t : Option (Option (List ℕ))) (e : Entry) → Some e ≡ class_of_parts b p o t → IsListableEntry e
-class_parts true (Some p) (Some o) (Some t) e h = checked_if (bytes_eq p unfiled) (unwrap_or o true) (record { path = p; is_open = unwrap_or o true; stated = stated_if (option_map schedule_of_bytes t) }) e refl refl (stated_range t) h
-class_parts false p o t e h = absurd (cc)
-class_parts true None o t e h = absurd (cc)
-class_parts true (Some p) None t e h = absurd (cc)
-class_parts true (Some p) (Some o) None e h = absurd (cc)
+class_parts : (b : Bool) (p : Option (List ℕ)) (o : Option Bool) (t : Option Stated) (e : Entry) → ((s : Stated) → Some s ≡ t → IsInRangeIfAny (own_of s)) → Some e ≡ class_of_parts b p o t → IsListableEntry e
+class_parts true (Some p) (Some o) (Some s) e range h = checked_if (bytes_eq p unfiled) o (record { path = p; is_open = o; stated = s }) e refl refl (range s refl) h
+class_parts false p o t e range h = absurd (cc)
+class_parts true None o t e range h = absurd (cc)
+class_parts true (Some p) None t e range h = absurd (cc)
+class_parts true (Some p) (Some o) None e range h = absurd (cc)
 
 class_listable : (ms : Members) (e : Entry) → Some e ≡ class_of ms → IsListableEntry e
 unfolding class_of
 class_listable ms e h =
-    class_parts (has_only is_class_key ms) (option_and_then as_str (get_member (codes "path") ms)) (optional as_bool (get_member (codes "open") ms)) (optional as_str (get_member (codes "schedule") ms)) e h
+    class_parts (has_only is_class_key ms) (option_and_then as_str (get_member (codes "path") ms)) (openness_of (get_member (codes "open") ms)) (statement_of (get_member (codes "schedule") ms)) e (statement_range (get_member (codes "schedule") ms)) h
 
 entry_table : (o : Option Members) (e : Entry) → Some e ≡ option_and_then class_of o → IsListableEntry e
 entry_table None e h = absurd (cc)

@@ -1,19 +1,18 @@
 -- Reading members one by one.
 use Rattle.std.proofs.Common.{◌≡◌, ℕ, Bool, true, false, ◌&&◌, List, [], ◌∷◌, Option, Some, None, option_map, refl, ap, ◌∙◌, String, Global, string_bytes}
 use Rattle.std.specs.Map.{keys_of}
-use Rattle.toml.specs.Data.{Data}
+use Rattle.toml.specs.Data.{Data, as_str}
 use Rattle.toml.specs.View.{members_view}
 use Rattle.toml.proofs.Views.{Entry}
-use Rattle.class_plan.specs.Document.{has_only, optional}
+use Rattle.class_plan.specs.Texts.{schedule_of_bytes}
+use Rattle.class_plan.specs.Entries.{stated_if}
+use Rattle.class_plan.specs.Document.{has_only, statement_of}
 
-pub optional-some : {A : Type 0} (f : Data → Option A) (o : Option Data) (d : Data) (a : A) → Some d ≡ o → Some a ≡ f d → Some (Some a) ≡ optional f o
-optional-some f o d a is e = rw (← is) (ap (option_map (λ a. Some a)) e)
+pub statement-text : (o : Option Data) (d : Data) (t : List ℕ) → Some d ≡ o → Some t ≡ as_str d → Some (stated_if (Some (schedule_of_bytes t))) ≡ statement_of o
+statement-text o d t is e = rw (← is) (ap (option_map (λ t. stated_if (Some (schedule_of_bytes t)))) e)
 
-pub optional-other : {A : Type 0} (f : Data → Option A) (o : Option Data) (d : Data) → Some d ≡ o → None ≡ f d → None ≡ optional f o
-optional-other f o d is e = rw (← is) (ap (option_map (λ a. Some a)) e)
-
-pub optional-missing : {A : Type 0} (f : Data → Option A) (o : Option Data) → None ≡ o → Some None ≡ optional f o
-optional-missing f o is = rw (← is)
+pub statement-other : (o : Option Data) (d : Data) → Some d ≡ o → None ≡ as_str d → None ≡ statement_of o
+statement-other o d is e = rw (← is) (ap (option_map (λ t. stated_if (Some (schedule_of_bytes t)))) e)
 
 -- each of the keys is a known one
 abbrev pub are_known : (List ℕ → Bool) → List (String Global) → Bool

@@ -1,7 +1,7 @@
 -- Plan files: a TOML table with the key `root`, a schedule's text, and optionally `class`, an array
 -- of tables. Each of these has the key `path`, a text, and optionally `open`, a boolean, and
 -- `schedule`, a text.
-use Rattle.std.specs.Prelude.{ℕ, Bool, true, false, not, ◌&&◌, ◌||◌, if◌then◌else◌, List, [], ◌∷◌, map, codes, Option, Some, None, option_map, option_and_then, unwrap_or, Result}
+use Rattle.std.specs.Prelude.{ℕ, Bool, true, false, not, ◌&&◌, ◌||◌, if◌then◌else◌, List, [], ◌∷◌, map, codes, Option, Some, None, option_map, option_and_then, Result}
 use Rattle.std.specs.Str.{bytes_eq, is_utf8}
 use Rattle.toml.specs.Data.{Data, Items, no_items, item, Members, no_members, member, get_member, as_str, as_bool, as_array, as_table}
 use Rattle.toml.specs.Parse.{parse_document}
@@ -9,6 +9,8 @@ use Rattle.class_paths.specs.Path.{unfiled}
 use Rattle.class_plan.specs.declared.faults.PlanFault.{PlanFault}
 use Rattle.class_plan.specs.declared.faults.PlanFault.TheVariants.{NotToml, BadShape}
 use Rattle.class_plan.specs.declared.entries.Lists.{Lists}
+use Rattle.class_plan.specs.declared.entries.Stated.{Stated}
+use Rattle.class_plan.specs.declared.entries.Stated.TheVariants.{Nothing}
 use Rattle.class_plan.specs.Faults.{verdict}
 use Rattle.class_plan.specs.Plans.{Listing, first_plan}
 use Rattle.class_plan.specs.Texts.{◌>>=◌, schedule_of_bytes}
@@ -25,24 +27,30 @@ is_file_key k = bytes_eq k (codes "root") || bytes_eq k (codes "class")
 abbrev pub is_class_key : List ℕ → Bool
 is_class_key k = bytes_eq k (codes "path") || bytes_eq k (codes "open") || bytes_eq k (codes "schedule")
 
--- the value of a key that may be missing; None where the value has another kind
-abbrev pub optional : {A : Type 0} → (Data → Option A) → Option Data → Option (Option A)
-optional f None = Some None
-optional f (Some d) = option_map (λ a. Some a) (f d)
+-- whether a class is open, by the value of its key: open where the key is missing, and None where
+-- the value is no boolean
+abbrev pub openness_of : Option Data → Option Bool
+openness_of None = Some true
+openness_of (Some d) = as_bool d
+
+-- what a class states of its own schedule, by the value of its key; None where the value is no text
+abbrev pub statement_of : Option Data → Option Stated
+statement_of None = Some Nothing
+statement_of (Some d) = option_map (λ t. stated_if (Some (schedule_of_bytes t))) (as_str d)
 
 -- a class that may be listed: `unfiled` is open
 abbrev pub if_listable : Entry → Option Entry
 if_listable e = if bytes_eq e.path unfiled && not e.is_open then None else Some e
 
 -- a class from its parts, each of the right kind
-abbrev pub class_of_parts : Bool → Option (List ℕ) → Option (Option Bool) → Option (Option (List ℕ)) → Option Entry
-class_of_parts true (Some path) (Some is_open) (Some text) = if_listable (record { path = path; is_open = unwrap_or is_open true; stated = stated_if (option_map schedule_of_bytes text) })
+abbrev pub class_of_parts : Bool → Option (List ℕ) → Option Bool → Option Stated → Option Entry
+class_of_parts true (Some path) (Some is_open) (Some stated) = if_listable (record { path = path; is_open = is_open; stated = stated })
 class_of_parts _ _ _ _ = None
 
 -- a class from its table
 unfoldable pub class_of : Members → Option Entry
 class_of ms = class_of_parts (has_only is_class_key ms) (option_and_then as_str (get_member (codes "path") ms))
-    (optional as_bool (get_member (codes "open") ms)) (optional as_str (get_member (codes "schedule") ms))
+    (openness_of (get_member (codes "open") ms)) (statement_of (get_member (codes "schedule") ms))
 
 unfoldable pub entry_of : Data → Option Entry
 entry_of d = as_table d >>= class_of

@@ -1,10 +1,10 @@
 //! The shape of a plan file: which keys its tables have, and of which kinds their values are.
-ghost use Rattle.std.specs.Prelude.{◌≡◌, Some, None, option_map, option_and_then, option_copied, IfOk, map, codes};
-ghost use Rattle.toml.specs.Data.{get_member, as_str, as_bool};
+ghost use Rattle.std.specs.Prelude.{◌≡◌, Some, None, option_map, option_and_then, IfOk, map, codes};
+ghost use Rattle.toml.specs.Data.{get_member, as_str};
 ghost use Rattle.toml.specs.View.{view, table_view, array_view};
 ghost use Rattle.class_plan.specs.Texts.{schedule_of_bytes};
 ghost use Rattle.class_plan.specs.Entries.{entry_view, stated_if};
-ghost use Rattle.class_plan.specs.Document.{has_only, is_class_key, is_file_key, optional, class_of, entry_of, entries_of, listed_of, contents_of, shown_lists};
+ghost use Rattle.class_plan.specs.Document.{has_only, is_class_key, is_file_key, openness_of, statement_of, class_of, entry_of, entries_of, listed_of, contents_of, shown_lists};
 
 use crate::entries::{Listed, Lists, Stated};
 use crate::texts::schedule_of_text;
@@ -18,33 +18,6 @@ fn text_at<'a>(table: &'a Table, key: &str) -> Option<&'a str>
     match table.get(key) {
         Some(value) => value.as_str(),
         None => None,
-    }
-}
-
-/// The text at a key that may be missing; `None` where the key holds no text.
-fn optional_text<'a>(table: &'a Table, key: &str) -> Option<Option<&'a str>>
-    ensures { option_map (λ o. option_map (λ s. s.now) o) result ≡
-        optional as_str (get_member key.now (table_view table.now)) }
-{
-    match table.get(key) {
-        Some(value) => match value.as_str() {
-            Some(text) => Some(Some(text)),
-            None => None,
-        },
-        None => Some(None),
-    }
-}
-
-/// The boolean at a key that may be missing; `None` where the key holds no boolean.
-fn optional_truth(table: &Table, key: &str) -> Option<Option<bool>>
-    ensures { result ≡ optional as_bool (get_member key.now (table_view table.now)) }
-{
-    match table.get(key) {
-        Some(value) => match value.as_bool() {
-            Some(truth) => Some(Some(truth)),
-            None => None,
-        },
-        None => Some(None),
     }
 }
 
@@ -84,16 +57,37 @@ fn has_only_file_keys(table: &Table) -> bool
     true
 }
 
-/// What a class states of its own schedule, by the text of it, if it has one.
-fn stated_by(text: Option<&str>) -> Stated
-    ensures { result ≡ stated_if (option_map schedule_of_bytes (option_copied text.entry)) }
+/// Whether the class is open: what the key `open` says, and true where the key is missing. `None` where the key holds no
+/// boolean.
+fn openness(table: &Table) -> Option<bool>
+    ensures { result ≡ openness_of (get_member (codes "open") (table_view table.now)) }
 {
-    match text {
-        Some(text) => match schedule_of_text(text.as_bytes()) {
-            Some(schedule) => Stated::Own(schedule),
-            None => Stated::Faulty,
+    match table.get("open") {
+        Some(value) => value.as_bool(),
+        None => Some(true),
+    }
+}
+
+/// What a text states of a schedule.
+fn stated_by(text: &str) -> Stated
+    ensures { result ≡ stated_if (Some (schedule_of_bytes text.now)) }
+{
+    match schedule_of_text(text.as_bytes()) {
+        Some(schedule) => Stated::Own(schedule),
+        None => Stated::Faulty,
+    }
+}
+
+/// What the class states of its own schedule. `None` where the key `schedule` holds no text.
+fn statement(table: &Table) -> Option<Stated>
+    ensures { result ≡ statement_of (get_member (codes "schedule") (table_view table.now)) }
+{
+    match table.get("schedule") {
+        Some(value) => match value.as_str() {
+            Some(text) => Some(stated_by(text)),
+            None => None,
         },
-        None => Stated::Nothing,
+        None => Some(Stated::Nothing),
     }
 }
 
@@ -107,20 +101,19 @@ fn class_from(table: &Table) -> Option<Listed<'_>>
     let Some(path) = text_at(table, "path") else {
         return None;
     };
-    let Some(is_open) = optional_truth(table, "open") else {
+    let Some(is_open) = openness(table) else {
         return None;
     };
-    let Some(schedule) = optional_text(table, "schedule") else {
+    let Some(stated) = statement(table) else {
         return None;
     };
-    let is_open = is_open.unwrap_or(true);
     if path == "unfiled" && !is_open {
         return None;
     }
     Some(Listed {
         path: path.as_bytes(),
         is_open,
-        stated: stated_by(schedule),
+        stated,
     })
 }
 
