@@ -1,2 +1,2 @@
 pub mod Segments
-mod PathLemmas
+pub mod PathLemmas

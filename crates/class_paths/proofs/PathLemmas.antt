@@ -24,6 +24,7 @@ pub comparisons_rise : (xs : Paths) (p : List ℕ) → IsIncreasing xs → IsNon
 comparisons_rise xs p up =
     searchable_from_sorted nat_list_cmp_total (λ q. q) xs p (λ k d low high. ap is_lt (turned (get_or xs (k + 1) d) (get_or xs k d) Less (Less-from_sorted order xs k (k + 1) d up (omega arith) high)))
 
+-- the set of no path is in byte order
 pub none_increasing : IsIncreasing []
 unfolding IsStrictlySortedBy
 none_increasing = tt
@@ -48,7 +49,7 @@ insert_path_missing (q ∷ qs) p (suc at) in_range parted =
     rw (turned p q Less (parted.0 0 q (omega arith) (omega arith))) (ap (λ (t : Paths). q ∷ t) rest)
 
 -- what holds of each path of a set and of another path holds of the set with that path added
-all_in_insert_path : (P : List ℕ → Type 0) (xs : Paths) (p : List ℕ) → P p → AllByRecursion P xs → AllByRecursion P (insert_path p xs)
+pub all_in_insert_path : (P : List ℕ → Type 0) (xs : Paths) (p : List ℕ) → P p → AllByRecursion P xs → AllByRecursion P (insert_path p xs)
 all_in_insert_path P [] p one all = (one, tt)
 all_in_insert_path P (q ∷ qs) p one all = elim (order p q) as (λ o. AllByRecursion P (match_ordering o (p ∷ q ∷ qs) (q ∷ qs) (q ∷ insert_path p qs))) [
   | Less ↦ (one, all)
@@ -61,6 +62,7 @@ below_all : (p q : List ℕ) (xs : Paths) → order p q ≡ Less → AllByRecurs
 below_all p q [] less all = tt
 below_all p q (x ∷ xs) less all = (nat_list_cmp_total.trans p q x less all.0, below_all p q xs less all.1)
 
+-- a set with a path added is in byte order too
 pub insert_path_increasing : (xs : Paths) (p : List ℕ) → IsIncreasing xs → IsIncreasing (insert_path p xs)
 unfolding IsStrictlySortedBy
 insert_path_increasing [] p up = (tt, tt)

@@ -10,7 +10,7 @@ use Rattle.sieve_meaning.specs.declared.run_fault.RunFault.TheVariants.{ClassNot
 use Rattle.sieve_meaning.specs.RunFaults.{fault_of}
 use Rattle.sieve_meaning.specs.Case.{Facts}
 use Rattle.sieve_meaning.specs.Outcome.{outcome_at}
-use Rattle.filing_flights.proofs.PathLemmas.{all_in_insert_path, insert_path_increasing, none_increasing}
+use Rattle.class_paths.proofs.PathLemmas.{all_in_insert_path, insert_path_increasing, none_increasing}
 use Rattle.filing_image.specs.Program.{Program, first_places}
 use Rattle.filing_image.specs.declared.instruction.Operation.{Operation}
 use Rattle.filing_image.specs.declared.instruction.Operation.TheVariants.{PushTrue, PushFalse, Not, Values, Join, Match, Pop, Exists, Size, Number, Less as LessThan, Jump, JumpIf, JumpUnless, Marked, Mark, File, Keep, Discard, Stop, Fault, Call, Return}

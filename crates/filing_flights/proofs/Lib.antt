@@ -1,5 +1,4 @@
 pub mod ResultLemmas
-pub mod PathLemmas
 pub mod Lengths
 pub mod HeldLemmas
 pub mod ClassLemmas
