@@ -13,7 +13,8 @@ use toml::{Table, Value};
 
 /// The text at a key, if the key holds a text.
 fn text_at<'a>(table: &'a Table, key: &str) -> Option<&'a str>
-    ensures { option_map (λ s. s.now) result ≡ option_and_then as_str (get_member key.now (table_view table.now)) }
+    ensures { option_map (λ s. s.now) result
+        ≡ option_and_then as_str (get_member key.now (table_view table.now)) }
 {
     match table.get(key) {
         Some(value) => value.as_str(),
@@ -129,7 +130,8 @@ fn class_in(value: &Value) -> Option<Listed<'_>>
 
 /// The classes of an array, or `None` where one is no class.
 fn all_listed(alloc: Global, values: &Vec<Value>) -> Result<Option<Vec<Listed<'_>>>, AllocError>
-    ensures { IfOk result (λ o. option_map (λ v. map entry_view v.items) o ≡ entries_of (array_view values.now)) }
+    ensures { IfOk result
+        (λ o. option_map (λ v. map entry_view v.items) o ≡ entries_of (array_view values.now)) }
 {
     let mut out = Vec::with_capacity(alloc, values.len())?;
     for value in values {

@@ -33,8 +33,8 @@ impl Plan {
     pub fn from_toml(alloc: Global, text: &[u8]) -> Result<Plan, PlanFault>
         ensures plan { IfOk result (λ p. plan_of_text text.now ≡ Ok p) }
         ensures refused { IfErr result (λ f. f ≢ NoMemory → plan_of_text text.now ≡ Err f) }
-        ensures smallest { MatchResult result (λ _. HoldsNone (text_faults text.now)) (λ f. f ≢ NoMemory →
-            IsSmallest (text_faults text.now) f) }
+        ensures smallest { MatchResult result (λ _. HoldsNone (text_faults text.now))
+            (λ f. f ≢ NoMemory → IsSmallest (text_faults text.now) f) }
     {
         let Ok(text) = str::from_utf8(text) else {
             return Err(PlanFault::NotToml);

@@ -97,11 +97,13 @@ impl Plan {
         classes: Vec<(Vec<u8>, bool, Option<Schedule>)>,
     ) -> Result<Plan, PlanFault>
         ensures plan { IfOk result (λ p. plan_of_parts (parts_contents root classes.items) ≡ Ok p) }
-        ensures refused { IfErr result (λ f. f ≢ NoMemory → plan_of_parts (parts_contents root classes.items) ≡ Err f) }
-        ensures smallest { MatchResult result (λ _. HoldsNone (parts_faults (parts_contents root classes.items)))
+        ensures refused { IfErr result
+            (λ f. f ≢ NoMemory → plan_of_parts (parts_contents root classes.items) ≡ Err f) }
+        ensures smallest { MatchResult result
+            (λ _. HoldsNone (parts_faults (parts_contents root classes.items)))
             (λ f. f ≢ NoMemory → IsSmallest (parts_faults (parts_contents root classes.items)) f) }
-        ensures same { (p : Listing) → IsPlan p → root ≡ p.root → map part_row classes.items ≡ p.rows →
-            MatchResult result (λ q. q ≡ p) (λ f. f ≡ NoMemory) }
+        ensures same { (p : Listing) → IsPlan p → root ≡ p.root → map part_row classes.items
+            ≡ p.rows → MatchResult result (λ q. q ≡ p) (λ f. f ≡ NoMemory) }
     {
         let listed = list_parts(alloc, classes.as_slice())?;
         if closes_unfiled(listed.as_slice()) {

@@ -78,7 +78,8 @@ fn add_unfiled(
 }
 
 fn gather(alloc: Global, listed: &[Listed<'_>]) -> Result<Gathered, AllocError>
-    ensures rows { IfOk result (λ g. rows_in g.classes ≡ with_unfiled (rows_from [] (map entry_view listed.now))) }
+    ensures rows { IfOk result
+        (λ g. rows_in g.classes ≡ with_unfiled (rows_from [] (map entry_view listed.now))) }
     ensures twice { IfOk result (λ g. g.is_twice ≡ comes_again [] (map entry_view listed.now)) }
 {
     let (classes, is_twice) = insert_all(alloc, listed)?;
@@ -96,7 +97,8 @@ fn has_bad_path(listed: &[Listed<'_>]) -> bool
 
 /// Whether the parent of some path is no class.
 fn lacks_parent(classes: &BTreeMap<Vec<u8>, Class>, listed: &[Listed<'_>]) -> bool
-    ensures { result ≡ list_any (λ c. not (has_parent_in (has (rows_in classes.now)) c.path.now)) listed.now }
+    ensures { result
+        ≡ list_any (λ c. not (has_parent_in (has (rows_in classes.now)) c.path.now)) listed.now }
 {
     listed.iter().any(|class| !has_parent(classes, class.path))
 }
@@ -122,10 +124,13 @@ fn checked_root(
     gathered: &Gathered,
     listed: &[Listed<'_>],
 ) -> Result<Schedule, PlanFault>
-    requires rows { rows_in gathered.now.classes ≡ with_unfiled (rows_from [] (map entry_view listed.now)) }
+    requires rows { rows_in gathered.now.classes
+        ≡ with_unfiled (rows_from [] (map entry_view listed.now)) }
     requires twice { gathered.now.is_twice ≡ comes_again [] (map entry_view listed.now) }
-    ensures judged { result ≡ verdict (contents_faults (contents root listed.now)) (unwrap_or root Permanent) }
-    ensures in_order { OnOk result (IsStrictlySortedBy (slice_cmp nat_cmp) (paths_of (rows_in gathered.now.classes))) }
+    ensures judged { result
+        ≡ verdict (contents_faults (contents root listed.now)) (unwrap_or root Permanent) }
+    ensures in_order { OnOk result
+        (IsStrictlySortedBy (slice_cmp nat_cmp) (paths_of (rows_in gathered.now.classes))) }
 {
     if has_bad_path(listed) {
         return Err(PlanFault::BadPath);
@@ -158,7 +163,8 @@ pub(crate) fn plan_from(
 ) -> Result<Plan, PlanFault>
     requires { IsListable (contents root listed.now) }
     ensures plan { IfOk result (λ p. plan_of (contents root listed.now) ≡ Ok p) }
-    ensures refused { IfErr result (λ f. f ≢ NoMemory → plan_of (contents root listed.now) ≡ Err f) }
+    ensures refused { IfErr result
+        (λ f. f ≢ NoMemory → plan_of (contents root listed.now) ≡ Err f) }
 {
     let gathered = gather(alloc, listed)?;
     let root = checked_root(root, &gathered, listed)?;

@@ -122,8 +122,8 @@ impl Plan {
     pub fn add(&mut self, path: &[u8]) -> Result<(), PlanFault>
         ensures ok { OnOk result (addition self.old path.now ≡ Ok self.new) }
         ensures refused { IfErr result (λ f. f ≢ NoMemory → addition self.old path.now ≡ Err f) }
-        ensures smallest { MatchResult result (λ _. HoldsNone (speaks_against self.old path.now)) (λ f. f ≢ NoMemory →
-            IsSmallest (speaks_against self.old path.now) f) }
+        ensures smallest { MatchResult result (λ _. HoldsNone (speaks_against self.old path.now))
+            (λ f. f ≢ NoMemory → IsSmallest (speaks_against self.old path.now) f) }
         ensures memory { result ≡ Err NoMemory → HoldsNone (speaks_against self.old path.now) }
         ensures unchanged { OnErr result (self.new ≡ self.old) }
         ensures plans { IsPlan self.old × IsPlan self.new }
@@ -155,7 +155,8 @@ impl Plan {
     /// The only refusal is no memory (99).
     pub fn open_paths(&self, alloc: Global) -> Result<BTreeSet<Vec<u8>>, AllocError>
         ensures paths { IfOk result (λ s. map (λ v. v.items) s.keys ≡ open_paths_of self.now) }
-        ensures among { IfOk result (λ s. is_among (map (λ v. v.items) s.keys) ≡ is_open_in self.now) }
+        ensures among { IfOk result
+            (λ s. is_among (map (λ v. v.items) s.keys) ≡ is_open_in self.now) }
     {
         let mut paths = BTreeSet::new(alloc);
         for (path, class) in &self.classes {

@@ -29,7 +29,8 @@ fn own_schedule_at(classes: &BTreeMap<Vec<u8>, Class>, path: &[u8]) -> Option<Sc
 
 /// The schedule of the nearest ancestor of a path that has one, or else the root's.
 fn inherited_schedule(root: Schedule, classes: &BTreeMap<Vec<u8>, Class>, path: &[u8]) -> Schedule
-    ensures { result ≡ first_own (record { root = root; rows = rows_in classes.now }) (ancestors path.now) }
+    ensures { result
+        ≡ first_own (record { root = root; rows = rows_in classes.now }) (ancestors path.now) }
 {
     for end in (0..path.len()).rev() {
         if path[end] == SLASH {
@@ -65,7 +66,8 @@ impl Plan {
     pub fn due_of(&self, path: &[u8], day: Date) -> Option<Date>
         requires { IsCaptureDay day }
         ensures due { IsDueOf self.now path.now day result }
-        ensures number { option_map number_of_day result ≡ due_on self.now path.now (number_of_day day) }
+        ensures number { option_map number_of_day result
+            ≡ due_on self.now path.now (number_of_day day) }
         ensures only { (r : Option Date) → IsDueOf self.now path.now day r → IsSameDay r result }
         ensures later { IfSome result (λ e. IsLater day e) }
     {
@@ -119,7 +121,9 @@ impl Plan {
     /// The caller gives an index below [`Plan::class_count`].
     pub fn class(&self, i: usize) -> (&[u8], bool, Option<Schedule>)
         requires { i < length self.now.rows }
-        ensures { HoldsAt (λ r. r ≡ record { path = result.0.now; is_open = result.1; schedule = result.2 }) self.now.rows i }
+        ensures { HoldsAt
+            (λ r. r ≡ record { path = result.0.now; is_open = result.1; schedule = result.2 })
+            self.now.rows i }
     {
         let (path, class) = self.classes.iter().nth(i).unwrap();
         (path.as_slice(), class.is_open, class.schedule)

@@ -36,8 +36,8 @@ fn first_space(text: &[u8]) -> Option<usize>
 
 /// The text before the first space and the text after it; `None` without a space.
 fn split_at_space(text: &[u8]) -> Option<(&[u8], &[u8])>
-    ensures { MatchOption result (position_or_len is_space text.now ≡
-        length text.now) (λ p. (p.0.now ≡ before_first is_space text.now) × (p.1.now ≡ after_first is_space text.now)) }
+    ensures { MatchOption result (position_or_len is_space text.now ≡ length text.now) (λ p.
+        (p.0.now ≡ before_first is_space text.now) × (p.1.now ≡ after_first is_space text.now)) }
 {
     match first_space(text) {
         Some(end) => Some((&text[..end], &text[end + 1..])),
@@ -205,7 +205,8 @@ fn read_ending(text: &[u8]) -> Option<(Action, bool)>
 /// The count of a word, decimal and without leading zeros. `None` where the word is no such count,
 /// and where its digits before the last are above all ranges already.
 fn read_count(word: &[u8]) -> Option<u32>
-    ensures { MatchOption result (IsLargeOrNone (count_of word.now)) (λ n. count_of word.now ≡ Some n) }
+    ensures { MatchOption result (IsLargeOrNone (count_of word.now))
+        (λ n. count_of word.now ≡ Some n) }
 {
     if word.is_empty() || word[0] == b'0' {
         return None;

@@ -51,9 +51,10 @@ impl PieceCase {
     pub fn feed(&mut self, piece: &[u8]) -> Result<(), HeadFault>
         ensures fed { (message : List ℕ) → self.old.reader ≡ reader_of message →
             OnOk result (self.new.reader ≡ reader_of (message ++ piece.now)) }
-        ensures too_long { (result ≡ Err TooLong) ↔
-            (IsTrue self.old.reader.refuses ⊎ (MAX_OCTETS < self.old.reader.size + length piece.now)) }
-        ensures for_good { result ≡ Err TooLong → self.new.reader ≡ record self.old.reader { refuses = true } }
+        ensures too_long { (result ≡ Err TooLong) ↔ (IsTrue self.old.reader.refuses
+            ⊎ (MAX_OCTETS < self.old.reader.size + length piece.now)) }
+        ensures for_good { result ≡ Err TooLong
+            → self.new.reader ≡ record self.old.reader { refuses = true } }
         ensures no_memory { result ≡ Err HeadFault.NoMemory → self.new ≡ self.old }
         ensures paths { self.new.paths ≡ self.old.paths }
     {
@@ -66,8 +67,8 @@ impl PieceCase {
     pub fn finish(self) -> Result<WholeCase, (HeadFault, PieceCase)>
         ensures whole { (message : List ℕ) → self.reader ≡ reader_of message →
             IfOk result (λ c. facts_of c ≡ case_of message (is_among self.paths)) }
-        ensures too_long { MatchResult result (λ _. self.reader.refuses ≡ false) (λ e. (e.0 ≡ TooLong) ↔
-            IsTrue self.reader.refuses) }
+        ensures too_long { MatchResult result (λ _. self.reader.refuses ≡ false)
+            (λ e. (e.0 ≡ TooLong) ↔ IsTrue self.reader.refuses) }
         ensures back { IfErr result (λ e. e.1 ≡ self) }
     {
         match fields_fed(self.alloc, &self.header) {

@@ -20,7 +20,8 @@ impl Payload {
     /// The octets, if they are there and at most `limit`. Refuses with `too_long` where they are more than the limit,
     /// and with `NoMemory` (99) where there was no memory for them.
     pub fn octets(&self, limit: usize, too_long: DeskFault) -> Result<&[u8], DeskFault>
-        ensures offered { (octets : List ℕ) → IsOf limit self.now octets → IsOffered limit too_long octets result }
+        ensures offered { (octets : List ℕ) → IsOf limit self.now octets
+            → IsOffered limit too_long octets result }
         ensures within { IfOk result (λ octets. length octets.now ≤ limit) }
     {
         match self {

@@ -38,8 +38,8 @@ pub trait Registry {
     /// Takes over the plan of a text, a TOML document. Refused in this order: 58 for more than 1,048,576 octets, the
     /// smallest of 50 to 56 that applies to the text, and 57 where it drops a path of the plan so far.
     fn set_plan(&mut self, text: &Payload) -> Result<(), DeskFault>
-        ensures { CallsWith clean stands self.old greatest_plan text.now (λ t. commands.plain (office.set_plan t))
-            (answer_of_done result) self.new };
+        ensures { CallsWith clean stands self.old greatest_plan text.now
+            (λ t. commands.plain (office.set_plan t)) (answer_of_done result) self.new };
 
     /// Keeps a script of an officer under a name, in the place of the one that has the name. Refused in this order: by
     /// its text (10 to 16, 20, 21), by the check (30 to 41), and where thirty-two scripts of the officer have other
@@ -58,8 +58,8 @@ pub trait Registry {
     /// Sets the script of that name as an officer's program: the one that has the name when a capture begins. Refused
     /// where the officer has no script of that name (93).
     fn activate(&mut self, officer: &[u8], name: &[u8]) -> Result<(), DeskFault>
-        ensures { Calls clean stands self.old (commands.plain (office.activate officer.now name.now))
-            (answer_of_done result) self.new };
+        ensures { Calls clean stands self.old (commands.plain
+            (office.activate officer.now name.now)) (answer_of_done result) self.new };
 
     /// Sets no program for an officer. It is never refused.
     fn deactivate(&mut self, officer: &[u8])
@@ -77,14 +77,16 @@ pub trait Registry {
     /// (10 to 16, 20, 21), by the check (30 to 41), and for a message of more than 8,388,608 octets (95). The script
     /// can include the global scripts, and no others. A script that is too heavy has the outcome fault 5.
     fn file(&self, script: &Payload, message: &Payload) -> Result<Outcome, DeskFault>
-        ensures { CallsWithTwo clean stands self.now (greatest_script, greatest_message) script.now message.now
+        ensures { CallsWithTwo clean stands self.now
+            (greatest_script, greatest_message) script.now message.now
             (λ s m. commands.plain (office.file s m)) (answer_of_outcome result) self.now };
 
     /// What an image captures a message in: a dry run that stores nothing. Refused in this order: by the image's length
     /// (61 for more than 16,777,216 octets), its form (60), its code (62 to 66), and for a message of more than
     /// 8,388,608 octets (95).
     fn try_image(&self, image: &Payload, message: &Payload) -> Result<Outcome, DeskFault>
-        ensures { CallsWithTwo clean stands self.now (greatest_image, greatest_message) image.now message.now
+        ensures { CallsWithTwo clean stands self.now
+            (greatest_image, greatest_message) image.now message.now
             (λ i m. commands.plain (office.try_image i m)) (answer_of_outcome result) self.now };
 
     /// Places a hold of that name on a record. Refused where there is no such record (80), where the record is
@@ -101,7 +103,8 @@ pub trait Registry {
     /// The records without a hold that are due by a day, ordered by due day and then by number. The caller ensures that
     /// the day is in the years 1970 to 9999.
     fn due(&mut self, day: Date) -> Result<Vec<Line>, DeskFault>
-        ensures { CallsOn clean stands self.old day (λ n. commands.plain (office.due n)) (answer_of_lines result) self.new };
+        ensures { CallsOn clean stands self.old day
+            (λ n. commands.plain (office.due n)) (answer_of_lines result) self.new };
 
     /// Destroys a record. Refused in this order: there is no such record (80), it is destroyed (84), a hold keeps it
     /// (81), its schedule's action is not to destroy (83), it is not due by the day (82). The caller ensures that the
@@ -120,17 +123,19 @@ pub trait Registry {
         moment: u64,
         message: Payload,
     ) -> Result<(u32, u32), DeskFault>
-        ensures { CallsWith clean stands self.old greatest_message message (λ m. commands.begin officer.now moment m)
-            (answer_of_ticket result) self.new };
+        ensures { CallsWith clean stands self.old greatest_message message
+            (λ m. commands.begin officer.now moment m) (answer_of_ticket result) self.new };
 
     /// Lets a capture make `count` more steps, or fewer where it comes to its end. Refused where no capture in flight
     /// has the ticket (91). Where there is no memory (99), the steps that were made before are kept.
     fn turn(&mut self, ticket: u64, count: u32) -> Result<Turn, DeskFault>
-        ensures { Calls clean stands self.old (commands.turn ticket count) (answer_of_turn result) self.new };
+        ensures { Calls clean stands self.old (commands.turn ticket count)
+            (answer_of_turn result) self.new };
 
     /// Makes the records of a capture that has come to its end, and gives up its ticket. Refused where no capture in
     /// flight has the ticket (91), where the capture has not come to its end (92), and where the numbers of records are
     /// used up (87). After a refusal the ticket is kept.
     fn finish(&mut self, ticket: u64) -> Result<Capture, DeskFault>
-        ensures { Calls clean stands self.old (commands.finish ticket) (answer_of_capture result) self.new };
+        ensures { Calls clean stands self.old (commands.finish ticket)
+            (answer_of_capture result) self.new };
 }

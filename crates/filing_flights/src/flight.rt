@@ -40,9 +40,17 @@ impl Model for Flight {
 
     ghost Value = { FlightView };
 
-    ghost view = { λ f. record { ticket = f.ticket; program = f.program.value; message = f.message.items; case = f.case; day = f.day; machine = f.machine } };
+    ghost view = { λ f. record {
+      ticket = f.ticket;
+      program = f.program.value;
+      message = f.message.items;
+      case = f.case;
+      day = f.day;
+      machine = f.machine;
+    } };
 
-    ghost invariant = { λ f. Stands f.program.value (facts_in f.case) f.machine × IsCaptureDay f.day };
+    ghost invariant = { λ f. Stands f.program.value (facts_in f.case) f.machine
+        × IsCaptureDay f.day };
 }
 
 impl Flight {

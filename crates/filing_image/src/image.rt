@@ -26,14 +26,17 @@ pub struct Image {
 impl Model for Image {
     ghost Value = { Program };
 
-    ghost view = { λ i. program_from i.budget i.texts.items i.numbers.items i.slots (list_in i.first_places) i.code.items };
+    ghost view = { λ i. program_from i.budget i.texts.items i.numbers.items i.slots
+        (list_in i.first_places) i.code.items };
 
-    ghost invariant = { λ i. (length i.texts.items < 2 ^ 16) × (length i.numbers.items < 2 ^ 16) ×
-        (length i.code.items < 2 ^ 16) × All (λ t. length t.items < 2 ^ 16) i.texts.items ×
-        All (λ n. n < 2 ^ 64) i.numbers.items × All FitsInstruction (map instruction_of i.code.items) ×
-        (i.budget < 2 ^ 32) × (i.slots < 2 ^ 16) × (length (firsts_of (list_in i.first_places)) < 2 ^ 16) ×
-        All (λ f. f < 2 ^ 16) (firsts_of (list_in i.first_places)) ×
-        All (λ x. x.op ≤ last_operation (version_of (list_in i.first_places))) (map instruction_of i.code.items) };
+    ghost invariant = { λ i. (length i.texts.items < 2 ^ 16) × (length i.numbers.items < 2 ^ 16)
+        × (length i.code.items < 2 ^ 16) × All (λ t. length t.items < 2 ^ 16) i.texts.items
+        × All (λ n. n < 2 ^ 64) i.numbers.items
+        × All FitsInstruction (map instruction_of i.code.items) × (i.budget < 2 ^ 32)
+        × (i.slots < 2 ^ 16) × (length (firsts_of (list_in i.first_places)) < 2 ^ 16)
+        × All (λ f. f < 2 ^ 16) (firsts_of (list_in i.first_places))
+        × All (λ x. x.op ≤ last_operation (version_of (list_in i.first_places)))
+        (map instruction_of i.code.items) };
 }
 
 impl Image {
@@ -53,7 +56,8 @@ impl Image {
         ensures made { IfOk result (λ i. parts i ≡
             parts_from budget texts.items numbers.items slots None instructions.items) }
         ensures fits { IfOk result (λ i. Fits (parts i)) }
-        ensures refused { let given = parts_from budget texts.items numbers.items slots None instructions.items in
+        ensures refused { let given =
+            parts_from budget texts.items numbers.items slots None instructions.items in
             result ≡ Err FormFault.BadForm → IsShort given → IsProgram given → ⊥ }
         ensures short { result ≡ Err FormFault.NoMemory →
             IsShort (parts_from budget texts.items numbers.items slots None instructions.items) }
@@ -72,14 +76,14 @@ impl Image {
         first_places: Vec<u16>,
         instructions: Vec<Instruction>,
     ) -> Result<Image, FormFault>
-        ensures made { IfOk result (λ i. parts i ≡
-            parts_from budget texts.items numbers.items slots (Some first_places.items) instructions.items) }
+        ensures made { IfOk result (λ i. parts i ≡ parts_from budget texts.items numbers.items slots
+            (Some first_places.items) instructions.items) }
         ensures fits { IfOk result (λ i. Fits (parts i)) }
-        ensures refused { let given =
-            parts_from budget texts.items numbers.items slots (Some first_places.items) instructions.items in
+        ensures refused { let given = parts_from budget texts.items numbers.items slots
+            (Some first_places.items) instructions.items in
             result ≡ Err FormFault.BadForm → IsShort given → IsProgram given → ⊥ }
-        ensures short { result ≡ Err FormFault.NoMemory →
-            IsShort (parts_from budget texts.items numbers.items slots (Some first_places.items) instructions.items) }
+        ensures short { result ≡ Err FormFault.NoMemory → IsShort (parts_from budget texts.items
+            numbers.items slots (Some first_places.items) instructions.items) }
     {
         let first_places = Some(first_places);
         Image::of_instructions(
@@ -103,14 +107,14 @@ impl Image {
         first_places: Option<Vec<u16>>,
         instructions: Vec<Instruction>,
     ) -> Result<Image, FormFault>
-        ensures made { IfOk result (λ i. parts i ≡
-            parts_from budget texts.items numbers.items slots (list_in first_places) instructions.items) }
+        ensures made { IfOk result (λ i. parts i ≡ parts_from budget texts.items numbers.items slots
+            (list_in first_places) instructions.items) }
         ensures fits { IfOk result (λ i. Fits (parts i)) }
-        ensures refused { let given =
-            parts_from budget texts.items numbers.items slots (list_in first_places) instructions.items in
+        ensures refused { let given = parts_from budget texts.items numbers.items slots
+            (list_in first_places) instructions.items in
             result ≡ Err FormFault.BadForm → IsShort given → IsProgram given → ⊥ }
-        ensures short { result ≡ Err FormFault.NoMemory →
-            IsShort (parts_from budget texts.items numbers.items slots (list_in first_places) instructions.items) }
+        ensures short { result ≡ Err FormFault.NoMemory → IsShort (parts_from budget texts.items
+            numbers.items slots (list_in first_places) instructions.items) }
     {
         if texts.len() > 65_535 || numbers.len() > 65_535 || instructions.len() > 65_535 {
             return Err(FormFault::BadForm);
@@ -153,8 +157,8 @@ impl Image {
     ) -> Result<Image, FormFault>
         ensures made { IfOk result (λ i. i ≡
             program_from budget texts.items numbers.items slots (list_in first_places) code.items) }
-        ensures refused { let given =
-            parts (program_from budget texts.items numbers.items slots (list_in first_places) code.items) in
+        ensures refused { let given = parts (program_from budget texts.items numbers.items slots
+            (list_in first_places) code.items) in
             IfErr result (λ f. (f ≡ FormFault.BadForm) × (IsShort given → IsOfVersion given → ⊥)) }
     {
         if texts.len() > 65_535 || numbers.len() > 65_535 || code.len() > 65_535 {
@@ -334,7 +338,8 @@ fn all_fit(code: &[Operation])
 fn operations(alloc: Global, instructions: &[Instruction]) -> Result<Vec<Operation>, FormFault>
     ensures made { IfOk result (λ v. map instruction_of v.items ≡ instructions.now) }
     ensures fits { IfOk result (λ v. All FitsInstruction (map instruction_of v.items)) }
-    ensures refused { result ≡ Err FormFault.BadForm → (code : _) → map instruction_of code ≡ instructions.now → ⊥ }
+    ensures refused { result ≡ Err FormFault.BadForm → (code : _)
+        → map instruction_of code ≡ instructions.now → ⊥ }
 {
     let mut code = Vec::new(alloc);
     for instruction in instructions {

@@ -22,7 +22,8 @@ pub fn decode(alloc: Global, octets: &[u8]) -> Result<Image, FormFault>
     // Each part fits its octets.
     ensures fits { IfOk result (λ i. Fits (parts i)) }
     // They are the spelling of no other program.
-    ensures only { IfOk result (λ i. (p : Program) → Fits (parts p) → octets.now ≡ spelling (parts p) → i ≡ p) }
+    ensures only { IfOk result
+        (λ i. (p : Program) → Fits (parts p) → octets.now ≡ spelling (parts p) → i ≡ p) }
     // No program's spelling is refused for its form.
     ensures refused { result ≡ Err FormFault.BadForm → (p : Program) → Fits (parts p) →
         octets.now ≡ spelling (parts p) → ⊥ }
@@ -154,7 +155,8 @@ fn procedure_count_of(version: Version, octets: &[u8]) -> Result<(Option<u16>, &
 
 /// Reads `count` texts; answers them and the rest.
 fn texts_of(alloc: Global, count: u16, octets: &[u8]) -> Result<(Vec<Vec<u8>>, &[u8]), FormFault>
-    ensures { Gives (λ x. (map (λ t. t.items) x.0.items, x.1.now)) result (many_at text_at count octets.now) }
+    ensures { Gives
+        (λ x. (map (λ t. t.items) x.0.items, x.1.now)) result (many_at text_at count octets.now) }
 {
     let mut texts = Vec::new(alloc);
     let mut rest = octets;

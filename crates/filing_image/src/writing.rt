@@ -96,7 +96,8 @@ fn put_u16(out: &mut Vec<u8>, number: u16) -> Result<(), AllocError>
 /// Writes texts, each after its length.
 fn put_texts(out: &mut Vec<u8>, texts: &[Vec<u8>]) -> Result<(), AllocError>
     requires { All (λ t. length t.items < 2 ^ 16) texts.now }
-    ensures { OnOk result (out.new.items ≡ out.old.items ++ flat_map text (map (λ t. t.items) texts.now)) }
+    ensures { OnOk result
+        (out.new.items ≡ out.old.items ++ flat_map text (map (λ t. t.items) texts.now)) }
 {
     for octets in texts {
         put_text(out, octets)?;
@@ -116,7 +117,8 @@ fn put_text(out: &mut Vec<u8>, octets: &[u8]) -> Result<(), AllocError>
 
 /// Writes numbers in eight octets each, big-endian.
 fn put_numbers(out: &mut Vec<u8>, numbers: &[u64]) -> Result<(), AllocError>
-    ensures { OnOk result (out.new.items ≡ out.old.items ++ flat_map (to_be_bytes w64) numbers.now) }
+    ensures { OnOk result
+        (out.new.items ≡ out.old.items ++ flat_map (to_be_bytes w64) numbers.now) }
 {
     for number in numbers {
         out.extend_from_slice(&number.to_be_bytes())?;
@@ -126,7 +128,8 @@ fn put_numbers(out: &mut Vec<u8>, numbers: &[u64]) -> Result<(), AllocError>
 
 /// Writes operations as instructions.
 fn put_code(out: &mut Vec<u8>, code: &[Operation]) -> Result<(), AllocError>
-    ensures { OnOk result (out.new.items ≡ out.old.items ++ flat_map instruction (map instruction_of code.now)) }
+    ensures { OnOk result
+        (out.new.items ≡ out.old.items ++ flat_map instruction (map instruction_of code.now)) }
 {
     for operation in code {
         put_instruction(out, operation.instruction())?;

@@ -27,14 +27,15 @@ pub fn act<C: Case>(
     at: &mut Standing,
 ) -> Result<Progress, AllocError>
     requires place { at.old.place + 1 < 2 ^ 16 }
-    requires sound { act image.now (C.facts case.now) operation (state (C.facts case.now) at.old) ≢ Trap }
+    requires sound { act image.now (C.facts case.now) operation (state (C.facts case.now) at.old)
+        ≢ Trap }
     requires in_case { AllByRecursion (InCase (C.facts case.now)) at.old.stack }
     requires in_range { InRange image.now operation }
     requires slots { image.now.slots ≤ 64 }
     requires deep { length at.old.stack ≤ 32 }
     requires room { length at.old.calls < 256 }
-    ensures does { IfOk result (λ progress. act image.now (C.facts case.now) operation (state (C.facts case.now) at.old) ≡
-        run_at progress (state (C.facts case.now) at.new)) }
+    ensures does { IfOk result (λ progress. act image.now (C.facts case.now) operation
+        (state (C.facts case.now) at.old) ≡ run_at progress (state (C.facts case.now) at.new)) }
     ensures in_case { AllByRecursion (InCase (C.facts case.now)) at.new.stack }
     ensures err { OnErr result (at.new ≡ at.old) }
     ensures modest { IsModest operation → IsOk result }
@@ -135,7 +136,8 @@ fn enter(first: u16, at: &mut Standing) -> Result<Progress, AllocError>
     requires room { length at.old.calls < 256 }
     ensures to { result ≡ Ok Going }
     ensures bare { at.old.stack ≡ [] }
-    ensures at { at.new ≡ record at.old { place = first; calls = (at.old.place + 1) ∷ at.old.calls } }
+    ensures at { at.new
+        ≡ record at.old { place = first; calls = (at.old.place + 1) ∷ at.old.calls } }
 {
     at.calls.push(at.place as u16 + 1);
     at.place = first as usize;
@@ -148,8 +150,8 @@ fn go_back(at: &mut Standing) -> Result<Progress, AllocError>
     ensures ok { IsOk result }
     ensures bare { at.old.stack ≡ [] }
     ensures stack { at.new.stack ≡ at.old.stack }
-    ensures does { (c : Facts) →
-        IfOk result (λ progress. go_back (state c at.old) at.old.calls ≡ run_at progress (state c at.new)) }
+    ensures does { (c : Facts) → IfOk result
+        (λ progress. go_back (state c at.old) at.old.calls ≡ run_at progress (state c at.new)) }
 {
     match at.calls.pop() {
         Some(place) => {
@@ -165,7 +167,8 @@ fn mark(slot: u16, at: &mut Standing) -> Result<Progress, AllocError>
     requires place { at.old.place < 2 ^ 62 }
     requires slot { slot < 64 }
     ensures to { result ≡ Ok Going }
-    ensures at { at.new ≡ record at.old { place = at.old.place + 1; marks = slice_set at.old.marks slot true } }
+    ensures at { at.new
+        ≡ record at.old { place = at.old.place + 1; marks = slice_set at.old.marks slot true } }
 {
     at.marks[slot as usize] = true;
     go_on(at)
@@ -201,8 +204,9 @@ fn file<C: Case>(
     at: &mut Standing,
 ) -> Result<Progress, AllocError>
     requires { at.old.place < 2 ^ 62 }
-    ensures does { IfOk result (λ progress. file (C.facts case.now) (state (C.facts case.now) at.old) how path.now ≡
-        run_at progress (state (C.facts case.now) at.new)) }
+    ensures does { IfOk result
+        (λ progress. file (C.facts case.now) (state (C.facts case.now) at.old) how path.now
+        ≡ run_at progress (state (C.facts case.now) at.new)) }
     ensures stack { at.new.stack ≡ at.old.stack }
     ensures err { OnErr result (at.new ≡ at.old) }
 {
@@ -223,9 +227,8 @@ fn join<C: Case>(case: &C, at: &mut Standing) -> Result<Progress, AllocError>
     requires in_case { AllByRecursion (InCase (C.facts case.now)) at.old.stack }
     requires deep { length at.old.stack ≤ 32 }
     ensures to { IfOk result (λ progress. progress ≡ Going) }
-    ensures does { OnOk result
-        (after_join (state (C.facts case.now) at.old) (map (entry (C.facts case.now)) at.old.stack) ≡
-        state (C.facts case.now) at.new) }
+    ensures does { OnOk result (after_join (state (C.facts case.now) at.old)
+        (map (entry (C.facts case.now)) at.old.stack) ≡ state (C.facts case.now) at.new) }
     ensures in_case { AllByRecursion (InCase (C.facts case.now)) at.new.stack }
     ensures err { OnErr result (at.new ≡ at.old) }
 {

@@ -42,7 +42,8 @@ impl Calls {
 
     /// Removes the place to which the last call returns, and answers it; none where no call is left.
     pub fn pop(&mut self) -> Option<u16>
-        ensures { MatchOption result ((self.old ≡ []) × (self.new ≡ [])) (λ p. self.old ≡ p ∷ self.new) }
+        ensures { MatchOption result ((self.old ≡ []) × (self.new ≡ []))
+            (λ p. self.old ≡ p ∷ self.new) }
     {
         if self.depth < 1 {
             return None;

@@ -119,8 +119,10 @@ impl Machine {
     /// of a `Match`. The machine must be in a run in this case.
     pub fn first_match<C: Case>(&self, case: &C, comparison: u8, key: &[u8]) -> Option<usize>
         requires { AllByRecursion (InCase (C.facts case.now)) self.now.at.stack }
-        ensures matches { IfSome result (λ f. value_matches (C.facts case.now) comparison key.now f ≡ true) }
-        ensures found { is_some result ≡ any_on_top comparison key.now (state (C.facts case.now) self.now.at).stack }
+        ensures matches { IfSome result
+            (λ f. value_matches (C.facts case.now) comparison key.now f ≡ true) }
+        ensures found { is_some result
+            ≡ any_on_top comparison key.now (state (C.facts case.now) self.now.at).stack }
     {
         match self.at.stack.top()? {
             Item::Fields(fields) => first_match(case, fields, comparison, key),
@@ -162,7 +164,8 @@ pub struct EndedRun {
 /// Runs a program in a case to its end. Answers what the run captures, and its length in steps, which is within the
 /// budget. The only error is a refused allocation.
 pub fn run<C: Case>(alloc: Global, program: &Verified, case: &C) -> Result<EndedRun, AllocError>
-    ensures outcome { IfOk result (λ r. HasOutcome program.now (C.facts case.now) r.steps r.outcome) }
+    ensures outcome { IfOk result
+        (λ r. HasOutcome program.now (C.facts case.now) r.steps r.outcome) }
     ensures budget { IfOk result (λ r. r.steps ≤ program.now.budget) }
 {
     let mut machine = Machine::start(alloc, program)?;

@@ -56,7 +56,8 @@ fn text_at(image: &Image, place: usize) -> Option<&[u8]>
 fn matched_field<C: Case>(image: &Image, case: &C, machine: &Machine) -> Option<usize>
     requires { AllByRecursion (InCase (C.facts case.now)) machine.now.at.stack }
     ensures found { is_some result ≡ finds image.now (state (C.facts case.now) machine.now.at) }
-    ensures matches { IfSome result (λ f. is_found_by image.now (C.facts case.now) machine.now.at.place f ≡ true) }
+    ensures matches { IfSome result
+        (λ f. is_found_by image.now (C.facts case.now) machine.now.at.place f ≡ true) }
 {
     let Operation::Match(comparison, key) = operation_at(image, machine.place())? else {
         return None;

@@ -14,8 +14,10 @@ pub fn longest(alloc: Global, image: &Image, marks: &[bool]) -> Result<usize, Al
     requires forward { GoesOnward image.now }
     requires marks { MarksReached image.now marks.now }
     requires some { 0 < length image.now.code }
-    ensures most { IfOk result (λ c. (n q : ℕ) → Path image.now n q → q < length image.now.code → n + 1 ≤ c) }
-    ensures attained { IfOk result (λ c. (n q : ℕ) × Path image.now n q × (q < length image.now.code) × (n + 1 ≡ c)) }
+    ensures most { IfOk result
+        (λ c. (n q : ℕ) → Path image.now n q → q < length image.now.code → n + 1 ≤ c) }
+    ensures attained { IfOk result
+        (λ c. (n q : ℕ) × Path image.now n q × (q < length image.now.code) × (n + 1 ≡ c)) }
 {
     let mut costs = Vec::new(alloc);
     costs.resize(place_count(image), 0usize)?;
@@ -40,7 +42,8 @@ fn set_cost(image: &Image, marks: &[bool], costs: &mut [usize], place: usize)
 
 /// The number of places on the longest path from a place on, from the costs of the places after it.
 fn cost(image: &Image, operation: Operation, place: usize, costs: &[usize]) -> usize
-    requires small { (p : ℕ) → p < length costs.now → slice_index_or costs.now p 0 + p ≤ length costs.now }
+    requires small { (p : ℕ) → p < length costs.now
+        → slice_index_or costs.now p 0 + p ≤ length costs.now }
     requires within { place < length costs.now }
     ensures { result ≡ cost_at image.now operation place costs.now }
 {
@@ -58,7 +61,8 @@ fn cost(image: &Image, operation: Operation, place: usize, costs: &[usize]) -> u
 
 /// The cost of a place; 0 past the end.
 fn at(costs: &[usize], place: usize) -> usize
-    requires { (p : ℕ) → p < length costs.now → slice_index_or costs.now p 0 + p ≤ length costs.now }
+    requires { (p : ℕ) → p < length costs.now
+        → slice_index_or costs.now p 0 + p ≤ length costs.now }
     ensures is { result ≡ slice_index_or costs.now place 0 }
     ensures small { result ≤ length costs.now }
 {

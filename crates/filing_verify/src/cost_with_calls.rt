@@ -20,7 +20,8 @@ pub fn cost_of_start(alloc: Global, image: &Image, marks: &[bool]) -> Result<u32
     requires marks { MarksReached image.now marks.now }
     requires some { 0 < length image.now.code }
     ensures there { IfOk result (λ c. (cost : ℕ → ℕ) × AreCosts image.now cost) }
-    ensures is { IfOk result (λ c. (cost : ℕ → ℕ) → AreCosts image.now cost → c ≡ min (cost 0) too_much) }
+    ensures is { IfOk result
+        (λ c. (cost : ℕ → ℕ) → AreCosts image.now cost → c ≡ min (cost 0) too_much) }
 {
     let mut costs = Vec::new(alloc);
     costs.resize(place_count(image), 0u32)?;

@@ -11,7 +11,8 @@ use filing_image::Operation;
 /// Pops the topmost entry, and answers whether it is of this kind.
 fn takes(kind: Kind, shape: &mut Shape) -> bool
     ensures taken { result ≡ true → shape.old ≡ kind ∷ shape.new }
-    ensures other { result ≡ false → (top : KindType) (rest : List KindType) → shape.old ≡ top ∷ rest → top ≢ kind }
+    ensures other { result ≡ false → (top : KindType) (rest : List KindType)
+        → shape.old ≡ top ∷ rest → top ≢ kind }
 {
     match shape.pop() {
         Some(top) => top == kind,

@@ -9,5 +9,6 @@ ghost use Rattle.filing_verify.specs.VersionOne as one;
 /// A version 1 program is accepted exactly where it was before there were procedures, and refused by the same rule.
 pub fn version_one_is_kept()
     ensures accepted { (p : Program) → p.procedures ≡ None → (IsWell p ↔ one.IsWell p) }
-    ensures refused { (fault : VerifyFault) (p : Program) → p.procedures ≡ None → (Fails fault p ↔ one.Fails fault p) }
+    ensures refused { (fault : VerifyFault) (p : Program) → p.procedures ≡ None
+        → (Fails fault p ↔ one.Fails fault p) }
 {}

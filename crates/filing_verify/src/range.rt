@@ -93,8 +93,9 @@ fn jumps_out(image: &Image, place: usize) -> bool
     requires within { place < length image.now.code }
     requires procedures { HasProcedures image.now image.now.procedures }
     ensures out { result ≡ true → JumpsOut image.now place }
-    ensures stays { result ≡ false → (q : ℕ) (o : OperationType) → slice_get image.now.code place ≡ Some o →
-        jump_target o ≡ Some q → procedure_of image.now q ≡ procedure_of image.now place }
+    ensures stays { result ≡ false → (q : ℕ) (o : OperationType)
+        → slice_get image.now.code place ≡ Some o → jump_target o ≡ Some q
+        → procedure_of image.now q ≡ procedure_of image.now place }
 {
     let Some(to) = jump_target(operation_at(image, place)) else {
         return false;

@@ -52,7 +52,8 @@ fn pass_on(image: &Image, marks: &mut [bool], place: usize) -> bool
 /// Marks the places that an operation leads to.
 fn mark_successors(image: &Image, operation: Operation, marks: &mut [bool], place: usize)
     requires { place < length marks.old }
-    ensures { marks.new ≡ with_next (goes_on operation) place (with_target (target image.now operation) marks.old) }
+    ensures { marks.new
+        ≡ with_next (goes_on operation) place (with_target (target image.now operation) marks.old) }
 {
     if let Some(to) = target(image, operation) {
         mark(marks, to);

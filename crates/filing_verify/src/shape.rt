@@ -60,7 +60,8 @@ impl Shape {
     /// Whether there is no entry.
     pub fn is_empty(&self) -> bool
         ensures none { result ≡ true → self.now ≡ [] }
-        ensures some { result ≡ false → (top : KindType) × (rest : List KindType) × (self.now ≡ top ∷ rest) }
+        ensures some { result ≡ false → (top : KindType) × (rest : List KindType)
+            × (self.now ≡ top ∷ rest) }
     {
         self.depth() == 0
     }

@@ -62,8 +62,10 @@ fn offer_successors(
     shape: &Shape,
 ) -> bool
     requires { place < length table.old }
-    ensures taken { result ≡ true → Takes table.old (Follows image.now operation place) shape.now table.new }
-    ensures refused { result ≡ false → Clashes table.old (Follows image.now operation place) shape.now }
+    ensures taken { result ≡ true
+        → Takes table.old (Follows image.now operation place) shape.now table.new }
+    ensures refused { result ≡ false
+        → Clashes table.old (Follows image.now operation place) shape.now }
 {
     match target(image, operation) {
         None => offer_next(operation, table, place, shape),
@@ -86,7 +88,8 @@ fn offer_next(
     requires { place < length table.old }
     ensures taken { result ≡ true →
         Takes table.old (λ q. (goes_on operation ≡ true) × (q ≡ place + 1)) shape.now table.new }
-    ensures refused { result ≡ false → Clashes table.old (λ q. (goes_on operation ≡ true) × (q ≡ place + 1)) shape.now }
+    ensures refused { result ≡ false
+        → Clashes table.old (λ q. (goes_on operation ≡ true) × (q ≡ place + 1)) shape.now }
 {
     if !goes_on(operation) {
         return true;

@@ -87,7 +87,8 @@ impl HeaderBuffer {
             OnOk result (self.new ≡ reader_of (message ++ piece.now)) }
         ensures too_long { (result ≡ Err HeadFault.TooLong) ↔
             (IsTrue self.old.refuses ⊎ (MAX_OCTETS < self.old.size + length piece.now)) }
-        ensures for_good { result ≡ Err HeadFault.TooLong → self.new ≡ record self.old { refuses = true } }
+        ensures for_good { result ≡ Err HeadFault.TooLong
+            → self.new ≡ record self.old { refuses = true } }
         ensures no_memory { result ≡ Err HeadFault.NoMemory → self.new ≡ self.old }
     {
         let part = self.next_part(piece)?;
@@ -120,7 +121,10 @@ impl HeaderBuffer {
     pub(crate) fn add(&mut self, piece: &[u8], part: HeaderPart) -> Result<(), AllocError>
         requires part { IsOfPiece piece.now part }
         requires room { self.old.size + length piece.now ≤ MAX_OCTETS }
-        ensures ok { OnOk result (self.new ≡ record self.old { kept = with_part self.old.kept piece.now part; size = self.old.size + length piece.now }) }
+        ensures ok { OnOk result (self.new ≡ record self.old {
+          kept = with_part self.old.kept piece.now part;
+          size = self.old.size + length piece.now;
+        }) }
         ensures err { OnErr result (self.new ≡ self.old) }
     {
         match part {

@@ -40,8 +40,8 @@ pub fn first_line_len(text: &[u8]) -> usize
 /// Whether no line of the header is left: the rest is empty, or its first line has no octets before its end.
 pub fn header_ends(rest: &[u8]) -> bool
     ensures over { IsTrue result → header_of rest.now ≡ [] }
-    ensures goes_on { result ≡ false →
-        header_of rest.now ≡ take (line_len rest.now) rest.now ∷ header_of (drop (line_len rest.now) rest.now) }
+    ensures goes_on { result ≡ false → header_of rest.now
+        ≡ take (line_len rest.now) rest.now ∷ header_of (drop (line_len rest.now) rest.now) }
     ensures some { result ≡ false → 0 < length rest.now }
 {
     line_text(&rest[..first_line_len(rest)]).is_empty()

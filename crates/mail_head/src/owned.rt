@@ -28,7 +28,11 @@ impl Model for PieceHead {
 
     ghost Value = { OwnedHeader };
 
-    ghost view = { λ h. record { fields = map (field_from h.octets.items) h.starts.items; size = h.size; octets = h.octets.items } };
+    ghost view = { λ h. record {
+      fields = map (field_from h.octets.items) h.starts.items;
+      size = h.size;
+      octets = h.octets.items;
+    } };
 
     ghost invariant = { λ h. All (IsFieldStart h.octets.items) h.starts.items };
 }

@@ -33,7 +33,8 @@ impl Model for HeadReader {
 
     ghost view = { λ r. r.header };
 
-    ghost invariant = { λ r. IsReady r.header.kept r.header.size r.line_ends r.starts.items (vec_capacity r.starts) };
+    ghost invariant = { λ r.
+        IsReady r.header.kept r.header.size r.line_ends r.starts.items (vec_capacity r.starts) };
 }
 
 impl HeadReader {
@@ -69,7 +70,8 @@ impl HeadReader {
     /// The header of the message that was fed. It allocates nothing. The one refusal is `TooLong` (1), exactly where a
     /// `feed` answered it.
     pub fn finish(self) -> Result<PieceHead, HeadFault>
-        ensures head { (message : List ℕ) → self ≡ reader_of message → IfOk result (λ h. h ≡ owned_header_of message) }
+        ensures head { (message : List ℕ) → self ≡ reader_of message
+            → IfOk result (λ h. h ≡ owned_header_of message) }
         ensures too_long { IsErrOf result TooLong ↔ IsTrue self.refuses }
         ensures no_other { result ≡ Err NoMemory → ⊥ }
     {

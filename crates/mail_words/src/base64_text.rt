@@ -52,7 +52,8 @@ fn decode_symbols(symbols: &[u8], octets: &mut [u8; OCTETS]) -> Option<usize>
 /// Appends the octets that B text encodes with padding (RFC 4648, section 4), as they are written in a charset. Answers
 /// whether the text is good. Where it is bad, some octets may have been appended.
 pub fn append_b(shown: &mut Vec<u8>, charset: Charset, text: &[u8]) -> Result<bool, AllocError>
-    ensures { IfOk result (λ good. ArePut good charset shown.old.items (b_octets (without_line_ends text.now)) shown.new.items) }
+    ensures { IfOk result (λ good. ArePut good charset shown.old.items
+        (b_octets (without_line_ends text.now)) shown.new.items) }
 {
     let mut symbols = [0u8; SYMBOLS];
     let mut octets = [0u8; OCTETS];

@@ -44,7 +44,8 @@ pub fn charset_of(name: &[u8]) -> Option<Charset>
 
 /// Whether the name is iso-8859-2 to iso-8859-16.
 fn is_ascii_part(name: &[u8]) -> bool
-    ensures { result ≡ list_any (λ part. is_named name.now (codes "iso-8859-" ++ part)) ascii_parts }
+    ensures { result
+        ≡ list_any (λ part. is_named name.now (codes "iso-8859-" ++ part)) ascii_parts }
 {
     is_called(name, b"iso-8859-2")
         || is_called(name, b"iso-8859-3")

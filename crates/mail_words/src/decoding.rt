@@ -32,7 +32,8 @@ fn append_text(
     charset: Charset,
     word: &EncodedWord<'_>,
 ) -> Result<bool, AllocError>
-    ensures { IfOk result (λ good. ArePut good charset shown.old.items (octets_of word.now) shown.new.items) }
+    ensures { IfOk result
+        (λ good. ArePut good charset shown.old.items (octets_of word.now) shown.new.items) }
 {
     if word.encoding().to_ascii_lowercase() == b'b' {
         append_b(shown, charset, word.text())
@@ -46,7 +47,8 @@ fn append_text(
 /// word some octets may have been appended.
 #[tactic(auto, unfolding(crate::specs::Decoding::text_of))]
 pub fn append_decoded(shown: &mut Vec<u8>, word: &EncodedWord<'_>) -> Result<bool, AllocError>
-    ensures { IfOk result (λ good. IsAppended good shown.old.items (text_of word.now) shown.new.items) }
+    ensures { IfOk result
+        (λ good. IsAppended good shown.old.items (text_of word.now) shown.new.items) }
 {
     let start = shown.len();
     let Some(charset) = charset_written(shown, word.charset())? else {

@@ -53,7 +53,8 @@ fn stands_at_line_end(text: &[u8]) -> bool
 
 /// The first octet of a text that belongs to no line end, and the rest of the text. None where there is no such octet.
 pub fn first_octet(text: &[u8]) -> Option<(u8, &[u8])>
-    ensures { MatchOption result (without_line_ends text.now ≡ []) (λ f. IsFirstOctet text.now f.0 f.1.now) }
+    ensures { MatchOption result (without_line_ends text.now ≡ [])
+        (λ f. IsFirstOctet text.now f.0 f.1.now) }
 {
     let mut rest = text;
     while stands_at_line_end(rest) {
@@ -88,7 +89,8 @@ fn ends_line(text: &[u8]) -> bool
 
 /// The last octet of a text that belongs to no line end, with the text before it. None where there is no such octet.
 pub fn last_octet(text: &[u8]) -> Option<(&[u8], u8)>
-    ensures { MatchOption result (without_line_ends text.now ≡ []) (λ l. without_line_ends text.now ≡ without_line_ends l.0.now ++ l.1 ∷ []) }
+    ensures { MatchOption result (without_line_ends text.now ≡ [])
+        (λ l. without_line_ends text.now ≡ without_line_ends l.0.now ++ l.1 ∷ []) }
 {
     let mut rest = text;
     while ends_line(rest) {

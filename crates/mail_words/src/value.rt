@@ -15,8 +15,8 @@ use std::alloc::{AllocError, Global};
 /// What is shown of the gap before a good word: nothing where it is blanks alone and follows a good word, otherwise
 /// all.
 fn shown_gap(gap: &[u8], after_good: bool) -> &[u8]
-    ensures { without_line_ends result.now ≡ (if after_good && list_all is_blank (without_line_ends gap.now) then []
-        else without_line_ends gap.now) }
+    ensures { without_line_ends result.now ≡ (if after_good
+        && list_all is_blank (without_line_ends gap.now) then [] else without_line_ends gap.now) }
 {
     if after_good && is_all_blank(gap) {
         &[]
@@ -44,7 +44,8 @@ fn append_word(
     standing: &StandingWord<'_>,
     after_good: bool,
 ) -> Result<bool, AllocError>
-    ensures { IfOk result (λ good. IsPutWord good after_good standing.now.0 standing.now.1 shown.old.items shown.new.items) }
+    ensures { IfOk result (λ good.
+        IsPutWord good after_good standing.now.0 standing.now.1 shown.old.items shown.new.items) }
 {
     let start = shown.len();
     append_unfolded(shown, shown_gap(standing.gap(), after_good))?;
@@ -60,7 +61,8 @@ fn append_word(
 /// Appends the text with its good words replaced by the texts that they mean. Blanks that alone stand between two good
 /// words are left out.
 fn append_shown(shown: &mut Vec<u8>, text: &[u8]) -> Result<(), AllocError>
-    ensures { OnOk result (shown.new.items ≡ shown.old.items ++ display_of_text (without_line_ends text.now)) }
+    ensures { OnOk result
+        (shown.new.items ≡ shown.old.items ++ display_of_text (without_line_ends text.now)) }
 {
     let mut after_good = false;
     let mut rest = text;
@@ -78,7 +80,8 @@ fn append_shown(shown: &mut Vec<u8>, text: &[u8]) -> Result<(), AllocError>
 #[tactic(auto, unfolding(crate::specs::Value::value_of_body))]
 pub fn append_value(shown: &mut Vec<u8>, raw: &[u8]) -> Result<(), AllocError>
     ensures value { OnOk result (shown.new.items ≡ shown.old.items ++ value_of_body raw.now) }
-    ensures short { OnOk result (length shown.new.items ≤ length shown.old.items + 4 * length raw.now) }
+    ensures short { OnOk result
+        (length shown.new.items ≤ length shown.old.items + 4 * length raw.now) }
 {
     append_shown(shown, trim(raw))?;
     Ok(())
@@ -100,7 +103,8 @@ pub fn append_value(shown: &mut Vec<u8>, raw: &[u8]) -> Result<(), AllocError>
 #[tactic(auto, unfolding(crate::specs::Value::value_of_body))]
 pub fn value_of(alloc: Global, raw: &[u8]) -> Result<Vec<u8>, AllocError>
     ensures value { IfOk result (λ v. v.items ≡ value_of_body raw.now) }
-    ensures spans { IfOk result (λ v. IsShown (without_outer_blanks (without_line_ends raw.now)) v.items) }
+    ensures spans { IfOk result
+        (λ v. IsShown (without_outer_blanks (without_line_ends raw.now)) v.items) }
 {
     let text = trim(raw);
     let mut shown = Vec::with_capacity(alloc, text.len())?;

@@ -31,7 +31,11 @@ impl<'a> Model for EncodedWord<'a> {
 
     ghost Value = { Word };
 
-    ghost view = { λ w. record { charset = without_line_ends w.charset.now; encoding = w.encoding; text = without_line_ends w.text.now } };
+    ghost view = { λ w. record {
+      charset = without_line_ends w.charset.now;
+      encoding = w.encoding;
+      text = without_line_ends w.text.now;
+    } };
 }
 
 impl<'a> EncodedWord<'a> {
@@ -185,9 +189,11 @@ fn after_part_octet(text: &[u8], part: WordPart) -> Option<&[u8]>
 
 /// The octets at the front of a text that are the part's, and the rest.
 fn split_part(text: &[u8], part: WordPart) -> (&[u8], &[u8])
-    ensures front { without_line_ends result.0.now ≡ take_while (is_part_octet part) (without_line_ends text.now) }
-    ensures following { without_line_ends result.1.now ≡
-        drop (length (take_while (is_part_octet part) (without_line_ends text.now))) (without_line_ends text.now) }
+    ensures front { without_line_ends result.0.now
+        ≡ take_while (is_part_octet part) (without_line_ends text.now) }
+    ensures following { without_line_ends result.1.now
+        ≡ drop (length (take_while (is_part_octet part) (without_line_ends text.now)))
+        (without_line_ends text.now) }
 {
     let mut rest = text;
     while let Some(following) = after_part_octet(rest, part) {
@@ -199,8 +205,9 @@ fn split_part(text: &[u8], part: WordPart) -> (&[u8], &[u8])
 
 /// The rest after these two octets, if the text begins with them.
 fn after_pair(text: &[u8], first: u8, second: u8) -> Option<&[u8]>
-    ensures { MatchOption result (begins_with_pair first second (without_line_ends text.now) ≡
-        false) (λ following. without_line_ends text.now ≡ first ∷ second ∷ without_line_ends following.now) }
+    ensures { MatchOption result
+        (begins_with_pair first second (without_line_ends text.now) ≡ false) (λ following.
+        without_line_ends text.now ≡ first ∷ second ∷ without_line_ends following.now) }
 {
     let (octet, rest) = first_octet(text)?;
     let (next, following) = first_octet(rest)?;
@@ -213,8 +220,9 @@ fn after_pair(text: &[u8], first: u8, second: u8) -> Option<&[u8]>
 
 /// The letter of an encoding and the rest after it, if the text begins with one between two "?".
 fn after_encoding(text: &[u8]) -> Option<(u8, &[u8])>
-    ensures { MatchOption result (names_encoding (without_line_ends text.now) ≡
-        false) (λ e. (without_line_ends text.now ≡ 63 ∷ e.0 ∷ 63 ∷ without_line_ends e.1.now) × (is_encoding e.0 ≡ true)) }
+    ensures { MatchOption result (names_encoding (without_line_ends text.now) ≡ false)
+        (λ e. (without_line_ends text.now ≡ 63 ∷ e.0 ∷ 63 ∷ without_line_ends e.1.now)
+        × (is_encoding e.0 ≡ true)) }
 {
     let (first, rest) = first_octet(text)?;
     let (letter, rest) = first_octet(rest)?;
@@ -286,7 +294,8 @@ fn may_begin_after(gap: &[u8]) -> bool
 /// The first word that stands in a text. One may stand at the text's start.
 pub fn next_word(text: &[u8]) -> Option<StandingWord<'_>>
     ensures first { result ≡ first_word true (without_line_ends text.now) }
-    ensures spelled { IfSome result (λ s. without_line_ends text.now ≡ s.0 ++ (spelling s.1 ++ s.2)) }
+    ensures spelled { IfSome result
+        (λ s. without_line_ends text.now ≡ s.0 ++ (spelling s.1 ++ s.2)) }
 {
     let mut from = 0;
     while let Some(step) = memchr(b'=', &text[from..]) {

@@ -86,7 +86,8 @@ fn do_holds_rise(holds: &[HoldRow]) -> bool
 
 /// The messages that live records name.
 fn named_messages(alloc: Global, records: &[RecordRow]) -> Result<BTreeSet<u32>, AllocError>
-    ensures { IfOk result (λ s. (m : ℕ) → is_one_of s.keys m ≡ is_named (map record_of records.now) m) }
+    ensures { IfOk result
+        (λ s. (m : ℕ) → is_one_of s.keys m ≡ is_named (map record_of records.now) m) }
 {
     let mut named = BTreeSet::new(alloc);
     for record in records {
@@ -98,7 +99,8 @@ fn named_messages(alloc: Global, records: &[RecordRow]) -> Result<BTreeSet<u32>,
 }
 
 fn live_numbers(alloc: Global, records: &[RecordRow]) -> Result<BTreeSet<u32>, AllocError>
-    ensures { IfOk result (λ s. (n : ℕ) → is_one_of s.keys n ≡ is_live (map record_of records.now) n) }
+    ensures { IfOk result
+        (λ s. (n : ℕ) → is_one_of s.keys n ≡ is_live (map record_of records.now) n) }
 {
     let mut live = BTreeSet::new(alloc);
     for record in records {

@@ -59,7 +59,8 @@ pub fn classes_without_texts(
     alloc: Global,
     classes: &[ClassRow],
 ) -> Result<Vec<ClassRow>, AllocError>
-    ensures { IfOk result (λ v. map class_entry_of v.items ≡ map (λ c. without_schedule (class_entry_of c)) classes.now) }
+    ensures { IfOk result (λ v. map class_entry_of v.items
+        ≡ map (λ c. without_schedule (class_entry_of c)) classes.now) }
 {
     let mut rows = Vec::with_capacity(alloc, classes.len())?;
     for class in classes {
@@ -82,8 +83,10 @@ pub fn plan_of_texts(
     root: &[u8],
     classes: &[ClassRow],
 ) -> Result<Option<Plan>, AllocError>
-    ensures plan { IfOk result (λ o. IfSome o (λ p. HasTexts p root.now (map class_entry_of classes.now))) }
-    ensures none { IfOk result (λ o. IfNone o (HasNoTexts root.now (map class_entry_of classes.now))) }
+    ensures plan { IfOk result
+        (λ o. IfSome o (λ p. HasTexts p root.now (map class_entry_of classes.now))) }
+    ensures none { IfOk result
+        (λ o. IfNone o (HasNoTexts root.now (map class_entry_of classes.now))) }
 {
     let Some(rules) = rules_of_texts(alloc, root, classes)? else {
         return Ok(None);

@@ -71,7 +71,8 @@ fn parts_of(
     rules: &[ScheduleRow],
     classes: &[ClassRow],
 ) -> Result<Vec<(Vec<u8>, bool, Option<Schedule>)>, AllocError>
-    ensures { IfOk result (λ v. map part_row v.items ≡ merge (map rule_of rules.now) (map class_entry_of classes.now)) }
+    ensures { IfOk result (λ v. map part_row v.items
+        ≡ merge (map rule_of rules.now) (map class_entry_of classes.now)) }
 {
     let mut parts = Vec::with_capacity(alloc, classes.len())?;
     let mut place = 0;
@@ -120,7 +121,8 @@ fn are_same_rules(rules: &[ScheduleRow], others: &[ScheduleRow]) -> bool
 
 /// Whether the rows are those of the classes, as a plan answers them, in the same order.
 fn are_class_rows(classes: &[(&[u8], bool, Option<Schedule>)], rows: &[ClassRow]) -> bool
-    ensures { result ≡ pointwise same_class (map answer_entry classes.now) (map class_entry_of rows.now) }
+    ensures { result
+        ≡ pointwise same_class (map answer_entry classes.now) (map class_entry_of rows.now) }
 {
     if classes.len() != rows.len() {
         return false;
@@ -140,7 +142,8 @@ fn has_rows(
     rules: &[ScheduleRow],
     classes: &[ClassRow],
 ) -> Result<bool, AllocError>
-    ensures { IfOk result (λ b. Decides b (HasRows plan.now (map rule_of rules.now) (map class_entry_of classes.now))) }
+    ensures { IfOk result (λ b.
+        Decides b (HasRows plan.now (map rule_of rules.now) (map class_entry_of classes.now))) }
 {
     let own = rules_of(alloc, plan)?;
     let told = plan.classes(alloc)?;
@@ -156,8 +159,10 @@ pub fn plan_of_rows(
     rules: &[ScheduleRow],
     classes: &[ClassRow],
 ) -> Result<Option<Plan>, AllocError>
-    ensures plan { IfOk result (λ o. IfSome o (λ p. HasRows p (map rule_of rules.now) (map class_entry_of classes.now))) }
-    ensures none { IfOk result (λ o. IfNone o (HasNoPlan (map rule_of rules.now) (map class_entry_of classes.now))) }
+    ensures plan { IfOk result
+        (λ o. IfSome o (λ p. HasRows p (map rule_of rules.now) (map class_entry_of classes.now))) }
+    ensures none { IfOk result
+        (λ o. IfNone o (HasNoPlan (map rule_of rules.now) (map class_entry_of classes.now))) }
     ensures sound { IfOk result (λ o. IfSome o (λ p. IsPlan p)) }
 {
     let Some((root, own)) = rules.split_first() else {

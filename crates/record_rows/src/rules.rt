@@ -63,7 +63,8 @@ fn rules_from(
     root: Schedule,
     classes: &[(&[u8], bool, Option<Schedule>)],
 ) -> Result<Vec<ScheduleRow>, AllocError>
-    ensures { IfOk result (λ v. map rule_of v.items ≡ rule_at [] root ∷ own_rules (map answer_row classes.now)) }
+    ensures { IfOk result
+        (λ v. map rule_of v.items ≡ rule_at [] root ∷ own_rules (map answer_row classes.now)) }
 {
     let mut rules = Vec::new(alloc);
     rules.push(rule_row(Vec::new(alloc), root))?;

@@ -23,7 +23,8 @@ use sieve_syntax::{Arguments, Command, Ending, Test, Tests};
 
 /// The one of the lesser number.
 fn lesser(fault: Option<CheckFault>, other: Option<CheckFault>) -> Option<CheckFault>
-    ensures { option_map number_of result ≡ lesser (option_map number_of fault) (option_map number_of other) }
+    ensures { option_map number_of result
+        ≡ lesser (option_map number_of fault) (option_map number_of other) }
 {
     match (fault, other) {
         (None, _) => other,
@@ -39,9 +40,9 @@ fn form_fault(
     arguments: &Arguments,
     tests: &Tests,
 ) -> Option<CheckFault>
-    ensures { option_map number_of result ≡
-        first_breach (form_rules (has_of named) (form_view form.now) (pieces (form_view form.now).tags arguments.now)
-        (inner_of tests.now)) }
+    ensures { option_map number_of result
+        ≡ first_breach (form_rules (has_of named) (form_view form.now)
+        (pieces (form_view form.now).tags arguments.now) (inner_of tests.now)) }
 {
     let found = gather(named, form, arguments);
     if found.lacks_capability(named, form) {
@@ -64,7 +65,8 @@ fn form_fault(
 /// The least rule that a test breaks, or one of the tests inside it.
 #[cycle(judging)]
 fn test_fault(test: &Test, named: CapabilitySet) -> Option<CheckFault>
-    ensures { option_map number_of result ≡ least (test_breaches (has_of named) (test_of test.now)) }
+    ensures { option_map number_of result
+        ≡ least (test_breaches (has_of named) (test_of test.now)) }
 {
     match find_test(test.name.as_slice()) {
         None => Some(CheckFault::UnknownTest),
@@ -78,7 +80,8 @@ fn test_fault(test: &Test, named: CapabilitySet) -> Option<CheckFault>
 /// The least rule that one of the tests breaks.
 #[cycle(judging)]
 fn tests_fault(tests: &Tests, named: CapabilitySet) -> Option<CheckFault>
-    ensures { option_map number_of result ≡ least (inner_breaches (has_of named) (inner_of tests.now)) }
+    ensures { option_map number_of result
+        ≡ least (inner_breaches (has_of named) (inner_of tests.now)) }
 {
     match tests {
         Tests::None => None,

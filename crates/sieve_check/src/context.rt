@@ -65,7 +65,8 @@ fn any_is_unknown(texts: &[Text]) -> bool
 
 /// Whether a string of the argument names no capability.
 fn argument_names_unknown(argument: &Argument) -> bool
-    ensures { result ≡ list_any (λ s. is_none (capability_named s)) (argument_strings argument.now) }
+    ensures { result
+        ≡ list_any (λ s. is_none (capability_named s)) (argument_strings argument.now) }
 {
     match argument {
         Argument::Strings(list) => is_unknown(list.first()) || any_is_unknown(list.others()),

@@ -71,7 +71,8 @@ impl Findings {
 
 /// What all pieces show.
 fn go_over(named: CapabilitySet, form: &Form, arguments: &Arguments) -> Findings
-    ensures { result ≡ findings_in (has_of named) no_findings (pieces (form_view form.now).tags arguments.now) }
+    ensures { result
+        ≡ findings_in (has_of named) no_findings (pieces (form_view form.now).tags arguments.now) }
 {
     let mut found = Findings::nothing();
     for piece in Pieces::new(form, arguments) {
@@ -87,9 +88,11 @@ pub fn gather(named: CapabilitySet, form: &Form, arguments: &Arguments) -> Findi
         list_any (piece_lacks (has_of named)) (pieces (form_view form.now).tags arguments.now) }
     ensures tag { (result.unknown_tag || result.late_tag) ≡
         has_wrong_tag (pieces (form_view form.now).tags arguments.now) }
-    ensures twice { result.two_tags ≡ false →
-        has_tag_twice (form_view form.now) (pieces (form_view form.now).tags arguments.now) ≡ false }
-    ensures string { result.lacks_string ≡ list_any lacks_string (pieces (form_view form.now).tags arguments.now) }
+    ensures twice { result.two_tags ≡ false
+        → has_tag_twice (form_view form.now) (pieces (form_view form.now).tags arguments.now)
+        ≡ false }
+    ensures string { result.lacks_string
+        ≡ list_any lacks_string (pieces (form_view form.now).tags arguments.now) }
     ensures comparator { result.unknown_comparator ≡
         list_any is_unknown_comparator (pieces (form_view form.now).tags arguments.now) }
 {

@@ -59,9 +59,9 @@ fn split_string(arguments: &[Argument]) -> Option<(&[u8], &[Argument])>
 
 /// The comparator that a tag of this row names, and the arguments after both.
 fn split_comparator(row: Option<TagRow>, following: &[Argument]) -> (Option<&[u8]>, &[Argument])
-    ensures { (tags : List TagWord) →
-        tag_pieces (option_map tag_view row) (string_first following.now) (pieces tags following.now) ≡
-        tagged (option_map tag_view row) (option_map (λ t. t.now) result.0) ∷ pieces tags result.1.now }
+    ensures { (tags : List TagWord) → tag_pieces (option_map tag_view row)
+        (string_first following.now) (pieces tags following.now) ≡ tagged (option_map tag_view row)
+        (option_map (λ t. t.now) result.0) ∷ pieces tags result.1.now }
 {
     match row {
         Some(row) if row.names_comparator => match split_string(following) {

@@ -108,7 +108,8 @@ fn has_kind_twice(kind: TagKind, form: &Form, arguments: &Arguments) -> bool
 
 /// Whether two tags are of one kind.
 fn has_tag_twice(form: &Form, arguments: &Arguments) -> bool
-    ensures { result ≡ has_tag_twice (form_view form.now) (pieces (form_view form.now).tags arguments.now) }
+    ensures { result
+        ≡ has_tag_twice (form_view form.now) (pieces (form_view form.now).tags arguments.now) }
 {
     for row in form.tags {
         if has_kind_twice(row.kind, form, arguments) {
@@ -143,7 +144,8 @@ fn has_tag(kind: TagKind, form: &Form, arguments: &Arguments) -> bool
 
 /// Whether a required tag is missing.
 fn lacks_tag(form: &Form, arguments: &Arguments) -> bool
-    ensures { result ≡ lacks_tag (form_view form.now).needs_tag (pieces (form_view form.now).tags arguments.now) }
+    ensures { result ≡ lacks_tag (form_view form.now).needs_tag
+        (pieces (form_view form.now).tags arguments.now) }
 {
     match form.needs_tag {
         Some(kind) => !has_tag(kind, form, arguments),
@@ -154,7 +156,8 @@ fn lacks_tag(form: &Form, arguments: &Arguments) -> bool
 impl Findings {
     /// 34: whether the command or one of its tags needs a capability that is not named.
     pub fn lacks_capability(self, named: CapabilitySet, form: &Form) -> bool
-        ensures { result ≡ (lacks (has_of named) (form_view form.now).needs || self.lacks_capability) }
+        ensures { result
+            ≡ (lacks (has_of named) (form_view form.now).needs || self.lacks_capability) }
     {
         lacks(named, form.needs) || self.lacks_capability
     }
@@ -168,17 +171,21 @@ impl Findings {
 
     /// 36: whether two tags are of one kind. The tags are compared only where there are two.
     pub fn has_tag_twice(self, form: &Form, arguments: &Arguments) -> bool
-        requires { self.two_tags ≡ false →
-            has_tag_twice (form_view form.now) (pieces (form_view form.now).tags arguments.now) ≡ false }
-        ensures { result ≡ has_tag_twice (form_view form.now) (pieces (form_view form.now).tags arguments.now) }
+        requires { self.two_tags ≡ false
+            → has_tag_twice (form_view form.now) (pieces (form_view form.now).tags arguments.now)
+            ≡ false }
+        ensures { result
+            ≡ has_tag_twice (form_view form.now) (pieces (form_view form.now).tags arguments.now) }
     {
         self.two_tags && has_tag_twice(form, arguments)
     }
 
     /// 37: whether the positional arguments are not the form's, a tag lacks its string, or a required tag is missing.
     pub fn has_wrong_arguments(self, form: &Form, arguments: &Arguments) -> bool
-        requires { self.lacks_string ≡ list_any lacks_string (pieces (form_view form.now).tags arguments.now) }
-        ensures { result ≡ has_wrong_arguments (form_view form.now) (pieces (form_view form.now).tags arguments.now) }
+        requires { self.lacks_string
+            ≡ list_any lacks_string (pieces (form_view form.now).tags arguments.now) }
+        ensures { result ≡ has_wrong_arguments (form_view form.now)
+            (pieces (form_view form.now).tags arguments.now) }
     {
         !fits(form, arguments) || self.lacks_string || lacks_tag(form, arguments)
     }

@@ -19,7 +19,8 @@ fn pass_command(
     context: Context,
     follows_branch: bool,
 ) -> Result<(Context, bool), CheckFault>
-    ensures value { passed_view result ≡ walk context (command_in_order follows_branch (command_of command.now)) }
+    ensures value { passed_view result
+        ≡ walk context (command_in_order follows_branch (command_of command.now)) }
     ensures branch { IfOk result (λ x. x.1 ≡
         is_branch (role_of (command_named (command_name (command_of command.now))))) }
 {

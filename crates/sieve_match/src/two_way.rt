@@ -50,7 +50,8 @@ impl Order {
     #[tactic(auto, unfolding(crate::specs::TwoWay::Precedes))]
     #[inline(always)]
     fn compare(self, left: u8, right: u8) -> Ordering
-        ensures { MatchOrdering result (Precedes self left right) (left ≡ right) (Precedes self right left) }
+        ensures { MatchOrdering result (Precedes self left right) (left ≡ right)
+            (Precedes self right left) }
     {
         match self {
             Order::Rising => left.cmp(&right),
@@ -71,7 +72,8 @@ struct Suffix {
 /// The greatest suffix of a key by an order.
 fn greatest_suffix(key: &[u8], order: Order) -> Suffix
     requires { 0 < length key.now }
-    ensures { IsSuffixAt (Precedes order) (folded_octet key.now) (length key.now) result.place result.period }
+    ensures { IsSuffixAt (Precedes order) (folded_octet key.now)
+        (length key.now) result.place result.period }
 {
     let (mut place, mut period) = (0, 1);
     let (mut candidate, mut offset) = (1, 0);
@@ -106,7 +108,8 @@ fn greatest_suffix(key: &[u8], order: Order) -> Suffix
 /// Whether each octet before the cut is equal to the one a period after it.
 fn repeats_before(key: &[u8], cut: usize, period: usize) -> bool
     requires { cut + period ≤ length key.now }
-    ensures { IsTrue result ↔ ((k : ℕ) → k < cut → folded_octet key.now k ≡ folded_octet key.now (k + period)) }
+    ensures { IsTrue result
+        ↔ ((k : ℕ) → k < cut → folded_octet key.now k ≡ folded_octet key.now (k + period)) }
 {
     for place in 0..cut {
         if folded_at(key, place) != folded_at(key, place + period) {
@@ -135,8 +138,10 @@ fn fits_to(key: &[u8], value: &[u8], at: usize, start: usize) -> usize
     requires from { start ≤ length key.now }
     ensures low { start ≤ result }
     ensures high { result ≤ length key.now }
-    ensures same { (k : ℕ) → start ≤ k → k < result → folded_octet key.now k ≡ folded_octet value.now (at + k) }
-    ensures differs { result < length key.now → folded_octet key.now result ≢ folded_octet value.now (at + result) }
+    ensures same { (k : ℕ) → start ≤ k → k < result
+        → folded_octet key.now k ≡ folded_octet value.now (at + k) }
+    ensures differs { result < length key.now
+        → folded_octet key.now result ≢ folded_octet value.now (at + result) }
 {
     let mut end = start;
     while end < key.len() && folded_at(key, end) == folded_at(value, at + end) {
@@ -150,7 +155,8 @@ fn fits_to(key: &[u8], value: &[u8], at: usize, start: usize) -> usize
 fn fits_between(key: &[u8], value: &[u8], at: usize, low: usize, high: usize) -> bool
     requires within { at + length key.now ≤ length value.now }
     requires top { high ≤ length key.now }
-    ensures { IsTrue result ↔ ((k : ℕ) → low ≤ k → k < high → folded_octet key.now k ≡ folded_octet value.now (at + k)) }
+    ensures { IsTrue result ↔ ((k : ℕ) → low ≤ k → k < high
+        → folded_octet key.now k ≡ folded_octet value.now (at + k)) }
 {
     for place in low..high {
         if folded_at(key, place) != folded_at(value, at + place) {
@@ -241,7 +247,8 @@ impl Plan {
     fn next_place(&self, key: &[u8], value: &[u8], at: usize, known: usize) -> Option<usize>
         requires rare { self.now.rare < length key.now }
         requires within { at + length key.now ≤ length value.now }
-        ensures next { IsNextCandidate (StandsAt value.now key.now) at (length value.now + 1 - length key.now) result }
+        ensures next { IsNextCandidate (StandsAt value.now key.now) at
+            (length value.now + 1 - length key.now) result }
         ensures stays { 0 < known → result ≡ Some at }
     {
         if known > 0 || folded_at(value, at + self.rare) == folded_at(key, self.rare) {

@@ -28,7 +28,8 @@ pub(crate) enum Step<'a> {
 /// The first item of a pattern, and the pattern after it.
 #[tactic(auto, unfolding(sieve_meaning::specs::Matching::items_from))]
 fn next_item(pattern: &[u8]) -> Option<(Item, &[u8])>
-    ensures { MatchOption result (items_of pattern.now ≡ []) (λ x. items_of pattern.now ≡ x.0 ∷ items_of x.1.now) }
+    ensures { MatchOption result (items_of pattern.now ≡ [])
+        (λ x. items_of pattern.now ≡ x.0 ∷ items_of x.1.now) }
 {
     let (&octet, rest) = pattern.split_first()?;
     match octet {

@@ -11,18 +11,20 @@ use crate::level::{Level, Levels};
 
 /// What is computed for `:is` agrees with the relation.
 pub fn equality_is_decided()
-    ensures { (c : Comparator) (key value : List ℕ) → IsTrue (equals c key value) ↔ IsEqualUnder c key value }
+    ensures { (c : Comparator) (key value : List ℕ) → IsTrue (equals c key value)
+        ↔ IsEqualUnder c key value }
 {}
 
 /// What is computed for `:contains` agrees with the relation.
 pub fn contains_is_decided()
-    ensures { (c : Comparator) (key value : List ℕ) → IsTrue (contains c key value) ↔ Contains c key value }
+    ensures { (c : Comparator) (key value : List ℕ) → IsTrue (contains c key value)
+        ↔ Contains c key value }
 {}
 
 /// What is computed for `:matches` agrees with the relation.
 pub fn pattern_is_decided()
-    ensures { (c : Comparator) (items : List Item) (value : List ℕ) → IsTrue (covers c items value) ↔
-        Matches c items value }
+    ensures { (c : Comparator) (items : List Item) (value : List ℕ) → IsTrue (covers c items value)
+        ↔ Matches c items value }
 {}
 
 /// The part that `branches::part_in` gives a command is its role in the program. The command begins branches, continues

@@ -31,8 +31,8 @@ pub fn has_tag(arguments: &[Argument], name: &[u8]) -> bool
 /// none.
 #[tactic(auto, unfolding(crate::specs::Reading::string_lists))]
 pub fn next_string_list(arguments: &[Argument]) -> Option<(&StringList, &[Argument])>
-    ensures { MatchOption result (string_lists false arguments.now ≡ []) (λ x. string_lists false arguments.now ≡
-        x.0.now ∷ string_lists false x.1.now) }
+    ensures { MatchOption result (string_lists false arguments.now ≡ [])
+        (λ x. string_lists false arguments.now ≡ x.0.now ∷ string_lists false x.1.now) }
 {
     let mut follows_tag = false;
     let mut rest = arguments;

@@ -35,7 +35,8 @@ const BLOCK_DEPTH: u8 = 32;
 /// command is a misfit.
 #[tactic(auto, unfolding(crate::specs::Reading::script_at))]
 fn all_commands(alloc: Global, text: &[u8]) -> Result<(Vec<Command>, usize), Stop>
-    ensures value { Gives (λ x. commands_of (map command_of x.0.items)) result (script_at 32 32 (kinds_in text.now)) }
+    ensures value { Gives
+        (λ x. commands_of (map command_of x.0.items)) result (script_at 32 32 (kinds_in text.now)) }
     ensures left { IfOk result (λ x. x.1 ≡ length (left_in text.now)) }
 {
     let (commands, rest) = commands(alloc, BLOCK_DEPTH, text)?;
@@ -64,8 +65,8 @@ fn judge_tokens(script: &[u8], read: &Result<(Vec<Command>, usize), Stop>) -> Re
 
 /// The tree that was read, or the refusal, in a text of `end` octets.
 fn answer(read: Result<(Vec<Command>, usize), Stop>, end: usize) -> Result<Script, TextFault>
-    ensures { (want : Result CommandTrees Misfit) → Gives (λ x. commands_of (map command_of x.0.items)) read want →
-        GivesScript result want }
+    ensures { (want : Result CommandTrees Misfit)
+        → Gives (λ x. commands_of (map command_of x.0.items)) read want → GivesScript result want }
 {
     let (refusal, left) = match read {
         Ok((commands, _)) => return Ok(Script { commands }),
@@ -91,10 +92,12 @@ pub fn parse(alloc: Global, script: &[u8]) -> Result<Script, TextFault>
     ensures only { (t : CommandTrees) → IsScript script.now t → AnswersTree t result }
 
     // A tree that is too deep is refused for that reason.
-    ensures nests { (t : CommandTrees) → Spells script.now t → IsDeep t → AnswersRefusal TextRefusal.Nesting result }
+    ensures nests { (t : CommandTrees) → Spells script.now t → IsDeep t
+        → AnswersRefusal TextRefusal.Nesting result }
 
     // A text that is no sequence of tokens is refused for that reason.
-    ensures faulty { (r : ScanRefusal) → IsFaulty script.now r → AnswersRefusal (TextRefusal.Scan r) result }
+    ensures faulty { (r : ScanRefusal) → IsFaulty script.now r
+        → AnswersRefusal (TextRefusal.Scan r) result }
 
     // Each refusal says what the text lacks.
     ensures refused { IfErr result (λ e. Explains script.now e) }

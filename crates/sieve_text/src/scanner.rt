@@ -156,7 +156,8 @@ pub fn check_text(script: &[u8]) -> Result<(), ScanFault>
 /// The mark at the front of a text, with no gap before it, and the text after it.
 #[inline(always)]
 fn split_mark(text: &[u8]) -> Option<(Mark, &[u8])>
-    ensures { IfSome result (λ x. (octet : ℕ) × (text.now ≡ octet ∷ x.1.now) × (mark_of octet ≡ Some x.0)) }
+    ensures { IfSome result
+        (λ x. (octet : ℕ) × (text.now ≡ octet ∷ x.1.now) × (mark_of octet ≡ Some x.0)) }
 {
     let (&first, following) = text.split_first()?;
     Some((mark(first)?, following))
@@ -165,7 +166,8 @@ fn split_mark(text: &[u8]) -> Option<(Mark, &[u8])>
 /// The mark at the front of a text, with no gap before it.
 #[inline(always)]
 pub fn first_mark(text: &[u8]) -> Option<Mark>
-    ensures { IfSome result (λ m. (rest : List TokenKind) × (kinds_in text.now ≡ kinds.Mark m ∷ rest)) }
+    ensures { IfSome result
+        (λ m. (rest : List TokenKind) × (kinds_in text.now ≡ kinds.Mark m ∷ rest)) }
 {
     match text {
         [first, ..] => mark(*first),
@@ -187,11 +189,11 @@ pub fn begins_with_name(text: &[u8]) -> bool
 
 /// What `split_lexeme` gives, without looking for a mark first.
 fn split_other(text: &[u8]) -> Option<(Lexeme<'_>, &[u8])>
-    ensures cases { MatchOption result (kinds_in text.now ≡ []) (λ x. kinds_in text.now ≡ kind_of x.0 ∷
-        kinds_in x.1.now) }
+    ensures cases { MatchOption result (kinds_in text.now ≡ [])
+        (λ x. kinds_in text.now ≡ kind_of x.0 ∷ kinds_in x.1.now) }
     ensures fewer { IfSome result (λ x. length (kinds_in x.1.now) < length (kinds_in text.now)) }
-    ensures left { MatchOption result (left_in text.now ≡ drop (gap_len 0 text.now) text.now) (λ x. left_in x.1.now ≡
-        left_in text.now) }
+    ensures left { MatchOption result (left_in text.now ≡ drop (gap_len 0 text.now) text.now)
+        (λ x. left_in x.1.now ≡ left_in text.now) }
 {
     let rest = gap::after_gap(text);
     let Ok((lexeme, length)) = lexeme(rest, 0) else {
@@ -206,11 +208,11 @@ fn split_other(text: &[u8]) -> Option<(Lexeme<'_>, &[u8])>
 /// comments.
 #[inline(always)]
 pub fn split_lexeme(text: &[u8]) -> Option<(Lexeme<'_>, &[u8])>
-    ensures cases { MatchOption result (kinds_in text.now ≡ []) (λ x. kinds_in text.now ≡ kind_of x.0 ∷
-        kinds_in x.1.now) }
+    ensures cases { MatchOption result (kinds_in text.now ≡ [])
+        (λ x. kinds_in text.now ≡ kind_of x.0 ∷ kinds_in x.1.now) }
     ensures fewer { IfSome result (λ x. length (kinds_in x.1.now) < length (kinds_in text.now)) }
-    ensures left { MatchOption result (left_in text.now ≡ drop (gap_len 0 text.now) text.now) (λ x. left_in x.1.now ≡
-        left_in text.now) }
+    ensures left { MatchOption result (left_in text.now ≡ drop (gap_len 0 text.now) text.now)
+        (λ x. left_in x.1.now ≡ left_in text.now) }
 {
     if let Some((mark, following)) = split_mark(text) {
         return Some((Lexeme::Mark(mark), gap::after_gap(following)));

@@ -25,8 +25,10 @@ fn read_string(alloc: Global, text: &[u8]) -> Result<(Text, &[u8]), Stop>
 
 /// The next string of a list, where a comma follows.
 fn next_string(alloc: Global, text: &[u8]) -> Result<Option<(Text, &[u8])>, Stop>
-    ensures value { Gives (option_map (λ x. (x.0, kinds_in x.1.now))) result (next_with string_at (kinds_in text.now)) }
-    ensures fewer { IfOk result (λ o. IfSome o (λ x. length (kinds_in x.1.now) < length (kinds_in text.now))) }
+    ensures value { Gives (option_map (λ x. (x.0, kinds_in x.1.now))) result
+        (next_with string_at (kinds_in text.now)) }
+    ensures fewer { IfOk result
+        (λ o. IfSome o (λ x. length (kinds_in x.1.now) < length (kinds_in text.now))) }
     ensures left { IfOk result (λ o. IfSome o (λ x. left_in x.1.now ≡ left_in text.now)) }
 {
     match split_lexeme(text) {
@@ -49,7 +51,8 @@ fn after_bracket(text: &[u8]) -> Result<&[u8], Stop>
 
 /// The strings of a list after its first one.
 fn other_strings(alloc: Global, text: &[u8]) -> Result<(Texts, &[u8]), Stop>
-    ensures value { Gives (λ x. (x.0, kinds_in x.1.now)) result (other_strings_at (kinds_in text.now)) }
+    ensures value { Gives
+        (λ x. (x.0, kinds_in x.1.now)) result (other_strings_at (kinds_in text.now)) }
     ensures fewer { IfOk result (λ x. length (kinds_in x.1.now) ≤ length (kinds_in text.now)) }
     ensures left { IfOk result (λ x. left_in x.1.now ≡ left_in text.now) }
 {
@@ -65,7 +68,8 @@ fn other_strings(alloc: Global, text: &[u8]) -> Result<(Texts, &[u8]), Stop>
 /// A list of strings, after its opening bracket.
 #[tactic(auto, unfolding(crate::specs::Reading::string_list_at))]
 fn string_list(alloc: Global, text: &[u8]) -> Result<(StringList, &[u8]), Stop>
-    ensures value { Gives (λ x. (x.0, kinds_in x.1.now)) result (string_list_at (kinds_in text.now)) }
+    ensures value { Gives
+        (λ x. (x.0, kinds_in x.1.now)) result (string_list_at (kinds_in text.now)) }
     ensures fewer { IfOk result (λ x. length (kinds_in x.1.now) < length (kinds_in text.now)) }
     ensures left { IfOk result (λ x. left_in x.1.now ≡ left_in text.now) }
 {
@@ -92,8 +96,10 @@ fn has_no_argument(text: &[u8]) -> bool
 /// An argument, where the tokens begin with one.
 #[tactic(auto, unfolding(crate::specs::Reading::argument_at))]
 fn next_argument(alloc: Global, text: &[u8]) -> Result<Option<(Argument, &[u8])>, Stop>
-    ensures value { Gives (option_map (λ x. (x.0, kinds_in x.1.now))) result (argument_at (kinds_in text.now)) }
-    ensures fewer { IfOk result (λ o. IfSome o (λ x. length (kinds_in x.1.now) < length (kinds_in text.now))) }
+    ensures value { Gives (option_map (λ x. (x.0, kinds_in x.1.now))) result
+        (argument_at (kinds_in text.now)) }
+    ensures fewer { IfOk result
+        (λ o. IfSome o (λ x. length (kinds_in x.1.now) < length (kinds_in text.now))) }
     ensures left { IfOk result (λ o. IfSome o (λ x. left_in x.1.now ≡ left_in text.now)) }
 {
     if has_no_argument(text) {

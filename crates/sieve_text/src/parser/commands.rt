@@ -20,8 +20,8 @@ const TEST_DEPTH: u8 = 32;
 /// Commands for as long as one follows, with at most `depth` nested blocks.
 #[cycle(command_reader)]
 pub fn commands(alloc: Global, depth: u8, text: &[u8]) -> Result<(Vec<Command>, &[u8]), Stop>
-    ensures value { Gives (λ x. (map command_of x.0.items, kinds_in x.1.now)) result
-        (many_at (command_with 32 (inside_at 32 depth)) (length (kinds_in text.now)) (kinds_in text.now)) }
+    ensures value { Gives (λ x. (map command_of x.0.items, kinds_in x.1.now)) result (many_at
+        (command_with 32 (inside_at 32 depth)) (length (kinds_in text.now)) (kinds_in text.now)) }
     ensures fewer { IfOk result (λ x. length (kinds_in x.1.now) ≤ length (kinds_in text.now)) }
     ensures left { IfOk result (λ x. left_in x.1.now ≡ left_in text.now) }
 {
@@ -39,7 +39,8 @@ pub fn commands(alloc: Global, depth: u8, text: &[u8]) -> Result<(Vec<Command>, 
 /// The tests of a command, and the tokens after them; first it is checked whether the front shows that there are none.
 #[inline(always)]
 fn command_tests(alloc: Global, text: &[u8]) -> Result<(Tests, &[u8]), Stop>
-    ensures value { Gives (λ x. (inner_of x.0, kinds_in x.1.now)) result (inner_with (test_at 32) (kinds_in text.now)) }
+    ensures value { Gives (λ x. (inner_of x.0, kinds_in x.1.now)) result
+        (inner_with (test_at 32) (kinds_in text.now)) }
     ensures fewer { IfOk result (λ x. length (kinds_in x.1.now) ≤ length (kinds_in text.now)) }
     ensures left { IfOk result (λ x. left_in x.1.now ≡ left_in text.now) }
 {
@@ -54,7 +55,8 @@ fn command_tests(alloc: Global, text: &[u8]) -> Result<(Tests, &[u8]), Stop>
 fn next_command(alloc: Global, depth: u8, text: &[u8]) -> Result<Option<(Command, &[u8])>, Stop>
     ensures value { Gives (option_map (λ x. (command_of x.0, kinds_in x.1.now))) result
         (command_with 32 (inside_at 32 depth) (kinds_in text.now)) }
-    ensures fewer { IfOk result (λ o. IfSome o (λ x. length (kinds_in x.1.now) < length (kinds_in text.now))) }
+    ensures fewer { IfOk result
+        (λ o. IfSome o (λ x. length (kinds_in x.1.now) < length (kinds_in text.now))) }
     ensures left { IfOk result (λ o. IfSome o (λ x. left_in x.1.now ≡ left_in text.now)) }
 {
     if first_mark(text).is_some() {

@@ -28,7 +28,8 @@ fn named_test<'a>(
 ) -> Result<(Test, &'a [u8]), Stop>
     requires first { kinds_in text.now ≡ kinds.Identifier name.now ∷ kinds_in following.now }
     requires left { left_in following.now ≡ left_in text.now }
-    ensures value { Gives (λ x. (test_of x.0, kinds_in x.1.now)) result (test_at depth (kinds_in text.now)) }
+    ensures value { Gives
+        (λ x. (test_of x.0, kinds_in x.1.now)) result (test_at depth (kinds_in text.now)) }
     ensures fewer { IfOk result (λ x. length (kinds_in x.1.now) < length (kinds_in text.now)) }
     ensures left { IfOk result (λ x. left_in x.1.now ≡ left_in text.now) }
 {
@@ -52,7 +53,8 @@ fn named_test<'a>(
 #[cycle(test_reader)]
 #[tactic(auto, unfolding(crate::specs::Reading::test_at))]
 fn read_test(alloc: Global, depth: u8, text: &[u8]) -> Result<(Test, &[u8]), Stop>
-    ensures value { Gives (λ x. (test_of x.0, kinds_in x.1.now)) result (test_at depth (kinds_in text.now)) }
+    ensures value { Gives
+        (λ x. (test_of x.0, kinds_in x.1.now)) result (test_at depth (kinds_in text.now)) }
     ensures fewer { IfOk result (λ x. length (kinds_in x.1.now) < length (kinds_in text.now)) }
     ensures left { IfOk result (λ x. left_in x.1.now ≡ left_in text.now) }
 {
@@ -136,7 +138,8 @@ fn other_tests(alloc: Global, depth: u8, text: &[u8]) -> Result<(Vec<Test>, &[u8
 fn next_test(alloc: Global, depth: u8, text: &[u8]) -> Result<Option<(Test, &[u8])>, Stop>
     ensures value { Gives (option_map (λ x. (test_of x.0, kinds_in x.1.now))) result
         (next_with (test_at depth) (kinds_in text.now)) }
-    ensures fewer { IfOk result (λ o. IfSome o (λ x. length (kinds_in x.1.now) < length (kinds_in text.now))) }
+    ensures fewer { IfOk result
+        (λ o. IfSome o (λ x. length (kinds_in x.1.now) < length (kinds_in text.now))) }
     ensures left { IfOk result (λ o. IfSome o (λ x. left_in x.1.now ≡ left_in text.now)) }
 {
     match split_lexeme(text) {

@@ -133,7 +133,8 @@ pub fn token(following: &[u8], at: usize) -> Result<(Lexeme<'_>, usize), FaultyP
     ensures value { Gives read_of result (multi_line_at following.now) }
     ensures within { IfOk result (λ x. x.1 ≤ 5 + length following.now) }
     ensures some { IfOk result (λ x. 0 < x.1) }
-    ensures place { IfErr result (λ e. StandsAt (either_place at (at + (5 + prefix_len is_blank following.now))) e) }
+    ensures place { IfErr result
+        (λ e. StandsAt (either_place at (at + (5 + prefix_len is_blank following.now))) e) }
 {
     let blanks = octets::blank_length(following);
     let (_, rest) = following.split_at(blanks);
