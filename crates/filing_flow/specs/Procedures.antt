@@ -87,8 +87,8 @@ steps_by from (a ∷ later) b = if nat_eq b from
 abbrev pub first_call : Flow
 first_call = sequence (action (CallTo 0)) (action End)
 
--- A program of sound procedures runs on the table machine as the call of the first one, and then the end of the run:
--- where that code ends the run, the run of the program ends, with the same fault and the same outcome.
+-- A program of sound procedures runs on the table machine as the call of the first one, and then the end of the run.
+-- Where that code ends the run, the run of the program ends. The fault and the outcome are the same.
 abbrev pub RunsAsItsProcedures : Type 0
 RunsAsItsProcedures = (p : Program) (c : Facts) (procedures : List Flow) (fault : Option RunFault) (f : Filing) →
     AreProceduresOf p procedures → AreSound p.slots (length procedures) 0 procedures →

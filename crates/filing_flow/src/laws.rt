@@ -19,8 +19,8 @@ pub fn a_program_runs_as_its_procedures()
     ensures { RunsAsItsProcedures }
 {}
 
-/// A program of 1 to 256 sound procedures that have types may run, where it has at most 64 slots and its budget, at most
-/// 1,000,000, has the steps of the first procedure, in which each call counts the steps of its procedure.
+/// A program of 1 to 256 sound procedures that have types may run. It has at most 64 slots, and a budget of at most
+/// 1,000,000 that has the steps of the first procedure. There each call counts the steps of its procedure.
 pub fn typed_procedures_are_well()
     ensures { TypedProceduresAreWell }
 {}

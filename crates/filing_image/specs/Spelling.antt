@@ -1,8 +1,8 @@
 -- The one spelling of each program in octets. All numbers are big-endian. First come the octets 53 46 49 31
--- (hexadecimal) in version 1 and 53 46 49 32 in version 2, the budget in four octets, and the counts of texts, numbers,
--- slots, in version 2 procedures, and instructions in two octets each. Then come the texts, each after its length in two
--- octets, the numbers in eight octets each, in version 2 the first place of each procedure in two octets, and the
--- instructions in four octets each. Nothing follows.
+-- (hexadecimal) in version 1 and 53 46 49 32 in version 2, and the budget in four octets. Then come the counts of texts,
+-- numbers, slots, in version 2 procedures, and instructions, in two octets each. They are followed by the texts, each
+-- after its length in two octets, the numbers in eight octets each, in version 2 the first place of each procedure in
+-- two octets, and the instructions in four octets each. Nothing follows.
 use Rattle.std.specs.Prelude.{◌≡◌, ℕ, ◌<◌, ◌≤◌, ◌^◌, List, [], ◌∷◌, ◌++◌, length, All, Option, Some, None}
 use Rattle.std.specs.List.{flat_map}
 use Rattle.std.specs.Int.{w8, w16, w32, w64, to_be_bytes}
@@ -27,6 +27,11 @@ mark Two = 0x53 ∷ 0x46 ∷ 0x49 ∷ 0x32 ∷ []
 abbrev pub procedure_count : Option (List ℕ) → List ℕ
 procedure_count None = []
 procedure_count (Some firsts) = to_be_bytes w16 (length firsts)
+
+-- how many texts, numbers, slots, procedures and instructions there are
+abbrev pub counts : Program → List ℕ
+counts p = to_be_bytes w16 (length p.texts) ++ (to_be_bytes w16 (length p.numbers) ++ (to_be_bytes w16 p.slots
+    ++ (procedure_count p.procedures ++ to_be_bytes w16 (length p.code))))
 
 -- the first place of each procedure
 abbrev pub procedures : Option (List ℕ) → List ℕ

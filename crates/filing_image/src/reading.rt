@@ -12,10 +12,11 @@ use crate::instruction::Instruction;
 use crate::version::Version;
 use std::alloc::Global;
 
-/// Decodes the image that the octets spell, all of them. `BadForm` (60) only where they spell no image. That is another
-/// mark, fewer or more octets than the counts and lengths say, an instruction number outside 1 to 21 in version 1 and
-/// outside 1 to 23 in version 2, or a non-zero operand that the operation does not have. `NoMemory` (99) where an
-/// allocation was refused before such a fault was found. Time and memory are linear in the number of octets.
+/// Decodes the image that the octets spell, all of them. `BadForm` (60) only where they spell no image. They then have
+/// another mark, fewer or more octets than the counts and lengths say, an instruction number that there is not, or a
+/// non-zero operand that the operation does not have. Instruction numbers are 1 to 21 in version 1, and 1 to 23 in
+/// version 2. `NoMemory` (99) where an allocation was refused before such a fault was found. Time and memory are linear
+/// in the number of octets.
 pub fn decode(alloc: Global, octets: &[u8]) -> Result<Image, FormFault>
     // The octets are the image's spelling.
     ensures found { IfOk result (λ i. octets.now ≡ spelling (parts i)) }

@@ -4,7 +4,7 @@ ghost use Rattle.std.specs.Prelude.{◌≡◌, ◌<◌, ◌^◌, ◌++◌, lengt
 ghost use Rattle.std.specs.List.{flat_map};
 ghost use Rattle.std.specs.Int.{w16, w32, w64, to_be_bytes};
 ghost use Rattle.filing_image.specs.Program.{parts, instruction_of, version_of};
-ghost use Rattle.filing_image.specs.Spelling.{spelling, mark, text, instruction, procedure_count, procedures, Fits};
+ghost use Rattle.filing_image.specs.Spelling.{spelling, mark, text, instruction, counts, procedure_count, procedures, Fits};
 
 use crate::image::Image;
 use crate::instruction::{Instruction, Operation};
@@ -44,11 +44,7 @@ fn put_mark(out: &mut Vec<u8>, version: Version) -> Result<(), AllocError>
 
 /// Writes the counts of texts, numbers, slots, in version 2 procedures, and instructions, in two octets each.
 fn put_counts(out: &mut Vec<u8>, image: &Image) -> Result<(), AllocError>
-    ensures { OnOk result (out.new.items ≡ out.old.items ++
-        (to_be_bytes w16 (length image.now.texts) ++
-        (to_be_bytes w16 (length image.now.numbers) ++
-        (to_be_bytes w16 image.now.slots ++
-        (procedure_count image.now.procedures ++ to_be_bytes w16 (length image.now.code)))))) }
+    ensures { OnOk result (out.new.items ≡ out.old.items ++ counts image.now) }
 {
     put_u16(out, image.text_count() as u16)?;
     put_u16(out, image.numbers().len() as u16)?;

@@ -8,8 +8,8 @@ use Rattle.filing_verify.specs.declared.fault.VerifyFault.TheVariants.{NoMemory,
 use Rattle.filing_verify.specs.Flow.{jump_target, target, goes_on, Path, IsReached, procedure_of, Continues}
 use Rattle.filing_verify.specs.Shapes.{HasShapes}
 
--- each operand names something that exists, or has one of its values: for Match, 0 to 5 are the comparisons; for File,
--- 1 is a copy; for Fault, 2 to 5 are the faults; only programs with procedures have calls and returns
+-- Each operand names something that exists, or has one of its values. For Match, 0 to 5 are the comparisons; for File, 1
+-- is a copy; for Fault, 2 to 5 are the faults. Only programs with procedures have calls and returns.
 abbrev pub InRange : Program → Operation → Type 0
 InRange p (Values b) = b < length p.texts
 InRange p (Match a b) = (a ≤ 5) × (b < length p.texts)

@@ -12,15 +12,15 @@ use thiserror::Error;
 pub enum VerifyFault {
     /// 62: there are more than 64 slots, or an operation, reached or not, names a text, number, slot, place or procedure
     /// that does not exist, or has an operand outside its values. In version 2 also: there is no procedure or more than
-    /// 256, procedure 0 does not begin at place 0, another begins past the end or not after the one before it, or a
-    /// jump, reached or not, leaves its procedure.
+    /// 256, or one begins elsewhere than it may, or a jump, reached or not, leaves its procedure. Procedure 0 begins at
+    /// place 0, and each other one after the one before it and before the end.
     #[error("an operand is out of range")]
     Operand,
     /// 63: a reached jump does not go to a greater place, or a reached call not to a procedure with a greater number.
     #[error("a jump does not go forward")]
     Backward,
-    /// 64: no shapes of the stack fit the reached places: an operand is missing or of another kind, two paths leave
-    /// different shapes at one place, the stack is deeper than 32, or it is not empty at a call or a return.
+    /// 64: no shapes of the stack fit the reached places. Either an operand is missing or of another kind, or two paths
+    /// leave different shapes at one place, or the stack is deeper than 32, or not empty at a call or a return.
     #[error("the stack has no one shape at each place")]
     Stack,
     /// 65: there is no instruction, or a reached one goes on past the end of the code or of its procedure.

@@ -7,7 +7,7 @@ ghost use Rattle.std.specs.Option.{option_map};
 ghost use Rattle.sieve_syntax.specs.View.{test_of, inner_of, command_of, ending_of};
 ghost use Rattle.sieve_check.specs.Context.{has_of};
 ghost use Rattle.sieve_check.specs.Faults.{number_of};
-ghost use Rattle.sieve_check.specs.Pieces.{pieces};
+ghost use Rattle.sieve_check.specs.PieceViews.{pieces_of};
 ghost use Rattle.sieve_check.specs.Rules.{lesser, least, form_rules, test_breaches, inner_breaches, place_rules, place_breaches, head_of, is_block, has_wrong_ending};
 ghost use Rattle.sieve_check.specs.Views.{form_view, command_view};
 ghost use Rattle.sieve_check.specs.Walk.{first_breach};
@@ -42,7 +42,7 @@ fn form_fault(
 ) -> Option<CheckFault>
     ensures { option_map number_of result
         ≡ first_breach (form_rules (has_of named) (form_view form.now)
-        (pieces (form_view form.now).tags arguments.now) (inner_of tests.now)) }
+        (pieces_of form.now arguments.now) (inner_of tests.now)) }
 {
     let found = gather(named, form, arguments);
     if found.lacks_capability(named, form) {

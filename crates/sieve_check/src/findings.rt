@@ -4,8 +4,7 @@ ghost use Rattle.std.specs.Prelude.{◌≡◌, false, ◌||◌};
 ghost use Rattle.std.specs.List.{list_any};
 ghost use Rattle.sieve_check.specs.Context.{has_of};
 ghost use Rattle.sieve_check.specs.Findings.{no_findings, findings_with, findings_in};
-ghost use Rattle.sieve_check.specs.Pieces.{pieces};
-ghost use Rattle.sieve_check.specs.PieceViews.{piece_view};
+ghost use Rattle.sieve_check.specs.PieceViews.{piece_view, pieces_of};
 ghost use Rattle.sieve_check.specs.Rules.{piece_lacks, has_wrong_tag, has_tag_twice, lacks_string, is_unknown_comparator};
 ghost use Rattle.sieve_check.specs.Views.{form_view};
 
@@ -71,8 +70,7 @@ impl Findings {
 
 /// What all pieces show.
 fn go_over(named: CapabilitySet, form: &Form, arguments: &Arguments) -> Findings
-    ensures { result
-        ≡ findings_in (has_of named) no_findings (pieces (form_view form.now).tags arguments.now) }
+    ensures { result ≡ findings_in (has_of named) no_findings (pieces_of form.now arguments.now) }
 {
     let mut found = Findings::nothing();
     for piece in Pieces::new(form, arguments) {
@@ -85,16 +83,16 @@ fn go_over(named: CapabilitySet, form: &Form, arguments: &Arguments) -> Findings
 /// never two of one kind.
 pub fn gather(named: CapabilitySet, form: &Form, arguments: &Arguments) -> Findings
     ensures capability { result.lacks_capability ≡
-        list_any (piece_lacks (has_of named)) (pieces (form_view form.now).tags arguments.now) }
+        list_any (piece_lacks (has_of named)) (pieces_of form.now arguments.now) }
     ensures tag { (result.unknown_tag || result.late_tag) ≡
-        has_wrong_tag (pieces (form_view form.now).tags arguments.now) }
+        has_wrong_tag (pieces_of form.now arguments.now) }
     ensures twice { result.two_tags ≡ false
-        → has_tag_twice (form_view form.now) (pieces (form_view form.now).tags arguments.now)
+        → has_tag_twice (form_view form.now) (pieces_of form.now arguments.now)
         ≡ false }
     ensures string { result.lacks_string
-        ≡ list_any lacks_string (pieces (form_view form.now).tags arguments.now) }
+        ≡ list_any lacks_string (pieces_of form.now arguments.now) }
     ensures comparator { result.unknown_comparator ≡
-        list_any is_unknown_comparator (pieces (form_view form.now).tags arguments.now) }
+        list_any is_unknown_comparator (pieces_of form.now arguments.now) }
 {
     go_over(named, form, arguments)
 }

@@ -28,13 +28,11 @@ pub struct Pieces<'a> {
 }
 
 impl<'a> Pieces<'a> {
-    ghost use Rattle.sieve_check.specs.Pieces.{pieces};
-    ghost use Rattle.sieve_check.specs.PieceViews.{pieces_left};
-    ghost use Rattle.sieve_check.specs.Views.{form_view};
+    ghost use Rattle.sieve_check.specs.PieceViews.{pieces_left, pieces_of};
 
     /// The pieces of the arguments of a command or test of this form.
     pub fn new(form: &'a Form, arguments: &'a Arguments) -> Pieces<'a>
-        ensures { pieces_left result ≡ pieces (form_view form.now).tags arguments.now }
+        ensures { pieces_left result ≡ pieces_of form.now arguments.now }
     {
         Pieces {
             tags: form.tags,

@@ -4,8 +4,8 @@ ghost use Rattle.std.specs.Prelude.{◌≡◌, ◌||◌, false, map};
 ghost use Rattle.std.specs.List.{list_any};
 ghost use Rattle.sieve_check.specs.Context.{has_of};
 ghost use Rattle.sieve_check.specs.Views.{form_view};
-ghost use Rattle.sieve_check.specs.PieceViews.{piece_view};
-ghost use Rattle.sieve_check.specs.Pieces.{pieces, is_tagged};
+ghost use Rattle.sieve_check.specs.PieceViews.{piece_view, pieces_of};
+ghost use Rattle.sieve_check.specs.Pieces.{is_tagged};
 ghost use Rattle.sieve_check.specs.Rules.{lacks, piece_lacks, is_unknown_tag, has_kind, stands_twice, has_tag_twice, fits, lacks_string, lacks_tag, has_wrong_arguments, is_unknown_comparator, tests_there, has_wrong_tests};
 ghost use Rattle.sieve_check.specs.Lookup.{same_text};
 ghost use Rattle.sieve_check.specs.Tables.{comparator_table};
@@ -98,7 +98,7 @@ fn is_comparator(text: &[u8]) -> bool
 
 /// Whether two tags are of this kind.
 fn has_kind_twice(kind: TagKind, form: &Form, arguments: &Arguments) -> bool
-    ensures { result ≡ stands_twice kind (pieces (form_view form.now).tags arguments.now) }
+    ensures { result ≡ stands_twice kind (pieces_of form.now arguments.now) }
 {
     Pieces::new(form, arguments)
         .skip_while(|piece| !piece.has_kind(kind))
@@ -108,8 +108,7 @@ fn has_kind_twice(kind: TagKind, form: &Form, arguments: &Arguments) -> bool
 
 /// Whether two tags are of one kind.
 fn has_tag_twice(form: &Form, arguments: &Arguments) -> bool
-    ensures { result
-        ≡ has_tag_twice (form_view form.now) (pieces (form_view form.now).tags arguments.now) }
+    ensures { result ≡ has_tag_twice (form_view form.now) (pieces_of form.now arguments.now) }
 {
     for row in form.tags {
         if has_kind_twice(row.kind, form, arguments) {
@@ -121,7 +120,7 @@ fn has_tag_twice(form: &Form, arguments: &Arguments) -> bool
 
 /// Whether the positional arguments are those of the form.
 fn fits(form: &Form, arguments: &Arguments) -> bool
-    ensures { result ≡ fits (form_view form.now) (pieces (form_view form.now).tags arguments.now) }
+    ensures { result ≡ fits (form_view form.now) (pieces_of form.now arguments.now) }
 {
     let mut expected = form.positional;
     for piece in Pieces::new(form, arguments) {
@@ -137,15 +136,14 @@ fn fits(form: &Form, arguments: &Arguments) -> bool
 
 /// Whether a tag of this kind is there.
 fn has_tag(kind: TagKind, form: &Form, arguments: &Arguments) -> bool
-    ensures { result ≡ list_any (has_kind kind) (pieces (form_view form.now).tags arguments.now) }
+    ensures { result ≡ list_any (has_kind kind) (pieces_of form.now arguments.now) }
 {
     Pieces::new(form, arguments).any(|piece| piece.has_kind(kind))
 }
 
 /// Whether a required tag is missing.
 fn lacks_tag(form: &Form, arguments: &Arguments) -> bool
-    ensures { result ≡ lacks_tag (form_view form.now).needs_tag
-        (pieces (form_view form.now).tags arguments.now) }
+    ensures { result ≡ lacks_tag (form_view form.now).needs_tag (pieces_of form.now arguments.now) }
 {
     match form.needs_tag {
         Some(kind) => !has_tag(kind, form, arguments),
@@ -172,20 +170,18 @@ impl Findings {
     /// 36: whether two tags are of one kind. The tags are compared only where there are two.
     pub fn has_tag_twice(self, form: &Form, arguments: &Arguments) -> bool
         requires { self.two_tags ≡ false
-            → has_tag_twice (form_view form.now) (pieces (form_view form.now).tags arguments.now)
+            → has_tag_twice (form_view form.now) (pieces_of form.now arguments.now)
             ≡ false }
-        ensures { result
-            ≡ has_tag_twice (form_view form.now) (pieces (form_view form.now).tags arguments.now) }
+        ensures { result ≡ has_tag_twice (form_view form.now) (pieces_of form.now arguments.now) }
     {
         self.two_tags && has_tag_twice(form, arguments)
     }
 
     /// 37: whether the positional arguments are not the form's, a tag lacks its string, or a required tag is missing.
     pub fn has_wrong_arguments(self, form: &Form, arguments: &Arguments) -> bool
-        requires { self.lacks_string
-            ≡ list_any lacks_string (pieces (form_view form.now).tags arguments.now) }
+        requires { self.lacks_string ≡ list_any lacks_string (pieces_of form.now arguments.now) }
         ensures { result ≡ has_wrong_arguments (form_view form.now)
-            (pieces (form_view form.now).tags arguments.now) }
+            (pieces_of form.now arguments.now) }
     {
         !fits(form, arguments) || self.lacks_string || lacks_tag(form, arguments)
     }
