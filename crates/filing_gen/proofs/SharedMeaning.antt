@@ -7,10 +7,10 @@ use Rattle.filing_image.specs.Program.{Program}
 use Rattle.filing_table.specs.Ends.{HasOutcome}
 use Rattle.sieve_meaning.specs.Case.{Facts}
 use Rattle.sieve_meaning.specs.Program.{Commands}
-use Rattle.sieve_meaning.specs.Meaning.{ScriptName, Library, Filing, Ending, GoesOn, Returns, Stops, Faults, run, inclusion_within, ending_of_include, opening, meaning, main_names}
+use Rattle.sieve_meaning.specs.Meaning.{ScriptName, Library, Ending, GoesOn, Returns, Stops, Faults, run, inclusion_within, ending_of_include, opening, meaning, main_names}
 use Rattle.sieve_meaning.specs.declared.outcome.Outcome.{Outcome}
 use Rattle.sieve_meaning.specs.Outcome.{outcome_of}
-use Rattle.sieve_meaning.specs.Procedures.{Procedure, main_procedure, procedures}
+use Rattle.sieve_meaning.specs.Procedures.{Procedure, main_procedure}
 use Rattle.sieve_meaning.proofs.ProcedureLemmas.{AllOf, AllFind, IsSomeEntered, all_element, some_is, all_find, after_main, procedures_are, after_main_entered}
 use Rattle.filing_flow.specs.Structure.{CallTo, Flow, action, End}
 use Rattle.filing_flow.specs.Effect.{Exit, EndsRun, CallEffects, effect, caught, call_exit}

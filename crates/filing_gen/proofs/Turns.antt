@@ -1,5 +1,5 @@
 -- Commands of the tree that were written one after the other.
-use Rattle.std.proofs.Common.{◌≡◌, ℕ, suc, ◌+◌, ◌≤◌, List, [], ◌∷◌, ◌++◌, Bool, true, false, length, map, refl, ap, ◌∙◌, subst, arith, drop, get_or, ◌<◌}
+use Rattle.std.proofs.Common.{◌≡◌, ℕ, suc, ◌+◌, ◌≤◌, List, [], ◌∷◌, Bool, true, false, length, map, refl, ap, subst, arith, drop, get_or, ◌<◌}
 use Rattle.std.specs.Prelude.{if◌then◌else◌}
 use Rattle.filing_image.specs.declared.instruction.Operation.TheVariants.{Jump, JumpUnless}
 use Rattle.sieve_syntax.specs.Tree.{CommandTree, command, CommandTrees, no_commands, InnerTests, EndingTree}

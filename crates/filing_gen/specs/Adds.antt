@@ -2,9 +2,11 @@
 use Rattle.std.specs.Prelude.{◌≡◌, ℕ, ◌+◌, ◌<◌, ◌≤◌, ◌^◌, List, [], ◌∷◌, ◌++◌, length, Option, Some, slice_get}
 use Rattle.filing_image.specs.declared.instruction.Operation.{Operation}
 use Rattle.filing_flow.specs.Structure.{Flow, size}
-use Rattle.filing_flow.specs.Code.{Operands, Stands}
+use Rattle.filing_flow.specs.Code.{Operands, Stands, end_at}
+use Rattle.filing_flow.specs.Types.{Shape, HasType}
 use Rattle.filing_flow.specs.Whole.{whole}
 use Rattle.filing_image.specs.Program.{Program}
+use Rattle.filing_gen.specs.Ends.{no_place}
 use Rattle.filing_gen.specs.Pools.{IsAmong}
 use Rattle.filing_gen.specs.declared.output.Output.{Output}
 
@@ -37,6 +39,22 @@ pub record Emits (old new : Output) (a : Flow) (ends : List ℕ) : Type 0 where
   pub code : new.code.items ≡ old.code.items ++ added
   pub long : length added ≡ size a
   pub stands : Stands (operands_of new) new.code.items a ends (length old.code.items)
+
+-- The operations of the code were added, wherever the blocks around it end.
+abbrev pub EmitsAnywhere : (old new : Output) → Flow → Type 0
+EmitsAnywhere old new a = (ends : List ℕ) → Emits old new a ends
+
+-- The operations of the code were added, where the end of the innermost block around it is not known yet.
+abbrev pub EmitsUnended : (old new : Output) → Flow → Type 0
+EmitsUnended old new a = (ends : List ℕ) → end_at ends 0 ≡ no_place → Emits old new a ends
+
+-- The operations of the code were added, where its `return` leaves the block with some number, which ends at a place.
+abbrev pub EmitsReturning : (old new : Output) → (place : ℕ) → (ℕ → Flow) → Type 0
+EmitsReturning old new place code = (n : ℕ) (ends : List ℕ) → end_at ends n ≡ place → Emits old new (code n) ends
+
+-- Code that finds nothing on the stack leaves nothing there, also where it jumps to the end of the block around it.
+abbrev pub LeavesNothing : Flow → Type 0
+LeavesNothing a = (around : List Shape) → HasType a ([] ∷ around) [] []
 
 -- There is room for n operations, n texts and n numbers.
 abbrev pub HasRoom : Output → ℕ → Type 0

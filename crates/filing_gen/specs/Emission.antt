@@ -5,8 +5,8 @@ use Rattle.sieve_syntax.specs.declared.tree.Argument.{Argument}
 use Rattle.sieve_meaning.specs.declared.words.CommandWord.{CommandWord}
 use Rattle.sieve_meaning.specs.declared.words.CommandWord.TheVariants as words
 use Rattle.sieve_meaning.specs.Words.{command_word}
-use Rattle.sieve_meaning.specs.Program.{Include, Command, require, keep, discard, stop, return, file_into, branch, include, Commands, no_command, command_then, Branches, no_branch, otherwise, if_then}
-use Rattle.sieve_meaning.specs.Reading.{only_in, block_in, program_of, branches_of, string_lists, first_string, has_tag, include_of}
+use Rattle.sieve_meaning.specs.Program.{Test, Include, Command, require, keep, discard, stop, return, file_into, branch, include, Commands, no_command, command_then, Branches, no_branch, otherwise, if_then}
+use Rattle.sieve_meaning.specs.Reading.{only_in, block_in, program_of, branches_of, string_lists, first_string, has_tag, include_of, header_of, match_type, comparator_from}
 use Rattle.filing_flow.specs.Structure.{SetKept, SetCancelled, End, FileInto, Flow, nothing, action, sequence, block, leave, size}
 use Rattle.filing_flow.specs.Code.{end_at}
 use Rattle.filing_gen.specs.BlockCode.{test_flow, copy_number, flow, branches_flow, branch_flow}
@@ -15,6 +15,10 @@ use Rattle.filing_gen.specs.Ends.{with_jumps}
 use Rattle.filing_gen.specs.declared.output.Output.{Output}
 use Rattle.sieve_meaning.specs.declared.branches.BranchPart.{BranchPart}
 use Rattle.sieve_meaning.specs.declared.branches.BranchPart.TheVariants.{Branch, Otherwise, Plain}
+
+-- the test `header` with these arguments
+abbrev pub header_in : List Argument → Test
+header_in args = header_of (match_type args) (comparator_from false args) (string_lists false args)
 
 -- SIZES: the number of operations of commands, where w gives that of each include
 
@@ -61,6 +65,10 @@ long_from w true cs = branches_long w (branches_of cs) + commands_long w (progra
 long_from w false cs = commands_long w (program_of cs)
 
 -- CODE
+
+-- of a `fileinto` with these arguments
+abbrev pub file_flow : List Argument → Flow
+file_flow args = action (FileInto (copy_number (has_tag (codes "copy") args)) (first_string (string_lists false args)))
 
 -- of a command that has no block; an `elsif` or `else` without open branches has no code
 abbrev pub plain_flow : (Include → Flow) → ℕ → CommandWord → List Argument → Flow

@@ -1,7 +1,7 @@
 -- The code of includes (RFC 6609, section 3.2). The code of the included script replaces the include, in a block to
 -- whose end the script's `return` jumps. Each script that can be included has a slot, which is set when the script is
 -- entered.
-use Rattle.std.specs.Prelude.{◌≡◌, ℕ, zero, suc, ◌<◌, ◌≤◌, List, ◌∷◌, Bool, true, false, ◌&&◌, ◌||◌, if◌then◌else◌, Option, Some, None, length, slice_index_or}
+use Rattle.std.specs.Prelude.{◌≡◌, ℕ, zero, suc, List, ◌∷◌, Bool, true, false, ◌&&◌, ◌||◌, if◌then◌else◌, Option, Some, None, length, slice_index_or}
 use Rattle.sieve_meaning.specs.declared.run_fault.RunFault.TheVariants.{ScriptMissing, RecursiveInclude, NestingTooDeep}
 use Rattle.sieve_meaning.specs.Program.{Include, Commands}
 use Rattle.sieve_meaning.specs.Meaning.{ScriptName, script_named, is_among, Library, main_names}

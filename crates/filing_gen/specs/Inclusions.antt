@@ -1,9 +1,15 @@
 -- What the includes of a procedure come to, in terms of the definitions.
-use Rattle.std.specs.Prelude.{ℕ, zero, suc, ◌<◌, List, Bool, Option, Some, None}
+use Rattle.std.specs.Prelude.{ℕ, zero, suc, ◌<◌, List, map, Bool, Option, Some, None}
 use Rattle.sieve_meaning.specs.declared.run_fault.RunFault.TheVariants.{NestingTooDeep}
+use Rattle.sieve_meaning.specs.Program.{Include}
+use Rattle.script_library.specs.BorrowedShelves.{library_on}
+use Rattle.script_procedures.specs.ProcedureCode.{procedure_of}
+use Rattle.script_procedures.specs.Slots.{slots_on}
 use Rattle.filing_flow.specs.Structure.{SetMark, Fail, Flow, nothing, action, sequence}
 use Rattle.filing_gen.specs.IncludeCode.{once_flow}
-use Rattle.filing_gen.specs.Procedures.{call_flow, path_at}
+use Rattle.filing_gen.specs.Procedures.{call_flow, calling_flow, called_path, path_at}
+use Rattle.filing_gen.specs.Scopes.{names_of}
+use Rattle.filing_gen.specs.declared.callees.Callees.{Callees}
 use Rattle.filing_gen.specs.declared.callees.Call.{Call}
 use Rattle.filing_gen.specs.declared.callees.Call.TheVariants.{TooDeep, To, Missing}
 use Rattle.filing_gen.specs.declared.callees.Inclusion.{Inclusion}
@@ -49,3 +55,15 @@ abbrev pub EntersOneOf : (count : ℕ) → Inclusion → Type 0
 EntersOneOf count Pass = Unit {0}
 EntersOneOf count (Fault fault) = Unit {0}
 EntersOneOf count (Enter slot call) = (slot < 64) × CallsOneOf count call
+
+-- the code of an include of a procedure that has the number `own`
+abbrev pub code_of_include : Callees → (own : ℕ) → Include → Flow
+code_of_include c own i =
+    calling_flow (library_on c.scope.shelves) (slots_on c.scope.shelves) (names_of c.scope.main) own
+    (map procedure_of c.later.now) (procedure_of c.procedure.now) i
+
+-- what an include of the procedure adds to its path weight, by the path weights of the procedures after it
+abbrev pub path_of_include : Callees → (paths : List ℕ) → Include → ℕ
+path_of_include c paths i =
+    called_path (library_on c.scope.shelves) (map procedure_of c.later.now) paths c.procedure.now.key.left
+    (procedure_of c.procedure.now).chain i

@@ -1,5 +1,5 @@
 -- The weight of commands of the tree, as it is added up from left to right.
-use Rattle.std.specs.Prelude.{◌≡◌, ℕ, ◌+◌, ◌<◌, List, Bool, true, false, Option, MatchOption}
+use Rattle.std.specs.Prelude.{◌≡◌, ℕ, ◌+◌, ◌<◌, ◌≤◌, List, Bool, true, false, Option, MatchOption}
 use Rattle.sieve_syntax.specs.Tree.{CommandTree, command, CommandTrees}
 use Rattle.sieve_syntax.specs.declared.tree.Argument.{Argument}
 use Rattle.sieve_meaning.specs.declared.words.CommandWord.{CommandWord}
@@ -14,6 +14,10 @@ use Rattle.sieve_meaning.specs.declared.branches.BranchPart.TheVariants.{Branch,
 -- what is left once the amount taken is subtracted, or None where less was left
 abbrev pub IsLeft : (left taken : ℕ) → Option ℕ → Type 0
 IsLeft left taken o = MatchOption o (left < taken) (λ rest. rest + taken ≡ left)
+
+-- the weight, or None where it is above the limit
+abbrev pub IsWeightUpTo : (limit weight : ℕ) → Option ℕ → Type 0
+IsWeightUpTo limit weight o = MatchOption o (limit < weight) (λ w. (w ≡ weight) × (w ≤ limit))
 
 -- of a command that has no block; an `elsif` or `else` without open branches weighs nothing, nor does a command of
 -- another name

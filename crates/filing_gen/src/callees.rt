@@ -89,12 +89,8 @@ pub struct Callees<'a> {
 
 impl Callees<'_> {
     ghost use Rattle.sieve_meaning.specs.Scripts.{include_view};
-    ghost use Rattle.script_library.specs.Libraries.{library_of};
-    ghost use Rattle.script_procedures.specs.Slots.{slots_of};
-    ghost use Rattle.filing_gen.specs.Scopes.{names_of};
-    ghost use Rattle.filing_gen.specs.Procedures.{calling_flow, called_path};
     ghost use Rattle.filing_gen.specs.Numbers.{number_at};
-    ghost use Rattle.filing_gen.specs.Inclusions.{call_of, code_of, path_of, EntersOneOf};
+    ghost use Rattle.filing_gen.specs.Inclusions.{call_of, code_of, path_of, code_of_include, path_of_include, EntersOneOf};
 
     /// How an include enters the script of a slot.
     fn call(&self, slot: usize) -> Call
@@ -111,14 +107,10 @@ impl Callees<'_> {
 
     /// What an include of the procedure comes to.
     pub fn inclusion(&self, include: &Include<'_>) -> Inclusion
-        ensures code { (own : ℕ) →
-            calling_flow (library_of (scripts_of self.now.scope.shelves)) (slots_of (scripts_of self.now.scope.shelves))
-            (names_of self.now.scope.main) own (map procedure_of self.now.later.now)
-            (procedure_of self.now.procedure.now) (include_view include.now) ≡ code_of own include.now.is_once result }
-        ensures path { (paths : List ℕ) →
-            called_path (library_of (scripts_of self.now.scope.shelves)) (map procedure_of self.now.later.now) paths
-            self.now.procedure.now.key.left (procedure_of self.now.procedure.now).chain (include_view include.now) ≡
-            path_of paths result }
+        ensures code { (own : ℕ) → code_of_include self.now own (include_view include.now)
+            ≡ code_of own include.now.is_once result }
+        ensures path { (paths : List ℕ)
+            → path_of_include self.now paths (include_view include.now) ≡ path_of paths result }
         ensures within { EntersOneOf (length self.now.later.now) result }
     {
         match find(&self.scope, self.procedure, include) {

@@ -1,6 +1,7 @@
 //! The code of the includes of a procedure: each marks its script and calls the script's procedure.
 
 ghost use Rattle.std.specs.Prelude.{◌+◌, ◌<◌, ◌^◌, length};
+ghost use Rattle.filing_gen.specs.Adds.{EmitsAnywhere};
 
 use crate::callees::{Call, Callees, Inclusion};
 use crate::ends::{NO_PLACE, end_block};
@@ -19,8 +20,7 @@ pub struct Calls<'a> {
 }
 
 impl Calls<'_> {
-    ghost use Rattle.std.specs.Prelude.{ℕ, List, OnOk};
-    ghost use Rattle.filing_gen.specs.Adds.{Emits};
+    ghost use Rattle.std.specs.Prelude.{OnOk};
     ghost use Rattle.filing_gen.specs.Inclusions.{code_of_call, CallsOneOf};
 
     /// Writes the entry of the script of a slot: the script is marked, and its procedure is called. It is a fault where
@@ -28,8 +28,8 @@ impl Calls<'_> {
     fn emit_call(&self, out: &mut Output, slot: usize, call: Call) -> Result<(), AllocError>
         requires slot { slot < 64 }
         requires call { CallsOneOf (length self.now.callees.later.now) call }
-        ensures { OnOk result ((ends : List ℕ) →
-            Emits out.old out.new (code_of_call self.now.own slot call) ends) }
+        ensures { OnOk result
+            (EmitsAnywhere out.old out.new (code_of_call self.now.own slot call)) }
     {
         match call {
             Call::TooDeep => put_fault(out, RunFault::NestingTooDeep),

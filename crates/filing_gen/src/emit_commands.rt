@@ -1,16 +1,16 @@
 //! Writes the code of commands, one after the other.
 
-ghost use Rattle.std.specs.Prelude.{◌≡◌, ◌<◌, ◌^◌, ℕ, List, [], length, map, codes, OnOk, false, if◌then◌else◌};
+ghost use Rattle.std.specs.Prelude.{◌≡◌, ◌<◌, ◌^◌, [], length, OnOk, false, if◌then◌else◌};
 ghost use Rattle.std.specs.List.{All};
-ghost use Rattle.sieve_syntax.specs.View.{command_of, commands_of, ending_of};
-ghost use Rattle.sieve_meaning.specs.Reading.{block_in, program_of, has_tag as has_tag_of, first_string as first_string_of, string_lists};
-ghost use Rattle.filing_flow.specs.Structure.{size, action, FileInto};
-ghost use Rattle.filing_flow.specs.Code.{end_at};
+ghost use Rattle.sieve_syntax.specs.View.{command_of, ending_of};
+ghost use Rattle.sieve_meaning.specs.Reading.{block_in};
+ghost use Rattle.filing_flow.specs.Structure.{size, FileInto};
 ghost use Rattle.filing_gen.specs.BlockCode.{flow, copy_number};
-ghost use Rattle.filing_gen.specs.Adds.{Emits, HasRoom};
-ghost use Rattle.filing_gen.specs.Emission.{commands_long, plain_long, part_long, plain_flow, is_apart, EmitsOpen};
+ghost use Rattle.filing_gen.specs.Adds.{HasRoom, EmitsAnywhere, EmitsReturning};
+ghost use Rattle.filing_gen.specs.Emission.{commands_long, plain_long, part_long, plain_flow, is_apart, EmitsOpen, file_flow};
 ghost use Rattle.filing_gen.specs.Ends.{with_jumps};
 ghost use Rattle.sieve_meaning.specs.declared.branches.BranchPart.TheVariants as parts;
+ghost use Rattle.script_library.specs.Libraries.{listed_program};
 
 use crate::emit_tests::emit_only;
 use crate::ends::{NO_PLACE, end_branches};
@@ -33,10 +33,7 @@ fn copy_code(is_copy: bool) -> u8
 /// Writes `fileinto`: one operation, which names the path by its place among the texts.
 fn emit_file(out: &mut Output, arguments: &[Argument]) -> Result<(), AllocError>
     requires { HasRoom out.old 1 }
-    ensures adds { OnOk result ((ends : List ℕ) →
-        Emits out.old out.new (action
-        (FileInto (copy_number (has_tag_of (codes "copy") arguments.now))
-        (first_string_of (string_lists false arguments.now)))) ends) }
+    ensures adds { OnOk result (EmitsAnywhere out.old out.new (file_flow arguments.now)) }
 {
     let place = text_operand(out, first_string(arguments))?;
     let how = copy_code(has_tag(arguments, b"copy"));
@@ -55,8 +52,8 @@ fn emit_plain<L: Linker>(
     back: u16,
 ) -> Result<(), AllocError>
     requires { HasRoom out.old (plain_long (λ i. size (L.flow_of linker.now i)) word arguments.now) }
-    ensures adds { OnOk result ((n : ℕ) (ends : List ℕ) → end_at ends n ≡ back →
-        Emits out.old out.new (plain_flow (L.flow_of linker.now) n word arguments.now) ends) }
+    ensures adds { OnOk result (EmitsReturning out.old out.new back
+        (λ n. plain_flow (L.flow_of linker.now) n word arguments.now)) }
 {
     match word {
         CommandWord::Keep => put(out, Operation::Keep),
@@ -83,8 +80,8 @@ fn emit_block<L: Linker>(
     back: u16,
 ) -> Result<(), AllocError>
     requires { HasRoom out.old (commands_long (λ i. size (L.flow_of linker.now i)) (block_in (ending_of ending.now))) }
-    ensures adds { OnOk result ((n : ℕ) (ends : List ℕ) → end_at ends n ≡ back →
-        Emits out.old out.new (flow (L.flow_of linker.now) n (block_in (ending_of ending.now))) ends) }
+    ensures adds { OnOk result (EmitsReturning out.old out.new back
+        (λ n. flow (L.flow_of linker.now) n (block_in (ending_of ending.now)))) }
 {
     match ending {
         Ending::Semicolon => Ok(()),
@@ -174,11 +171,9 @@ pub fn emit_commands<L: Linker>(
     back: u16,
 ) -> Result<(), AllocError>
     requires { HasRoom out.old
-        (commands_long (λ i. size (L.flow_of linker.now i))
-        (program_of (commands_of (map command_of commands.now.items)))) }
-    ensures adds { OnOk result ((n : ℕ) (ends : List ℕ) → end_at ends n ≡ back →
-        Emits out.old out.new (flow (L.flow_of linker.now) n
-        (program_of (commands_of (map command_of commands.now.items)))) ends) }
+        (commands_long (λ i. size (L.flow_of linker.now i)) (listed_program commands.now.items)) }
+    ensures adds { OnOk result (EmitsReturning out.old out.new back
+        (λ n. flow (L.flow_of linker.now) n (listed_program commands.now.items))) }
 {
     let mut jumps = Vec::new(alloc);
     // Whether an `elsif` or `else` would continue the commands before it.

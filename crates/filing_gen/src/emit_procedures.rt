@@ -1,23 +1,19 @@
 //! Writes the code of procedures, one after the other.
 
-ghost use Rattle.std.specs.Prelude.{◌≡◌, ◌+◌, ◌<◌, ◌≤◌, ◌^◌, [], ◌∷◌, length, map, IfOk, OnOk};
+ghost use Rattle.std.specs.Prelude.{◌+◌, ◌<◌, ◌≤◌, ◌^◌, [], ◌∷◌, length, map, IfOk, OnOk};
 ghost use Rattle.std.specs.List.{All};
-ghost use Rattle.sieve_syntax.specs.View.{tree_of};
-ghost use Rattle.sieve_meaning.specs.Reading.{program_of};
 ghost use Rattle.sieve_meaning.specs.Procedures.{shared_weight, most_procedures};
 ghost use Rattle.sieve_meaning.specs.Weight.{greatest_weight};
 ghost use Rattle.script_library.specs.BorrowedShelves.{scripts_of};
-ghost use Rattle.script_library.specs.Libraries.{library_of};
 ghost use Rattle.script_procedures.specs.Keys.{IsKeyOf};
 ghost use Rattle.script_procedures.specs.ProcedureCode.{procedure_of, IsEntered, HaveKeys};
-ghost use Rattle.script_procedures.specs.Slots.{slots_of};
 ghost use Rattle.filing_flow.specs.Structure.{size};
 ghost use Rattle.filing_flow.specs.Types.{HasType};
 ghost use Rattle.filing_gen.specs.Adds.{HasRoom};
-ghost use Rattle.filing_gen.specs.Procedures.{calling_flow, procedure_flows};
-ghost use Rattle.filing_gen.specs.Scopes.{names_of};
 ghost use Rattle.filing_gen.specs.SharedCode.{EmitsProcedure, IsSharedCode};
 ghost use Rattle.filing_gen.specs.BlockCode.{script_flow};
+ghost use Rattle.script_library.specs.Libraries.{program_in};
+ghost use Rattle.filing_gen.specs.Scopes.{procedure_flow, all_flows};
 
 use crate::callees::{Callees, numbers_by_slot};
 use crate::calls::Calls;
@@ -39,10 +35,12 @@ fn emit_script<L: Linker>(
     out: &mut Output,
     script: &Script,
 ) -> Result<(), AllocError>
-    requires room { HasRoom out.old (size (script_flow (L.flow_of linker.now) (program_of (tree_of script.now))) + 1) }
-    requires typed { HasType (script_flow (L.flow_of linker.now) (program_of (tree_of script.now))) ([] ∷ []) [] [] }
-    ensures { OnOk result
-        (EmitsProcedure out.old out.new (script_flow (L.flow_of linker.now) (program_of (tree_of script.now)))) }
+    requires room { HasRoom out.old
+        (size (script_flow (L.flow_of linker.now) (program_in script.now)) + 1) }
+    requires typed { HasType (script_flow (L.flow_of linker.now) (program_in script.now))
+        ([] ∷ []) [] [] }
+    ensures { OnOk result (EmitsProcedure out.old out.new
+        (script_flow (L.flow_of linker.now) (program_in script.now))) }
 {
     let start = out.code.len();
     emit_commands(alloc, linker, out, &script.commands, NO_PLACE)?;
@@ -63,16 +61,10 @@ fn emit_procedure<'a>(
     requires key { IsKeyOf (scripts_of reach.now.shelves) procedure.now.key (procedure_of procedure.now) }
     requires entered { All (IsEntered (scripts_of reach.now.shelves)) later.now }
     requires few { own + length later.now < 2 ^ 16 }
-    requires room { HasRoom out.old (size
-        (script_flow
-        (calling_flow (library_of (scripts_of reach.now.shelves)) (slots_of (scripts_of reach.now.shelves))
-        (names_of main) own (map procedure_of later.now) (procedure_of procedure.now))
-        (procedure_of procedure.now).script) + 1) }
+    requires room { HasRoom out.old
+        (size (procedure_flow reach.now.shelves main own later.now procedure.now) + 1) }
     ensures { OnOk result (EmitsProcedure out.old out.new
-        (script_flow
-        (calling_flow (library_of (scripts_of reach.now.shelves)) (slots_of (scripts_of reach.now.shelves))
-        (names_of main.entry) own (map procedure_of later.now) (procedure_of procedure.now))
-        (procedure_of procedure.now).script)) }
+        (procedure_flow reach.now.shelves main.entry own later.now procedure.now)) }
 {
     let numbers = numbers_by_slot(alloc, reach, procedure, later)?;
     let callees = Callees {
@@ -99,9 +91,8 @@ pub fn emit_procedures<'a>(
     requires keys { HaveKeys (scripts_of reach.now.shelves) procedures.now }
     requires few { length procedures.now ≤ most_procedures }
     requires light { shared_weight (map procedure_of procedures.now) ≤ greatest_weight }
-    ensures { IfOk result (λ r. IsSharedCode r.0 r.1.items
-        (procedure_flows (library_of (scripts_of reach.now.shelves)) (slots_of (scripts_of reach.now.shelves))
-        (names_of main.entry) 0 (map procedure_of procedures.now))) }
+    ensures { IfOk result
+        (λ r. IsSharedCode r.0 r.1.items (all_flows reach.now.shelves main.entry procedures.now)) }
 {
     let mut out = Output::with_room(alloc, operations)?;
     let mut first_places = Vec::with_capacity(alloc, procedures.len())?;

@@ -2,18 +2,17 @@
 //! test gets its target once the code that it skips is written. An operation names a text or a number by its place
 //! among those of the image.
 
-ghost use Rattle.std.specs.Prelude.{◌≡◌, ◌≤◌, ◌+◌, ◌<◌, ◌^◌, ℕ, List, [], ◌∷◌, length, OnOk, true, false, not, codes};
+ghost use Rattle.std.specs.Prelude.{◌≡◌, ◌≤◌, ◌+◌, ◌<◌, ℕ, List, ◌∷◌, length, OnOk, true, false, not, codes};
 ghost use Rattle.sieve_syntax.specs.Arguments.{strings_of, first_of, others_of};
 ghost use Rattle.sieve_syntax.specs.View.{test_of, inner_of};
-ghost use Rattle.sieve_meaning.specs.Reading.{test_in, only_in, tests_in, string_lists, exists_of, header_of, size_of, has_tag as has_tag_of, number_in, comparator_from, match_type as match_type_of};
+ghost use Rattle.sieve_meaning.specs.Reading.{test_in, only_in, tests_in, string_lists, exists_of, size_of, has_tag as has_tag_of, number_in};
 ghost use Rattle.filing_flow.specs.Structure.{Flow, size, action, ValuesOf, HasField, MatchKey, PushNumber, PushSize, IsLess, Push, Drop, sequence, leave, leave_if, Negate};
 ghost use Rattle.filing_flow.specs.Code.{end_at};
-ghost use Rattle.filing_flow.specs.Types.{Shape, HasType};
 ghost use Rattle.filing_gen.specs.BlockCode.{either, values_flow, keys_flow, names_flow, header_flow, test_flow, tests_flow};
-ghost use Rattle.filing_gen.specs.Names.{each_once, others_once};
-ghost use Rattle.filing_gen.specs.Ends.{no_place};
-ghost use Rattle.filing_gen.specs.Adds.{Emits, HasRoom};
+ghost use Rattle.filing_gen.specs.Names.{each_once, others_once, other_names};
+ghost use Rattle.filing_gen.specs.Adds.{Emits, HasRoom, EmitsAnywhere, EmitsUnended, LeavesNothing};
 ghost use Rattle.filing_gen.specs.declared.output.Output.{Output};
+ghost use Rattle.filing_gen.specs.Emission.{header_in};
 
 use crate::ends::{NO_PLACE, end_block_at};
 use crate::field_names::FieldNames;
@@ -27,7 +26,7 @@ use std::alloc::{AllocError, Global};
 
 /// Writes `JumpIf` or `JumpUnless`, to the end of the block around.
 fn put_jump(out: &mut Output, truth: bool) -> Result<(), AllocError>
-    ensures { OnOk result ((ends : List ℕ) → end_at ends 0 ≡ no_place → Emits out.old out.new (leave_if truth 0) ends) }
+    ensures { OnOk result (EmitsUnended out.old out.new (leave_if truth 0)) }
 {
     if truth {
         return put(out, Operation::JumpIf(NO_PLACE));
@@ -41,10 +40,9 @@ fn put_jump(out: &mut Output, truth: bool) -> Result<(), AllocError>
 fn put_either(out: &mut Output, start: usize, stop: bool) -> Result<(), AllocError>
     requires start { start ≤ length out.old.code.items }
     requires room { HasRoom out.old 3 }
-    ensures { OnOk result ((x : Output) (a : Flow) (ends : List ℕ) → start ≡ length x.code.items →
-        ((around : List Shape) → HasType a ([] ∷ around) [] []) →
-        ((es : List ℕ) → end_at es 0 ≡ no_place → Emits x out.old a es) →
-        Emits x out.new (either (not stop) stop a) ends) }
+    ensures { OnOk result
+        ((x : Output) (a : Flow) (ends : List ℕ) → start ≡ length x.code.items → LeavesNothing a
+        → EmitsUnended x out.old a → Emits x out.new (either (not stop) stop a) ends) }
 {
     let jumped = (out.code.len() + 2) as u16;
     end_block_at(out, start, jumped);
@@ -56,8 +54,8 @@ fn put_either(out: &mut Output, start: usize, stop: bool) -> Result<(), AllocErr
 /// Writes `Exists name` and `JumpUnless missing`.
 fn emit_name(out: &mut Output, name: &[u8]) -> Result<(), AllocError>
     requires { HasRoom out.old 2 }
-    ensures { OnOk result ((ends : List ℕ) → end_at ends 0 ≡ no_place →
-        Emits out.old out.new (sequence (action (HasField name.now)) (leave_if false 0)) ends) }
+    ensures { OnOk result
+        (EmitsUnended out.old out.new (sequence (action (HasField name.now)) (leave_if false 0))) }
 {
     let place = text_operand(out, name)?;
     put(out, Operation::Exists(place))?;
@@ -72,8 +70,8 @@ fn emit_other_names(
     others: &[Text],
 ) -> Result<(), AllocError>
     requires { HasRoom out.old (size (names_flow (others_once first.now others.now))) }
-    ensures { OnOk result ((ends : List ℕ) → end_at ends 0 ≡ no_place →
-        Emits out.old out.new (names_flow (others_once first.now others.now)) ends) }
+    ensures { OnOk result
+        (EmitsUnended out.old out.new (names_flow (others_once first.now others.now))) }
 {
     if others.is_empty() {
         return Ok(());
@@ -93,8 +91,8 @@ fn emit_other_names(
 /// Writes `Exists name` and `JumpUnless missing` for each name, once.
 fn emit_names(alloc: Global, out: &mut Output, names: &StringList) -> Result<(), AllocError>
     requires { HasRoom out.old (size (names_flow (each_once (strings_of names.now)))) }
-    ensures { OnOk result ((ends : List ℕ) → end_at ends 0 ≡ no_place →
-        Emits out.old out.new (names_flow (each_once (strings_of names.now))) ends) }
+    ensures { OnOk result
+        (EmitsUnended out.old out.new (names_flow (each_once (strings_of names.now)))) }
 {
     let first = names.first().as_slice();
     emit_name(out, first)?;
@@ -104,8 +102,8 @@ fn emit_names(alloc: Global, out: &mut Output, names: &StringList) -> Result<(),
 /// Writes `exists` (RFC 5228, section 5.5): whether the header has a field of each name.
 fn emit_exists(alloc: Global, out: &mut Output, arguments: &[Argument]) -> Result<(), AllocError>
     requires { HasRoom out.old (size (test_flow (exists_of (string_lists false arguments.now)))) }
-    ensures adds { OnOk result ((ends : List ℕ) →
-        Emits out.old out.new (test_flow (exists_of (string_lists false arguments.now))) ends) }
+    ensures adds { OnOk result
+        (EmitsAnywhere out.old out.new (test_flow (exists_of (string_lists false arguments.now)))) }
 {
     let start = out.code.len();
     match next_string_list(arguments) {
@@ -120,9 +118,8 @@ fn emit_exists(alloc: Global, out: &mut Output, arguments: &[Argument]) -> Resul
 /// Writes `Number n`, `Size`, `Less`: whether the message has more octets than the number.
 fn emit_over(out: &mut Output, number: u64) -> Result<(), AllocError>
     requires { HasRoom out.old 3 }
-    ensures { OnOk result ((ends : List ℕ) →
-        Emits out.old out.new (sequence (action (PushNumber number))
-        (sequence (action PushSize) (action IsLess))) ends) }
+    ensures { OnOk result (EmitsAnywhere out.old out.new
+        (sequence (action (PushNumber number)) (sequence (action PushSize) (action IsLess)))) }
 {
     let place = number_operand(out, number)?;
     put(out, Operation::Number(place))?;
@@ -133,9 +130,8 @@ fn emit_over(out: &mut Output, number: u64) -> Result<(), AllocError>
 /// Writes `Size`, `Number n`, `Less`: whether the message has fewer octets than the number.
 fn emit_under(out: &mut Output, number: u64) -> Result<(), AllocError>
     requires { HasRoom out.old 3 }
-    ensures { OnOk result ((ends : List ℕ) →
-        Emits out.old out.new (sequence (action PushSize)
-        (sequence (action (PushNumber number)) (action IsLess))) ends) }
+    ensures { OnOk result (EmitsAnywhere out.old out.new
+        (sequence (action PushSize) (sequence (action (PushNumber number)) (action IsLess)))) }
 {
     put(out, Operation::Size)?;
     let place = number_operand(out, number)?;
@@ -146,9 +142,8 @@ fn emit_under(out: &mut Output, number: u64) -> Result<(), AllocError>
 /// Writes `size` (RFC 5228, section 5.9): whether the message has more octets than the number, or fewer.
 fn emit_size(out: &mut Output, arguments: &[Argument]) -> Result<(), AllocError>
     requires { HasRoom out.old 3 }
-    ensures adds { OnOk result ((ends : List ℕ) →
-        Emits out.old out.new (test_flow
-        (size_of (has_tag_of (codes "over") arguments.now) (number_in arguments.now))) ends) }
+    ensures adds { OnOk result (EmitsAnywhere out.old out.new
+        (test_flow (size_of (has_tag_of (codes "over") arguments.now) (number_in arguments.now)))) }
 {
     let number = number(arguments);
     if has_tag(arguments, b"over") {
@@ -160,7 +155,7 @@ fn emit_size(out: &mut Output, arguments: &[Argument]) -> Result<(), AllocError>
 /// Writes `Values name`.
 fn emit_value(out: &mut Output, name: &[u8]) -> Result<(), AllocError>
     requires { HasRoom out.old 1 }
-    ensures { OnOk result ((ends : List ℕ) → Emits out.old out.new (action (ValuesOf name.now)) ends) }
+    ensures { OnOk result (EmitsAnywhere out.old out.new (action (ValuesOf name.now))) }
 {
     let place = text_operand(out, name)?;
     put(out, Operation::Values(place))
@@ -174,8 +169,8 @@ fn emit_other_values(
     others: &[Text],
 ) -> Result<(), AllocError>
     requires { HasRoom out.old (size (values_flow (others_once first.now others.now))) }
-    ensures { OnOk result ((ends : List ℕ) →
-        Emits out.old out.new (values_flow (others_once first.now others.now)) ends) }
+    ensures { OnOk result
+        (EmitsAnywhere out.old out.new (values_flow (others_once first.now others.now))) }
 {
     if others.is_empty() {
         return Ok(());
@@ -196,10 +191,9 @@ fn emit_other_values(
 /// Writes the list of the values of all fields that have the names: `Values name` for the first name, and `Values name`
 /// and `Join` for each other name, once.
 fn emit_values(alloc: Global, out: &mut Output, names: &StringList) -> Result<(), AllocError>
-    requires { HasRoom out.old (size (values_flow (others_once (first_of names.now) (others_of names.now))) + 1) }
-    ensures { OnOk result ((ends : List ℕ) →
-        Emits out.old out.new (sequence (action (ValuesOf (first_of names.now)))
-        (values_flow (others_once (first_of names.now) (others_of names.now)))) ends) }
+    requires { HasRoom out.old (size (values_flow (other_names names.now)) + 1) }
+    ensures { OnOk result (EmitsAnywhere out.old out.new
+        (sequence (action (ValuesOf (first_of names.now))) (values_flow (other_names names.now)))) }
 {
     let first = names.first().as_slice();
     emit_value(out, first)?;
@@ -209,8 +203,8 @@ fn emit_values(alloc: Global, out: &mut Output, names: &StringList) -> Result<()
 /// Writes `Match how key` and `JumpIf found`.
 fn emit_key(out: &mut Output, how: u8, key: &[u8]) -> Result<(), AllocError>
     requires { HasRoom out.old 2 }
-    ensures { OnOk result ((ends : List ℕ) → end_at ends 0 ≡ no_place →
-        Emits out.old out.new (sequence (action (MatchKey how key.now)) (leave_if true 0)) ends) }
+    ensures { OnOk result (EmitsUnended out.old out.new
+        (sequence (action (MatchKey how key.now)) (leave_if true 0))) }
 {
     let place = text_operand(out, key)?;
     put(out, Operation::Match(how, place))?;
@@ -220,8 +214,7 @@ fn emit_key(out: &mut Output, how: u8, key: &[u8]) -> Result<(), AllocError>
 /// Writes `Match how key` and `JumpIf found` for each key but the first.
 fn emit_other_keys(out: &mut Output, how: u8, keys: &[Text]) -> Result<(), AllocError>
     requires { HasRoom out.old (size (keys_flow how keys.now)) }
-    ensures { OnOk result ((ends : List ℕ) → end_at ends 0 ≡ no_place →
-        Emits out.old out.new (keys_flow how keys.now) ends) }
+    ensures { OnOk result (EmitsUnended out.old out.new (keys_flow how keys.now)) }
 {
     for key in keys {
         emit_key(out, how, key.as_slice())?;
@@ -232,8 +225,8 @@ fn emit_other_keys(out: &mut Output, how: u8, keys: &[Text]) -> Result<(), Alloc
 /// Writes `Match how key` and `JumpIf found` for each key.
 fn emit_keys(out: &mut Output, how: u8, keys: &StringList) -> Result<(), AllocError>
     requires { HasRoom out.old (size (keys_flow how (first_of keys.now ∷ others_of keys.now))) }
-    ensures { OnOk result ((ends : List ℕ) → end_at ends 0 ≡ no_place →
-        Emits out.old out.new (keys_flow how (first_of keys.now ∷ others_of keys.now)) ends) }
+    ensures { OnOk result
+        (EmitsUnended out.old out.new (keys_flow how (first_of keys.now ∷ others_of keys.now))) }
 {
     emit_key(out, how, keys.first().as_slice())?;
     emit_other_keys(out, how, keys.others())
@@ -251,7 +244,8 @@ fn put_missed(out: &mut Output, end: u16) -> Result<(), AllocError>
 
 /// Writes what follows where a key matched: `Pop`, `PushTrue`.
 fn put_found(out: &mut Output) -> Result<(), AllocError>
-    ensures { OnOk result ((ends : List ℕ) → Emits out.old out.new (sequence (action Drop) (action (Push true))) ends) }
+    ensures { OnOk result
+        (EmitsAnywhere out.old out.new (sequence (action Drop) (action (Push true)))) }
 {
     put(out, Operation::Pop)?;
     put(out, Operation::PushTrue)
@@ -266,12 +260,10 @@ fn emit_some_match(
     names: &StringList,
     keys: &StringList,
 ) -> Result<(), AllocError>
-    requires { HasRoom out.old
-        (size (header_flow how (first_of names.now) (others_once (first_of names.now) (others_of names.now))
+    requires { HasRoom out.old (size (header_flow how (first_of names.now) (other_names names.now)
         (first_of keys.now) (others_of keys.now))) }
-    ensures adds { OnOk result ((ends : List ℕ) →
-        Emits out.old out.new (header_flow how (first_of names.now)
-        (others_once (first_of names.now) (others_of names.now)) (first_of keys.now) (others_of keys.now)) ends) }
+    ensures adds { OnOk result (EmitsAnywhere out.old out.new (header_flow how (first_of names.now)
+        (other_names names.now) (first_of keys.now) (others_of keys.now))) }
 {
     emit_values(alloc, out, names)?;
     let start = out.code.len();
@@ -285,13 +277,9 @@ fn emit_some_match(
 /// Writes `header` (RFC 5228, section 5.7): whether a field with one of the names has a value that matches one of the
 /// keys.
 fn emit_header(alloc: Global, out: &mut Output, arguments: &[Argument]) -> Result<(), AllocError>
-    requires { HasRoom out.old
-        (size (test_flow (header_of (match_type_of arguments.now) (comparator_from false arguments.now)
-        (string_lists false arguments.now)))) }
-    ensures adds { OnOk result ((ends : List ℕ) →
-        Emits out.old out.new (test_flow
-        (header_of (match_type_of arguments.now) (comparator_from false arguments.now)
-        (string_lists false arguments.now))) ends) }
+    requires { HasRoom out.old (size (test_flow (header_in arguments.now))) }
+    ensures adds { OnOk result
+        (EmitsAnywhere out.old out.new (test_flow (header_in arguments.now))) }
 {
     let Some((names, rest)) = next_string_list(arguments) else {
         return put_truth(out, false);
@@ -307,7 +295,8 @@ fn emit_header(alloc: Global, out: &mut Output, arguments: &[Argument]) -> Resul
 #[cycle(emission)]
 pub fn emit_test(alloc: Global, out: &mut Output, test: &Test) -> Result<(), AllocError>
     requires { HasRoom out.old (size (test_flow (test_in (test_of test.now)))) }
-    ensures adds { OnOk result ((ends : List ℕ) → Emits out.old out.new (test_flow (test_in (test_of test.now))) ends) }
+    ensures adds { OnOk result
+        (EmitsAnywhere out.old out.new (test_flow (test_in (test_of test.now)))) }
 {
     let arguments = test.arguments.as_slice();
     match test_word(test.name.as_slice()) {
@@ -326,8 +315,8 @@ pub fn emit_test(alloc: Global, out: &mut Output, test: &Test) -> Result<(), All
 #[cycle(emission)]
 fn emit_not(alloc: Global, out: &mut Output, tests: &Tests) -> Result<(), AllocError>
     requires { HasRoom out.old (size (test_flow (only_in (inner_of tests.now))) + 1) }
-    ensures adds { OnOk result ((ends : List ℕ) →
-        Emits out.old out.new (sequence (test_flow (only_in (inner_of tests.now))) (action Negate)) ends) }
+    ensures adds { OnOk result (EmitsAnywhere out.old out.new
+        (sequence (test_flow (only_in (inner_of tests.now))) (action Negate))) }
 {
     emit_only(alloc, out, tests)?;
     put(out, Operation::Not)
@@ -337,8 +326,8 @@ fn emit_not(alloc: Global, out: &mut Output, tests: &Tests) -> Result<(), AllocE
 #[cycle(emission)]
 pub fn emit_only(alloc: Global, out: &mut Output, tests: &Tests) -> Result<(), AllocError>
     requires { HasRoom out.old (size (test_flow (only_in (inner_of tests.now)))) }
-    ensures adds { OnOk result ((ends : List ℕ) →
-        Emits out.old out.new (test_flow (only_in (inner_of tests.now))) ends) }
+    ensures adds { OnOk result
+        (EmitsAnywhere out.old out.new (test_flow (only_in (inner_of tests.now)))) }
 {
     match tests {
         Tests::None => put_truth(out, false),
@@ -353,8 +342,8 @@ pub fn emit_only(alloc: Global, out: &mut Output, tests: &Tests) -> Result<(), A
 #[cycle(emission)]
 fn emit_row(alloc: Global, out: &mut Output, tests: &Tests, stop: bool) -> Result<(), AllocError>
     requires { HasRoom out.old (size (either (not stop) stop (tests_flow stop (tests_in (inner_of tests.now))))) }
-    ensures adds { OnOk result ((ends : List ℕ) →
-        Emits out.old out.new (either (not stop) stop (tests_flow stop (tests_in (inner_of tests.now)))) ends) }
+    ensures adds { OnOk result (EmitsAnywhere out.old out.new
+        (either (not stop) stop (tests_flow stop (tests_in (inner_of tests.now))))) }
 {
     let start = out.code.len();
     emit_tests(alloc, out, tests, stop)?;
@@ -365,8 +354,8 @@ fn emit_row(alloc: Global, out: &mut Output, tests: &Tests, stop: bool) -> Resul
 #[cycle(emission)]
 fn emit_tests(alloc: Global, out: &mut Output, tests: &Tests, stop: bool) -> Result<(), AllocError>
     requires { HasRoom out.old (size (tests_flow stop (tests_in (inner_of tests.now)))) }
-    ensures adds { OnOk result ((ends : List ℕ) → end_at ends 0 ≡ no_place →
-        Emits out.old out.new (tests_flow stop (tests_in (inner_of tests.now))) ends) }
+    ensures adds { OnOk result
+        (EmitsUnended out.old out.new (tests_flow stop (tests_in (inner_of tests.now)))) }
 {
     match tests {
         Tests::None => Ok(()),

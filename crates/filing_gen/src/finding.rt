@@ -1,15 +1,13 @@
 //! What an include comes to, as far as it is known when it is compiled (RFC 6609, section 3.2).
 
 ghost use Rattle.std.specs.Prelude.{◌≡◌, ◌<◌, ℕ, option_map, IfSome};
-ghost use Rattle.sieve_syntax.specs.View.{tree_of};
-ghost use Rattle.sieve_meaning.specs.Reading.{program_of};
 ghost use Rattle.sieve_meaning.specs.Scripts.{include_view, script_of};
-ghost use Rattle.script_library.specs.BorrowedShelves.{scripts_of};
-ghost use Rattle.script_library.specs.Libraries.{library_of};
-ghost use Rattle.script_procedures.specs.Slots.{slots_of};
 ghost use Rattle.filing_gen.specs.IncludeCode.{is_passed as is_passed_of};
 ghost use Rattle.filing_gen.specs.Levels.{judgement_by, judgement};
 ghost use Rattle.filing_gen.specs.Scopes.{names_of, judgement_of, EntersAt};
+ghost use Rattle.script_library.specs.BorrowedShelves.{library_on};
+ghost use Rattle.script_procedures.specs.Slots.{slots_on};
+ghost use Rattle.script_library.specs.Libraries.{program_in};
 
 use crate::chain::{Chain, MainScript};
 use script_library::Shelves;
@@ -52,9 +50,9 @@ fn finding_of<'a>(
     is_active: bool,
     is_once: bool,
 ) -> Finding<'a>
-    ensures told { judgement_of result ≡
-        judgement_by (option_map (λ x. program_of (tree_of x))
-        (option_map (λ f. f.1.now.script) found.entry)) is_passed is_active is_once }
+    ensures told { judgement_of result
+        ≡ judgement_by (option_map program_in (option_map (λ f. f.1.now.script) found.entry))
+        is_passed is_active is_once }
     ensures slot { (slot : ℕ) → IfSome found.entry (λ f. f.0 ≡ slot) → IfSome found.entry (λ f. f.0 < 64) →
         EntersAt result slot }
 {
@@ -80,10 +78,9 @@ fn finding_of<'a>(
 
 /// What an include comes to, where the scripts of this chain are active.
 pub fn find<'a, C: Chain>(scope: &Scope<'a>, chain: &C, include: &Include<'_>) -> Finding<'a>
-    ensures told { judgement_of result ≡
-        judgement (library_of (scripts_of scope.now.shelves)) (names_of scope.now.main) (C.names chain.now)
-        (include_view include.now) }
-    ensures slot { EntersAt result (slots_of (scripts_of scope.now.shelves) (script_of include.now.script)) }
+    ensures told { judgement_of result ≡ judgement (library_on scope.now.shelves)
+        (names_of scope.now.main) (C.names chain.now) (include_view include.now) }
+    ensures slot { EntersAt result (slots_on scope.now.shelves (script_of include.now.script)) }
 {
     finding_of(
         find_script(scope.shelves, &include.script),

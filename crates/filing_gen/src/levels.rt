@@ -1,17 +1,15 @@
 //! The code of includes, level by level (RFC 6609, section 3.2): the code of the included script replaces the include.
 //! The levels end, so that the code is finite whatever the includes are.
 
-ghost use Rattle.std.specs.Prelude.{◌<◌, ℕ, List, OnOk};
-ghost use Rattle.sieve_syntax.specs.View.{tree_of};
-ghost use Rattle.sieve_meaning.specs.Reading.{program_of};
+ghost use Rattle.std.specs.Prelude.{◌<◌, OnOk};
 ghost use Rattle.sieve_meaning.specs.Weight.{included_weight};
-ghost use Rattle.script_library.specs.BorrowedShelves.{scripts_of};
-ghost use Rattle.script_library.specs.Libraries.{library_of};
+ghost use Rattle.script_library.specs.BorrowedShelves.{scripts_of, library_on};
+ghost use Rattle.script_library.specs.Libraries.{library_of, program_in};
 ghost use Rattle.filing_flow.specs.Structure.{size};
-ghost use Rattle.filing_gen.specs.Adds.{Emits, HasRoom};
-ghost use Rattle.filing_gen.specs.Levels.{flow_at_level, weight_at_level};
+ghost use Rattle.filing_gen.specs.Adds.{HasRoom, EmitsAnywhere};
+ghost use Rattle.filing_gen.specs.Levels.{weight_at_level};
 ghost use Rattle.filing_gen.specs.IncludeCode.{included_flow};
-ghost use Rattle.filing_gen.specs.Scopes.{names_of};
+ghost use Rattle.filing_gen.specs.Scopes.{names_of, flow_of_entry};
 ghost use Rattle.script_procedures.specs.Slots.{slots_of};
 ghost use Rattle.filing_gen.specs.Weights.{IsLeft};
 
@@ -32,8 +30,8 @@ use std::marker::PhantomData;
 pub trait EntryCode: Level {
     /// Subtracts what the script adds to the weight from `left`; none where it is more.
     fn weigh<C: Chain>(scope: &Scope<'_>, chain: &C, script: &Script, left: u32) -> Option<u32>
-        ensures { IsLeft left (weight_at_level (library_of (scripts_of scope.now.shelves)) Self.depth (C.names chain.now)
-            (program_of (tree_of script.now))) result };
+        ensures { IsLeft left (weight_at_level (library_on scope.now.shelves) Self.depth
+            (C.names chain.now) (program_in script.now)) result };
 
     /// Writes the code that enters the script, whose slot must be below 64. The only error is a refused allocation.
     fn emit<C: Chain>(
@@ -45,13 +43,10 @@ pub trait EntryCode: Level {
         script: &Script,
     ) -> Result<(), AllocError>
         requires slot { slot < 64 }
-        requires room { HasRoom out.old
-            (size (flow_at_level (library_of (scripts_of scope.now.shelves)) (slots_of (scripts_of scope.now.shelves))
-            (names_of scope.now.main) Self.depth (C.names chain.now) slot (program_of (tree_of script.now)))) }
-        ensures adds { OnOk result ((ends : List ℕ) →
-            Emits out.old out.new (flow_at_level (library_of (scripts_of scope.now.shelves))
-            (slots_of (scripts_of scope.now.shelves)) (names_of scope.now.main) Self.depth (C.names chain.now) slot
-            (program_of (tree_of script.now))) ends) };
+        requires room { HasRoom out.old (size
+            (flow_of_entry scope.now Self.depth (C.names chain.now) slot (program_in script.now))) }
+        ensures adds { OnOk result (EmitsAnywhere out.old out.new
+            (flow_of_entry scope.now Self.depth (C.names chain.now) slot (program_in script.now))) };
 }
 
 /// No further script may be active: the entry is a fault.

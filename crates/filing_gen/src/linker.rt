@@ -1,10 +1,10 @@
 //! The code and the weight of includes. The linker of the compiler is `Includes`, in `levels`.
 
-ghost use Rattle.std.specs.Prelude.{ℕ, List, OnOk};
+ghost use Rattle.std.specs.Prelude.{ℕ, OnOk};
 ghost use Rattle.filing_flow.specs.Structure.{Flow, size};
 ghost use Rattle.sieve_meaning.specs.Program as program;
 ghost use Rattle.sieve_meaning.specs.Scripts.{include_view};
-ghost use Rattle.filing_gen.specs.Adds.{Emits, HasRoom};
+ghost use Rattle.filing_gen.specs.Adds.{HasRoom, EmitsAnywhere};
 ghost use Rattle.filing_gen.specs.Weights.{IsLeft};
 
 use crate::output::Output;
@@ -29,6 +29,6 @@ pub trait Linker {
     /// Writes the code of an include. The only error is a refused allocation.
     fn emit(&self, alloc: Global, out: &mut Output, include: &Include<'_>) -> Result<(), AllocError>
         requires { HasRoom out.old (size (flow_of self.now (include_view include.now))) }
-        ensures adds { OnOk result ((ends : List ℕ) →
-            Emits out.old out.new (flow_of self.now (include_view include.now)) ends) };
+        ensures adds { OnOk result
+            (EmitsAnywhere out.old out.new (flow_of self.now (include_view include.now))) };
 }

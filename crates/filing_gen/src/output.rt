@@ -1,8 +1,8 @@
 //! The output of the compiler.
 
-ghost use Rattle.std.specs.Prelude.{◌≡◌, ◌<◌, ◌^◌, ℕ, List, [], length, IfOk, OnOk};
+ghost use Rattle.std.specs.Prelude.{◌≡◌, ◌<◌, ◌^◌, [], length, IfOk, OnOk};
 ghost use Rattle.filing_flow.specs.Structure.{Fail, Push, action};
-ghost use Rattle.filing_gen.specs.Adds.{Puts, Brings, Emits};
+ghost use Rattle.filing_gen.specs.Adds.{Puts, Brings, EmitsAnywhere};
 ghost use Rattle.filing_gen.specs.Ends.{with_operation};
 ghost use Rattle.filing_gen.specs.Pools.{IsAmong};
 
@@ -65,7 +65,7 @@ pub fn put(out: &mut Output, operation: Operation) -> Result<(), AllocError>
 
 /// Appends the operation that ends the run with a fault. The only error is a refused allocation.
 pub fn put_fault(out: &mut Output, fault: RunFault) -> Result<(), AllocError>
-    ensures adds { OnOk result ((ends : List ℕ) → Emits out.old out.new (action (Fail fault)) ends) }
+    ensures adds { OnOk result (EmitsAnywhere out.old out.new (action (Fail fault))) }
 {
     put(out, Operation::Fault(fault.number()))
 }
@@ -80,7 +80,7 @@ pub fn put_at(out: &mut Output, place: usize, operation: Operation)
 
 /// Appends the operation that pushes a truth value. The only error is a refused allocation.
 pub fn put_truth(out: &mut Output, truth: bool) -> Result<(), AllocError>
-    ensures adds { OnOk result ((ends : List ℕ) → Emits out.old out.new (action (Push truth)) ends) }
+    ensures adds { OnOk result (EmitsAnywhere out.old out.new (action (Push truth))) }
 {
     if truth {
         return put(out, Operation::PushTrue);

@@ -1,17 +1,18 @@
 //! The weights of procedures: of their code, which stands once, and of the longest paths through them.
 
-ghost use Rattle.std.specs.Prelude.{◌≡◌, ◌<◌, ◌≤◌, ℕ, List, Option, map, IfOk, MatchOption};
+ghost use Rattle.std.specs.Prelude.{◌≡◌, ◌<◌, Option, map, IfOk};
 ghost use Rattle.std.specs.List.{All};
-ghost use Rattle.sieve_meaning.specs.Program.{Commands};
 ghost use Rattle.sieve_meaning.specs.Weight.{greatest_weight};
 ghost use Rattle.sieve_meaning.specs.Procedures.{shared_weight as shared_weight_of, path_weight as path_weight_of, greatest_path};
-ghost use Rattle.script_library.specs.BorrowedShelves.{scripts_of};
+ghost use Rattle.script_library.specs.BorrowedShelves.{scripts_of, library_on};
 ghost use Rattle.script_library.specs.Libraries.{library_of};
 ghost use Rattle.script_procedures.specs.Keys.{IsKeyOf};
-ghost use Rattle.script_procedures.specs.ProcedureCode.{procedure_of, IsEntered, HaveKeys, AreProcedures};
+ghost use Rattle.script_procedures.specs.ProcedureCode.{procedure_of, IsEntered, HaveKeys};
 ghost use Rattle.filing_gen.specs.Numbers.{number_at};
 ghost use Rattle.filing_gen.specs.Paths.{known_path, path_from};
 ghost use Rattle.filing_gen.specs.Procedures.{path_weights as path_weights_of};
+ghost use Rattle.filing_gen.specs.Scopes.{ForMain};
+ghost use Rattle.filing_gen.specs.Weights.{IsWeightUpTo};
 
 use crate::callees::{Call, Callees, Inclusion, numbers_by_slot};
 use crate::chain::MainScript;
@@ -41,8 +42,8 @@ impl Weights for Weightless {
 
 /// The weight of the code of all procedures; none where it is above 60,000.
 pub fn shared_weight(procedures: &[Procedure<'_>]) -> Option<u32>
-    ensures { MatchOption result (greatest_weight < shared_weight_of (map procedure_of procedures.now))
-        (λ w. (w ≡ shared_weight_of (map procedure_of procedures.now)) × (w ≤ greatest_weight)) }
+    ensures { IsWeightUpTo greatest_weight
+        (shared_weight_of (map procedure_of procedures.now)) result }
 {
     let mut left = MAX_WEIGHT;
     for procedure in procedures {
@@ -100,9 +101,9 @@ fn path_weight<'a>(
     requires key { IsKeyOf (scripts_of reach.now.shelves) procedure.now.key (procedure_of procedure.now) }
     requires entered { All (IsEntered (scripts_of reach.now.shelves)) later.now }
     requires paths { paths.now ≡ map known_path
-        (path_weights_of (library_of (scripts_of reach.now.shelves)) (map procedure_of later.now)) }
-    ensures { IfOk result (λ o. o ≡ known_path
-        (path_from (library_of (scripts_of reach.now.shelves)) (map procedure_of later.now) (procedure_of procedure.now))) }
+        (path_weights_of (library_on reach.now.shelves) (map procedure_of later.now)) }
+    ensures { IfOk result (λ o. o ≡ known_path (path_from (library_on reach.now.shelves)
+        (map procedure_of later.now) (procedure_of procedure.now))) }
 {
     let numbers = numbers_by_slot(alloc, reach, procedure, later)?;
     let callees = Callees {
@@ -130,7 +131,7 @@ fn path_weights<'a>(
 ) -> Result<Vec<Option<u32>>, AllocError>
     requires { HaveKeys (scripts_of reach.now.shelves) procedures.now }
     ensures { IfOk result (λ v. v.items ≡ map known_path
-        (path_weights_of (library_of (scripts_of reach.now.shelves)) (map procedure_of procedures.now))) }
+        (path_weights_of (library_on reach.now.shelves) (map procedure_of procedures.now))) }
 {
     let mut paths = vec![in alloc; None; procedures.len()]?;
     for number in (0..procedures.len()).rev() {
@@ -156,12 +157,8 @@ pub fn main_path<'a>(
     procedures: &'a [Procedure<'a>],
 ) -> Result<Option<u32>, AllocError>
     requires { HaveKeys (scripts_of reach.now.shelves) procedures.now }
-    ensures { (known_as : Option (List ℕ)) (script : Commands) →
-        AreProcedures (scripts_of reach.now.shelves) known_as script procedures.now →
-        IfOk result (λ o. MatchOption o
-        (greatest_path < path_weight_of (library_of (scripts_of reach.now.shelves)) known_as script)
-        (λ w. (w ≡ path_weight_of (library_of (scripts_of reach.now.shelves)) known_as script) ×
-        (w ≤ greatest_path))) }
+    ensures { ForMain reach.now.shelves procedures.now (λ lib known_as script.
+        IfOk result (IsWeightUpTo greatest_path (path_weight_of lib known_as script))) }
 {
     let paths = path_weights(alloc, reach, main, procedures)?;
     match weight_at(&paths, 0) {

@@ -1,13 +1,9 @@
 //! From a checked script to an image that may run.
 
-ghost use Rattle.std.specs.Prelude.{◌≡◌, ◌≢◌, ◌↔◌, ◌+◌, ◌<◌, ◌≤◌, ◌^◌, [], ◌∷◌, map, Err, IfOk, IfErr, MatchOption};
-ghost use Rattle.std.specs.Option.{option_map};
-ghost use Rattle.sieve_syntax.specs.View.{command_of, commands_of, tree_of};
-ghost use Rattle.sieve_meaning.specs.Reading.{program_of};
+ghost use Rattle.std.specs.Prelude.{◌≡◌, ◌≢◌, ◌↔◌, ◌+◌, ◌<◌, ◌≤◌, ◌^◌, [], ◌∷◌, Err, IfOk, IfErr, option_copied};
 ghost use Rattle.sieve_meaning.specs.TooHeavy.{IsTooHeavy};
 ghost use Rattle.sieve_meaning.specs.Weight.{greatest_weight, linked_weight};
-ghost use Rattle.script_library.specs.BorrowedShelves.{scripts_of};
-ghost use Rattle.script_library.specs.Libraries.{library_of};
+ghost use Rattle.script_library.specs.Libraries.{library_of, program_in, listed_program};
 ghost use Rattle.filing_image.specs.Program.{list_in};
 ghost use Rattle.filing_flow.specs.Structure.{size};
 ghost use Rattle.filing_flow.specs.Types.{HasType};
@@ -16,6 +12,9 @@ ghost use Rattle.filing_gen.specs.Adds.{IsCode, IsImageOf};
 ghost use Rattle.filing_gen.specs.Emission.{commands_long};
 ghost use Rattle.filing_gen.specs.Correct.{IsCompiled, NamesOnce};
 ghost use Rattle.filing_gen.specs.declared.fault.GenFault.TheVariants.{NoMemory, TooLarge};
+ghost use Rattle.script_library.specs.BorrowedShelves.{library_on};
+ghost use Rattle.filing_gen.specs.Scopes.{main_name};
+ghost use Rattle.filing_gen.specs.Weights.{IsWeightUpTo};
 
 use crate::chain::MainScript;
 use crate::emit_commands::emit_commands;
@@ -45,13 +44,12 @@ fn emit_program<L: Linker>(
     main: &Vec<Command>,
     operations: u32,
 ) -> Result<Output, AllocError>
-    requires room { commands_long (λ i. size (L.flow_of linker.now i))
-        (program_of (commands_of (map command_of main.now.items))) + 1 < 2 ^ 16 }
-    requires typed { HasType
-        (script_flow (L.flow_of linker.now) (program_of (commands_of (map command_of main.now.items)))) ([] ∷
-        []) [] [] }
-    ensures { IfOk result (λ o. IsCode o
-        (script_flow (L.flow_of linker.now) (program_of (commands_of (map command_of main.now.items))))) }
+    requires room { commands_long
+        (λ i. size (L.flow_of linker.now i)) (listed_program main.now.items) + 1 < 2 ^ 16 }
+    requires typed { HasType (script_flow (L.flow_of linker.now) (listed_program main.now.items))
+        ([] ∷ []) [] [] }
+    ensures { IfOk result
+        (λ o. IsCode o (script_flow (L.flow_of linker.now) (listed_program main.now.items))) }
 {
     let mut out = Output::with_room(alloc, operations)?;
     emit_commands(alloc, linker, &mut out, main, NO_PLACE)?;
@@ -88,13 +86,11 @@ fn build(
     scope: Scope<'_>,
     weight: u32,
 ) -> Result<Verified, GenFault>
-    requires weight { weight ≡
-        linked_weight (library_of (scripts_of scope.shelves)) (option_map (λ s. s.now) scope.main.known_as)
-        (program_of (tree_of script.now)) }
+    requires weight { weight
+        ≡ linked_weight (library_on scope.shelves) (main_name scope.main) (program_in script.now) }
     requires small { weight ≤ greatest_weight }
-    ensures compiled { IfOk result
-        (λ v. IsCompiled (library_of (scripts_of scope.entry.shelves))
-        (option_map (λ s. s.now) scope.entry.main.known_as) (program_of (tree_of script.now)) v) }
+    ensures compiled { IfOk result (IsCompiled (library_on scope.entry.shelves)
+        (main_name scope.entry.main) (program_in script.now)) }
     ensures once { IfOk result (λ v. NamesOnce v) }
     ensures refused { IfErr result (λ f. f ≡ NoMemory) }
 {
@@ -111,11 +107,8 @@ fn build(
 
 /// The weight of a script and all that it includes; none where it is above 60,000.
 fn weigh(script: &Script, scope: Scope<'_>) -> Option<u32>
-    ensures { MatchOption result
-        (greatest_weight < linked_weight (library_of (scripts_of scope.entry.shelves))
-        (option_map (λ s. s.now) scope.entry.main.known_as) (program_of (tree_of script.now))) (λ w. (w ≡
-        linked_weight (library_of (scripts_of scope.entry.shelves)) (option_map (λ s. s.now) scope.entry.main.known_as)
-        (program_of (tree_of script.now))) × (w ≤ greatest_weight)) }
+    ensures { IsWeightUpTo greatest_weight (linked_weight (library_on scope.entry.shelves)
+        (main_name scope.entry.main) (program_in script.now)) result }
 {
     let includes: Includes<'_, MainScript<'_>, Levels> = Includes {
         scope,
@@ -145,13 +138,11 @@ pub fn compile(
     known_as: Option<&[u8]>,
     library: &Library,
 ) -> Result<Verified, GenFault>
-    ensures compiled { IfOk result
-        (λ v. IsCompiled (library_of library.now) (option_map (λ s. s.now) known_as.entry)
-        (program_of (tree_of main.now.script)) v) }
+    ensures compiled { IfOk result (IsCompiled (library_of library.now)
+        (option_copied known_as.entry) (program_in main.now.script)) }
     ensures once { IfOk result (λ v. NamesOnce v) }
-    ensures too_large { result ≢ Err NoMemory → result ≡ Err TooLarge ↔
-        IsTooHeavy (library_of library.now) (option_map (λ s. s.now) known_as.entry)
-        (program_of (tree_of main.now.script)) }
+    ensures too_large { result ≢ Err NoMemory → result ≡ Err TooLarge ↔ IsTooHeavy
+        (library_of library.now) (option_copied known_as.entry) (program_in main.now.script) }
 {
     compile_with(alloc, main, known_as, library.shelves())
 }
@@ -164,13 +155,11 @@ pub fn compile_with(
     known_as: Option<&[u8]>,
     shelves: Shelves<'_>,
 ) -> Result<Verified, GenFault>
-    ensures compiled { IfOk result
-        (λ v. IsCompiled (library_of (scripts_of shelves.entry)) (option_map (λ s. s.now) known_as.entry)
-        (program_of (tree_of main.now.script)) v) }
+    ensures compiled { IfOk result (IsCompiled (library_on shelves.entry)
+        (option_copied known_as.entry) (program_in main.now.script)) }
     ensures once { IfOk result (λ v. NamesOnce v) }
-    ensures too_large { result ≢ Err NoMemory → result ≡ Err TooLarge ↔
-        IsTooHeavy (library_of (scripts_of shelves.entry)) (option_map (λ s. s.now) known_as.entry)
-        (program_of (tree_of main.now.script)) }
+    ensures too_large { result ≢ Err NoMemory → result ≡ Err TooLarge ↔ IsTooHeavy
+        (library_on shelves.entry) (option_copied known_as.entry) (program_in main.now.script) }
 {
     let script = main.script();
     let scope = Scope {

@@ -2,18 +2,16 @@
 //! a procedure.
 
 ghost use Rattle.std.specs.Prelude.{◌≡◌, ◌≢◌, ◌↔◌, ◌<◌, ◌≤◌, length, Err, IfOk};
-ghost use Rattle.std.specs.Option.{option_map};
-ghost use Rattle.sieve_syntax.specs.View.{tree_of};
 ghost use Rattle.sieve_meaning.specs.Procedures.{most_procedures};
 ghost use Rattle.sieve_meaning.specs.Program.{Commands};
-ghost use Rattle.sieve_meaning.specs.Reading.{program_of};
 ghost use Rattle.sieve_meaning.specs.TooHeavy.{IsTooHeavy};
 ghost use Rattle.sieve_meaning.specs.Weight.{greatest_weight, linked_weight};
-ghost use Rattle.script_library.specs.BorrowedShelves.{scripts_of};
-ghost use Rattle.script_library.specs.Libraries.{library_of};
+ghost use Rattle.script_library.specs.BorrowedShelves.{scripts_of, library_on};
 ghost use Rattle.script_procedures.specs.ProcedureCode.{AreProcedures};
 ghost use Rattle.filing_gen.specs.Correct.{IsCompiled, NamesOnce};
 ghost use Rattle.filing_gen.specs.declared.fault.GenFault.TheVariants.{NoMemory, TooLarge};
+ghost use Rattle.script_library.specs.Libraries.{program_in};
+ghost use Rattle.filing_gen.specs.Scopes.{main_name, ForHeavyMain};
 
 use crate::chain::MainScript;
 use crate::emit_procedures::emit_procedures;
@@ -34,22 +32,15 @@ fn build_procedures<'a>(
     main: MainScript<'a>,
     procedures: Vec<Procedure<'a>>,
 ) -> Result<Verified, GenFault>
-    requires are { (x : Commands) × AreProcedures (scripts_of reach.now.shelves) (option_map (λ s. s.now) main.known_as)
-        x procedures.items }
+    requires are { (x : Commands)
+        × AreProcedures (scripts_of reach.now.shelves) (main_name main) x procedures.items }
     requires few { length procedures.items ≤ most_procedures }
-    ensures compiled { (x : Commands) →
-        AreProcedures (scripts_of reach.now.shelves) (option_map (λ s. s.now) main.entry.known_as) x
-        procedures.entry.items → greatest_weight <
-        linked_weight (library_of (scripts_of reach.now.shelves)) (option_map (λ s. s.now) main.entry.known_as) x →
-        IfOk result
-        (λ v. IsCompiled (library_of (scripts_of reach.now.shelves)) (option_map (λ s. s.now) main.entry.known_as) x v) }
+    ensures compiled { ForHeavyMain reach.now.shelves main.entry procedures.entry.items
+        (λ lib known_as script. IfOk result (IsCompiled lib known_as script)) }
     ensures once { IfOk result (λ v. NamesOnce v) }
-    ensures too_large { (x : Commands) →
-        AreProcedures (scripts_of reach.now.shelves) (option_map (λ s. s.now) main.entry.known_as) x
-        procedures.entry.items → greatest_weight <
-        linked_weight (library_of (scripts_of reach.now.shelves)) (option_map (λ s. s.now) main.entry.known_as) x →
-        result ≢ Err NoMemory → result ≡ Err TooLarge ↔
-        IsTooHeavy (library_of (scripts_of reach.now.shelves)) (option_map (λ s. s.now) main.entry.known_as) x }
+    ensures too_large { ForHeavyMain reach.now.shelves main.entry procedures.entry.items
+        (λ lib known_as script. result ≢ Err NoMemory → result ≡ Err TooLarge
+        ↔ IsTooHeavy lib known_as script) }
 {
     let Some(weight) = shared_weight(procedures.as_slice()) else {
         return Err(GenFault::TooLarge);
@@ -70,16 +61,13 @@ fn build_reached<'a>(
     script: &'a Script,
     main: MainScript<'a>,
 ) -> Result<Verified, GenFault>
-    requires { greatest_weight <
-        linked_weight (library_of (scripts_of reach.now.shelves)) (option_map (λ s. s.now) main.known_as)
-        (program_of (tree_of script.now)) }
+    requires { greatest_weight
+        < linked_weight (library_on reach.now.shelves) (main_name main) (program_in script.now) }
     ensures compiled { IfOk result
-        (λ v. IsCompiled (library_of (scripts_of reach.now.shelves)) (option_map (λ s. s.now) main.entry.known_as)
-        (program_of (tree_of script.now)) v) }
+        (IsCompiled (library_on reach.now.shelves) (main_name main.entry) (program_in script.now)) }
     ensures once { IfOk result (λ v. NamesOnce v) }
-    ensures too_large { result ≢ Err NoMemory → result ≡ Err TooLarge ↔
-        IsTooHeavy (library_of (scripts_of reach.now.shelves)) (option_map (λ s. s.now) main.entry.known_as)
-        (program_of (tree_of script.now)) }
+    ensures too_large { result ≢ Err NoMemory → result ≡ Err TooLarge
+        ↔ IsTooHeavy (library_on reach.now.shelves) (main_name main.entry) (program_in script.now) }
 {
     match procedures(alloc, reach, script, main.known_as)? {
         None => Err(GenFault::TooLarge),
@@ -94,16 +82,13 @@ pub fn build_shared<'a>(
     script: &'a Script,
     scope: Scope<'a>,
 ) -> Result<Verified, GenFault>
-    requires { greatest_weight <
-        linked_weight (library_of (scripts_of scope.shelves)) (option_map (λ s. s.now) scope.main.known_as)
-        (program_of (tree_of script.now)) }
-    ensures compiled { IfOk result
-        (λ v. IsCompiled (library_of (scripts_of scope.entry.shelves))
-        (option_map (λ s. s.now) scope.entry.main.known_as) (program_of (tree_of script.now)) v) }
+    requires { greatest_weight
+        < linked_weight (library_on scope.shelves) (main_name scope.main) (program_in script.now) }
+    ensures compiled { IfOk result (IsCompiled (library_on scope.entry.shelves)
+        (main_name scope.entry.main) (program_in script.now)) }
     ensures once { IfOk result (λ v. NamesOnce v) }
-    ensures too_large { result ≢ Err NoMemory → result ≡ Err TooLarge ↔
-        IsTooHeavy (library_of (scripts_of scope.entry.shelves)) (option_map (λ s. s.now) scope.entry.main.known_as)
-        (program_of (tree_of script.now)) }
+    ensures too_large { result ≢ Err NoMemory → result ≡ Err TooLarge ↔ IsTooHeavy
+        (library_on scope.entry.shelves) (main_name scope.entry.main) (program_in script.now) }
 {
     let reach = Reach::of(alloc, scope.shelves)?;
     build_reached(alloc, &reach, script, scope.main)

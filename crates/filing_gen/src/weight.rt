@@ -1,12 +1,14 @@
 //! The weight of a script: a bound on the size of its code. What may still be weighed is passed along as `left`, and
 //! weighing stops as soon as a part is heavier than that, whatever follows.
 
-ghost use Rattle.std.specs.Prelude.{◌≡◌, ◌+◌, ◌*◌, ◌<◌, ◌≤◌, length, map, false, MatchOption};
+ghost use Rattle.std.specs.Prelude.{◌+◌, ◌*◌, ◌<◌, length, false};
 ghost use Rattle.sieve_syntax.specs.Arguments.{others_of};
-ghost use Rattle.sieve_syntax.specs.View.{test_of, inner_of, command_of, commands_of, ending_of, tree_of};
-ghost use Rattle.sieve_meaning.specs.Reading.{test_in, only_in, tests_in, string_lists, exists_of, header_of, comparator_from, match_type as match_type_of, block_in, program_of};
+ghost use Rattle.sieve_syntax.specs.View.{test_of, inner_of, command_of, ending_of};
+ghost use Rattle.sieve_meaning.specs.Reading.{test_in, only_in, tests_in, string_lists, exists_of, block_in};
 ghost use Rattle.sieve_meaning.specs.Weight.{test_weight, tests_weight, weight};
-ghost use Rattle.filing_gen.specs.Weights.{IsLeft, plain_weight, part_weight};
+ghost use Rattle.filing_gen.specs.Weights.{IsLeft, plain_weight, part_weight, IsWeightUpTo};
+ghost use Rattle.script_library.specs.Libraries.{program_in, listed_program};
+ghost use Rattle.filing_gen.specs.Emission.{header_in};
 
 use crate::linker::Weights;
 use sieve_meaning::branches::{BranchPart, is_branch, part_in};
@@ -43,9 +45,7 @@ fn weigh_exists(arguments: &[Argument], left: u32) -> Option<u32>
 
 /// Subtracts 4, 2 for each name of a `header`, and 3 for each of its keys.
 fn weigh_header(arguments: &[Argument], left: u32) -> Option<u32>
-    ensures { IsLeft left (test_weight
-        (header_of (match_type_of arguments.now) (comparator_from false arguments.now)
-        (string_lists false arguments.now))) result }
+    ensures { IsLeft left (test_weight (header_in arguments.now)) result }
 {
     let left = left.checked_sub(4)?;
     let Some((names, rest)) = next_string_list(arguments) else {
@@ -160,8 +160,8 @@ fn weigh_part<L: Weights>(linker: &L, command: &Command, part: BranchPart, left:
 /// Subtracts the weight of commands; none where it is more than `left`.
 #[cycle(weights)]
 pub fn weigh_commands<L: Weights>(linker: &L, commands: &Vec<Command>, left: u32) -> Option<u32>
-    ensures { IsLeft left (weight (L.weight_of linker.now)
-        (program_of (commands_of (map command_of commands.now.items)))) result }
+    ensures { IsLeft left
+        (weight (L.weight_of linker.now) (listed_program commands.now.items)) result }
 {
     let mut rest = left;
     // Whether an `elsif` or `else` would continue the commands before it.
@@ -177,8 +177,8 @@ pub fn weigh_commands<L: Weights>(linker: &L, commands: &Vec<Command>, left: u32
 /// The weight of a script and all that it includes, and 1; none where that is above `greatest`. For a checked script,
 /// time is linear in the weight, or in `greatest` where that is less.
 pub fn script_weight<L: Weights>(linker: &L, script: &Script, greatest: u32) -> Option<u32>
-    ensures { MatchOption result (greatest < weight (L.weight_of linker.now) (program_of (tree_of script.now)) + 1)
-        (λ w. (w ≡ weight (L.weight_of linker.now) (program_of (tree_of script.now)) + 1) × (w ≤ greatest)) }
+    ensures { IsWeightUpTo greatest
+        (weight (L.weight_of linker.now) (program_in script.now) + 1) result }
 {
     let left = weigh_commands(linker, &script.commands, greatest.checked_sub(1)?)?;
     Some(greatest - left)

@@ -1,13 +1,15 @@
 -- The scripts that can be included (RFC 6609, section 3.2), each by its name: those of the user (`:personal`) and those
 -- of the site (`:global`).
-use Rattle.std.specs.Prelude.{◌≡◌, ℕ, ◌≤◌, List, [], ◌∷◌, length, Bool, true, false, if◌then◌else◌, Option, Some, None, option_map, find, refl}
+use Rattle.std.specs.Prelude.{◌≡◌, ℕ, ◌≤◌, List, [], ◌∷◌, length, map, Bool, true, false, if◌then◌else◌, Option, Some, None, option_map, find, refl}
 use Rattle.std.specs.List.{position_or_len}
 use Rattle.std.specs.Str.{bytes_eq}
 use Rattle.std.specs.Coded.{Coded, code_by, coded×, coded_list, coded_ℕ}
 use Rattle.sieve_syntax.specs.declared.tree.Script.{Script}
 use Rattle.sieve_syntax.specs.contracts.tree.Script as kept
-use Rattle.sieve_syntax.specs.View.{tree_of}
-use Rattle.sieve_meaning.specs.Meaning.{Library}
+use Rattle.sieve_syntax.specs.declared.tree.Command.{Command}
+use Rattle.sieve_syntax.specs.View.{command_of, commands_of, tree_of}
+use Rattle.sieve_meaning.specs.Meaning.{Library, ScriptName}
+use Rattle.sieve_meaning.specs.Program.{Commands}
 use Rattle.sieve_meaning.specs.Reading.{program_of}
 use Rattle.script_library.specs.declared.fault.LibraryFault.{LibraryFault}
 use Rattle.script_library.specs.declared.fault.LibraryFault.TheVariants.{Full, NoMemory}
@@ -82,6 +84,18 @@ no_scripts = record { personal = []; global = [] }
 abbrev pub location_of : (global : Bool) → Scripts → List NamedScript
 location_of true l = l.global
 location_of false l = l.personal
+
+-- the script of a name, in the location that the name says
+abbrev pub found_script : Scripts → ScriptName → Option Script
+found_script l s = script_under s.name (location_of s.global l)
+
+-- the program that a script spells
+abbrev pub program_in : Script → Commands
+program_in s = program_of (tree_of s)
+
+-- the program that the commands of a list spell, one after the other
+abbrev pub listed_program : List Command → Commands
+listed_program cs = program_of (commands_of (map command_of cs))
 
 -- what an include finds (RFC 6609, section 3.2): a global name among the global scripts, another among the personal
 -- ones

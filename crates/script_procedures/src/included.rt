@@ -2,13 +2,13 @@
 
 ghost use Rattle.std.specs.Prelude.{◌≡◌, map, IfOk, OnOk};
 ghost use Rattle.std.specs.List.{list_any};
-ghost use Rattle.sieve_syntax.specs.View.{command_of, commands_of, ending_of, tree_of};
-ghost use Rattle.sieve_meaning.specs.Reading.{block_in, program_of};
+ghost use Rattle.sieve_syntax.specs.View.{command_of, ending_of};
+ghost use Rattle.sieve_meaning.specs.Reading.{block_in};
 ghost use Rattle.sieve_meaning.specs.Meaning.{same_script, script_named};
 ghost use Rattle.sieve_meaning.specs.Scripts.{include_view, script_of};
-ghost use Rattle.script_library.specs.BorrowedShelves.{scripts_of};
-ghost use Rattle.script_library.specs.Libraries.{library_of};
 ghost use Rattle.script_procedures.specs.IncludedScripts.{with_name, with_part, with_included, names_there};
+ghost use Rattle.script_library.specs.BorrowedShelves.{library_on};
+ghost use Rattle.script_library.specs.Libraries.{program_in, listed_program};
 
 use crate::slots::find_script;
 use script_library::Shelves;
@@ -31,7 +31,7 @@ fn add_include<'a>(
     include: Include<'a>,
     names: &mut Vec<ScriptName<'a>>,
 ) -> Result<(), AllocError>
-    ensures { OnOk result (map script_of names.new.items ≡ with_name (library_of (scripts_of shelves.entry))
+    ensures { OnOk result (map script_of names.new.items ≡ with_name (library_on shelves.entry)
         (map script_of names.old.items) (script_named (include_view include.entry))) }
 {
     if find_script(shelves, &include.script).is_some() && !is_listed(names, &include.script) {
@@ -47,7 +47,7 @@ fn add_block<'a>(
     ending: &'a Ending,
     names: &mut Vec<ScriptName<'a>>,
 ) -> Result<(), AllocError>
-    ensures { OnOk result (map script_of names.new.items ≡ with_included (library_of (scripts_of shelves.entry))
+    ensures { OnOk result (map script_of names.new.items ≡ with_included (library_on shelves.entry)
         (block_in (ending_of ending.now)) (map script_of names.old.items)) }
 {
     match ending {
@@ -64,8 +64,8 @@ fn add_part<'a>(
     part: BranchPart,
     names: &mut Vec<ScriptName<'a>>,
 ) -> Result<(), AllocError>
-    ensures { OnOk result (map script_of names.new.items ≡ with_part (library_of (scripts_of shelves.entry))
-        part (command_of command.now) (map script_of names.old.items)) }
+    ensures { OnOk result (map script_of names.new.items ≡ with_part (library_on shelves.entry) part
+        (command_of command.now) (map script_of names.old.items)) }
 {
     match part {
         BranchPart::Branch | BranchPart::Otherwise => add_block(shelves, &command.ending, names),
@@ -85,8 +85,8 @@ fn add_commands<'a>(
     commands: &'a Vec<Command>,
     names: &mut Vec<ScriptName<'a>>,
 ) -> Result<(), AllocError>
-    ensures { OnOk result (map script_of names.new.items ≡ with_included (library_of (scripts_of shelves.entry))
-        (program_of (commands_of (map command_of commands.now.items))) (map script_of names.old.items)) }
+    ensures { OnOk result (map script_of names.new.items ≡ with_included (library_on shelves.entry)
+        (listed_program commands.now.items) (map script_of names.old.items)) }
 {
     let mut is_open = false;
     for command in commands {
@@ -104,8 +104,8 @@ pub fn included_scripts<'a>(
     shelves: Shelves<'_>,
     script: &'a Script,
 ) -> Result<Vec<ScriptName<'a>>, AllocError>
-    ensures { IfOk result (λ names. map script_of names.items ≡
-        names_there (library_of (scripts_of shelves.entry)) (program_of (tree_of script.now))) }
+    ensures { IfOk result (λ names. map script_of names.items
+        ≡ names_there (library_on shelves.entry) (program_in script.now)) }
 {
     let mut names = Vec::new(alloc);
     add_commands(shelves, &script.commands, &mut names)?;

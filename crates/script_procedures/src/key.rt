@@ -41,9 +41,9 @@ pub fn slots_of_active(shelves: Shelves<'_>, chain: &[ScriptName<'_>]) -> SlotSe
 /// Whether includes with these keys share a procedure: they enter the same script, as many scripts are active, and the
 /// script reaches the same of these.
 pub fn are_shared(reach: &Reach<'_>, key: Key, other: Key) -> bool
-    ensures { (p q : Procedure) → IsEnteredKey (scripts_of reach.now.shelves) key p →
-        IsEnteredKey (scripts_of reach.now.shelves) other q →
-        result ≡ is_shared (library_of (scripts_of reach.now.shelves)) p q }
+    ensures { let l = scripts_of reach.now.shelves in
+        (p q : Procedure) → IsEnteredKey l key p → IsEnteredKey l other q
+        → result ≡ is_shared (library_of l) p q }
 {
     let (Some(slot), Some(other_slot)) = (key.slot, other.slot) else {
         return false;

@@ -1,14 +1,12 @@
 //! The procedures of a main script, level by level: those of a level call those of the next.
 
-ghost use Rattle.std.specs.Prelude.{◌≡◌, ◌<◌, ◌≤◌, ◌-◌, ℕ, suc, map, length, option_map, IfOk, OnOk, MatchBool, MatchOption, IfSome};
+ghost use Rattle.std.specs.Prelude.{◌≡◌, ◌<◌, ◌≤◌, ◌-◌, ℕ, suc, length, IfOk, OnOk, IfSome, option_copied};
 ghost use Rattle.std.specs.List.{All};
-ghost use Rattle.sieve_syntax.specs.View.{tree_of};
-ghost use Rattle.sieve_meaning.specs.Reading.{program_of};
-ghost use Rattle.sieve_meaning.specs.Procedures.{entry, called_by, procedures, most_procedures};
+ghost use Rattle.sieve_meaning.specs.Procedures.{procedures, most_procedures};
 ghost use Rattle.sieve_meaning.specs.Scripts.{script_of};
 ghost use Rattle.script_library.specs.BorrowedShelves.{scripts_of};
-ghost use Rattle.script_library.specs.Libraries.{library_of};
-ghost use Rattle.script_procedures.specs.ProcedureCode.{names_of, procedure_of, HasKey, IsEntered, with_procedure, with_procedures, entered_by, AreProcedures};
+ghost use Rattle.script_procedures.specs.ProcedureCode.{HasKey, IsEntered, with_entered, with_all_entered, called_from, MadeUnlessMore, GivenUnlessMore, ProceduresUnlessMore};
+ghost use Rattle.script_library.specs.Libraries.{program_in};
 
 use crate::included::included_scripts;
 use crate::procedure::{MAX_FURTHER, Procedure, is_made, main_procedure};
@@ -37,10 +35,8 @@ fn enter<'a>(
     requires few { length next.old.items ≤ room }
     ensures each { OnOk result (All (IsEntered (scripts_of reach.now.shelves)) next.new.items) }
     ensures few { OnOk result (length next.new.items ≤ room) }
-    ensures made { let lib = library_of (scripts_of reach.now.shelves) in
-        let all = with_procedure lib (map procedure_of next.old.items)
-        (entry lib (caller.now.key.left - 1) (names_of caller.now) (script_of name.now)) in
-        IfOk result (λ b. MatchBool b (map procedure_of next.new.items ≡ all) (room < length all)) }
+    ensures made { IfOk result (MadeUnlessMore room (with_entered reach.now.shelves next.old.items
+        caller.now (script_of name.now)) next.new.items) }
 {
     if caller.contains(name) {
         return Ok(true);
@@ -74,9 +70,8 @@ fn enter_included<'a>(
     requires few { length next.old.items ≤ room }
     ensures each { OnOk result (All (IsEntered (scripts_of reach.now.shelves)) next.new.items) }
     ensures few { OnOk result (length next.new.items ≤ room) }
-    ensures made { let lib = library_of (scripts_of reach.now.shelves) in
-        let all = with_procedures lib (map procedure_of next.old.items) (entered_by lib (procedure_of caller.now)) in
-        IfOk result (λ b. MatchBool b (map procedure_of next.new.items ≡ all) (room < length all)) }
+    ensures made { IfOk result (MadeUnlessMore room
+        (with_all_entered reach.now.shelves next.old.items caller.now) next.new.items) }
 {
     let names = included_scripts(alloc, reach.shelves, caller.script)?;
     for name in &names {
@@ -98,9 +93,8 @@ fn called<'a>(
     requires keys { All (HasKey (scripts_of reach.now.shelves)) level.now }
     ensures each { IfOk result (λ o. IfSome o (λ next. All (IsEntered (scripts_of reach.now.shelves)) next.items)) }
     ensures few { IfOk result (λ o. IfSome o (λ next. length next.items ≤ room)) }
-    ensures made { (left : ℕ) → All (λ p. p.key.left ≡ suc left) level.now →
-        let all = called_by (library_of (scripts_of reach.now.shelves)) left (map procedure_of level.now) in
-        IfOk result (λ o. MatchOption o (room < length all) (λ next. map procedure_of next.items ≡ all)) }
+    ensures made { (left : ℕ) → All (λ p. p.key.left ≡ suc left) level.now
+        → IfOk result (GivenUnlessMore room (called_from reach.now.shelves left level.now)) }
 {
     let mut next = Vec::new(alloc);
     for caller in level {
@@ -121,11 +115,8 @@ pub fn procedures<'a>(
     known_as: Option<&'a [u8]>,
 ) -> Result<Option<Vec<Procedure<'a>>>, AllocError>
     ensures few { IfOk result (λ o. IfSome o (λ ps. length ps.items ≤ most_procedures)) }
-    ensures are { let l = scripts_of reach.now.shelves in
-        let name = option_map (λ s. s.now) known_as.entry in
-        IfOk result (λ o. MatchOption o
-        (most_procedures < length (procedures (library_of l) name (program_of (tree_of main.now))))
-        (λ ps. AreProcedures l name (program_of (tree_of main.now)) ps.items)) }
+    ensures are { IfOk result (ProceduresUnlessMore (scripts_of reach.now.shelves)
+        (option_copied known_as.entry) (program_in main.now)) }
 {
     let mut procedures = Vec::new(alloc);
     procedures.push(main_procedure(alloc, reach.shelves, main, known_as)?)?;

@@ -1,20 +1,17 @@
 //! Scripts as some includes run them.
 
-ghost use Rattle.std.specs.Prelude.{◌≡◌, ◌<◌, ◌-◌, ◌∷◌, Some, map, option_map, IfOk};
-ghost use Rattle.std.specs.List.{list_any, All};
-ghost use Rattle.sieve_syntax.specs.View.{tree_of};
-ghost use Rattle.sieve_meaning.specs.Program.{Commands};
-ghost use Rattle.sieve_meaning.specs.Reading.{program_of};
+ghost use Rattle.std.specs.Prelude.{◌≡◌, ◌<◌, ◌-◌, ◌∷◌, Some, map, IfOk, option_copied};
+ghost use Rattle.std.specs.List.{All};
 ghost use Rattle.sieve_meaning.specs.Meaning as meaning;
 ghost use Rattle.sieve_meaning.specs.Meaning.{is_among, main_names};
 ghost use Rattle.sieve_meaning.specs.Procedures as sharing;
-ghost use Rattle.sieve_meaning.specs.Procedures.{is_shared, main_procedure};
+ghost use Rattle.sieve_meaning.specs.Procedures.{main_procedure};
 ghost use Rattle.sieve_meaning.specs.Scripts.{script_of};
-ghost use Rattle.script_library.specs.BorrowedShelves.{scripts_of};
-ghost use Rattle.script_library.specs.Libraries.{Scripts, library_of};
-ghost use Rattle.script_procedures.specs.Keys.{IsKeyOf, IsEnteredKey};
-ghost use Rattle.script_procedures.specs.ProcedureCode.{names_of, procedure_of, number_of, HasKey, IsEntered};
-ghost use Rattle.script_procedures.specs.Slots.{slots_of};
+ghost use Rattle.script_library.specs.BorrowedShelves.{scripts_of, library_on};
+ghost use Rattle.script_library.specs.Libraries.{Scripts, program_in};
+ghost use Rattle.script_procedures.specs.Keys.{IsEnteredKey};
+ghost use Rattle.script_procedures.specs.ProcedureCode.{names_of, procedure_of, number_of, HasKey, IsEntered, has_shared, entered_from, shared_number};
+ghost use Rattle.script_procedures.specs.Slots.{ForScriptAt};
 
 use crate::key::{Key, are_shared, slots_of_active};
 use crate::reach::Reach;
@@ -47,9 +44,8 @@ impl<'a> Procedure<'a> {
     pub fn key_of_entry(&self, slot: usize) -> Key
         requires left { 0 < self.now.key.left }
         requires slot { slot < 64 }
-        ensures { (l : Scripts) (s : meaning.ScriptName) (x : Commands) → (library_of l).find s ≡ Some x →
-            slots_of l s ≡ slot → IsKeyOf l self.now.key (procedure_of self.now) →
-            IsEnteredKey l result (record { script = x; left = self.now.key.left - 1; chain = s ∷ names_of self.now }) }
+        ensures { (l : Scripts) → ForScriptAt l slot
+            (λ s x. HasKey l self.now → IsEnteredKey l result (entered_from self.now s x)) }
     {
         Key {
             slot: Some(slot),
@@ -84,7 +80,7 @@ fn main_names<'a>(
     alloc: Global,
     known_as: Option<&'a [u8]>,
 ) -> Result<Vec<ScriptName<'a>>, AllocError>
-    ensures { IfOk result (λ v. map script_of v.items ≡ main_names (option_map (λ s. s.now) known_as.entry)) }
+    ensures { IfOk result (λ v. map script_of v.items ≡ main_names (option_copied known_as.entry)) }
 {
     let mut names = Vec::new(alloc);
     if let Some(name) = known_as {
@@ -104,8 +100,8 @@ pub fn main_procedure<'a>(
     known_as: Option<&'a [u8]>,
 ) -> Result<Procedure<'a>, AllocError>
     ensures key { IfOk result (HasKey (scripts_of shelves.entry)) }
-    ensures is { IfOk result (λ p. procedure_of p ≡
-        main_procedure (option_map (λ s. s.now) known_as.entry) (program_of (tree_of main.now))) }
+    ensures is { IfOk result (λ p. procedure_of p
+        ≡ main_procedure (option_copied known_as.entry) (program_in main.now)) }
 {
     let chain = main_names(alloc, known_as)?;
     let key = Key {
@@ -123,8 +119,8 @@ pub fn main_procedure<'a>(
 /// Whether includes share one of these procedures with those that have this key.
 pub fn is_made(reach: &Reach<'_>, procedures: &[Procedure<'_>], key: Key) -> bool
     requires { All (IsEntered (scripts_of reach.now.shelves)) procedures.now }
-    ensures { (e : sharing.Procedure) → IsEnteredKey (scripts_of reach.now.shelves) key e →
-        result ≡ list_any (λ p. is_shared (library_of (scripts_of reach.now.shelves)) (procedure_of p) e) procedures.now }
+    ensures { (e : sharing.Procedure) → IsEnteredKey (scripts_of reach.now.shelves) key e
+        → result ≡ has_shared (library_on reach.now.shelves) procedures.now e }
 {
     number_of(reach, procedures, key).is_some()
 }
@@ -133,8 +129,8 @@ pub fn is_made(reach: &Reach<'_>, procedures: &[Procedure<'_>], key: Key) -> boo
 /// such procedure.
 pub fn number_of(reach: &Reach<'_>, procedures: &[Procedure<'_>], key: Key) -> Option<usize>
     requires { All (IsEntered (scripts_of reach.now.shelves)) procedures.now }
-    ensures { (e : sharing.Procedure) → IsEnteredKey (scripts_of reach.now.shelves) key e →
-        result ≡ number_of (library_of (scripts_of reach.now.shelves)) (map procedure_of procedures.now) e }
+    ensures { (e : sharing.Procedure) → IsEnteredKey (scripts_of reach.now.shelves) key e
+        → result ≡ shared_number (library_on reach.now.shelves) procedures.now e }
 {
     for (number, procedure) in procedures.iter().enumerate() {
         if are_shared(reach, procedure.key, key) {

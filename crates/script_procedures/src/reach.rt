@@ -1,18 +1,13 @@
 //! Which scripts a script reaches: those that it includes, and those that these reach.
 
-ghost use Rattle.std.specs.Prelude.{◌≡◌, ◌<◌, ◌≤◌, ◌||◌, ℕ, Some, Bool, length, map, filter, option_map, nat_eq, slice_get, IfOk};
-ghost use Rattle.std.specs.List.{list_any, All};
-ghost use Rattle.sieve_syntax.specs.View.{tree_of};
-ghost use Rattle.sieve_meaning.specs.Reading.{program_of};
-ghost use Rattle.sieve_meaning.specs.Program.{Commands};
+ghost use Rattle.std.specs.Prelude.{◌≡◌, ◌<◌, ◌≤◌, ℕ, Some, length, map, filter, slice_get, IfOk};
 ghost use Rattle.sieve_meaning.specs.Meaning as meaning;
 ghost use Rattle.sieve_meaning.specs.Procedures.{reaches};
 ghost use Rattle.sieve_meaning.specs.Scripts.{script_of};
-ghost use Rattle.script_library.specs.BorrowedShelves.{scripts_of};
-ghost use Rattle.script_library.specs.Libraries.{library_of};
+ghost use Rattle.script_library.specs.BorrowedShelves.{scripts_of, library_on};
 ghost use Rattle.script_procedures.specs.IncludedScripts.{is_there};
 ghost use Rattle.script_procedures.specs.Sets.{has};
-ghost use Rattle.script_procedures.specs.Slots.{HasSlots, slots_of};
+ghost use Rattle.script_procedures.specs.Slots.{HasSlots, slots_on};
 ghost use Rattle.script_procedures.specs.ReachTables.{has_at, further, IsRow, AreRows, AreFurther, ReachIs};
 
 use crate::included::included_scripts;
@@ -31,8 +26,8 @@ fn slots_of_names(
     shelves: Shelves<'_>,
     names: &[ScriptName<'_>],
 ) -> Result<Vec<usize>, AllocError>
-    ensures { IfOk result (λ v. v.items ≡ map (slots_of (scripts_of shelves.entry))
-        (filter (is_there (library_of (scripts_of shelves.entry))) (map script_of names.now))) }
+    ensures { IfOk result (λ v. v.items ≡ map (slots_on shelves.entry)
+        (filter (is_there (library_on shelves.entry)) (map script_of names.now))) }
 {
     let mut slots = Vec::with_capacity(alloc, names.len())?;
     for name in names {
@@ -112,7 +107,7 @@ fn reached_sets(
     shelves: Shelves<'_>,
     count: usize,
 ) -> Result<Vec<SlotSet>, AllocError>
-    requires { HasSlots (library_of (scripts_of shelves)) (slots_of (scripts_of shelves)) count }
+    requires { HasSlots (library_on shelves) (slots_on shelves) count }
     ensures long { IfOk result (λ v. length v.items ≡ count) }
     ensures reaches { IfOk result (λ v. ReachIs (scripts_of shelves.entry) v.items) }
 {
@@ -131,7 +126,7 @@ pub struct Reach<'a> {
     /// The smallest number of slots that is enough for the scripts.
     slots: u16,
     sets: Vec<SlotSet>,
-    ghost has_slots: { HasSlots (library_of (scripts_of shelves)) (slots_of (scripts_of shelves)) slots },
+    ghost has_slots: { HasSlots (library_on shelves) (slots_on shelves) slots },
     ghost long: { length sets.items ≡ slots },
     ghost reaches: { ReachIs (scripts_of shelves) sets.items },
 }

@@ -1,12 +1,10 @@
 //! The slots of the scripts that can be included: a script is marked at its slot when it is entered.
 
 ghost use Rattle.std.specs.Prelude.{◌≡◌, ◌<◌, ◌≤◌, ℕ, IfSome, option_map};
-ghost use Rattle.sieve_syntax.specs.View.{tree_of};
-ghost use Rattle.sieve_meaning.specs.Reading.{program_of};
-ghost use Rattle.sieve_meaning.specs.Scripts.{is_global, script_of};
-ghost use Rattle.script_library.specs.BorrowedShelves.{scripts_of};
-ghost use Rattle.script_library.specs.Libraries.{script_under, location_of, library_of};
-ghost use Rattle.script_procedures.specs.Slots.{slots_of, HasSlots, IsAt};
+ghost use Rattle.sieve_meaning.specs.Scripts.{script_of};
+ghost use Rattle.script_library.specs.BorrowedShelves.{scripts_of, library_on};
+ghost use Rattle.script_procedures.specs.Slots.{HasSlots, IsAt, slots_on};
+ghost use Rattle.script_library.specs.Libraries.{program_in, found_script};
 
 use script_library::{MAX_SCRIPTS, Shelves};
 use sieve_check::Checked;
@@ -18,9 +16,9 @@ pub fn find_script<'a>(
     shelves: Shelves<'a>,
     script: &ScriptName<'_>,
 ) -> Option<(usize, &'a Checked)>
-    ensures script { option_map (λ f. f.1.now.script) result ≡
-        script_under script.now.name.now (location_of (is_global script.now.location) (scripts_of shelves.entry)) }
-    ensures slot { IfSome result (λ f. f.0 ≡ slots_of (scripts_of shelves.entry) (script_of script.now)) }
+    ensures script { option_map (λ f. f.1.now.script) result
+        ≡ found_script (scripts_of shelves.entry) (script_of script.now) }
+    ensures slot { IfSome result (λ f. f.0 ≡ slots_on shelves.entry (script_of script.now)) }
     ensures inside { IfSome result (λ f. f.0 < 64) }
 {
     match script.location {
@@ -34,7 +32,8 @@ pub fn find_script<'a>(
 
 /// The script of a slot; none where no script has it.
 pub fn script_at<'a>(shelves: Shelves<'a>, slot: usize) -> Option<&'a Checked>
-    ensures { IsAt (scripts_of shelves.entry) slot (option_map (λ c. program_of (tree_of c.now.script)) result) }
+    ensures { IsAt (scripts_of shelves.entry) slot
+        (option_map (λ c. program_in c.now.script) result) }
 {
     let personal = shelves.personal.at(slot);
     if slot < MAX_SCRIPTS {
@@ -45,9 +44,9 @@ pub fn script_at<'a>(shelves: Shelves<'a>, slot: usize) -> Option<&'a Checked>
 
 /// The smallest number of slots that is enough for the scripts: 0 where there is no script, and at most 64.
 pub fn slot_count(shelves: Shelves<'_>) -> u16
-    ensures enough { HasSlots (library_of (scripts_of shelves.entry)) (slots_of (scripts_of shelves.entry)) result }
-    ensures fewest { (n : ℕ) →
-        HasSlots (library_of (scripts_of shelves.entry)) (slots_of (scripts_of shelves.entry)) n → result ≤ n }
+    ensures enough { HasSlots (library_on shelves.entry) (slots_on shelves.entry) result }
+    ensures fewest { (n : ℕ) → HasSlots (library_on shelves.entry) (slots_on shelves.entry) n
+        → result ≤ n }
 {
     let personal = shelves.personal.len();
     let global = shelves.global.len();

@@ -1,4 +1,4 @@
-use Rattle.std.proofs.Common.{◌≡◌, ℕ, ◌+◌, [], ◌∷◌, List, refl, false, codes, inl, inr, arith, ap, map, subst, sym, ◌∙◌}
+use Rattle.std.proofs.Common.{◌≡◌, ℕ, [], ◌∷◌, List, refl, false, codes, inl, inr, arith, ap, map, subst, sym, ◌∙◌}
 use Rattle.std.proofs.lemmas.Result.{on_ok_weaker}
 use Rattle.sieve_syntax.specs.View.{test_of, inner_of}
 use Rattle.sieve_syntax.proofs.Views.{inner_of-None, inner_of-One, inner_of-Listed}

@@ -1,4 +1,4 @@
-use Rattle.std.proofs.Common.{◌≡◌, ◌+◌, ◌<◌, List, [], ◌∷◌, ◌∙◌, sym, refl, subst, arith}
+use Rattle.std.proofs.Common.{List, [], ◌∷◌, ◌∙◌, sym, refl, subst, arith}
 use Rattle.std.proofs.lemmas.Result.{on_ok_weaker}
 use Rattle.sieve_syntax.specs.Arguments.{strings_of}
 use Rattle.sieve_syntax.specs.declared.tree.StringList.{StringList}

@@ -1,4 +1,4 @@
-use Rattle.std.proofs.Common.{◌≡◌, ◌+◌, ◌<◌, [], ◌∷◌, ap, ◌∙◌, refl, subst, arith, true}
+use Rattle.std.proofs.Common.{◌≡◌, [], ◌∷◌, ap, ◌∙◌, refl, subst, arith, true}
 use Rattle.std.proofs.lemmas.Result.{on_ok_weaker}
 use Rattle.sieve_syntax.specs.Arguments.{first_of, others_of}
 use Rattle.filing_flow.specs.Structure.{Flow, size, action, sequence, leave_if, MatchKey}

@@ -1,4 +1,4 @@
-use Rattle.std.proofs.Common.{◌≡◌, ◌+◌, ◌<◌, refl, arith}
+use Rattle.std.proofs.Common.{refl, arith}
 use Rattle.filing_flow.specs.Structure.{Flow}
 use Rattle.filing_gen.specs.Names.{others_once, has_name}
 use Rattle.filing_gen.specs.BlockCode.{names_flow}

@@ -1,4 +1,4 @@
-use Rattle.std.proofs.Common.{◌≡◌, ◌+◌, ◌∷◌, [], refl, arith, ◌∙◌}
+use Rattle.std.proofs.Common.{◌+◌, ◌∷◌, [], refl, arith, ◌∙◌}
 use Rattle.std.proofs.lemmas.Result.{on_ok_weaker}
 use Rattle.sieve_syntax.specs.Arguments.{first_of, others_of}
 use Rattle.filing_flow.specs.Structure.{sequence, action, ValuesOf}

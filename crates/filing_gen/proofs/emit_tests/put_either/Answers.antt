@@ -1,4 +1,4 @@
-use Rattle.std.proofs.Common.{not, ◌∙◌, ◌+◌, arith}
+use Rattle.std.proofs.Common.{not, ◌+◌, arith}
 use Rattle.std.proofs.lemmas.Result.{on_ok_weaker}
 use Rattle.filing_gen.proofs.EmittedTests.{either_emitted}
 use Rattle.filing_gen.proofs.emit_tests.put_either.Goals as goal

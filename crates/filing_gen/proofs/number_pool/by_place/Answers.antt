@@ -1,4 +1,4 @@
-use Rattle.std.proofs.Common.{◌≡◌, ℕ, List, [], ◌∷◌, length, sym, ◌∙◌, subst, arith}
+use Rattle.std.proofs.Common.{◌≡◌, ℕ, List, [], ◌∷◌, length, sym, subst, arith}
 use Rattle.std.proofs.lemmas.Map.Iter.{rest_more, rest_all}
 use Rattle.filing_gen.proofs.Pools.{IsPlaced, placed_first, placed_last, placed_inside, number_placed, once_in_all}
 use Rattle.filing_gen.proofs.number_pool.by_place.Goals as goal

@@ -1,4 +1,4 @@
-use Rattle.std.proofs.Common.{◌≡◌, ◌<◌, ℕ, List, Option, Bor, ap, arith}
+use Rattle.std.proofs.Common.{◌≡◌, ℕ, List, Option, Bor, ap, arith}
 use Rattle.std.specs.Option.{option_map}
 use Rattle.std.proofs.lemmas.Result.{IfErr-at_err}
 use Rattle.sieve_syntax.specs.View.{tree_of}

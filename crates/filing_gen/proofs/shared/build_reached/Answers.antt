@@ -1,4 +1,4 @@
-use Rattle.std.proofs.Common.{◌<◌, ℕ, List, Option, Bor, refl}
+use Rattle.std.proofs.Common.{ℕ, List, Option, Bor, refl}
 use Rattle.std.specs.Option.{option_map}
 use Rattle.sieve_syntax.specs.View.{tree_of}
 use Rattle.sieve_meaning.specs.Reading.{program_of}

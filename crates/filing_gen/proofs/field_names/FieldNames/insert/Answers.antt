@@ -1,4 +1,4 @@
-use Rattle.std.proofs.Common.{◌≡◌, not, ap, ◌∙◌, ◌||◌}
+use Rattle.std.proofs.Common.{not, ap, ◌∙◌}
 use Rattle.filing_gen.specs.Names.{has_name}
 use Rattle.filing_gen.proofs.Names.{has_is, has_more}
 use Rattle.filing_gen.proofs.field_names.FieldNames.insert.Goals as goal

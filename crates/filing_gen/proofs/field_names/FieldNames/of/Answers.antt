@@ -1,4 +1,4 @@
-use Rattle.std.proofs.Common.{◌≡◌, ◌||◌, ap, ◌∙◌}
+use Rattle.std.proofs.Common.{◌||◌, ap, ◌∙◌}
 use Rattle.sieve_meaning.specs.Words.{same_word}
 use Rattle.filing_gen.specs.Names.{has_name}
 use Rattle.filing_gen.proofs.Names.{or_nothing}

@@ -1,4 +1,4 @@
-use Rattle.std.proofs.Common.{◌≡◌, ℕ, List, nat_cmp, sym, ap, ◌∙◌, subst}
+use Rattle.std.proofs.Common.{ℕ, List, nat_cmp, sym, ap, ◌∙◌, subst}
 use Rattle.std.specs.BTreeMap.{insert_entry}
 use Rattle.filing_gen.specs.Pools.{IsAmong, Admits}
 use Rattle.filing_gen.proofs.Pools.{number_found, number_came_in}

@@ -1,4 +1,4 @@
-use Rattle.std.proofs.Common.{◌≡◌, ℕ, List, length, sym, ap, ◌∙◌, subst}
+use Rattle.std.proofs.Common.{ℕ, List, length, sym, ap, ◌∙◌, subst}
 use Rattle.std.specs.BTreeMap.{insert_entry}
 use Rattle.filing_gen.specs.Pools.{IsAmong, Admits, texts_in}
 use Rattle.filing_gen.proofs.Pools.{cmp_texts, text_found, text_came_in}
