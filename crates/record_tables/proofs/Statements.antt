@@ -1,5 +1,5 @@
 -- What each statement makes of the tables.
-use Rattle.std.proofs.Common.{◌≡◌, ◌≢◌, ◌<◌, ◌<ℤ◌, ◌≤◌, ℕ, ℤ, pos, List, [], ◌∷◌, ◌++◌, map, fold, filter, length, Bool, true, false, None, Some, Option, Ok, refl, sym, ap, subst, ◌∙◌, arith, int_eq, IsTrue, ◌+◌, ◌+ℤ◌}
+use Rattle.std.proofs.Common.{◌≡◌, ◌≢◌, ◌<◌, ◌<ℤ◌, ◌≤◌, ℕ, ℤ, pos, List, [], ◌∷◌, ◌++◌, map, fold, filter, length, Bool, true, false, None, Some, Option, Ok, refl, sym, ap, subst, ◌∙◌, arith, int_eq, IsTrue, ◌+ℤ◌}
 use Rattle.std.specs.List.{AllByRecursion, list_all}
 use Rattle.std.specs.Ordering.{match_ordering}
 use Rattle.std.proofs.lemmas.Int.{ints}

@@ -1,9 +1,9 @@
 -- What statements make of the tables.
-use Rattle.std.specs.Prelude.{◌≡◌, ◌<◌, ◌++◌, ◌&&◌, ℕ, ◌+◌, ℤ, pos, Bool, true, false, List, [], ◌∷◌, Option, codes, ◌+ℤ◌}
+use Rattle.std.specs.Prelude.{◌≡◌, ◌<◌, ◌++◌, ◌&&◌, ℕ, ℤ, pos, Bool, true, false, List, [], ◌∷◌, Option, codes, ◌+ℤ◌}
 use Rattle.std.specs.List.{AllByRecursion}
 use Rattle.std.specs.Cmp.Lexicographic.{slice_cmp}
 use Rattle.std.specs.Ordering.{nat_cmp, is_eq, int_eq}
-use Rattle.sqlite_keyed.specs.Keyed.{IsKeyedBy, next_key}
+use Rattle.sqlite_keyed.specs.Keyed.{next_key}
 use Rattle.sqlite_keyed.specs.Lists.{delete_where, update_where}
 use Rattle.sqlite.specs.State.{State}
 use Rattle.sqlite.specs.Effect.{Database}
@@ -114,6 +114,9 @@ pub record ClassEntry : Type 0 where
 abbrev pub classes_from : ℤ → List ClassEntry → List Class
 classes_from id [] = []
 classes_from id (c ∷ cs) = record { id = id; path = c.path; is_open = c.is_open; schedule = c.schedule } ∷ classes_from (id +ℤ pos 1) cs
+
+abbrev pub with_class_entry : ClassEntry → Tables → Tables
+with_class_entry c = with_class c.path c.is_open c.schedule
 
 abbrev pub with_dues : List Due → Tables → Tables
 with_dues ds t = record t { dues = ds }

@@ -1,5 +1,6 @@
 -- Due days, each with the class of its record.
 use Rattle.std.specs.Prelude.{◌≡◌, ◌<◌, ◌^◌, ℕ, pos, Bool, List, [], ◌∷◌, map, filter, flat_map}
+use Rattle.std.specs.List.{AllByRecursion}
 use Rattle.std.specs.Ordering.{int_eq}
 use Rattle.sqlite.specs.declared.types.Value.TheVariants.{Int, Text as Words}
 use Rattle.sqlite.specs.Order.{Row, column}
@@ -40,6 +41,10 @@ pub record ReadsDueRecord (row : Row) (d : DueRecord) : Type 0 where
 pub record FitsDueRecord (d : DueRecord) : Type 0 where
   pub number : d.number < 2 ^ 32
   pub day : d.day < 2 ^ 32
+
+-- the numbers of the records that are due by a day fit in 32 bits
+abbrev pub FitsDueRecordsBy : ℕ → Tables → Type 0
+FitsDueRecordsBy day t = AllByRecursion FitsDueRecord (due_records_by day t)
 
 -- a row of the code as a plain one
 abbrev pub due_record_of : DueRecordRow → DueRecord

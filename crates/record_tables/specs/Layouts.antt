@@ -4,7 +4,7 @@ use Rattle.std.specs.List.{AllByRecursion}
 use Rattle.sqlite.specs.Table.{Table}
 use Rattle.sqlite.specs.Command.TheVariants.{CreateTable, CreateIndex}
 use Rattle.sqlite.specs.Compile.{table_defined_by, index_defined_by}
-use Rattle.sqlite.specs.Change.{created}
+use Rattle.sqlite.specs.Change.{created, indexed, next_tree}
 use Rattle.sqlite.specs.Does.{lacks_sequence}
 use Rattle.sqlite.specs.Listing.{understood}
 use Rattle.sqlite.proofs.Callers.{IsPlain, command_of, statement_of}
@@ -19,6 +19,7 @@ use Rattle.sqlite_catalog.specs.Change.{KeepsRows}
 use Rattle.record_tables.specs.Tables.{no_schema, first_schema, first_schema_with_dues, archive_schema, IsArchiveSchema}
 use Rattle.record_tables.specs.Rows.{Tables, Due, Stores, StoresFirst, StoresKeyed, AreKeyed}
 use Rattle.record_tables.specs.Changes.{ClassEntry, Rule, with_version, with_plan, without_dues}
+use Rattle.record_tables.specs.Steps.{Inside}
 
 abbrev pub AreEmpty : List Table → Trees → Type 0
 AreEmpty tables trees = AllByRecursion (λ (t : Table). trees t.tree ≡ []) tables
@@ -104,3 +105,18 @@ pub record DefinesIndex (schema : Schema) (text : List ℕ) (at : ℕ) (table : 
   pub plain : IsPlain (understood schema text)
   pub listed : slice_get schema.tables at ≡ Some table
   pub defined : index_defined_by table text ≡ Ok index
+
+module _ {S : Type 0} (g : Ghosts S) (old new : Held S) where
+  -- the table that the text creates in a schema is added to it, empty
+  abbrev pub LaysTable : List ℕ → Type 0
+  LaysTable text = (schema : Schema) (table : Table) → Defines schema text table →
+      LaysIn g old new schema (record table { tree = next_tree schema } ∷ []) (created schema table)
+
+  -- the index that the text creates in a schema is added to it
+  abbrev pub LaysIndex : List ℕ → Type 0
+  LaysIndex text = (schema : Schema) (at : ℕ) (table : Table) (index : Index) → DefinesIndex schema text at table index →
+      LaysIn g old new schema [] (indexed schema table index)
+
+  -- in a transaction, the table of due days is dropped
+  abbrev pub DropsIn : Schema → Schema → Type 0
+  DropsIn before after = Inside g old new (Drops (state g old) (state g new) before after)

@@ -1,15 +1,16 @@
 -- What queries show of the tables.
-use Rattle.std.specs.Prelude.{◌≡◌, ◌<◌, ◌^◌, map, filter, ℕ, ℤ, pos, List, [], ◌∷◌, Bool, IsPermutation, int_le}
+use Rattle.std.specs.Prelude.{◌≡◌, ◌<◌, ◌^◌, map, filter, ℕ, pos, List, [], ◌∷◌, Bool, IsPermutation, int_le}
 use Rattle.std.specs.Ordering.{int_cmp, nat_cmp, ordering_then}
 use Rattle.std.specs.declared.cmp.Ordering.{Ordering}
 use Rattle.std.specs.declared.cmp.Ordering.TheVariants.{Less}
 use Rattle.std.specs.Cmp.Lexicographic.{slice_cmp}
 use Rattle.sqlite.specs.declared.types.Value.TheVariants.{Int, Text as Words}
 use Rattle.sqlite.specs.Order.{Row, column}
+use Rattle.sqlite.specs.Effect.{Database}
 use Rattle.sqlite_typed.specs.Columns.{or_null}
 use Rattle.sqlite_keyed.specs.Lists.{sort_by}
 use Rattle.sqlite_trees.specs.Tree.{IsAscending}
-use Rattle.record_tables.specs.Rows.{Tables, Message, Record, Hold, Setting, Class, Schedule, Due, as_flag}
+use Rattle.record_tables.specs.Rows.{Tables, Message, Record, Hold, Setting, Class, Schedule, Due, AreKeyed, as_flag}
 use Rattle.record_tables.specs.Changes.{ClassEntry, Rule}
 
 -- ---- records
@@ -156,3 +157,10 @@ pub record ReadsPair (row : Row) (p : Pair) : Type 0 where
 pub record ArePairs (t : Tables) (ps : List Pair) : Type 0 where
   pub same : IsPermutation (map pair t.settings) ps
   pub in_order : IsAscending (λ (x y : Pair). slice_cmp nat_cmp x.key y.key ≡ Less) ps
+
+-- ---- rows of one kind in their order
+
+-- this holds of the rows that are those of the tables, whatever tables the database stores
+abbrev pub ForRows : {X : Type 0} → (StoresIn : Database → Tables → Type 0) → (Are : Tables → List X → Type 0) →
+    Database → (List X → Type 0) → Type 0
+ForRows StoresIn Are db Holds = (t : Tables) → (xs : List _) → Are t xs → StoresIn db t → AreKeyed t → Holds xs

@@ -1,14 +1,10 @@
 -- The rows of the tables, with types, and what a database stores.
-use Rattle.std.specs.Prelude.{◌≡◌, ◌⊎◌, ◌<◌, ◌++◌, ◌&&◌, map, ℕ, ◌+◌, ℤ, pos, Bool, true, false, if◌then◌else◌, List, [], ◌∷◌, Option, IsTrue}
-use Rattle.std.specs.List.{AllByRecursion}
-use Rattle.std.specs.Cmp.Lexicographic.{slice_cmp}
-use Rattle.std.specs.Ordering.{nat_cmp, is_eq, int_eq}
+use Rattle.std.specs.Prelude.{◌≡◌, ◌⊎◌, map, ℕ, ℤ, pos, Bool, if◌then◌else◌, List, [], ◌∷◌, Option}
 use Rattle.sqlite.specs.declared.types.Value.TheVariants.{Null, Int, Text as Words, Blob as Octets}
 use Rattle.sqlite.specs.Order.{Row}
 use Rattle.sqlite_typed.specs.Columns.{or_null}
 use Rattle.sqlite_keyed.specs.Keyed.{IsKeyedBy}
 use Rattle.sqlite.specs.Effect.{Database}
-use Rattle.sqlite.specs.State.{State}
 use Rattle.record_tables.specs.Tables.{IsArchiveSchema, HasCommonTables, first_schema, first_schema_with_dues}
 
 pub record Message : Type 0 where

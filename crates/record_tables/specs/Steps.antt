@@ -1,13 +1,18 @@
 -- What calls on a connection promise about its state before and after. A disk is clean where it gave no error and
 -- returned what was written.
-use Rattle.std.specs.Prelude.{◌≡◌, false, IsTrue, Result, OnOk, OnErr}
+use Rattle.std.specs.Prelude.{◌≡◌, ℕ, false, List, Vec, IsTrue, Result, Err, IfOk, OnOk, OnErr}
+use Rattle.std.specs.declared.alloc.Global.{Global}
 use Rattle.sqlite.specs.Store.{Ghosts}
+use Rattle.sqlite.specs.Schema.{Schema}
 use Rattle.sqlite.specs.Tree.{Trees}
 use Rattle.sqlite.specs.Effect.{Database}
-use Rattle.sqlite.specs.State.{HasCleanDisk, IsUnchanged, KeepsCommit, Survives}
+use Rattle.sqlite.specs.Order.{Row}
+use Rattle.sqlite.specs.State.{HasCleanDisk, IsUnchanged, KeepsCommit, Shown, Survives}
 use Rattle.sqlite.specs.Held.{Held, state}
 use Rattle.record_tables.specs.Rows.{Tables}
 use Rattle.record_tables.specs.Changes.{Puts}
+use Rattle.record_tables.specs.declared.fault.Fault.{Fault}
+use Rattle.record_tables.specs.declared.fault.Fault.TheVariants.{NoArchive}
 
 module _ {S : Type 0} (g : Ghosts S) (old new : Held S) where
   -- in a transaction
@@ -17,6 +22,14 @@ module _ {S : Type 0} (g : Ghosts S) (old new : Held S) where
   -- in a transaction that continues, the rows are changed by this change
   abbrev pub PutsIn : (Tables → Type 0) → (Tables → Tables) → Type 0
   PutsIn Allows change = Inside (Puts (state g old) (state g new) Allows change)
+
+  -- in a transaction, the databases before and after are related in this way
+  abbrev pub MakesIn : (Database → Database → Type 0) → Type 0
+  MakesIn Good = Inside (Good (state g old).now (state g new).now)
+
+  -- where it succeeds in a transaction, the transaction continues, and the rows are changed by this change
+  abbrev pub PutsOnOk : {T E : Type 0} → Result T E → (Tables → Type 0) → (Tables → Tables) → Type 0
+  PutsOnOk result Allows change = Inside (OnOk result (Puts (state g old) (state g new) Allows change))
 
   -- where it fails, what was committed stays
   abbrev pub KeepsIn : {T E : Type 0} → Result T E → Type 0
@@ -43,6 +56,46 @@ module _ {S : Type 0} (g : Ghosts S) (old new : Held S) where
   -- where it succeeds, the databases before and after are related in this way
   abbrev pub Makes : {T E : Type 0} → Result T E → (Database → Database → Type 0) → Type 0
   Makes result Good = HasCleanDisk (state g new) → OnOk result (Good (state g old).now (state g new).now)
+
+  -- where it succeeds, its answer is related in this way to the database before
+  abbrev pub Learns : {T E : Type 0} → Result T E → (Database → T → Type 0) → Type 0
+  Learns result IsRight = HasCleanDisk (state g new) → IfOk result (IsRight (state g old).now)
+
+  -- where it finds no archive, this holds of the database before
+  abbrev pub Rejects : {T : Type 0} → Result T Fault → (Database → Type 0) → Type 0
+  Rejects result IsWrong = HasCleanDisk (state g new) → result ≡ Err NoArchive → IsWrong (state g old).now
+
+  -- where it succeeds, its answer is related in this way to the databases before and after
+  abbrev pub Relates : {T E : Type 0} → Result T E → (Database → Database → T → Type 0) → Type 0
+  Relates result Good = HasCleanDisk (state g new) → IfOk result (Good (state g old).now (state g new).now)
+
+  -- where it succeeds, its rows are those that the query shows
+  abbrev pub ShowsOnOk : {E : Type 0} → Result (Vec Row Global) E → (sql : List ℕ) → (params : Row) → Type 0
+  ShowsOnOk result sql params = HasCleanDisk (state g new) →
+      IfOk result (λ rows. Shown sql params (state g old) (state g new) rows.items)
+
+  -- where it succeeds, the connection was open
+  abbrev pub WasOpenOnOk : {T E : Type 0} → Result T E → Type 0
+  WasOpenOnOk result = HasCleanDisk (state g new) → OnOk result (IsTrue (state g old).is_open)
+
+  -- while the connection is open, the rows and what is committed are as they were before
+  abbrev pub IsUntouched : Type 0
+  IsUntouched = HasCleanDisk (state g new) → IsTrue (state g new).is_open
+      → ((state g new).now ≡ (state g old).now) × ((state g new).committed ≡ (state g old).committed)
+
+  -- where it fails and the connection is still open, the rows are as they were before
+  abbrev pub FailsUnchanged : {T E : Type 0} → Result T E → Type 0
+  FailsUnchanged result = HasCleanDisk (state g new) → IsTrue (state g new).is_open →
+      OnErr result ((state g new).now ≡ (state g old).now)
+
+  -- where it fails and the connection is still open, it was open, and the rows are as they were before
+  abbrev pub FailsStill : {T E : Type 0} → Result T E → Type 0
+  FailsStill result = HasCleanDisk (state g new) → IsTrue (state g new).is_open →
+      OnErr result (IsTrue (state g old).is_open × ((state g new).now ≡ (state g old).now))
+
+  -- the same for a call on tables that are there
+  abbrev pub FailsStillOn : {T E : Type 0} → (Schema → Type 0) → Result T E → Type 0
+  FailsStillOn Are result = (IsTrue (state g old).is_open → Are (state g old).now.schema) → FailsStill result
 
   -- where it fails, nothing of it is done
   abbrev pub IsUndone : {T E : Type 0} → Result T E → Type 0

@@ -1,14 +1,11 @@
 //! The records that are due, read in one query.
 
-ghost use Rattle.std.specs.Prelude.{◌≡◌, List, map, IsTrue, Err, IfOk, OnOk};
-ghost use Rattle.std.specs.List.{AllByRecursion};
-ghost use Rattle.sqlite.specs.State.{HasCleanDisk};
+ghost use Rattle.std.specs.Prelude.{◌≡◌, map};
 ghost use Rattle.sqlite.specs.Held.{state};
-ghost use Rattle.sqlite.specs.declared.types.Value.{Value};
 ghost use Rattle.record_tables.specs.Tables.{IsArchiveSchema};
 ghost use Rattle.record_tables.specs.Rows.{Tables, Stores, AreKeyed};
-ghost use Rattle.record_tables.specs.DueRecords.{DueRecord, ReadsDueRecord, FitsDueRecord, due_records_by, due_record_of};
-ghost use Rattle.record_tables.specs.Steps.{CommitsNothingOf, IsStill, Falls, IsIdle, ReadsAlone};
+ghost use Rattle.record_tables.specs.DueRecords.{DueRecord, ReadsDueRecord, FitsDueRecord, due_records_by, due_record_of, FitsDueRecordsBy};
+ghost use Rattle.record_tables.specs.Steps.{CommitsNothingOf, IsStill, Falls, IsIdle, ReadsAlone, Learns, Rejects, WasOpenOnOk};
 
 use crate::cells::{number_at, text_at};
 use crate::fault::Fault;
@@ -41,14 +38,14 @@ pub fn due_records_by<S: Alter>(
     conn: &mut Connection<S>,
     day: u32,
 ) -> Result<Vec<DueRecordRow>, Fault>
-    ensures all { HasCleanDisk (state S.Store conn.new) →
-        IfOk result (λ all. (t : Tables) → Stores (state S.Store conn.old).now t → AreKeyed t →
+    ensures all { Learns S.Store conn.old conn.new result
+        (λ db all. (t : Tables) → Stores db t → AreKeyed t →
         map due_record_of all.items ≡ due_records_by day t) }
-    ensures none { HasCleanDisk (state S.Store conn.new) → result ≡ Err Fault.NoArchive → (t : Tables) →
-        Stores (state S.Store conn.old).now t → AreKeyed t → AllByRecursion FitsDueRecord (due_records_by day t) → ⊥ }
+    ensures none { Rejects S.Store conn.old conn.new result
+        (λ db. (t : Tables) → Stores db t → AreKeyed t → FitsDueRecordsBy day t → ⊥) }
     ensures same { ReadsAlone S.Store conn.old conn.new result (IsArchiveSchema (state S.Store conn.old).now.schema) }
     ensures still { IsStill S.Store conn.old conn.new (IsArchiveSchema (state S.Store conn.old).now.schema) }
-    ensures was_open { HasCleanDisk (state S.Store conn.new) → OnOk result (IsTrue (state S.Store conn.old).is_open) }
+    ensures was_open { WasOpenOnOk S.Store conn.old conn.new result }
     ensures falls { Falls S.Store conn.old conn.new }
     ensures idle { IsIdle S.Store conn.old conn.new }
     ensures survives { CommitsNothingOf S.Store conn.old conn.new

@@ -1,17 +1,13 @@
 //! Creating the tables: in a database that has none, and beside those of version 1.
 
-ghost use Rattle.std.specs.Prelude.{◌≡◌, ◌∷◌, [], OnOk, OnErr, false, true, map, ℕ, IsTrue, Bool, ◌↔◌};
-ghost use Rattle.sqlite.specs.Schema.{Schema};
-ghost use Rattle.sqlite.specs.Table.{Table};
-ghost use Rattle.sqlite.specs.Change.{created, indexed, next_tree};
+ghost use Rattle.std.specs.Prelude.{◌≡◌, ◌∷◌, [], OnOk, false, map};
 ghost use Rattle.sqlite.specs.Held.{state};
-ghost use Rattle.sqlite.specs.State.{HasCleanDisk};
 ghost use Rattle.record_tables.specs.Tables.{no_schema, first_schema, first_schema_with_dues, archive_schema, schedule_table, due_table};
 ghost use Rattle.record_tables.specs.Shapes.{schema_6, archive_tables};
-ghost use Rattle.record_tables.specs.Layouts.{Defines, DefinesIndex, LaysIn, GoesOnIn, Drops, Empties, TellsDues, IsLaid, IsWidened, IsMoved};
-ghost use Rattle.record_tables.specs.Steps.{Inside, PutsIn, KeepsIn, CommitsNothing, CommitsWhole, Makes, IsCommitted, IsUndone, WasOpen};
-ghost use Rattle.record_tables.specs.Changes.{Always, AreAscending, with_plan, with_version};
-ghost use Rattle.record_tables.specs.CodeRows.{due_of, class_entry_of, rule_of};
+ghost use Rattle.record_tables.specs.Layouts.{LaysIn, GoesOnIn, Empties, TellsDues, IsLaid, IsWidened, LaysTable, LaysIndex, DropsIn};
+ghost use Rattle.record_tables.specs.Steps.{Inside, PutsIn, KeepsIn, CommitsNothing, CommitsWhole, Makes, IsCommitted, IsUndone, WasOpen, MakesIn};
+ghost use Rattle.record_tables.specs.Changes.{Always, AreAscending, with_version};
+ghost use Rattle.record_tables.specs.CodeRows.{due_of, class_entry_of, rule_of, with_plan_rows, IsMovedTo};
 
 use crate::layout::has_dues;
 use crate::renew::{put_plan, put_version};
@@ -21,9 +17,7 @@ use sqlite_schema::schema::Index;
 
 fn define_table<S: Alter>(tx: &mut Transaction<'_, S>, text: &str) -> Result<(), Error>
     ensures same_reference { tx.new.conn.ghost_name ≡ tx.old.conn.ghost_name }
-    ensures ok { OnOk result ((schema : Schema) (table : Table) → Defines schema text.now table
-        → LaysIn S.Store tx.old.conn.now tx.new.conn.now schema (record table { tree = next_tree schema } ∷
-        []) (created schema table)) }
+    ensures ok { OnOk result (LaysTable S.Store tx.old.conn.now tx.new.conn.now text.now) }
     ensures goes_on { GoesOnIn S.Store tx.old.conn.now tx.new.conn.now result }
     ensures err { KeepsIn S.Store tx.old.conn.now tx.new.conn.now result }
     ensures survives { CommitsNothing S.Store tx.old.conn.now tx.new.conn.now }
@@ -34,9 +28,7 @@ fn define_table<S: Alter>(tx: &mut Transaction<'_, S>, text: &str) -> Result<(),
 
 fn define_index<S: Alter>(tx: &mut Transaction<'_, S>, text: &str) -> Result<(), Error>
     ensures same_reference { tx.new.conn.ghost_name ≡ tx.old.conn.ghost_name }
-    ensures ok { OnOk result ((schema : Schema) (at : ℕ) (table : Table) (index : Index) →
-        DefinesIndex schema text.now at table index
-        → LaysIn S.Store tx.old.conn.now tx.new.conn.now schema [] (indexed schema table index)) }
+    ensures ok { OnOk result (LaysIndex S.Store tx.old.conn.now tx.new.conn.now text.now) }
     ensures goes_on { GoesOnIn S.Store tx.old.conn.now tx.new.conn.now result }
     ensures err { KeepsIn S.Store tx.old.conn.now tx.new.conn.now result }
     ensures survives { CommitsNothing S.Store tx.old.conn.now tx.new.conn.now }
@@ -118,8 +110,7 @@ fn fill<S: Alter>(
     ensures same_reference { tx.new.conn.ghost_name ≡ tx.old.conn.ghost_name }
     ensures ok { OnOk result
         (PutsIn S.Store tx.old.conn.now tx.new.conn.now Always
-        (λ t. with_version (with_plan (map rule_of schedules.now) (map class_entry_of classes.now)
-        (map due_of dues.now) t))) }
+        (λ t. with_version (with_plan_rows schedules.now classes.now dues.now t))) }
     ensures err { KeepsIn S.Store tx.old.conn.now tx.new.conn.now result }
     ensures survives { CommitsNothing S.Store tx.old.conn.now tx.new.conn.now }
 {
@@ -134,10 +125,8 @@ fn lay_all<S: Alter>(
     classes: &[ClassRow],
 ) -> Result<(), Error>
     ensures same_reference { tx.new.conn.ghost_name ≡ tx.old.conn.ghost_name }
-    ensures ok { OnOk result
-        (Inside S.Store tx.old.conn.now tx.new.conn.now
-        (IsLaid (map rule_of schedules.now) (map class_entry_of classes.now) (state S.Store tx.old.conn.now).now
-        (state S.Store tx.new.conn.now).now)) }
+    ensures ok { OnOk result (MakesIn S.Store tx.old.conn.now tx.new.conn.now
+        (IsLaid (map rule_of schedules.now) (map class_entry_of classes.now))) }
     ensures goes_on { GoesOnIn S.Store tx.old.conn.now tx.new.conn.now result }
     ensures err { KeepsIn S.Store tx.old.conn.now tx.new.conn.now result }
     ensures survives { CommitsNothing S.Store tx.old.conn.now tx.new.conn.now }
@@ -175,11 +164,9 @@ pub fn lay<S: Alter>(
 fn drop_dues<S: Alter>(tx: &mut Transaction<'_, S>) -> Result<(), Error>
     ensures same_reference { tx.new.conn.ghost_name ≡ tx.old.conn.ghost_name }
     ensures first { OnOk result
-        (Inside S.Store tx.old.conn.now tx.new.conn.now
-        (Drops (state S.Store tx.old.conn.now) (state S.Store tx.new.conn.now) first_schema_with_dues first_schema)) }
+        (DropsIn S.Store tx.old.conn.now tx.new.conn.now first_schema_with_dues first_schema) }
     ensures second { OnOk result
-        (Inside S.Store tx.old.conn.now tx.new.conn.now
-        (Drops (state S.Store tx.old.conn.now) (state S.Store tx.new.conn.now) archive_schema schema_6)) }
+        (DropsIn S.Store tx.old.conn.now tx.new.conn.now archive_schema schema_6) }
     ensures err { KeepsIn S.Store tx.old.conn.now tx.new.conn.now result }
     ensures survives { CommitsNothing S.Store tx.old.conn.now tx.new.conn.now }
 {
@@ -205,9 +192,7 @@ pub(crate) fn empty_dues<S: Alter>(tx: &mut Transaction<'_, S>) -> Result<(), Er
 fn lay_beside<S: Alter>(tx: &mut Transaction<'_, S>, has_dues: bool) -> Result<(), Error>
     requires { TellsDues (state S.Store tx.old.conn.now).now.schema has_dues }
     ensures same_reference { tx.new.conn.ghost_name ≡ tx.old.conn.ghost_name }
-    ensures ok { OnOk result
-        (Inside S.Store tx.old.conn.now tx.new.conn.now
-        (IsWidened (state S.Store tx.old.conn.now).now (state S.Store tx.new.conn.now).now)) }
+    ensures ok { OnOk result (MakesIn S.Store tx.old.conn.now tx.new.conn.now IsWidened) }
     ensures goes_on { GoesOnIn S.Store tx.old.conn.now tx.new.conn.now result }
     ensures err { KeepsIn S.Store tx.old.conn.now tx.new.conn.now result }
     ensures survives { CommitsNothing S.Store tx.old.conn.now tx.new.conn.now }
@@ -232,10 +217,8 @@ fn move_all<S: Alter>(
     requires ascending { AreAscending (map due_of dues.now) }
     requires dues { TellsDues (state S.Store tx.old.conn.now).now.schema has_dues }
     ensures same_reference { tx.new.conn.ghost_name ≡ tx.old.conn.ghost_name }
-    ensures ok { OnOk result
-        (Inside S.Store tx.old.conn.now tx.new.conn.now
-        (IsMoved (map rule_of schedules.now) (map class_entry_of classes.now) (map due_of dues.now)
-        (state S.Store tx.old.conn.now).now (state S.Store tx.new.conn.now).now)) }
+    ensures ok { OnOk result (MakesIn S.Store tx.old.conn.now tx.new.conn.now
+        (IsMovedTo schedules.now classes.now dues.now)) }
     ensures goes_on { GoesOnIn S.Store tx.old.conn.now tx.new.conn.now result }
     ensures err { KeepsIn S.Store tx.old.conn.now tx.new.conn.now result }
     ensures survives { CommitsNothing S.Store tx.old.conn.now tx.new.conn.now }
@@ -259,12 +242,12 @@ pub fn move_first<S: Alter>(
     requires ascending { AreAscending (map due_of dues.now) }
     ensures idle { conn.new.in_transaction ≡ false }
     ensures ok { Makes S.Store conn.old conn.new result
-        (IsMoved (map rule_of schedules.now) (map class_entry_of classes.now) (map due_of dues.now)) }
+        (IsMovedTo schedules.now classes.now dues.now) }
     ensures committed { IsCommitted S.Store conn.old conn.new result }
     ensures err { IsUndone S.Store conn.old conn.new result }
     ensures was_open { WasOpen S.Store conn.old conn.new }
     ensures crash { CommitsWhole S.Store conn.old conn.new
-        (IsMoved (map rule_of schedules.now) (map class_entry_of classes.now) (map due_of dues.now)) }
+        (IsMovedTo schedules.now classes.now dues.now) }
 {
     let dated = has_dues(conn.schema());
     let _settled = conn.is_autocommit();

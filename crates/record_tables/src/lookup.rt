@@ -1,7 +1,7 @@
 //! Rows that are looked up by their keys. A refusal is the error of `sqlite`. Outside a transaction nothing changes.
 
-ghost use Rattle.std.specs.Prelude.{◌≡◌, option_map, IfOk, OnOk, IsTrue, Ok, Some, None};
-ghost use Rattle.sqlite.specs.State.{HasCleanDisk, Shown};
+ghost use Rattle.std.specs.Prelude.{◌≡◌, option_map, IfOk, OnOk, IsTrue};
+ghost use Rattle.sqlite.specs.State.{HasCleanDisk};
 ghost use Rattle.sqlite.specs.Held.{state};
 ghost use Rattle.sqlite.specs.Values.{bound};
 ghost use Rattle.sqlite.specs.Listing.{understood};
@@ -10,6 +10,7 @@ ghost use Rattle.record_tables.specs.Tables.{Foreign, archive_beside};
 ghost use Rattle.record_tables.specs.Rows.{Tables, Stores, AreKeyed};
 ghost use Rattle.record_tables.specs.Lookups.{Looks, record_with, body_with, has_hold_of, TellsRecord};
 ghost use Rattle.record_tables.specs.CodeRows.{record_of};
+ghost use Rattle.record_tables.specs.Steps.{Learns, ShowsOnOk};
 
 use crate::rows::RecordRow;
 use sqlite::types::{ToSql, ValueRef};
@@ -21,9 +22,7 @@ fn look<S: Alter>(
     params: &[ValueRef<'_>],
 ) -> Result<Vec<Row>, Error>
     requires { (f : Foreign) → IsPlain (understood (archive_beside f) sql.now) }
-    ensures shown { HasCleanDisk (state S.Store conn.new) →
-        IfOk result (λ rows. Shown sql.now (bound params.now) (state S.Store conn.old)
-        (state S.Store conn.new) rows.items) }
+    ensures shown { ShowsOnOk S.Store conn.old conn.new result sql.now (bound params.now) }
     ensures open { HasCleanDisk (state S.Store conn.new) →
         OnOk result (IsTrue (state S.Store conn.old).is_open × IsTrue (state S.Store conn.new).is_open) }
     ensures looks { Looks S.Store conn.old conn.new }
@@ -55,8 +54,9 @@ pub fn record_by_number<S: Alter>(
     conn: &mut Connection<S>,
     number: u32,
 ) -> Result<Option<RecordRow>, Error>
-    ensures record { HasCleanDisk (state S.Store conn.new) → IfOk result (λ r. (t : Tables) →
-        Stores (state S.Store conn.old).now t → AreKeyed t → option_map record_of r ≡ record_with number t) }
+    ensures record { Learns S.Store conn.old conn.new result
+        (λ db r. (t : Tables) → Stores db t → AreKeyed t →
+        option_map record_of r ≡ record_with number t) }
     ensures open { HasCleanDisk (state S.Store conn.new) →
         OnOk result (IsTrue (state S.Store conn.old).is_open × IsTrue (state S.Store conn.new).is_open) }
     ensures looks { Looks S.Store conn.old conn.new }
@@ -77,8 +77,8 @@ pub fn message_body<S: Alter>(
     conn: &mut Connection<S>,
     number: u32,
 ) -> Result<Option<Vec<u8>>, Error>
-    ensures body { HasCleanDisk (state S.Store conn.new) →
-        IfOk result (λ b. (t : Tables) → Stores (state S.Store conn.old).now t → AreKeyed t →
+    ensures body { Learns S.Store conn.old conn.new result
+        (λ db b. (t : Tables) → Stores db t → AreKeyed t →
         option_map (λ v. v.items) b ≡ body_with number t) }
     ensures open { HasCleanDisk (state S.Store conn.new) →
         OnOk result (IsTrue (state S.Store conn.old).is_open × IsTrue (state S.Store conn.new).is_open) }
@@ -97,8 +97,8 @@ pub fn message_body<S: Alter>(
 
 /// Whether there is a hold of that name on the record with a number.
 pub fn has_hold<S: Alter>(conn: &mut Connection<S>, name: &[u8], number: u32) -> Result<bool, Error>
-    ensures there { HasCleanDisk (state S.Store conn.new) →
-        IfOk result (λ b. (t : Tables) → Stores (state S.Store conn.old).now t → AreKeyed t →
+    ensures there { Learns S.Store conn.old conn.new result
+        (λ db b. (t : Tables) → Stores db t → AreKeyed t →
         b ≡ has_hold_of name.now number t) }
     ensures open { HasCleanDisk (state S.Store conn.new) →
         OnOk result (IsTrue (state S.Store conn.old).is_open × IsTrue (state S.Store conn.new).is_open) }

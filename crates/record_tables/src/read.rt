@@ -3,16 +3,14 @@
 //! A column of another kind, or a number of 2^32 or more, is refused as no archive. The other refusals are no memory
 //! and the errors of `sqlite`.
 
-ghost use Rattle.std.specs.Prelude.{◌≡◌, List, map, IsTrue, Err, IfOk, OnOk};
+ghost use Rattle.std.specs.Prelude.{◌≡◌, map};
 ghost use Rattle.std.specs.List.{AllByRecursion};
-ghost use Rattle.sqlite.specs.State.{HasCleanDisk};
 ghost use Rattle.sqlite.specs.Held.{state};
 ghost use Rattle.record_tables.specs.Tables.{HasCommonTables, IsArchiveSchema};
 ghost use Rattle.record_tables.specs.Rows.{Tables, Stores, StoresCommon, AreKeyed};
-ghost use Rattle.record_tables.specs.Changes.{ClassEntry, Rule};
-ghost use Rattle.record_tables.specs.Reads.{HoldEntry, Pair, FitsRecord, FitsNumber, FitsHold, FitsRule, AreHolds, ArePairs, AreClasses, AreRules, numbers_of};
+ghost use Rattle.record_tables.specs.Reads.{FitsRecord, FitsNumber, FitsHold, FitsRule, AreHolds, ArePairs, AreClasses, AreRules, numbers_of, ForRows};
 ghost use Rattle.record_tables.specs.CodeRows.{record_of, hold_entry_of, pair_of, class_entry_of, rule_of};
-ghost use Rattle.record_tables.specs.Steps.{CommitsNothingOf, IsStill, Falls, IsIdle, ReadsAlone};
+ghost use Rattle.record_tables.specs.Steps.{CommitsNothingOf, IsStill, Falls, IsIdle, ReadsAlone, Learns, Rejects, WasOpenOnOk};
 
 use crate::fault::Fault;
 use crate::query::rows_of;
@@ -23,14 +21,15 @@ use std::alloc::Global;
 
 /// All records, in the order of their numbers.
 pub fn records<S: Alter>(alloc: Global, conn: &mut Connection<S>) -> Result<Vec<RecordRow>, Fault>
-    ensures all { HasCleanDisk (state S.Store conn.new) →
-        IfOk result (λ all. (t : Tables) → StoresCommon (state S.Store conn.old).now t → AreKeyed t →
+    ensures all { Learns S.Store conn.old conn.new result
+        (λ db all. (t : Tables) → StoresCommon db t → AreKeyed t →
         map record_of all.items ≡ t.records) }
-    ensures none { HasCleanDisk (state S.Store conn.new) → result ≡ Err Fault.NoArchive → (t : Tables) →
-        StoresCommon (state S.Store conn.old).now t → AreKeyed t → AllByRecursion FitsRecord t.records → ⊥ }
+    ensures none { Rejects S.Store conn.old conn.new result
+        (λ db. (t : Tables) → StoresCommon db t → AreKeyed t →
+        AllByRecursion FitsRecord t.records → ⊥) }
     ensures same { ReadsAlone S.Store conn.old conn.new result (HasCommonTables (state S.Store conn.old).now.schema) }
     ensures still { IsStill S.Store conn.old conn.new (HasCommonTables (state S.Store conn.old).now.schema) }
-    ensures was_open { HasCleanDisk (state S.Store conn.new) → OnOk result (IsTrue (state S.Store conn.old).is_open) }
+    ensures was_open { WasOpenOnOk S.Store conn.old conn.new result }
     ensures falls { Falls S.Store conn.old conn.new }
     ensures idle { IsIdle S.Store conn.old conn.new }
     ensures survives { CommitsNothingOf S.Store conn.old conn.new
@@ -46,14 +45,15 @@ pub fn records<S: Alter>(alloc: Global, conn: &mut Connection<S>) -> Result<Vec<
 
 /// The numbers of all messages, in order.
 pub fn message_numbers<S: Alter>(alloc: Global, conn: &mut Connection<S>) -> Result<Vec<u32>, Fault>
-    ensures all { HasCleanDisk (state S.Store conn.new) →
-        IfOk result (λ all. (t : Tables) → StoresCommon (state S.Store conn.old).now t → AreKeyed t →
+    ensures all { Learns S.Store conn.old conn.new result
+        (λ db all. (t : Tables) → StoresCommon db t → AreKeyed t →
         all.items ≡ numbers_of t) }
-    ensures none { HasCleanDisk (state S.Store conn.new) → result ≡ Err Fault.NoArchive → (t : Tables) →
-        StoresCommon (state S.Store conn.old).now t → AreKeyed t → AllByRecursion FitsNumber (numbers_of t) → ⊥ }
+    ensures none { Rejects S.Store conn.old conn.new result
+        (λ db. (t : Tables) → StoresCommon db t → AreKeyed t →
+        AllByRecursion FitsNumber (numbers_of t) → ⊥) }
     ensures same { ReadsAlone S.Store conn.old conn.new result (HasCommonTables (state S.Store conn.old).now.schema) }
     ensures still { IsStill S.Store conn.old conn.new (HasCommonTables (state S.Store conn.old).now.schema) }
-    ensures was_open { HasCleanDisk (state S.Store conn.new) → OnOk result (IsTrue (state S.Store conn.old).is_open) }
+    ensures was_open { WasOpenOnOk S.Store conn.old conn.new result }
     ensures falls { Falls S.Store conn.old conn.new }
     ensures idle { IsIdle S.Store conn.old conn.new }
     ensures survives { CommitsNothingOf S.Store conn.old conn.new
@@ -65,15 +65,13 @@ pub fn message_numbers<S: Alter>(alloc: Global, conn: &mut Connection<S>) -> Res
 
 /// All holds, by record and then in byte order of their names.
 pub fn holds<S: Alter>(alloc: Global, conn: &mut Connection<S>) -> Result<Vec<HoldRow>, Fault>
-    ensures all { HasCleanDisk (state S.Store conn.new) →
-        IfOk result (λ all. (t : Tables) → (hs : List HoldEntry) → AreHolds t hs →
-        StoresCommon (state S.Store conn.old).now t → AreKeyed t → map hold_entry_of all.items ≡ hs) }
-    ensures none { HasCleanDisk (state S.Store conn.new) → result ≡ Err Fault.NoArchive → (t : Tables) →
-        (hs : List HoldEntry) → AreHolds t hs → StoresCommon (state S.Store conn.old).now t → AreKeyed t →
-        AllByRecursion FitsHold hs → ⊥ }
+    ensures all { Learns S.Store conn.old conn.new result
+        (λ db all. ForRows StoresCommon AreHolds db (λ hs. map hold_entry_of all.items ≡ hs)) }
+    ensures none { Rejects S.Store conn.old conn.new result
+        (λ db. ForRows StoresCommon AreHolds db (λ hs. AllByRecursion FitsHold hs → ⊥)) }
     ensures same { ReadsAlone S.Store conn.old conn.new result (HasCommonTables (state S.Store conn.old).now.schema) }
     ensures still { IsStill S.Store conn.old conn.new (HasCommonTables (state S.Store conn.old).now.schema) }
-    ensures was_open { HasCleanDisk (state S.Store conn.new) → OnOk result (IsTrue (state S.Store conn.old).is_open) }
+    ensures was_open { WasOpenOnOk S.Store conn.old conn.new result }
     ensures falls { Falls S.Store conn.old conn.new }
     ensures idle { IsIdle S.Store conn.old conn.new }
     ensures survives { CommitsNothingOf S.Store conn.old conn.new
@@ -89,14 +87,13 @@ pub fn holds<S: Alter>(alloc: Global, conn: &mut Connection<S>) -> Result<Vec<Ho
 
 /// All settings, in byte order of their keys.
 pub fn settings<S: Alter>(alloc: Global, conn: &mut Connection<S>) -> Result<Vec<SettingRow>, Fault>
-    ensures all { HasCleanDisk (state S.Store conn.new) →
-        IfOk result (λ all. (t : Tables) → (ps : List Pair) → ArePairs t ps →
-        StoresCommon (state S.Store conn.old).now t → AreKeyed t → map pair_of all.items ≡ ps) }
-    ensures none { HasCleanDisk (state S.Store conn.new) → result ≡ Err Fault.NoArchive → (t : Tables) →
-        (ps : List Pair) → ArePairs t ps → StoresCommon (state S.Store conn.old).now t → AreKeyed t → ⊥ }
+    ensures all { Learns S.Store conn.old conn.new result
+        (λ db all. ForRows StoresCommon ArePairs db (λ ps. map pair_of all.items ≡ ps)) }
+    ensures none { Rejects S.Store conn.old conn.new result
+        (λ db. ForRows StoresCommon ArePairs db (λ ps. ⊥)) }
     ensures same { ReadsAlone S.Store conn.old conn.new result (HasCommonTables (state S.Store conn.old).now.schema) }
     ensures still { IsStill S.Store conn.old conn.new (HasCommonTables (state S.Store conn.old).now.schema) }
-    ensures was_open { HasCleanDisk (state S.Store conn.new) → OnOk result (IsTrue (state S.Store conn.old).is_open) }
+    ensures was_open { WasOpenOnOk S.Store conn.old conn.new result }
     ensures falls { Falls S.Store conn.old conn.new }
     ensures idle { IsIdle S.Store conn.old conn.new }
     ensures survives { CommitsNothingOf S.Store conn.old conn.new
@@ -108,14 +105,13 @@ pub fn settings<S: Alter>(alloc: Global, conn: &mut Connection<S>) -> Result<Vec
 
 /// All classes, in byte order of their paths.
 pub fn classes<S: Alter>(alloc: Global, conn: &mut Connection<S>) -> Result<Vec<ClassRow>, Fault>
-    ensures all { HasCleanDisk (state S.Store conn.new) →
-        IfOk result (λ all. (t : Tables) → (cs : List ClassEntry) → AreClasses t cs →
-        StoresCommon (state S.Store conn.old).now t → AreKeyed t → map class_entry_of all.items ≡ cs) }
-    ensures none { HasCleanDisk (state S.Store conn.new) → result ≡ Err Fault.NoArchive → (t : Tables) →
-        (cs : List ClassEntry) → AreClasses t cs → StoresCommon (state S.Store conn.old).now t → AreKeyed t → ⊥ }
+    ensures all { Learns S.Store conn.old conn.new result
+        (λ db all. ForRows StoresCommon AreClasses db (λ cs. map class_entry_of all.items ≡ cs)) }
+    ensures none { Rejects S.Store conn.old conn.new result
+        (λ db. ForRows StoresCommon AreClasses db (λ cs. ⊥)) }
     ensures same { ReadsAlone S.Store conn.old conn.new result (HasCommonTables (state S.Store conn.old).now.schema) }
     ensures still { IsStill S.Store conn.old conn.new (HasCommonTables (state S.Store conn.old).now.schema) }
-    ensures was_open { HasCleanDisk (state S.Store conn.new) → OnOk result (IsTrue (state S.Store conn.old).is_open) }
+    ensures was_open { WasOpenOnOk S.Store conn.old conn.new result }
     ensures falls { Falls S.Store conn.old conn.new }
     ensures idle { IsIdle S.Store conn.old conn.new }
     ensures survives { CommitsNothingOf S.Store conn.old conn.new
@@ -134,15 +130,13 @@ pub fn schedules<S: Alter>(
     alloc: Global,
     conn: &mut Connection<S>,
 ) -> Result<Vec<ScheduleRow>, Fault>
-    ensures all { HasCleanDisk (state S.Store conn.new) →
-        IfOk result (λ all. (t : Tables) → (rs : List Rule) → AreRules t rs → Stores (state S.Store conn.old).now t →
-        AreKeyed t → map rule_of all.items ≡ rs) }
-    ensures none { HasCleanDisk (state S.Store conn.new) → result ≡ Err Fault.NoArchive → (t : Tables) →
-        (rs : List Rule) → AreRules t rs → Stores (state S.Store conn.old).now t → AreKeyed t →
-        AllByRecursion FitsRule rs → ⊥ }
+    ensures all { Learns S.Store conn.old conn.new result
+        (λ db all. ForRows Stores AreRules db (λ rs. map rule_of all.items ≡ rs)) }
+    ensures none { Rejects S.Store conn.old conn.new result
+        (λ db. ForRows Stores AreRules db (λ rs. AllByRecursion FitsRule rs → ⊥)) }
     ensures same { ReadsAlone S.Store conn.old conn.new result (IsArchiveSchema (state S.Store conn.old).now.schema) }
     ensures still { IsStill S.Store conn.old conn.new (IsArchiveSchema (state S.Store conn.old).now.schema) }
-    ensures was_open { HasCleanDisk (state S.Store conn.new) → OnOk result (IsTrue (state S.Store conn.old).is_open) }
+    ensures was_open { WasOpenOnOk S.Store conn.old conn.new result }
     ensures falls { Falls S.Store conn.old conn.new }
     ensures idle { IsIdle S.Store conn.old conn.new }
     ensures survives { CommitsNothingOf S.Store conn.old conn.new

@@ -1,10 +1,10 @@
 //! Replacing the rows of the plan, and the due days by it.
 
 ghost use Rattle.std.specs.Prelude.{◌≡◌, OnOk, false, map};
-ghost use Rattle.record_tables.specs.Changes.{Always, HasNoClasses, HasNoSchedules, HasNoDues, IsPastDues, AreAscending, with_due, with_dues, with_class, with_classes, with_schedules, with_version, with_plan, IsRevised};
+ghost use Rattle.record_tables.specs.Changes.{Always, HasNoClasses, HasNoSchedules, HasNoDues, IsPastDues, AreAscending, with_due, with_dues, with_classes, with_schedules, with_version, IsRevised, with_class_entry};
 ghost use Rattle.sqlite.specs.Held.{state};
 ghost use Rattle.record_tables.specs.Layouts.{TellsAlone};
-ghost use Rattle.record_tables.specs.CodeRows.{due_of, class_entry_of, rule_of};
+ghost use Rattle.record_tables.specs.CodeRows.{due_of, class_entry_of, rule_of, with_plan_rows};
 ghost use Rattle.record_tables.specs.Steps.{PutsIn, KeepsIn, CommitsNothing, CommitsWhole, Makes, IsCommitted, IsUndone, WasOpen};
 
 use crate::lay::empty_dues;
@@ -60,7 +60,7 @@ fn insert_class_row<S: Alter>(tx: &mut Transaction<'_, S>, class: &ClassRow) -> 
     ensures same_reference { tx.new.conn.ghost_name ≡ tx.old.conn.ghost_name }
     ensures ok { OnOk result
         (PutsIn S.Store tx.old.conn.now tx.new.conn.now Always
-        (with_class (class_entry_of class.now).path (class_entry_of class.now).is_open (class_entry_of class.now).schedule)) }
+        (with_class_entry (class_entry_of class.now))) }
     ensures err { KeepsIn S.Store tx.old.conn.now tx.new.conn.now result }
     ensures survives { CommitsNothing S.Store tx.old.conn.now tx.new.conn.now }
 {
@@ -156,7 +156,7 @@ pub(crate) fn put_plan<S: Alter>(
     ensures same_reference { tx.new.conn.ghost_name ≡ tx.old.conn.ghost_name }
     ensures ok { OnOk result
         (PutsIn S.Store tx.old.conn.now tx.new.conn.now Always
-        (with_plan (map rule_of schedules.now) (map class_entry_of classes.now) (map due_of dues.now))) }
+        (with_plan_rows schedules.now classes.now dues.now)) }
     ensures err { KeepsIn S.Store tx.old.conn.now tx.new.conn.now result }
     ensures survives { CommitsNothing S.Store tx.old.conn.now tx.new.conn.now }
 {
@@ -180,7 +180,7 @@ fn renew_plan<S: Alter>(
     ensures same_reference { tx.new.conn.ghost_name ≡ tx.old.conn.ghost_name }
     ensures ok { OnOk result
         (PutsIn S.Store tx.old.conn.now tx.new.conn.now Always
-        (with_plan (map rule_of schedules.now) (map class_entry_of classes.now) (map due_of dues.now))) }
+        (with_plan_rows schedules.now classes.now dues.now)) }
     ensures err { KeepsIn S.Store tx.old.conn.now tx.new.conn.now result }
     ensures survives { CommitsNothing S.Store tx.old.conn.now tx.new.conn.now }
 {

@@ -1,16 +1,15 @@
 //! A comparison of due days with those that are stored.
 
-ghost use Rattle.std.specs.Prelude.{◌≡◌, map, IsTrue, IfOk, OnOk};
+ghost use Rattle.std.specs.Prelude.{◌≡◌, map};
 ghost use Rattle.std.specs.Bool.{Decides};
 ghost use Rattle.std.specs.Cmp.Lexicographic.{pointwise};
-ghost use Rattle.sqlite.specs.State.{HasCleanDisk};
 ghost use Rattle.sqlite.specs.Held.{state};
 ghost use Rattle.sqlite.specs.Order.{column};
 ghost use Rattle.record_tables.specs.Tables.{IsArchiveSchema};
 ghost use Rattle.record_tables.specs.Rows.{Tables, Stores, AreKeyed};
 ghost use Rattle.record_tables.specs.StoredDues.{is_number, shows_due};
 ghost use Rattle.record_tables.specs.CodeRows.{due_of};
-ghost use Rattle.record_tables.specs.Steps.{CommitsNothingOf, IsStill, Falls, IsIdle, ReadsAlone};
+ghost use Rattle.record_tables.specs.Steps.{CommitsNothingOf, IsStill, Falls, IsIdle, ReadsAlone, Learns, WasOpenOnOk};
 
 use crate::query::rows_of;
 use crate::rows::DueRow;
@@ -52,12 +51,12 @@ fn show_dues(rows: &[Row], dues: &[DueRow]) -> bool
 ///
 /// Refused with the error of `sqlite` alone.
 pub fn are_dues<S: Alter>(conn: &mut Connection<S>, dues: &[DueRow]) -> Result<bool, Error>
-    ensures are { HasCleanDisk (state S.Store conn.new) →
-        IfOk result (λ b. (t : Tables) → Stores (state S.Store conn.old).now t → AreKeyed t →
+    ensures are { Learns S.Store conn.old conn.new result
+        (λ db b. (t : Tables) → Stores db t → AreKeyed t →
         Decides b (t.dues ≡ map due_of dues.now)) }
     ensures same { ReadsAlone S.Store conn.old conn.new result (IsArchiveSchema (state S.Store conn.old).now.schema) }
     ensures still { IsStill S.Store conn.old conn.new (IsArchiveSchema (state S.Store conn.old).now.schema) }
-    ensures was_open { HasCleanDisk (state S.Store conn.new) → OnOk result (IsTrue (state S.Store conn.old).is_open) }
+    ensures was_open { WasOpenOnOk S.Store conn.old conn.new result }
     ensures falls { Falls S.Store conn.old conn.new }
     ensures idle { IsIdle S.Store conn.old conn.new }
     ensures survives { CommitsNothingOf S.Store conn.old conn.new
