@@ -49,8 +49,8 @@ impl<S: Alter> Desk<S> {
     /// Adds an open class without a schedule of its own, as `Registry` says. Refused with the smallest of 52 (no path),
     /// 53 (no parent), 54 (there already) and 56 (4,096 classes).
     pub fn add_class(&mut self, path: &[u8]) -> Result<(), DeskFault>
-        ensures { Calls (IsClean S.Store) (StandsFor S.Store) self.old (commands.plain (office.add_class path.now))
-            (answer_of_done result) self.new }
+        ensures { Calls (IsClean S.Store) (StandsFor S.Store) self.old
+            (commands.plain (office.add_class path.now)) (answer_of_done result) self.new }
     {
         self.store.add_class(path)?;
         self.open_paths = None;
@@ -74,8 +74,8 @@ impl<S: Alter> Desk<S> {
     /// Places a hold of a name on a record, as `Registry` says. Refused with 80 (no such record), 84 (destroyed) or 86
     /// (that hold is there).
     pub fn hold(&mut self, name: &[u8], number: u64) -> Result<(), DeskFault>
-        ensures { Calls (IsClean S.Store) (StandsFor S.Store) self.old (commands.plain (office.hold name.now number))
-            (answer_of_done result) self.new }
+        ensures { Calls (IsClean S.Store) (StandsFor S.Store) self.old
+            (commands.plain (office.hold name.now number)) (answer_of_done result) self.new }
     {
         let number = record_number(number)?;
         self.store.hold(name, number)?;
@@ -95,8 +95,8 @@ impl<S: Alter> Desk<S> {
     /// The due list of a day of the years 1970 to 9999, as `Registry` says: the live records without a hold that are
     /// due by then, by due day and then by number.
     pub fn due(&mut self, day: Date) -> Result<Vec<Line>, DeskFault>
-        ensures { CallsOn (IsClean S.Store) (StandsFor S.Store) self.old day (λ n. commands.plain (office.due n))
-            (answer_of_lines result) self.new }
+        ensures { CallsOn (IsClean S.Store) (StandsFor S.Store) self.old day
+            (λ n. commands.plain (office.due n)) (answer_of_lines result) self.new }
     {
         let lines = self.store.due(day_from_1970(day))?;
         Ok(lines)

@@ -30,7 +30,8 @@ use std::alloc::{AllocError, Global};
 
 /// Whether a payload has more octets than a message may have.
 fn is_too_long(message: &Payload) -> bool
-    ensures told { (m : List ℕ) → IsOf greatest_message message.now m → result ≡ nat_lt greatest_message (length m) }
+    ensures told { (m : List ℕ) → IsOf greatest_message message.now m
+        → result ≡ nat_lt greatest_message (length m) }
     ensures short { result ≡ false → IsShort greatest_message message.now }
 {
     match message {
@@ -43,7 +44,8 @@ fn is_too_long(message: &Payload) -> bool
 /// The octets of a message, which the caller has found not too long; 99 where there was no memory for them.
 fn octets_of(message: Payload) -> Result<Vec<u8>, DeskFault>
     requires { IsShort greatest_message message }
-    ensures octets { (m : List ℕ) → IsOf greatest_message message m → IfOk result (λ v. v.items ≡ m) }
+    ensures octets { (m : List ℕ) → IsOf greatest_message message m
+        → IfOk result (λ v. v.items ≡ m) }
     ensures within { IfOk result (λ v. length v.items ≤ greatest_message) }
     ensures refused { IfErr result (λ f. f ≡ NoMemory) }
 {
@@ -196,7 +198,8 @@ impl<S: Alter> Desk<S> {
 
     /// The pinned program of a capture in flight, and its machine; none where no capture in flight has the ticket.
     pub fn in_flight(&self, ticket: u64) -> Option<(&Verified, &Machine)>
-        ensures { (s : Standing) → StandsFor S.Store self.now s → MatchOption result (flight_of ticket s.flights ≡ None)
+        ensures { (s : Standing)
+            → StandsFor S.Store self.now s → MatchOption result (flight_of ticket s.flights ≡ None)
             (λ p. IsShownBy (flight_of ticket s.flights) p.0.now p.1.now) }
     {
         match self.flights.get(ticket) {

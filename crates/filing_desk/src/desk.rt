@@ -50,7 +50,8 @@ impl<S: Alter> Desk<S> {
     /// Gives the store back. Scripts, programs and captures in flight are dropped.
     pub fn into_store(self) -> Store<S>
         ensures store { result ≡ self.store }
-        ensures stands { (s : Standing) → StandsFor S.Store self s → stores.StandsFor S.Store result s.office.archive }
+        ensures stands { (s : Standing) → StandsFor S.Store self s
+            → stores.StandsFor S.Store result s.office.archive }
     {
         let Desk { store, .. } = self;
         store

@@ -67,7 +67,8 @@ impl<S: Alter> Desk<S> {
     /// 16,777,216 octets), 60 (form) or 62 to 66 (code) for the image, then 95 for a message of more than 8,388,608
     /// octets.
     pub fn try_image(&self, image: &Payload, message: &Payload) -> Result<Outcome, DeskFault>
-        ensures { CallsWithTwo (IsClean S.Store) (StandsFor S.Store) self.now (greatest_image, greatest_message) image.now message.now
+        ensures { CallsWithTwo (IsClean S.Store) (StandsFor S.Store) self.now
+            (greatest_image, greatest_message) image.now message.now
             (λ i m. commands.plain (office.try_image i m)) (answer_of_outcome result) self.now }
     {
         let program = judge_image(self.alloc, image)?;
@@ -80,7 +81,8 @@ impl<S: Alter> Desk<S> {
     /// scripts alone. Refused with 10 to 16, 20 and 21 (text) or 30 to 41 (check) for the script, then 95 for a message
     /// of more than 8,388,608 octets. A script that is too heavy has the outcome fault 5.
     pub fn file(&self, script: &Payload, message: &Payload) -> Result<Outcome, DeskFault>
-        ensures { CallsWithTwo (IsClean S.Store) (StandsFor S.Store) self.now (greatest_script, greatest_message) script.now message.now
+        ensures { CallsWithTwo (IsClean S.Store) (StandsFor S.Store) self.now
+            (greatest_script, greatest_message) script.now message.now
             (λ s m. commands.plain (office.file s m)) (answer_of_outcome result) self.now }
     {
         let checked = judge_script(self.alloc, script)?;

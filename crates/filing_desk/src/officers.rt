@@ -24,7 +24,8 @@ impl<S: Alter> Desk<S> {
         text: &Payload,
     ) -> Result<(), DeskFault>
         ensures { CallsWith (IsClean S.Store) (StandsFor S.Store) self.old greatest_script text.now
-            (λ t. commands.plain (office.set_script officer.now name.now t)) (answer_of_done result) self.new }
+            (λ t. commands.plain (office.set_script officer.now name.now t))
+            (answer_of_done result) self.new }
     {
         let script = judge_script(self.alloc, text)?;
         self.officers.set_script(officer, name, script)?;
@@ -45,8 +46,8 @@ impl<S: Alter> Desk<S> {
     /// Sets the script of a name as an officer's program, as `Registry` says. Refused with 93 where the officer has
     /// none of that name.
     pub fn activate(&mut self, officer: &[u8], name: &[u8]) -> Result<(), DeskFault>
-        ensures { Calls (IsClean S.Store) (StandsFor S.Store) self.old
-            (commands.plain (office.activate officer.now name.now)) (answer_of_done result) self.new }
+        ensures { Calls (IsClean S.Store) (StandsFor S.Store) self.old (commands.plain
+            (office.activate officer.now name.now)) (answer_of_done result) self.new }
     {
         self.officers.activate(officer, name)?;
         Ok(())
@@ -54,8 +55,8 @@ impl<S: Alter> Desk<S> {
 
     /// Sets no program for an officer, as `Registry` says. It is never refused.
     pub fn deactivate(&mut self, officer: &[u8])
-        ensures { Calls (IsClean S.Store) (StandsFor S.Store) self.old (commands.plain (office.deactivate officer.now))
-            (answer_of_done (Ok tt)) self.new }
+        ensures { Calls (IsClean S.Store) (StandsFor S.Store) self.old
+            (commands.plain (office.deactivate officer.now)) (answer_of_done (Ok tt)) self.new }
     {
         self.officers.deactivate(officer);
     }
@@ -64,7 +65,8 @@ impl<S: Alter> Desk<S> {
     /// (code).
     pub fn set_image(&mut self, officer: &[u8], image: &Payload) -> Result<(), DeskFault>
         ensures { CallsWith (IsClean S.Store) (StandsFor S.Store) self.old greatest_image image.now
-            (λ i. commands.plain (office.set_image officer.now i)) (answer_of_done result) self.new }
+            (λ i. commands.plain (office.set_image officer.now i))
+            (answer_of_done result) self.new }
     {
         let program = judge_image(self.alloc, image)?;
         self.officers.set_image(officer, program)?;

@@ -37,8 +37,10 @@ fn judge_text(alloc: Global, text: &[u8]) -> Result<Checked, DeskFault>
 
 /// The checked script of a payload. Refused with 10 to 16, 20 and 21 as a text, and with 30 to 41 by the check.
 pub fn judge_script(alloc: Global, script: &Payload) -> Result<Checked, DeskFault>
-    ensures short { (s : List ℕ) → IsOf greatest_script script.now s → OnOk result (length s ≤ greatest_script) }
-    ensures good { (s : List ℕ) → IsOf greatest_script script.now s → IfOk result (λ c. IsGood s (tree_of c.script)) }
+    ensures short { (s : List ℕ) → IsOf greatest_script script.now s
+        → OnOk result (length s ≤ greatest_script) }
+    ensures good { (s : List ℕ) → IsOf greatest_script script.now s
+        → IfOk result (λ c. IsGood s (tree_of c.script)) }
     ensures refused { (s : List ℕ) → IsOf greatest_script script.now s →
         IfErr result (IsFaultOf (RefusesScript s) greatest_script s) }
 {
@@ -64,8 +66,10 @@ fn judge_octets(alloc: Global, image: &[u8]) -> Result<Verified, DeskFault>
 
 /// The program of an image that may run. Refused with 61 (length), 60 (form) or 62 to 66 (code).
 pub fn judge_image(alloc: Global, image: &Payload) -> Result<Verified, DeskFault>
-    ensures short { (i : List ℕ) → IsOf greatest_image image.now i → OnOk result (length i ≤ greatest_image) }
-    ensures good { (i : List ℕ) → IsOf greatest_image image.now i → IfOk result (λ v. IsGoodImage i v) }
+    ensures short { (i : List ℕ) → IsOf greatest_image image.now i
+        → OnOk result (length i ≤ greatest_image) }
+    ensures good { (i : List ℕ) → IsOf greatest_image image.now i
+        → IfOk result (λ v. IsGoodImage i v) }
     ensures refused { (i : List ℕ) → IsOf greatest_image image.now i →
         IfErr result (IsFaultOf (RefusesImage i) greatest_image i) }
 {
@@ -82,9 +86,10 @@ pub fn judge_message<'a>(
     plan: &'a Plan,
     message: &Payload,
 ) -> Result<WholeCase<PlanClasses<'a>>, DeskFault>
-    ensures short { (m : List ℕ) → IsOf greatest_message message.now m → OnOk result (length m ≤ greatest_message) }
-    ensures case { (m : List ℕ) → IsOf greatest_message message.now m
-        → IfOk result (λ c. facts_by (λ p. is_open_in (p.0).now) c ≡ case_of m (is_open_in plan.now)) }
+    ensures short { (m : List ℕ) → IsOf greatest_message message.now m
+        → OnOk result (length m ≤ greatest_message) }
+    ensures case { (m : List ℕ) → IsOf greatest_message message.now m → IfOk result
+        (λ c. facts_by (λ p. is_open_in (p.0).now) c ≡ case_of m (is_open_in plan.now)) }
     ensures refused { (m : List ℕ) → IsOf greatest_message message.now m →
         IfErr result (IsFaultOf (IsTooLong m) greatest_message m) }
 {

@@ -21,10 +21,11 @@ fn number_by_slot(
 ) -> Option<usize>
     requires left { 0 < procedure.now.key.left }
     requires slot { slot < 64 }
-    requires key { IsKeyOf (scripts_of reach.now.shelves) procedure.now.key (procedure_of procedure.now) }
+    requires key { IsKeyOf (scripts_of reach.now.shelves) procedure.now.key
+        (procedure_of procedure.now) }
     requires entered { All (IsEntered (scripts_of reach.now.shelves)) later.now }
-    ensures { IsNumber (scripts_of reach.now.shelves) (map procedure_of later.now) (procedure_of procedure.now) slot
-        result }
+    ensures { IsNumber (scripts_of reach.now.shelves) (map procedure_of later.now)
+        (procedure_of procedure.now) slot result }
 {
     number_of(reach, later, procedure.key_of_entry(slot))
 }
@@ -37,10 +38,11 @@ pub fn numbers_by_slot(
     procedure: &Procedure<'_>,
     later: &[Procedure<'_>],
 ) -> Result<Vec<Option<usize>>, AllocError>
-    requires key { IsKeyOf (scripts_of reach.now.shelves) procedure.now.key (procedure_of procedure.now) }
+    requires key { IsKeyOf (scripts_of reach.now.shelves) procedure.now.key
+        (procedure_of procedure.now) }
     requires entered { All (IsEntered (scripts_of reach.now.shelves)) later.now }
-    ensures { IfOk result (λ v.
-        AreNumbers (scripts_of reach.now.shelves) (map procedure_of later.now) (procedure_of procedure.now) v.items) }
+    ensures { IfOk result (λ v. AreNumbers (scripts_of reach.now.shelves)
+        (map procedure_of later.now) (procedure_of procedure.now) v.items) }
 {
     if procedure.key.left == 0 {
         return Ok(Vec::new(alloc));
@@ -84,7 +86,8 @@ pub struct Callees<'a> {
     pub later: &'a [Procedure<'a>],
     /// By the slot of a script, the number of the procedure that an include of it enters, among the later ones.
     pub numbers: &'a [Option<usize>],
-    ghost numbered: { AreNumbers (scripts_of scope.shelves) (map procedure_of later.now) (procedure_of procedure.now) numbers.now },
+    ghost numbered: { AreNumbers (scripts_of scope.shelves) (map procedure_of later.now)
+        (procedure_of procedure.now) numbers.now },
 }
 
 impl Callees<'_> {
@@ -94,7 +97,8 @@ impl Callees<'_> {
 
     /// How an include enters the script of a slot.
     fn call(&self, slot: usize) -> Call
-        ensures { result ≡ call_of self.now.procedure.now.key.left (number_at self.now.numbers.now slot) }
+        ensures { result
+            ≡ call_of self.now.procedure.now.key.left (number_at self.now.numbers.now slot) }
     {
         if self.procedure.key.left == 0 {
             return Call::TooDeep;

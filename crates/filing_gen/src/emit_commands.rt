@@ -51,7 +51,8 @@ fn emit_plain<L: Linker>(
     arguments: &[Argument],
     back: u16,
 ) -> Result<(), AllocError>
-    requires { HasRoom out.old (plain_long (λ i. size (L.flow_of linker.now i)) word arguments.now) }
+    requires { HasRoom out.old
+        (plain_long (λ i. size (L.flow_of linker.now i)) word arguments.now) }
     ensures adds { OnOk result (EmitsReturning out.old out.new back
         (λ n. plain_flow (L.flow_of linker.now) n word arguments.now)) }
 {
@@ -79,7 +80,8 @@ fn emit_block<L: Linker>(
     ending: &Ending,
     back: u16,
 ) -> Result<(), AllocError>
-    requires { HasRoom out.old (commands_long (λ i. size (L.flow_of linker.now i)) (block_in (ending_of ending.now))) }
+    requires { HasRoom out.old
+        (commands_long (λ i. size (L.flow_of linker.now i)) (block_in (ending_of ending.now))) }
     ensures adds { OnOk result (EmitsReturning out.old out.new back
         (λ n. flow (L.flow_of linker.now) n (block_in (ending_of ending.now)))) }
 {
@@ -129,7 +131,8 @@ fn emit_part<L: Linker>(
     jumps: &mut Vec<usize>,
     back: u16,
 ) -> Result<(), AllocError>
-    requires room { HasRoom out.old (part_long (λ i. size (L.flow_of linker.now i)) part (command_of command.now)) }
+    requires room { HasRoom out.old
+        (part_long (λ i. size (L.flow_of linker.now i)) part (command_of command.now)) }
     requires places { All (λ p. p < length out.old.code.items) jumps.old.items }
     ensures adds { OnOk result
         (EmitsOpen (L.flow_of linker.now) back part
@@ -150,8 +153,8 @@ fn emit_part<L: Linker>(
 fn end_before(out: &mut Output, jumps: &mut Vec<usize>, word: CommandWord, part: BranchPart)
     requires room { length out.old.code.items < 2 ^ 16 }
     requires places { All (λ p. p < length out.old.code.items) jumps.old.items }
-    ensures out { out.new ≡ (if is_apart word part then with_jumps (length out.old.code.items) jumps.old.items out.old
-        else out.old) }
+    ensures out { out.new ≡ (if is_apart word part then with_jumps
+        (length out.old.code.items) jumps.old.items out.old else out.old) }
     ensures jumps { jumps.new.items ≡ (if is_apart word part then [] else jumps.old.items) }
 {
     match (word, part) {

@@ -58,7 +58,8 @@ fn emit_procedure<'a>(
     own: usize,
     out: &mut Output,
 ) -> Result<(), AllocError>
-    requires key { IsKeyOf (scripts_of reach.now.shelves) procedure.now.key (procedure_of procedure.now) }
+    requires key { IsKeyOf (scripts_of reach.now.shelves) procedure.now.key
+        (procedure_of procedure.now) }
     requires entered { All (IsEntered (scripts_of reach.now.shelves)) later.now }
     requires few { own + length later.now < 2 ^ 16 }
     requires room { HasRoom out.old

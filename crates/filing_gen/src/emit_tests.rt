@@ -234,8 +234,8 @@ fn emit_keys(out: &mut Output, how: u8, keys: &StringList) -> Result<(), AllocEr
 
 /// Writes what follows where no key matched: `Pop`, `PushFalse`, `Jump end`.
 fn put_missed(out: &mut Output, end: u16) -> Result<(), AllocError>
-    ensures { OnOk result ((ends : List ℕ) → end_at ends 1 ≡ end →
-        Emits out.old out.new (sequence (action Drop) (sequence (action (Push false)) (leave 1))) ends) }
+    ensures { OnOk result ((ends : List ℕ) → end_at ends 1 ≡ end → Emits out.old out.new
+        (sequence (action Drop) (sequence (action (Push false)) (leave 1))) ends) }
 {
     put(out, Operation::Pop)?;
     put(out, Operation::PushFalse)?;
@@ -341,7 +341,8 @@ pub fn emit_only(alloc: Global, out: &mut Output, tests: &Tests) -> Result<(), A
 /// end.
 #[cycle(emission)]
 fn emit_row(alloc: Global, out: &mut Output, tests: &Tests, stop: bool) -> Result<(), AllocError>
-    requires { HasRoom out.old (size (either (not stop) stop (tests_flow stop (tests_in (inner_of tests.now))))) }
+    requires { HasRoom out.old
+        (size (either (not stop) stop (tests_flow stop (tests_in (inner_of tests.now))))) }
     ensures adds { OnOk result (EmitsAnywhere out.old out.new
         (either (not stop) stop (tests_flow stop (tests_in (inner_of tests.now))))) }
 {

@@ -17,7 +17,8 @@ pub struct FieldNames {
 impl FieldNames {
     /// The set of one name. The only error is a refused allocation.
     pub fn of(alloc: Global, name: &[u8]) -> Result<FieldNames, AllocError>
-        ensures { IfOk result (λ names. (m : List ℕ) → has_name names.lowercase.keys m ≡ same_word name.now m) }
+        ensures { IfOk result
+            (λ names. (m : List ℕ) → has_name names.lowercase.keys m ≡ same_word name.now m) }
     {
         let mut names = FieldNames {
             alloc,
@@ -29,9 +30,10 @@ impl FieldNames {
 
     /// Adds a name, and answers whether it is new. The only error is a refused allocation.
     pub fn insert(&mut self, name: &[u8]) -> Result<bool, AllocError>
-        ensures added { IfOk result (λ added. added ≡ not (has_name self.old.lowercase.keys name.now)) }
-        ensures names { OnOk result ((m : List ℕ) →
-            has_name self.new.lowercase.keys m ≡ (same_word name.now m || has_name self.old.lowercase.keys m)) }
+        ensures added { IfOk result
+            (λ added. added ≡ not (has_name self.old.lowercase.keys name.now)) }
+        ensures names { OnOk result ((m : List ℕ) → has_name self.new.lowercase.keys m
+            ≡ (same_word name.now m || has_name self.old.lowercase.keys m)) }
     {
         let lowercase = name.to_ascii_lowercase(self.alloc)?;
         let is_new = self.lowercase.insert(lowercase)?;

@@ -53,8 +53,8 @@ fn finding_of<'a>(
     ensures told { judgement_of result
         ≡ judgement_by (option_map program_in (option_map (λ f. f.1.now.script) found.entry))
         is_passed is_active is_once }
-    ensures slot { (slot : ℕ) → IfSome found.entry (λ f. f.0 ≡ slot) → IfSome found.entry (λ f. f.0 < 64) →
-        EntersAt result slot }
+    ensures slot { (slot : ℕ) → IfSome found.entry (λ f. f.0 ≡ slot)
+        → IfSome found.entry (λ f. f.0 < 64) → EntersAt result slot }
 {
     match found {
         None => {

@@ -108,7 +108,8 @@ pub struct Includes<'a, C, L> {
 }
 
 impl<C: Chain, L: EntryCode> Weights for Includes<'_, C, L> {
-    ghost weight_of = { λ s. included_weight (library_of (scripts_of s.scope.shelves)) L.depth (C.names s.chain.now) };
+    ghost weight_of = { λ s.
+        included_weight (library_of (scripts_of s.scope.shelves)) L.depth (C.names s.chain.now) };
 
     fn weigh(&self, include: &Include<'_>, left: u32) -> Option<u32> {
         match find(&self.scope, self.chain, include) {
@@ -126,7 +127,8 @@ impl<C: Chain, L: EntryCode> Weights for Includes<'_, C, L> {
 
 impl<C: Chain, L: EntryCode> Linker for Includes<'_, C, L> {
     ghost flow_of = { λ s. included_flow (library_of (scripts_of s.scope.shelves))
-        (slots_of (scripts_of s.scope.shelves)) (names_of s.scope.main) L.depth (C.names s.chain.now) };
+        (slots_of (scripts_of s.scope.shelves)) (names_of s.scope.main) L.depth
+        (C.names s.chain.now) };
 
     /// Writes nothing, a fault, or the entry of a script; under `:once` a jump before the entry skips it where the
     /// script is marked.

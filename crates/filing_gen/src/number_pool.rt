@@ -54,7 +54,8 @@ impl NumberPool {
 
     /// The numbers in the order of their places. The only error is a refused allocation.
     pub fn into_numbers(self) -> Result<Vec<u64>, AllocError>
-        ensures places { IfOk result (λ v. (n b : ℕ) → IsAmong (n, b) self → slice_get v.items b ≡ Some n) }
+        ensures places { IfOk result
+            (λ v. (n b : ℕ) → IsAmong (n, b) self → slice_get v.items b ≡ Some n) }
         ensures once { IfOk result (λ v. IsOnce v.items) }
     {
         by_place(self.alloc, self.places)
@@ -64,7 +65,8 @@ impl NumberPool {
 /// The numbers of a map in the order of their places.
 fn by_place(alloc: Global, places: BTreeMap<u64, u16>) -> Result<Vec<u64>, AllocError>
     requires { IsNumbered places.entries }
-    ensures places { IfOk result (λ v. (n b : ℕ) → IsAmong (n, b) places.entries → slice_get v.items b ≡ Some n) }
+    ensures places { IfOk result
+        (λ v. (n b : ℕ) → IsAmong (n, b) places.entries → slice_get v.items b ≡ Some n) }
     ensures once { IfOk result (λ v. IsOnce v.items) }
 {
     let mut numbers = vec![in alloc; 0; places.len()]?;

@@ -68,15 +68,16 @@ pub struct Paths<'a, 'b> {
     pub callees: Callees<'a>,
     /// The path weights of the procedures after this one; none where it is 2^32 or more.
     pub later: &'b [Option<u32>],
-    ghost weights: { later.now ≡ map known_path
-        (path_weights_of (library_of (scripts_of callees.scope.shelves)) (map procedure_of callees.later.now)) },
+    ghost weights: { later.now ≡ map known_path (path_weights_of
+        (library_of (scripts_of callees.scope.shelves)) (map procedure_of callees.later.now)) },
 }
 
 impl Weights for Paths<'_, '_> {
     ghost use Rattle.filing_gen.specs.Procedures.{called_path};
 
-    ghost weight_of = { λ s. called_path (library_of (scripts_of s.callees.scope.shelves)) (map procedure_of s.callees.later.now)
-        (path_weights_of (library_of (scripts_of s.callees.scope.shelves)) (map procedure_of s.callees.later.now))
+    ghost weight_of = { λ s. called_path (library_of (scripts_of s.callees.scope.shelves))
+        (map procedure_of s.callees.later.now) (path_weights_of
+        (library_of (scripts_of s.callees.scope.shelves)) (map procedure_of s.callees.later.now))
         s.callees.procedure.now.key.left (procedure_of s.callees.procedure.now).chain };
 
     fn weigh(&self, include: &Include<'_>, left: u32) -> Option<u32> {
@@ -98,7 +99,8 @@ fn path_weight<'a>(
     later: &'a [Procedure<'a>],
     paths: &[Option<u32>],
 ) -> Result<Option<u32>, AllocError>
-    requires key { IsKeyOf (scripts_of reach.now.shelves) procedure.now.key (procedure_of procedure.now) }
+    requires key { IsKeyOf (scripts_of reach.now.shelves) procedure.now.key
+        (procedure_of procedure.now) }
     requires entered { All (IsEntered (scripts_of reach.now.shelves)) later.now }
     requires paths { paths.now ≡ map known_path
         (path_weights_of (library_on reach.now.shelves) (map procedure_of later.now)) }

@@ -66,8 +66,8 @@ impl TextPool {
 /// The texts of a map in the order of their places.
 fn by_place(alloc: Global, places: BTreeMap<Vec<u8>, u16>) -> Result<Vec<Vec<u8>>, AllocError>
     requires { IsNumbered (texts_in places.entries) }
-    ensures places { IfOk result (λ v. (t : List ℕ) (b : ℕ) → IsAmong (t, b) (texts_in places.entries) →
-        slice_get (octets_of v.items) b ≡ Some t) }
+    ensures places { IfOk result (λ v. (t : List ℕ) (b : ℕ)
+        → IsAmong (t, b) (texts_in places.entries) → slice_get (octets_of v.items) b ≡ Some t) }
     ensures once { IfOk result (λ v. IsOnce (octets_of v.items)) }
 {
     let mut texts = no_texts(alloc, places.len())?;

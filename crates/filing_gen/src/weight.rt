@@ -128,7 +128,8 @@ fn weigh_plain<L: Weights>(
 /// Subtracts the weight of a block.
 #[cycle(weights)]
 fn weigh_block<L: Weights>(linker: &L, ending: &Ending, left: u32) -> Option<u32>
-    ensures { IsLeft left (weight (L.weight_of linker.now) (block_in (ending_of ending.now))) result }
+    ensures { IsLeft left
+        (weight (L.weight_of linker.now) (block_in (ending_of ending.now))) result }
 {
     match ending {
         Ending::Semicolon => Some(left),
@@ -140,7 +141,8 @@ fn weigh_block<L: Weights>(linker: &L, ending: &Ending, left: u32) -> Option<u32
 /// `Otherwise` (`else`) weighs 4 and its block. `weigh_plain` says what any other command weighs.
 #[cycle(weights)]
 fn weigh_part<L: Weights>(linker: &L, command: &Command, part: BranchPart, left: u32) -> Option<u32>
-    ensures { IsLeft left (part_weight (L.weight_of linker.now) part (command_of command.now)) result }
+    ensures { IsLeft left
+        (part_weight (L.weight_of linker.now) part (command_of command.now)) result }
 {
     match part {
         BranchPart::Branch => {

@@ -70,9 +70,10 @@ impl Officers {
     /// thirty-two global scripts have other names (96) and where there is no memory (99); nothing is changed then.
     /// Images that were kept before are not used again.
     pub fn set_global(&mut self, name: &[u8], script: Checked) -> Result<(), DeskFault>
-        ensures done { OnOk result ((a : Archive) →
-            office_of a self.new ≡ with_global_script (office_of a self.old) name.now (meaning_of script.script)) }
-        ensures full { result ≡ Err LibraryFull → HasNoRoom (meanings_of self.old.globals) name.now }
+        ensures done { OnOk result ((a : Archive) → office_of a self.new
+            ≡ with_global_script (office_of a self.old) name.now (meaning_of script.script)) }
+        ensures full { result ≡ Err LibraryFull
+            → HasNoRoom (meanings_of self.old.globals) name.now }
         ensures has_room { OnOk result (HasNoRoom (meanings_of self.old.globals) name.now → ⊥) }
         ensures fault { IfErr result (λ f. (f ≡ LibraryFull) ⊎ (f ≡ NoMemory)) }
         ensures unchanged { OnErr result (self.new ≡ self.old) }
@@ -91,11 +92,12 @@ impl Officers {
         name: &[u8],
         script: Checked,
     ) -> Result<(), DeskFault>
-        ensures done { OnOk result ((a : Archive) →
-            office_of a self.new ≡ with_own_script (office_of a self.old) officer.now name.now (meaning_of script.script)) }
+        ensures done { OnOk result ((a : Archive) → office_of a self.new ≡ with_own_script
+            (office_of a self.old) officer.now name.now (meaning_of script.script)) }
         ensures full { result ≡ Err LibraryFull →
             HasNoRoom (officer_at officer.now self.old.officers).scripts name.now }
-        ensures has_room { OnOk result (HasNoRoom (officer_at officer.now self.old.officers).scripts name.now → ⊥) }
+        ensures has_room { OnOk result
+            (HasNoRoom (officer_at officer.now self.old.officers).scripts name.now → ⊥) }
         ensures fault { IfErr result (λ f. (f ≡ LibraryFull) ⊎ (f ≡ NoMemory)) }
         ensures unchanged { OnErr result (self.new ≡ self.old) }
     {
@@ -107,12 +109,13 @@ impl Officers {
     /// Sets the script of that name as an officer's program: the one that has the name when a capture begins. Refused
     /// where the officer has no script of that name (93) and where there is no memory (99); nothing is changed then.
     pub fn activate(&mut self, officer: &[u8], name: &[u8]) -> Result<(), DeskFault>
-        ensures done { OnOk result ((a : Archive) →
-            office_of a self.new ≡ with_active (office_of a self.old) officer.now (script_named name.now)) }
-        ensures no_script { result ≡ Err NoScript ↔
-            (is_some (script_at name.now (officer_at officer.now self.old.officers).scripts) ≡ false) }
-        ensures there { OnOk result (is_some (script_at name.now (officer_at officer.now self.old.officers).scripts) ≡
-            true) }
+        ensures done { OnOk result ((a : Archive) → office_of a self.new
+            ≡ with_active (office_of a self.old) officer.now (script_named name.now)) }
+        ensures no_script { result ≡ Err NoScript
+            ↔ (is_some (script_at name.now (officer_at officer.now self.old.officers).scripts)
+            ≡ false) }
+        ensures there { OnOk result (is_some
+            (script_at name.now (officer_at officer.now self.old.officers).scripts) ≡ true) }
         ensures fault { IfErr result (λ f. (f ≡ NoScript) ⊎ (f ≡ NoMemory)) }
         ensures unchanged { OnErr result (self.new ≡ self.old) }
     {
@@ -131,7 +134,8 @@ impl Officers {
 
     /// Sets no program for an officer. It allocates nothing and is never refused.
     pub fn deactivate(&mut self, officer: &[u8])
-        ensures { (a : Archive) → office_of a self.new ≡ with_active (office_of a self.old) officer.now no_program }
+        ensures { (a : Archive)
+            → office_of a self.new ≡ with_active (office_of a self.old) officer.now no_program }
     {
         clear(&mut self.profiles, officer);
     }
@@ -160,8 +164,8 @@ impl Officers {
     /// A script is compiled once, and again only after the officer's program or a script that it can include was set.
     /// The image is shared. What officers have set stays the same.
     pub fn pin(&mut self, officer: &[u8]) -> Result<Rc<Verified>, AllocError>
-        ensures pinned { IfOk result
-            (λ v. PinsFor (officer_at officer.now self.old.officers) (meanings_of self.old.globals) v.value) }
+        ensures pinned { IfOk result (λ v. PinsFor (officer_at officer.now self.old.officers)
+            (meanings_of self.old.globals) v.value) }
         ensures well { IfOk result (λ v. IsWell v.value) }
         ensures unchanged { self.new ≡ self.old }
     {

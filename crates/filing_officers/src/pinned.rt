@@ -58,7 +58,9 @@ pub(crate) fn pin_named(
     shelves: Shelves<'_>,
 ) -> Result<Verified, AllocError>
     ensures { let scripts = scripts_of shelves.entry in
-        IfOk result (λ v. PinsChoice (script_if name.now (script_at name.now (meanings_of scripts.personal))) (library_in scripts) v) }
+        IfOk result
+        (λ v. PinsChoice (script_if name.now (script_at name.now (meanings_of scripts.personal)))
+        (library_in scripts) v) }
 {
     match shelves.personal.get(name) {
         Some(script) => pin_script(alloc, name, script, shelves),

@@ -73,9 +73,11 @@ impl Profile {
     /// thirty-two scripts have other names (96), and with 99 (no memory).
     pub fn put_script(&mut self, name: &[u8], script: Rc<Checked>) -> Result<(), LibraryFault>
         ensures ok { let o = officer_of (settings_of self.old) in
-            OnOk result (officer_of (settings_of self.new) ≡ with_script o name.now (meaning_of script.value.script)) }
+            OnOk result (officer_of (settings_of self.new)
+            ≡ with_script o name.now (meaning_of script.value.script)) }
         ensures kept { OnOk result (self.new.kept ≡ None) }
-        ensures full { result ≡ Err Full ↔ HasNoRoom (officer_of (settings_of self.old)).scripts name.now }
+        ensures full { result ≡ Err Full
+            ↔ HasNoRoom (officer_of (settings_of self.old)).scripts name.now }
         ensures err { OnErr result (self.new ≡ self.old) }
     {
         put_on(&mut self.scripts, name, script)?;
@@ -93,7 +95,8 @@ impl Profile {
 
     /// What is pinned for the officer now, made anew.
     fn make(&self, alloc: Global, globals: &Shelf) -> Result<Rc<Verified>, AllocError>
-        ensures { IfOk result (λ v. PinsFor (officer_of (settings_of self.now)) (meanings_of globals.now) v.value) }
+        ensures { IfOk result
+            (λ v. PinsFor (officer_of (settings_of self.now)) (meanings_of globals.now) v.value) }
     {
         let image = match &self.active {
             Active::NoProgram => pin_nothing(alloc)?,

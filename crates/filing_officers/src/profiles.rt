@@ -20,7 +20,8 @@ use std::collections::BTreeMap;
 use std::rc::Rc;
 
 pub(crate) fn has_script(profiles: &BTreeMap<Vec<u8>, Profile>, officer: &[u8], name: &[u8]) -> bool
-    ensures { result ≡ is_some (script_at name.now (officer_in profiles.now.entries officer.now).scripts) }
+    ensures { result
+        ≡ is_some (script_at name.now (officer_in profiles.now.entries officer.now).scripts) }
 {
     match profiles.get(officer) {
         Some(profile) => profile.scripts.get(name).is_some(),
@@ -37,8 +38,10 @@ pub(crate) fn put_script(
     script: Rc<Checked>,
 ) -> Result<(), LibraryFault>
     ensures ok { let o = officer_in profiles.old.entries officer.now in
-        OnOk result (ChangesOnly profiles.old.entries profiles.new.entries officer.now (with_script o name.now (meaning_of script.value.script))) }
-    ensures full { result ≡ Err Full ↔ HasNoRoom (officer_in profiles.old.entries officer.now).scripts name.now }
+        OnOk result (ChangesOnly profiles.old.entries profiles.new.entries officer.now
+        (with_script o name.now (meaning_of script.value.script))) }
+    ensures full { result ≡ Err Full
+        ↔ HasNoRoom (officer_in profiles.old.entries officer.now).scripts name.now }
     ensures err { OnErr result (profiles.new.entries ≡ profiles.old.entries) }
 {
     if let Some(profile) = profiles.get_mut(officer) {
@@ -59,7 +62,8 @@ pub(crate) fn set(
     active: Active,
 ) -> Result<(), AllocError>
     ensures ok { let o = officer_in profiles.old.entries officer.now in
-        OnOk result (ChangesOnly profiles.old.entries profiles.new.entries officer.now (with_program o (active_of active))) }
+        OnOk result (ChangesOnly profiles.old.entries profiles.new.entries officer.now
+        (with_program o (active_of active))) }
     ensures err { OnErr result (profiles.new.entries ≡ profiles.old.entries) }
 {
     if let Some(profile) = profiles.get_mut(officer) {
@@ -92,8 +96,8 @@ pub(crate) fn pin(
     edition: u64,
 ) -> Result<Rc<Verified>, AllocError>
     requires { AllKeepCurrent edition globals.now profiles.old.entries }
-    ensures pinned { IfOk result
-        (λ v. PinsFor (officer_in profiles.old.entries officer.now) (meanings_of globals.now) v.value) }
+    ensures pinned { IfOk result (λ v.
+        PinsFor (officer_in profiles.old.entries officer.now) (meanings_of globals.now) v.value) }
     ensures images { AllKeepCurrent edition globals.now profiles.new.entries }
     ensures settings { settings_in profiles.new.entries ≡ settings_in profiles.old.entries }
 {

@@ -58,7 +58,8 @@ impl Ahead {
     /// Fills an empty buffer by one read. It stays empty only at the reader's end or after an error.
     pub fn fill<R: Read>(&mut self, reader: &mut R) -> io::Result<()>
         requires { self.old ≡ [] }
-        ensures bytes { OnOk result (Consumes (R.remaining reader.old) (R.remaining reader.new) self.new) }
+        ensures bytes { OnOk result
+            (Consumes (R.remaining reader.old) (R.remaining reader.new) self.new) }
         ensures end { OnOk result (self.new ≡ [] → IsAtEnd (R.remaining reader.new)) }
         ensures failed { OnErr result (Keeps (R.remaining reader.old) (R.remaining reader.new)) }
         ensures same { OnErr result (self.new ≡ []) }

@@ -97,7 +97,8 @@ fn reply_of_lines(lines: Result<Vec<Line>, DeskFault>) -> Reply
 
 /// Executes a command without a payload.
 pub fn do_alone<R: Registry>(registry: &mut R, command: &NoPayload<'_>) -> Reply
-    ensures { Calls R.clean R.stands registry.old (command_of command.now) (answer_of result) registry.new }
+    ensures { Calls R.clean R.stands registry.old (command_of command.now)
+        (answer_of result) registry.new }
 {
     match command {
         NoPayload::AddClass(path) => reply_of_done(registry.add_class(path)),
@@ -139,8 +140,8 @@ pub fn limits_of_two(command: TwoPayloads) -> (usize, usize)
 
 /// Executes a command with one payload. A message is moved into the call, and not copied.
 pub fn do_one<R: Registry>(registry: &mut R, command: OnePayload<'_>, payload: Payload) -> Reply
-    ensures { CallsWith R.clean R.stands registry.old (one_limit command.entry) payload (one_command command.entry)
-        (answer_of result) registry.new }
+    ensures { CallsWith R.clean R.stands registry.old (one_limit command.entry) payload
+        (one_command command.entry) (answer_of result) registry.new }
 {
     match command {
         OnePayload::SetPlan => reply_of_done(registry.set_plan(&payload)),
@@ -162,8 +163,8 @@ pub fn do_two<R: Registry>(
     first: &Payload,
     second: &Payload,
 ) -> Reply
-    ensures { CallsWithTwo R.clean R.stands registry.now (two_limits command) first.now second.now (two_command command)
-        (answer_of result) registry.now }
+    ensures { CallsWithTwo R.clean R.stands registry.now (two_limits command) first.now second.now
+        (two_command command) (answer_of result) registry.now }
 {
     match command {
         TwoPayloads::File => reply_of_outcome(registry.file(first, second)),

@@ -27,7 +27,8 @@ fn real_date(year: u64, month: u64, day: u64) -> Option<Day>
     requires year { year ≤ 9999 }
     requires month { month ≤ 12 }
     requires day { day ≤ 31 }
-    ensures { option_map (λ d. number_of_day d.date) result ≡ real_day (Some (record { year = year; month = month; day = day })) }
+    ensures { option_map (λ d. number_of_day d.date) result
+        ≡ real_day (Some (record { year = year; month = month; day = day })) }
 {
     if year < FIRST_YEAR {
         return None;

@@ -14,8 +14,8 @@ use itoa::Buffer;
 
 /// The date that is written for a due date: that date, where it is one of the years 1970 to 9999; none after these.
 fn told_date(due: Date) -> Option<Date>
-    ensures { MatchOption result (last_day < number_of_day due)
-        (λ d. IsBetween (pos 0) (pos 2932896) (epoch_day d) × (epoch_day d ≡ pos (number_of_day due))) }
+    ensures { MatchOption result (last_day < number_of_day due) (λ d.
+        IsBetween (pos 0) (pos 2932896) (epoch_day d) × (epoch_day d ≡ pos (number_of_day due))) }
 {
     date_of(day_number(due).abs())
 }
@@ -30,8 +30,10 @@ fn dash_before(part: u8) -> &'static [u8]
 /// Writes a date by its year, its month and its day, and the end of its line.
 fn write_civil<K: Sink>(sink: &mut K, year: u16, month: u8, day: u8) -> Result<(), WriteFault>
     ensures written { K.tells → Writes result (K.written sink.old)
-        (civil_octets (record { year = year; month = month; day = day }) ++ codes "\n") (K.written sink.new) }
-    ensures troubles { TellsTroubles K.failures K.interruptions K.most_interruptions result sink.old sink.new }
+        (civil_octets (record { year = year; month = month; day = day }) ++ codes "\n")
+        (K.written sink.new) }
+    ensures troubles { TellsTroubles K.failures K.interruptions K.most_interruptions result
+        sink.old sink.new }
 {
     let mut year_text = Buffer::new();
     let year_text = year_text.format(year).as_bytes();
@@ -55,9 +57,10 @@ fn write_civil<K: Sink>(sink: &mut K, year: u16, month: u8, day: u8) -> Result<(
 /// Writes a date and the end of its line.
 fn write_date<K: Sink>(sink: &mut K, date: Date) -> Result<(), WriteFault>
     requires { IsBetween (pos 0) (pos 2932896) (epoch_day date) }
-    ensures written { K.tells →
-        Writes result (K.written sink.old) (day_octets (number_of_day date) ++ codes "\n") (K.written sink.new) }
-    ensures troubles { TellsTroubles K.failures K.interruptions K.most_interruptions result sink.old sink.new }
+    ensures written { K.tells → Writes result (K.written sink.old)
+        (day_octets (number_of_day date) ++ codes "\n") (K.written sink.new) }
+    ensures troubles { TellsTroubles K.failures K.interruptions K.most_interruptions result
+        sink.old sink.new }
 {
     let year = date.year().unsigned_abs();
     let month = date.month().unsigned_abs();
@@ -71,7 +74,8 @@ pub fn write_due<K: Sink>(sink: &mut K, due: Option<Date>) -> Result<(), WriteFa
     ensures written { K.tells →
         Writes result (K.written sink.old) (due_octets (option_map number_of_day due) ++
         codes "\n") (K.written sink.new) }
-    ensures troubles { TellsTroubles K.failures K.interruptions K.most_interruptions result sink.old sink.new }
+    ensures troubles { TellsTroubles K.failures K.interruptions K.most_interruptions result
+        sink.old sink.new }
 {
     let Some(date) = due else {
         return write_all(sink, b"never\n");

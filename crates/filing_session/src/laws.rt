@@ -12,11 +12,15 @@ use filing_commands::Registry;
 /// that it represents before the session leads, by the steps of the commands, to one that it represents after it.
 pub fn sessions_refine_states<R: Registry>()
     ensures served { (session : Session) (old written : List ℕ) → Refines R.clean R.stands
-        (λ desk. IsServed (Calls R.clean R.stands) session desk old written) (λ s. IsServed Step session s old written) }
+        (λ desk. IsServed (Calls R.clean R.stands) session desk old written)
+        (λ s. IsServed Step session s old written) }
     ensures answered { (session : Session) (old written : List ℕ) → Refines R.clean R.stands
-        (λ desk. IsAnswered (Calls R.clean R.stands) session desk old written) (λ s. IsAnswered Step session s old written) }
+        (λ desk. IsAnswered (Calls R.clean R.stands) session desk old written)
+        (λ s. IsAnswered Step session s old written) }
     ensures cut_in_answer { (session : Session) (old written : List ℕ) → Refines R.clean R.stands
-        (λ desk. IsCutInAnswer (Calls R.clean R.stands) session desk old written) (λ s. IsCutInAnswer Step session s old written) }
+        (λ desk. IsCutInAnswer (Calls R.clean R.stands) session desk old written)
+        (λ s. IsCutInAnswer Step session s old written) }
     ensures cut_in_ending { (session : Session) (old written : List ℕ) → Refines R.clean R.stands
-        (λ desk. IsCutInEnding (Calls R.clean R.stands) session desk old written) (λ s. IsCutInEnding Step session s old written) }
+        (λ desk. IsCutInEnding (Calls R.clean R.stands) session desk old written)
+        (λ s. IsCutInEnding Step session s old written) }
 {}

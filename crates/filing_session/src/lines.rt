@@ -88,12 +88,14 @@ pub enum LineEnd {
 /// are read.
 #[tactic(auto, using(crate::proofs::FirstLine::line_of_is))]
 pub fn read_line<S: Source>(source: &mut S, line: &mut LineBuffer) -> Result<LineEnd, ReadFault>
-    ensures line { S.tells →
-        IfOk result (λ end. line_of (S.left source.old) ≡ line_as end line.new (S.left source.new)) }
-    ensures end { S.tells → (result ≡ Ok LineEnd.Cut) ⊎ (result ≡ Ok LineEnd.Nothing) → S.left source.new ≡ [] }
+    ensures line { S.tells → IfOk result
+        (λ end. line_of (S.left source.old) ≡ line_as end line.new (S.left source.new)) }
+    ensures end { S.tells → (result ≡ Ok LineEnd.Cut) ⊎ (result ≡ Ok LineEnd.Nothing)
+        → S.left source.new ≡ [] }
     ensures ends { TellsEnd ((result ≡ Ok LineEnd.Cut) ⊎
         (result ≡ Ok LineEnd.Nothing)) (S.ends source.old) (S.ends source.new) }
-    ensures troubles { TellsTroubles S.failures S.interruptions S.most_interruptions result source.old source.new }
+    ensures troubles { TellsTroubles S.failures S.interruptions S.most_interruptions result
+        source.old source.new }
 {
     line.clear();
     for _ in 0..LINE_OCTETS {

@@ -16,9 +16,11 @@ const PIECE: usize = 4096;
 fn skip<S: Source>(source: &mut S, size: usize) -> Result<bool, ReadFault>
     ensures whole { S.tells → result ≡ Ok true → (size ≤ length (S.left source.old)) ×
         (S.left source.new ≡ drop size (S.left source.old)) }
-    ensures cut { S.tells → result ≡ Ok false → (length (S.left source.old) < size) × (S.left source.new ≡ []) }
+    ensures cut { S.tells → result ≡ Ok false → (length (S.left source.old) < size)
+        × (S.left source.new ≡ []) }
     ensures ends { TellsEnd (result ≡ Ok false) (S.ends source.old) (S.ends source.new) }
-    ensures troubles { TellsTroubles S.failures S.interruptions S.most_interruptions result source.old source.new }
+    ensures troubles { TellsTroubles S.failures S.interruptions S.most_interruptions result
+        source.old source.new }
 {
     let mut room = [0u8; PIECE];
     let mut got = 0;
@@ -47,11 +49,14 @@ fn append(octets: &mut Vec<u8>, more: &[u8])
 fn fill<S: Source>(source: &mut S, octets: &mut Vec<u8>, size: usize) -> Result<bool, ReadFault>
     requires empty { vec_len octets.old ≡ 0 }
     requires room { size ≤ vec_capacity octets.old }
-    ensures whole { S.tells → result ≡ Ok true → (S.left source.old ≡ octets.new.items ++ S.left source.new) ×
-        (length octets.new.items ≡ size) }
-    ensures cut { S.tells → result ≡ Ok false → (length (S.left source.old) < size) × (S.left source.new ≡ []) }
+    ensures whole { S.tells → result ≡ Ok true
+        → (S.left source.old ≡ octets.new.items ++ S.left source.new)
+        × (length octets.new.items ≡ size) }
+    ensures cut { S.tells → result ≡ Ok false → (length (S.left source.old) < size)
+        × (S.left source.new ≡ []) }
     ensures ends { TellsEnd (result ≡ Ok false) (S.ends source.old) (S.ends source.new) }
-    ensures troubles { TellsTroubles S.failures S.interruptions S.most_interruptions result source.old source.new }
+    ensures troubles { TellsTroubles S.failures S.interruptions S.most_interruptions result
+        source.old source.new }
 {
     let mut room = [0u8; PIECE];
     while octets.len() < size {
@@ -74,9 +79,11 @@ pub fn read_payload<S: Source>(
     size: usize,
     limit: usize,
 ) -> Result<Option<Payload>, ReadFault>
-    ensures octets { S.tells → IfOk result (λ p. IsRead size limit p (S.left source.old) (S.left source.new)) }
+    ensures octets { S.tells
+        → IfOk result (λ p. IsRead size limit p (S.left source.old) (S.left source.new)) }
     ensures ends { TellsEnd (result ≡ Ok None) (S.ends source.old) (S.ends source.new) }
-    ensures troubles { TellsTroubles S.failures S.interruptions S.most_interruptions result source.old source.new }
+    ensures troubles { TellsTroubles S.failures S.interruptions S.most_interruptions result
+        source.old source.new }
 {
     if size > limit {
         return Ok(skip(source, size)?.then_some(Payload::TooLong));
@@ -95,9 +102,11 @@ pub fn read_two<S: Source>(
     sizes: (usize, usize),
     limits: (usize, usize),
 ) -> Result<Option<(Payload, Payload)>, ReadFault>
-    ensures octets { S.tells → IfOk result (λ p. AreRead sizes limits p (S.left source.old) (S.left source.new)) }
+    ensures octets { S.tells
+        → IfOk result (λ p. AreRead sizes limits p (S.left source.old) (S.left source.new)) }
     ensures ends { TellsEnd (result ≡ Ok None) (S.ends source.old) (S.ends source.new) }
-    ensures troubles { TellsTroubles S.failures S.interruptions S.most_interruptions result source.old source.new }
+    ensures troubles { TellsTroubles S.failures S.interruptions S.most_interruptions result
+        source.old source.new }
 {
     let Some(first) = read_payload(alloc, source, sizes.0, limits.0)? else {
         return Ok(None);

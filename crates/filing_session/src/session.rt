@@ -41,9 +41,11 @@ fn ending_text(ending: SessionEnd) -> &'static str
 
 /// Writes the last lines of a session.
 fn write_ending<K: Sink>(sink: &mut K, ending: SessionEnd) -> Result<(), ServeFault>
-    ensures written { K.tells → Writes result (K.written sink.old) (ending_octets ending) (K.written sink.new) }
+    ensures written { K.tells
+        → Writes result (K.written sink.old) (ending_octets ending) (K.written sink.new) }
     ensures read { result ≢ Err ServeFault.Read }
-    ensures troubles { TellsTroubles K.failures K.interruptions K.most_interruptions result sink.old sink.new }
+    ensures troubles { TellsTroubles K.failures K.interruptions K.most_interruptions result
+        sink.old sink.new }
 {
     if write_all(sink, ending_text(ending).as_bytes()).is_err() {
         return Err(ServeFault::Write);
@@ -71,7 +73,8 @@ pub fn serve<S: Source, K: Sink, R: Registry>(
     sink: &mut K,
     registry: &mut R,
 ) -> Result<(), ServeFault>
-    ensures ok { S.tells → K.tells → OnOk result (IsServed (Calls R.clean R.stands) (session_in (S.left source.old))
+    ensures ok { S.tells → K.tells
+        → OnOk result (IsServed (Calls R.clean R.stands) (session_in (S.left source.old))
         registry.old (K.written sink.old) (K.written sink.new) registry.new) }
     ensures unheard { S.tells → K.tells → IsErrOf result ServeFault.Read →
         IsAnswered (Calls R.clean R.stands) (session_in (S.left source.old))
@@ -89,9 +92,11 @@ pub fn serve<S: Source, K: Sink, R: Registry>(
         (S.most_interruptions source.new) }
     ensures writes { TriesOn result (K.interruptions sink.old) (K.most_interruptions sink.old)
         (K.most_interruptions sink.new) }
-    ensures ending { S.tells → K.tells → result ≡ Ok tt → EndsByInput (session_in (S.left source.old)).ending
+    ensures ending { S.tells → K.tells
+        → result ≡ Ok tt → EndsByInput (session_in (S.left source.old)).ending
         → Rises (S.ends source.old) (S.ends source.new) }
-    ensures unread { S.tells → K.tells → result ≡ Ok tt → S.left source.new ≡ left_by 1000000 (S.left source.old) }
+    ensures unread { S.tells → K.tells → result ≡ Ok tt
+        → S.left source.new ≡ left_by 1000000 (S.left source.old) }
 {
     let mut line = LineBuffer::new();
     for _ in 0..COMMANDS {

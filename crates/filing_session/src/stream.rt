@@ -43,13 +43,15 @@ pub trait Source {
     /// the input, which is no trouble.
     fn read(&mut self, room: &mut [u8]) -> Result<usize, Trouble>
         ensures within { IfOk result (λ n. n ≤ length room.old) }
-        ensures octets { tells →
-            IfOk result (λ n. (n ≤ length (left self.old)) × (take n room.new ≡ take n (left self.old))) }
+        ensures octets { tells → IfOk result
+            (λ n. (n ≤ length (left self.old)) × (take n room.new ≡ take n (left self.old))) }
         ensures left { tells → left self.new ≡ drop (transfer_length result) (left self.old) }
         ensures end { tells → tells_end (length room.old) result ≡ true → left self.old ≡ [] }
         ensures failures { Counts (fails_to_read result) (failures self.old) (failures self.new) }
-        ensures interruptions { CountsInARow (is_interrupted result) (interruptions self.old) (interruptions self.new) }
-        ensures most { most_interruptions self.new ≡ max (most_interruptions self.old) (interruptions self.new) }
+        ensures interruptions { CountsInARow (is_interrupted result) (interruptions self.old)
+            (interruptions self.new) }
+        ensures most { most_interruptions self.new
+            ≡ max (most_interruptions self.old) (interruptions self.new) }
         ensures ends { Counts (tells_end (length room.old) result) (ends self.old) (ends self.new) };
 }
 
@@ -75,10 +77,14 @@ pub trait Sink {
     /// Takes octets from the front of `octets`, and answers how many.
     fn write(&mut self, octets: &[u8]) -> Result<usize, Trouble>
         ensures within { IfOk result (λ n. n ≤ length octets.now) }
-        ensures written { tells → written self.new ≡ written self.old ++ take (transfer_length result) octets.now }
-        ensures failures { Counts (fails_to_write (length octets.now) result) (failures self.old) (failures self.new) }
-        ensures interruptions { CountsInARow (is_interrupted result) (interruptions self.old) (interruptions self.new) }
-        ensures most { most_interruptions self.new ≡ max (most_interruptions self.old) (interruptions self.new) };
+        ensures written { tells
+            → written self.new ≡ written self.old ++ take (transfer_length result) octets.now }
+        ensures failures { Counts (fails_to_write (length octets.now) result) (failures self.old)
+            (failures self.new) }
+        ensures interruptions { CountsInARow (is_interrupted result) (interruptions self.old)
+            (interruptions self.new) }
+        ensures most { most_interruptions self.new
+            ≡ max (most_interruptions self.old) (interruptions self.new) };
 }
 
 /// A read that met trouble.
@@ -96,11 +102,13 @@ const PATIENCE: u8 = 64;
 pub fn read_some<S: Source>(source: &mut S, room: &mut [u8]) -> Result<usize, ReadFault>
     requires { 0 < length room.old }
     ensures within { IfOk result (λ n. n ≤ length room.old) }
-    ensures octets { S.tells → IfOk result (λ n. S.left source.old ≡ take n room.new ++ S.left source.new) }
+    ensures octets { S.tells
+        → IfOk result (λ n. S.left source.old ≡ take n room.new ++ S.left source.new) }
     ensures end { S.tells → result ≡ Ok 0 → S.left source.old ≡ [] }
     ensures over { S.tells → result ≡ Ok 0 → S.left source.new ≡ [] }
     ensures ends { TellsEnd (result ≡ Ok 0) (S.ends source.old) (S.ends source.new) }
-    ensures troubles { TellsTroubles S.failures S.interruptions S.most_interruptions result source.old source.new }
+    ensures troubles { TellsTroubles S.failures S.interruptions S.most_interruptions result
+        source.old source.new }
 {
     for _ in 0..PATIENCE {
         match source.read(room) {
@@ -114,10 +122,13 @@ pub fn read_some<S: Source>(source: &mut S, room: &mut [u8]) -> Result<usize, Re
 
 /// Reads one octet; none at the end of the input.
 pub fn read_one<S: Source>(source: &mut S) -> Result<Option<u8>, ReadFault>
-    ensures some { S.tells → IfOk result (λ o. IfSome o (λ x. S.left source.old ≡ x ∷ S.left source.new)) }
-    ensures none { S.tells → IfOk result (λ o. IfNone o ((S.left source.old ≡ []) × (S.left source.new ≡ []))) }
+    ensures some { S.tells
+        → IfOk result (λ o. IfSome o (λ x. S.left source.old ≡ x ∷ S.left source.new)) }
+    ensures none { S.tells
+        → IfOk result (λ o. IfNone o ((S.left source.old ≡ []) × (S.left source.new ≡ []))) }
     ensures ends { TellsEnd (result ≡ Ok None) (S.ends source.old) (S.ends source.new) }
-    ensures troubles { TellsTroubles S.failures S.interruptions S.most_interruptions result source.old source.new }
+    ensures troubles { TellsTroubles S.failures S.interruptions S.most_interruptions result
+        source.old source.new }
 {
     let mut room = [0u8; 1];
     match read_some(source, &mut room)? {
@@ -130,9 +141,11 @@ pub fn read_one<S: Source>(source: &mut S) -> Result<Option<u8>, ReadFault>
 fn write_some<K: Sink>(sink: &mut K, octets: &[u8]) -> Result<usize, WriteFault>
     requires { 0 < length octets.now }
     ensures within { IfOk result (λ n. (0 < n) × (n ≤ length octets.now)) }
-    ensures written { K.tells → IfOk result (λ n. K.written sink.new ≡ K.written sink.old ++ take n octets.now) }
+    ensures written { K.tells
+        → IfOk result (λ n. K.written sink.new ≡ K.written sink.old ++ take n octets.now) }
     ensures same { K.tells → OnErr result (K.written sink.new ≡ K.written sink.old) }
-    ensures troubles { TellsTroubles K.failures K.interruptions K.most_interruptions result sink.old sink.new }
+    ensures troubles { TellsTroubles K.failures K.interruptions K.most_interruptions result
+        sink.old sink.new }
 {
     for _ in 0..PATIENCE {
         match sink.write(octets) {
@@ -148,7 +161,8 @@ fn write_some<K: Sink>(sink: &mut K, octets: &[u8]) -> Result<usize, WriteFault>
 /// Writes all octets. After a fault some prefix of them is written.
 pub fn write_all<K: Sink>(sink: &mut K, octets: &[u8]) -> Result<(), WriteFault>
     ensures written { K.tells → Writes result (K.written sink.old) octets.now (K.written sink.new) }
-    ensures troubles { TellsTroubles K.failures K.interruptions K.most_interruptions result sink.old sink.new }
+    ensures troubles { TellsTroubles K.failures K.interruptions K.most_interruptions result
+        sink.old sink.new }
 {
     let mut at = 0;
     while at < octets.len() {
@@ -161,7 +175,8 @@ pub fn write_all<K: Sink>(sink: &mut K, octets: &[u8]) -> Result<(), WriteFault>
 pub fn write_pieces<K: Sink>(sink: &mut K, pieces: &[&[u8]]) -> Result<(), WriteFault>
     ensures written { K.tells →
         Writes result (K.written sink.old) (flat_map (λ p. p.now) pieces.now) (K.written sink.new) }
-    ensures troubles { TellsTroubles K.failures K.interruptions K.most_interruptions result sink.old sink.new }
+    ensures troubles { TellsTroubles K.failures K.interruptions K.most_interruptions result
+        sink.old sink.new }
 {
     for piece in pieces {
         write_all(sink, *piece)?;

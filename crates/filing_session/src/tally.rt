@@ -33,8 +33,10 @@ impl Tally {
     pub fn count(&mut self, trouble: Trouble) -> Trouble
         ensures same { result ≡ trouble }
         ensures failures { Counts (is_failed trouble) self.old.failures self.new.failures }
-        ensures interruptions { CountsInARow (not (is_failed trouble)) self.old.interruptions self.new.interruptions }
-        ensures most { self.new.most_interruptions ≡ max self.old.most_interruptions self.new.interruptions }
+        ensures interruptions { CountsInARow
+            (not (is_failed trouble)) self.old.interruptions self.new.interruptions }
+        ensures most { self.new.most_interruptions
+            ≡ max self.old.most_interruptions self.new.interruptions }
     {
         match trouble {
             Trouble::Interrupted => {
@@ -54,7 +56,8 @@ impl Tally {
         ensures same { result ≡ count }
         ensures failures { self.new.failures ≡ self.old.failures }
         ensures interruptions { self.new.interruptions ≡ 0 }
-        ensures most { self.new.most_interruptions ≡ max self.old.most_interruptions self.new.interruptions }
+        ensures most { self.new.most_interruptions
+            ≡ max self.old.most_interruptions self.new.interruptions }
     {
         self.interruptions = 0;
         count

@@ -1,7 +1,11 @@
 -- The case of a message, as it is given to the evaluator.
 use Rattle.std.specs.Prelude.{ℕ, List, Bool, map}
+use Rattle.std.specs.List.{list_any}
 use Rattle.class_paths.specs.Paths.{Paths}
-use Rattle.sieve_meaning.specs.Case.{Facts, Field}
+use Rattle.sieve_meaning.specs.declared.matching.MatchType.{MatchType}
+use Rattle.sieve_meaning.specs.declared.matching.Comparator.{Comparator}
+use Rattle.sieve_meaning.specs.Case.{Facts, Field, is_named}
+use Rattle.sieve_meaning.specs.Matching.{key_matches}
 use Rattle.filing_case.specs.Message.{is_among}
 use Rattle.plain_evaluator.specs.declared.case.BorrowedCase.{BorrowedCase}
 use Rattle.plain_evaluator.specs.declared.case.BorrowedField.{BorrowedField}
@@ -9,6 +13,14 @@ use Rattle.plain_evaluator.specs.declared.case.BorrowedField.{BorrowedField}
 -- a field with its value
 abbrev pub field_of : BorrowedField → Field
 field_of f = record { name = f.name.now; value = f.value.items }
+
+-- whether a field has one of these names
+abbrev pub has_some_name : (names : List (List ℕ)) → BorrowedField → Bool
+has_some_name names f = list_any (λ name. is_named name (field_of f)) names
+
+-- whether the value of a field matches one of these keys
+abbrev pub has_some_match : MatchType → Comparator → (keys : List (List ℕ)) → BorrowedField → Bool
+has_some_match how comparator keys f = list_any (λ key. key_matches how comparator key (field_of f).value) keys
 
 -- what a run can learn of a message, where a function answers which paths are open
 abbrev pub facts_by : {P : Type 0} → (P → List ℕ → Bool) → BorrowedCase P → Facts

@@ -12,7 +12,7 @@ use Rattle.sieve_meaning.specs.Truth.{truth}
 use Rattle.sieve_meaning.specs.Reading.{only_in, block_in, command_named, program_of, branches_of, string_lists, first_string, has_tag}
 use Rattle.sieve_meaning.specs.Meaning.{ScriptName, script_named, Library, Included, inclusion_within, run, run_branches, and_then, filing, ending_of_include, with_entry}
 use Rattle.sieve_meaning.specs.Meaning as meaning
-use Rattle.script_library.specs.BorrowedShelves.{scripts_of}
+use Rattle.script_library.specs.BorrowedShelves.{scripts_of, library_on}
 use Rattle.script_library.specs.Libraries.{library_of}
 use Rattle.plain_evaluator.specs.Case.{facts_of}
 use Rattle.sieve_meaning.specs.Scripts.{script_of}
@@ -43,12 +43,21 @@ fault_of (endings.Faults fault) = Some fault
 abbrev pub includes_at : ℕ → Scope → Included
 includes_at left s = inclusion_within (facts_of s.case.now) (library_of (scripts_of s.shelves)) left (map script_of s.chain.now)
 
+-- what a run can learn of the message in a scope
+abbrev pub facts_at : Scope → Facts
+facts_at s = facts_of s.case.now
+
 -- a script that an include enters after the active ones; without a further level it is a fault
 abbrev pub entry_ending : Facts → Library → ℕ → (chain : List ScriptName) → Include → Commands → meaning.Filing →
     meaning.Ending
 entry_ending facts lib zero chain i script f = meaning.Faults NestingTooDeep f
 entry_ending facts lib (suc left) chain i script f = ending_of_include
     (run facts (inclusion_within facts lib left (script_named i ∷ chain)) script (with_entry (script_named i) f))
+
+-- the same in a scope
+abbrev pub entry_at : ℕ → Scope → Include → Commands → meaning.Filing → meaning.Ending
+entry_at left s i script f =
+    entry_ending (facts_at s) (library_on s.shelves) left (map script_of s.chain.now) i script f
 
 -- an include whose script is missing: nothing where it is optional (RFC 6609, section 3.2), otherwise a fault
 abbrev pub missing_ending : (optional : Bool) → meaning.Filing → meaning.Ending
@@ -59,6 +68,10 @@ missing_ending optional f = if optional then meaning.GoesOn f else meaning.Fault
 unfoldable pub runs_from : Facts → Included → (is_open : Bool) → CommandTrees → meaning.Filing → meaning.Ending
 runs_from facts inc true cs f = and_then (run_branches facts inc (branches_of cs) f) (run facts inc (program_of cs))
 runs_from facts inc false cs f = run facts inc (program_of cs) f
+
+-- the same in a scope where this number of further scripts may be active
+abbrev pub runs_at_level : ℕ → Scope → (is_open : Bool) → CommandTrees → meaning.Filing → meaning.Ending
+runs_at_level left s is_open cs f = runs_from (facts_at s) (includes_at left s) is_open cs f
 
 -- `fileinto` with these arguments (RFC 5228, section 4.1; RFC 3894)
 abbrev pub filing_into : Facts → List Argument → meaning.Filing → meaning.Ending
@@ -89,3 +102,14 @@ abbrev pub BranchLeads : Facts → Included → CommandTree → meaning.Filing �
 BranchLeads facts inc (command name args inner finish) f e opens = (more : CommandTrees) →
     (if truth facts (only_in inner) then and_then (run facts inc (block_in finish) f) (runs_from facts inc false more)
     else runs_from facts inc true more f) ≡ and_then e (runs_from facts inc opens more)
+
+-- These three say the same in a scope where a number of further scripts may be active.
+
+abbrev pub PlainlyEndsAt : ℕ → Scope → CommandWord → List Argument → meaning.Filing → meaning.Ending → Type 0
+PlainlyEndsAt left s word args f e = PlainlyEnds (facts_at s) (includes_at left s) word args f e
+
+abbrev pub LeadsAt : ℕ → Scope → Bool → CommandTree → meaning.Filing → meaning.Ending → Bool → Type 0
+LeadsAt left s is_open c f e opens = Leads (facts_at s) (includes_at left s) is_open c f e opens
+
+abbrev pub BranchLeadsAt : ℕ → Scope → CommandTree → meaning.Filing → meaning.Ending → Bool → Type 0
+BranchLeadsAt left s c f e opens = BranchLeads (facts_at s) (includes_at left s) c f e opens

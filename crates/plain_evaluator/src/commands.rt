@@ -3,7 +3,7 @@
 ghost use Rattle.std.specs.Prelude.{◌≡◌, IfOk, map, false};
 ghost use Rattle.sieve_syntax.specs.View.{command_of, commands_of, ending_of};
 ghost use Rattle.plain_evaluator.specs.Case.{facts_of};
-ghost use Rattle.plain_evaluator.specs.Runs.{ending_at, filing_of, runs_from, commands_in, filing_into, includes_at, IsNoIf, PlainlyEnds, BranchLeads, Leads};
+ghost use Rattle.plain_evaluator.specs.Runs.{ending_at, filing_of, commands_in, filing_into, IsNoIf, runs_at_level, PlainlyEndsAt, LeadsAt, BranchLeadsAt};
 
 use crate::case::BorrowedCase;
 use crate::entry::Entry;
@@ -49,8 +49,7 @@ fn run_plain<'a, L: Entry>(
     arguments: &'a [Argument],
     filing: &mut Filing<'a>,
 ) -> Result<Ending, AllocError>
-    ensures { IsNoIf word → IfOk result
-        (λ e. PlainlyEnds (facts_of scope.now.case.now) (includes_at L.depth scope.now) word arguments.now
+    ensures { IsNoIf word → IfOk result (λ e. PlainlyEndsAt L.depth scope.now word arguments.now
         (filing_of filing.old) (ending_at e filing.new)) }
 {
     match word {
@@ -82,8 +81,7 @@ fn run_block<'a, L: Entry>(
     ending: &'a CommandEnding,
     filing: &mut Filing<'a>,
 ) -> Result<Ending, AllocError>
-    ensures { IfOk result (λ e. ending_at e filing.new ≡
-        runs_from (facts_of scope.now.case.now) (includes_at L.depth scope.now) false
+    ensures { IfOk result (λ e. ending_at e filing.new ≡ runs_at_level L.depth scope.now false
         (commands_in (ending_of ending.now)) (filing_of filing.old)) }
 {
     match ending {
@@ -100,8 +98,8 @@ fn run_branch<'a, L: Entry>(
     command: &'a Command,
     filing: &mut Filing<'a>,
 ) -> Result<(Ending, bool), AllocError>
-    ensures { IfOk result (λ r. BranchLeads (facts_of scope.now.case.now) (includes_at L.depth scope.now)
-        (command_of command.now) (filing_of filing.old) (ending_at r.0 filing.new) r.1) }
+    ensures { IfOk result (λ r. BranchLeadsAt L.depth scope.now (command_of command.now)
+        (filing_of filing.old) (ending_at r.0 filing.new) r.1) }
 {
     if !is_only_true(scope.case, &command.tests) {
         return Ok((Ending::GoesOn, true));
@@ -119,8 +117,8 @@ fn run_command<'a, L: Entry>(
     is_open: bool,
     filing: &mut Filing<'a>,
 ) -> Result<(Ending, bool), AllocError>
-    ensures { IfOk result (λ r. Leads (facts_of scope.now.case.now) (includes_at L.depth scope.now) is_open
-        (command_of command.now) (filing_of filing.old) (ending_at r.0 filing.new) r.1) }
+    ensures { IfOk result (λ r. LeadsAt L.depth scope.now is_open (command_of command.now)
+        (filing_of filing.old) (ending_at r.0 filing.new) r.1) }
 {
     let word = command_word(command.name.as_slice());
     match part_in(word, is_open) {
@@ -147,8 +145,7 @@ pub fn run<'a, L: Entry>(
     commands: &'a Vec<Command>,
     filing: &mut Filing<'a>,
 ) -> Result<Ending, AllocError>
-    ensures { IfOk result (λ e. ending_at e filing.new ≡
-        runs_from (facts_of scope.now.case.now) (includes_at L.depth scope.now) false
+    ensures { IfOk result (λ e. ending_at e filing.new ≡ runs_at_level L.depth scope.now false
         (commands_of (map command_of commands.now.items)) (filing_of filing.old)) }
 {
     let mut is_open = false;

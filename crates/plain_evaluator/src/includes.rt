@@ -14,14 +14,16 @@ use sieve_meaning::{Include, RunFault, ScriptName};
 use std::alloc::{AllocError, Global};
 
 fn is_among(names: &[ScriptName<'_>], script: &ScriptName<'_>) -> bool
-    ensures { result ≡ list_any (λ other. same_script (script_of script.now) (script_of other)) names.now }
+    ensures { result
+        ≡ list_any (λ other. same_script (script_of script.now) (script_of other)) names.now }
 {
     names.iter().any(|other| script.is_same(other))
 }
 
 /// Whether an include does nothing: it has `:once`, and its script was entered before.
 fn is_passed(include: &Include<'_>, entered: &[ScriptName<'_>]) -> bool
-    ensures { result ≡ (include.now.is_once && is_among_of (map script_of entered.now) (script_of include.now.script)) }
+    ensures { result ≡ (include.now.is_once
+        && is_among_of (map script_of entered.now) (script_of include.now.script)) }
 {
     include.is_once && is_among(entered, &include.script)
 }

@@ -1,15 +1,13 @@
 //! The evaluator's call.
 
-ghost use Rattle.std.specs.Prelude.{◌≡◌, IfOk, map, option_map};
-ghost use Rattle.script_library.specs.BorrowedShelves.{scripts_of};
-ghost use Rattle.script_library.specs.Libraries.{library_of};
-ghost use Rattle.sieve_syntax.specs.View.{tree_of};
-ghost use Rattle.sieve_meaning.specs.Reading.{program_of};
+ghost use Rattle.std.specs.Prelude.{◌≡◌, IfOk, map, option_copied};
 ghost use Rattle.sieve_meaning.specs.Meaning.{main_names, meaning};
 ghost use Rattle.sieve_meaning.specs.Outcome.{outcome_at, outcome_of};
 ghost use Rattle.plain_evaluator.specs.Case.{facts_of};
 ghost use Rattle.plain_evaluator.specs.Runs.{fault_of};
 ghost use Rattle.sieve_meaning.specs.Scripts.{script_of};
+ghost use Rattle.script_library.specs.BorrowedShelves.{library_on};
+ghost use Rattle.script_library.specs.Libraries.{program_in};
 
 use crate::case::BorrowedCase;
 use crate::commands::run;
@@ -40,7 +38,7 @@ fn main_names<'a>(
     alloc: Global,
     known_as: Option<&'a [u8]>,
 ) -> Result<Vec<ScriptName<'a>>, AllocError>
-    ensures { IfOk result (λ v. map script_of v.items ≡ main_names (option_map (λ s. s.now) known_as.entry)) }
+    ensures { IfOk result (λ v. map script_of v.items ≡ main_names (option_copied known_as.entry)) }
 {
     let mut names = Vec::new(alloc);
     if let Some(name) = known_as {
@@ -62,9 +60,8 @@ pub fn evaluate<'a>(
     shelves: Shelves<'a>,
     case: &BorrowedCase<'_, Paths>,
 ) -> Result<Outcome, AllocError>
-    ensures { IfOk result (λ o. o ≡
-        outcome_of (meaning (facts_of case.now) (library_of (scripts_of shelves.entry))
-        (option_map (λ s. s.now) known_as.entry) (program_of (tree_of main.now)))) }
+    ensures { IfOk result (λ o. o ≡ outcome_of (meaning (facts_of case.now)
+        (library_on shelves.entry) (option_copied known_as.entry) (program_in main.now))) }
 {
     let chain = main_names(alloc, known_as)?;
     let scope = Scope {

@@ -5,10 +5,9 @@ ghost use Rattle.std.specs.List.{list_any, list_all};
 ghost use Rattle.sieve_syntax.specs.Arguments.{strings_of};
 ghost use Rattle.sieve_syntax.specs.View.{test_of, inner_of};
 ghost use Rattle.sieve_meaning.specs.Case.{is_named};
-ghost use Rattle.sieve_meaning.specs.Matching.{key_matches as key_matches_by};
 ghost use Rattle.sieve_meaning.specs.Reading.{test_in, only_in, tests_in, string_lists, exists_of, header_of, size_of, has_tag as has_tag_of, number_in, match_type as match_type_of, comparator_from};
 ghost use Rattle.sieve_meaning.specs.Truth.{truth, all_true, some_true};
-ghost use Rattle.plain_evaluator.specs.Case.{field_of, facts_of};
+ghost use Rattle.plain_evaluator.specs.Case.{field_of, facts_of, has_some_name, has_some_match};
 
 use crate::case::{BorrowedCase, BorrowedField};
 use class_paths::Paths;
@@ -19,7 +18,7 @@ use sieve_syntax::{Argument, StringList, Test, Tests, Text};
 
 /// Whether a field has one of some names.
 fn is_any_name(field: &BorrowedField<'_>, names: &[Text]) -> bool
-    ensures { result ≡ list_any (λ name. is_named name (field_of field.now)) names.now }
+    ensures { result ≡ has_some_name names.now field.now }
 {
     names
         .iter()
@@ -33,14 +32,14 @@ fn is_any_match(
     how: MatchType,
     comparator: Comparator,
 ) -> bool
-    ensures { result ≡ list_any (λ key. key_matches_by how comparator key (field_of field.now).value) keys.now }
+    ensures { result ≡ has_some_match how comparator keys.now field.now }
 {
     keys.iter().any(|key| key_matches(how, key.as_slice(), field.value.as_slice(), comparator))
 }
 
 /// Whether a field has one of the listed names.
 fn has_listed_name(field: &BorrowedField<'_>, names: &StringList) -> bool
-    ensures { result ≡ list_any (λ name. is_named name (field_of field.now)) (strings_of names.now) }
+    ensures { result ≡ has_some_name (strings_of names.now) field.now }
 {
     is_same_word(field.name, names.first().as_slice()) || is_any_name(field, names.others())
 }
@@ -52,8 +51,7 @@ fn has_listed_key(
     how: MatchType,
     comparator: Comparator,
 ) -> bool
-    ensures { result ≡ list_any (λ key. key_matches_by how comparator key (field_of field.now).value)
-        (strings_of keys.now) }
+    ensures { result ≡ has_some_match how comparator (strings_of keys.now) field.now }
 {
     key_matches(
         how,
@@ -71,8 +69,8 @@ fn is_any_field(
     how: MatchType,
     comparator: Comparator,
 ) -> bool
-    ensures { result ≡ list_any (λ f. list_any (λ name. is_named name (field_of f)) (strings_of names.now) &&
-        list_any (λ key. key_matches_by how comparator key (field_of f).value) (strings_of keys.now)) fields.now }
+    ensures { result ≡ list_any (λ f. has_some_name (strings_of names.now) f
+        && has_some_match how comparator (strings_of keys.now) f) fields.now }
 {
     fields.iter().any(|field| has_listed_name(field, names)
         && has_listed_key(field, keys, how, comparator))
@@ -107,14 +105,16 @@ fn has_field(fields: &[BorrowedField<'_>], name: &[u8]) -> bool
 
 /// Whether a field is there for each name.
 fn has_each_field(fields: &[BorrowedField<'_>], names: &[Text]) -> bool
-    ensures { result ≡ list_all (λ name. list_any (λ f. is_named name (field_of f)) fields.now) names.now }
+    ensures { result
+        ≡ list_all (λ name. list_any (λ f. is_named name (field_of f)) fields.now) names.now }
 {
     names.iter().all(|name| has_field(fields, name.as_slice()))
 }
 
 /// Whether a field is there for each listed name.
 fn has_listed_fields(fields: &[BorrowedField<'_>], names: &StringList) -> bool
-    ensures { result ≡ list_all (λ name. list_any (λ f. is_named name (field_of f)) fields.now) (strings_of names.now) }
+    ensures { result ≡ list_all
+        (λ name. list_any (λ f. is_named name (field_of f)) fields.now) (strings_of names.now) }
 {
     has_field(fields, names.first().as_slice()) && has_each_field(fields, names.others())
 }

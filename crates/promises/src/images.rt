@@ -17,19 +17,22 @@ ghost use Rattle.promises.specs.Images.{Compiles};
 /// - no run of it traps, whatever the message is and whichever classes are open;
 /// - each run ends within the image's budget of steps, and with one outcome.
 pub fn accepted_images_run_to_their_end()
-    ensures program { (octets : List ℕ) (p q : Program) → IsGoodImage octets p → IsGoodImage octets q → p ≡ q }
-    ensures never_traps { (octets : List ℕ) (p : Program) (c : Facts) (n : ℕ) → IsGoodImage octets p →
-        after_steps p c n ≢ Trap }
-    ensures ends { (octets : List ℕ) (p : Program) (c : Facts) → IsGoodImage octets p → (o : Outcome) ×
-        EndsWithinBudget p c o }
-    ensures once { (p : Program) (c : Facts) (o x : Outcome) → EndsWithinBudget p c o → EndsWithinBudget p c x → o ≡ x }
+    ensures program { (octets : List ℕ) (p q : Program) → IsGoodImage octets p
+        → IsGoodImage octets q → p ≡ q }
+    ensures never_traps { (octets : List ℕ) (p : Program) (c : Facts) (n : ℕ) → IsGoodImage octets p
+        → after_steps p c n ≢ Trap }
+    ensures ends { (octets : List ℕ) (p : Program) (c : Facts) → IsGoodImage octets p
+        → (o : Outcome) × EndsWithinBudget p c o }
+    ensures once { (p : Program) (c : Facts) (o x : Outcome) → EndsWithinBudget p c o
+        → EndsWithinBudget p c x → o ≡ x }
 {}
 
 /// Octets that may run are refused by no number, and others by at most one, apart from 99 (no memory).
 pub fn images_are_refused_by_one_number()
-    ensures accepted { (octets : List ℕ) (p : Program) (n : ℕ) → IsGoodImage octets p → RefusesImage octets n → n ≡ 99 }
-    ensures refused { (octets : List ℕ) (m n : ℕ) → RefusesImage octets m → RefusesImage octets n → m ≢ 99 → n ≢ 99 →
-        m ≡ n }
+    ensures accepted { (octets : List ℕ) (p : Program) (n : ℕ) → IsGoodImage octets p
+        → RefusesImage octets n → n ≡ 99 }
+    ensures refused { (octets : List ℕ) (m n : ℕ) → RefusesImage octets m → RefusesImage octets n
+        → m ≢ 99 → n ≢ 99 → m ≡ n }
 {}
 
 /// The program that a script is compiled to ends in every case within its budget. Its outcome is the one that the

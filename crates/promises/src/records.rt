@@ -18,8 +18,8 @@ ghost use Rattle.promises.specs.Records.{FilesAlone, IsDueLine, IsFaultAlone, En
 /// fault is the default class alone. Neither command changes anything.
 pub fn dry_runs_store_nothing()
     ensures file { (s : Standing) (script message : List ℕ) (o : Outcome) (new : Standing)
-        → Step s (plain (file script message)) (dry_run o) new → IsFiled s.office script message o × IsFaultAlone o ×
-        (new ≡ s) }
+        → Step s (plain (file script message)) (dry_run o) new → IsFiled s.office script message o
+        × IsFaultAlone o × (new ≡ s) }
     ensures trial { (s : Standing) (octets message : List ℕ) (o : Outcome) (new : Standing)
         → Step s (plain (try_image octets message)) (dry_run o) new
         → ((p : Program) × IsGoodImage octets p ×
@@ -31,16 +31,16 @@ pub fn dry_runs_store_nothing()
 /// A capture that ended in a fault is in the default class alone. Each line that is answered gives one of the records
 /// and its due day. That day comes the period of the record's class after the day of the capture, in the plan as it is.
 pub fn finished_captures_are_whole()
-    ensures { (s : Standing) (t : ℕ) (f : Flight) (fault : Option RunFault) (lines : List Line) (new : Standing)
-        → Step s (finish t) (captured fault lines) new → flight_of t s.flights ≡ Some f
-        → FilesAlone s.office.archive f.at_begin fault lines new.office.archive }
+    ensures { (s : Standing) (t : ℕ) (f : Flight) (fault : Option RunFault) (lines : List Line)
+        (new : Standing) → Step s (finish t) (captured fault lines) new → flight_of t s.flights
+        ≡ Some f → FilesAlone s.office.archive f.at_begin fault lines new.office.archive }
 {}
 
 /// DUE answers the due list of the day, and changes nothing. Each line is that of a live record without a hold whose
 /// due day is not later. The due day comes the period of the record's class after the day of its capture, in the plan
 /// as it is now.
 pub fn due_lists_are_whole()
-    ensures { (s : Standing) (day : ℕ) (lines : List Line) (new : Standing) →
-        Step s (plain (due day)) (listed lines) new
-        → (lines ≡ due_list s.office.archive day) × All (IsDueLine s.office.archive day) lines × (new ≡ s) }
+    ensures { (s : Standing) (day : ℕ) (lines : List Line) (new : Standing)
+        → Step s (plain (due day)) (listed lines) new → (lines ≡ due_list s.office.archive day)
+        × All (IsDueLine s.office.archive day) lines × (new ≡ s) }
 {}

@@ -18,17 +18,17 @@ ghost use Rattle.promises.specs.Turns.{AllGrant, HasEnded, TellsTurns};
 /// - a FINISH of a capture in flight is refused with 92 exactly where the steps granted do not reach that length;
 /// - a capture that was granted as many steps as its budget has come to its end.
 pub fn turns_add_up()
-    ensures sum { (archive : Archive) (commands : List Command) (answers : List Answer) (s : Standing) (t : ℕ)
-        (f : Flight)
-        → Run (opening archive) commands answers s → flight_of t s.flights ≡ Some f →
-        AllGrant t commands answers f.granted }
+    ensures sum { (archive : Archive) (commands : List Command) (answers : List Answer)
+        (s : Standing) (t : ℕ) (f : Flight) → Run (opening archive) commands answers s
+        → flight_of t s.flights ≡ Some f → AllGrant t commands answers f.granted }
     ensures told { (s : Standing) (t count : ℕ) (a : Answer) (new : Standing) (f : Flight)
-        → Step s (turn t count) a new → flight_of t new.flights ≡ Some f → TellsTurns f.granted f.run_length a }
+        → Step s (turn t count) a new → flight_of t new.flights ≡ Some f
+        → TellsTurns f.granted f.run_length a }
     ensures finish { (s : Standing) (t : ℕ) (a : Answer) (new : Standing) (f : Flight)
         → Step s (finish t) a new → flight_of t s.flights ≡ Some f → (a ≡ refused 92 None) ↔
         (f.granted < f.run_length) }
-    ensures enough { (s : Standing) (t : ℕ) (f : Flight) → IsReached s → flight_of t s.flights ≡ Some f
-        → f.pinned.budget ≤ f.granted → HasEnded f }
+    ensures enough { (s : Standing) (t : ℕ) (f : Flight) → IsReached s
+        → flight_of t s.flights ≡ Some f → f.pinned.budget ≤ f.granted → HasEnded f }
 {}
 
 /// A TURN or a FINISH is refused with 91 exactly where its ticket is not in flight. A FINISH that makes the records of
@@ -38,8 +38,9 @@ pub fn tickets_are_looked_up_exactly()
         → Step s (turn t count) a new → (a ≡ refused 91 None) ↔ (flight_of t s.flights ≡ None) }
     ensures finish { (s : Standing) (t : ℕ) (a : Answer) (new : Standing)
         → Step s (finish t) a new → (a ≡ refused 91 None) ↔ (flight_of t s.flights ≡ None) }
-    ensures given_up { (s : Standing) (t : ℕ) (fault : Option RunFault) (lines : List Line) (new : Standing)
-        → IsReached s → Step s (finish t) (captured fault lines) new → flight_of t new.flights ≡ None }
+    ensures given_up { (s : Standing) (t : ℕ) (fault : Option RunFault) (lines : List Line)
+        (new : Standing) → IsReached s → Step s (finish t) (captured fault lines) new
+        → flight_of t new.flights ≡ None }
 {}
 
 /// In a session that begins with an archive:
@@ -48,13 +49,14 @@ pub fn tickets_are_looked_up_exactly()
 ///   2199 (94) nor its message too long (95);
 /// - it is refused with 97 exactly where ticket 4,294,967,295 was given, and none of 94, 95 and 90 holds.
 pub fn beginnings_are_refused_exactly()
-    ensures tickets { (archive : Archive) (commands : List Command) (answers : List Answer) (s : Standing)
-        → Run (opening archive) commands answers s → AreNumbersUpTo 0 (tickets_given answers) s.last }
-    ensures in_flight { (s : Standing) (officer : List ℕ) (moment : ℕ) (message : List ℕ) (a : Answer) (new : Standing)
-        → IsReached s → Step s (begin officer moment message) a new
+    ensures tickets { (archive : Archive) (commands : List Command)
+        (answers : List Answer) (s : Standing) → Run (opening archive) commands answers s
+        → AreNumbersUpTo 0 (tickets_given answers) s.last }
+    ensures in_flight { (s : Standing) (officer : List ℕ) (moment : ℕ) (message : List ℕ)
+        (a : Answer) (new : Standing) → IsReached s → Step s (begin officer moment message) a new
         → (a ≡ refused 90 None) ↔ ((length s.flights ≡ most_in_flight) × MayBegin moment message) }
-    ensures used_up { (s : Standing) (officer : List ℕ) (moment : ℕ) (message : List ℕ) (a : Answer) (new : Standing)
-        → IsReached s → Step s (begin officer moment message) a new
-        → (a ≡ refused 97 None) ↔
-        ((s.last ≡ last_ticket) × (length s.flights < most_in_flight) × MayBegin moment message) }
+    ensures used_up { (s : Standing) (officer : List ℕ)
+        (moment : ℕ) (message : List ℕ) (a : Answer) (new : Standing)
+        → IsReached s → Step s (begin officer moment message) a new → (a ≡ refused 97 None)
+        ↔ ((s.last ≡ last_ticket) × (length s.flights < most_in_flight) × MayBegin moment message) }
 {}

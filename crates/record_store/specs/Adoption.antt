@@ -5,14 +5,14 @@ use Rattle.sqlite.specs.Store.{Ghosts}
 use Rattle.sqlite.specs.Schema.{Schema}
 use Rattle.sqlite.specs.Tree.{Trees}
 use Rattle.sqlite.specs.Effect.{Database}
-use Rattle.sqlite.specs.State.{Survives}
+use Rattle.sqlite.specs.State.{HasCleanDisk, Survives}
 use Rattle.sqlite.specs.Held.{Held, state}
 use Rattle.sqlite_keyed.specs.Lists.{sort_by}
 use Rattle.sqlite_trees.specs.Tree.{IsAscending}
 use Rattle.class_plan.specs.Plans.{Listing, IsPlan}
 use Rattle.class_plan.specs.Texts.{text_of}
 use Rattle.record_tables.specs.Tables.{IsArchiveSchema, no_schema, first_schema, first_schema_with_dues}
-use Rattle.record_tables.specs.Rows.{Tables, Message, Record, Stores, StoresFirst, StoresCommon, AreKeyed}
+use Rattle.record_tables.specs.Rows.{Tables, Message, Record, Due, Stores, StoresFirst, StoresCommon, AreKeyed}
 use Rattle.record_tables.specs.Changes.{ClassEntry, Rule}
 use Rattle.record_tables.specs.Reads.{HoldEntry, Pair, class_entry, pair, hold_cmp, ArePairs, AreClasses, AreRules}
 use Rattle.record_tables.specs.CodeRows.{record_of, hold_entry_of, class_entry_of, rule_of, due_of}
@@ -22,10 +22,12 @@ use Rattle.record_rows.specs.Rules.{rules_of, classes_of}
 use Rattle.record_rows.specs.Texts.{text_row}
 use Rattle.record_store.specs.Archive.{Archive, Hold, IsArchive, empty_archive, is_hold, next_number}
 use Rattle.record_store.specs.Counts.{count_at}
-use Rattle.record_store.specs.Stores.{Keeps, StoresArchive, hold_of, hold_count, live_count, due_rows}
+use Rattle.record_store.specs.Stores.{Keeps, StandsFor, StoresArchive, hold_of, hold_count, live_count, due_rows}
 use Rattle.record_store.specs.declared.overview.ArchiveRows.{ArchiveRows}
 use Rattle.record_store.specs.declared.overview.Overview.{Overview}
 use Rattle.record_store.specs.declared.plan_rows.PlanRows.{PlanRows}
+use Rattle.record_store.specs.declared.store.Store.{Store}
+use Rattle.record_store.specs.declared.adopt.Contents.{Contents}
 use Rattle.record_store.specs.declared.text_rows.TextRows.{TextRows}
 
 -- ---- the rows of a database
@@ -89,6 +91,10 @@ Finds db a = (FindsRows db a × IsKeyed a) ⊎ FindsNothing db a
 abbrev pub HasNoArchive : Database → Type 0
 HasNoArchive db = (db.schema ≢ no_schema) × ((a : Archive) → FindsRows db a → IsArchive a → ⊥)
 
+-- no archive is found in this way
+abbrev pub FindsNone : (Database → Archive → Type 0) → Database → Type 0
+FindsNone FindsIn db = (a : Archive) → FindsIn db a → IsArchive a → ⊥
+
 -- the rows are an archive's
 pub record HasArchive (db : Database) : Type 0 where
   pub archive : Archive
@@ -113,6 +119,23 @@ pub record ReadsFirst (db : Database) (t : Tables) (ps : List Pair) (cs : List C
   pub settings : ArePairs t ps
   pub classes : AreClasses t cs
   pub holds : AreOnce (map hold_of t.holds)
+
+-- this holds of the settings, the schedules and the classes, whatever rows of version 2 the database has
+abbrev pub ForSecond : Database → (List Pair → List Rule → List ClassEntry → Type 0) → Type 0
+ForSecond db Holds = (t : Tables) (ps : List Pair) (rs : List Rule) (cs : List ClassEntry) →
+    ReadsSecond db t ps rs cs → Holds ps rs cs
+
+-- this holds of the settings and the classes, whatever rows of version 1 the database has
+abbrev pub ForFirst : Database → (List Pair → List ClassEntry → Type 0) → Type 0
+ForFirst db Holds = (t : Tables) (ps : List Pair) (cs : List ClassEntry) → ReadsFirst db t ps cs → Holds ps cs
+
+-- rows of version 2 are an archive's
+abbrev pub IsSoundSecond : Database → Type 0
+IsSoundSecond db = ForSecond db (λ ps rs cs. HasArchive db)
+
+-- rows of version 1 are an archive's
+abbrev pub IsSoundFirst : Database → Type 0
+IsSoundFirst db = ForFirst db (λ ps cs. HasArchive db)
 
 -- the rows of either version
 abbrev pub HasRows : Database → Type 0
@@ -184,3 +207,23 @@ pub record Sees {S : Type 0} (g : Ghosts S) (Are : Schema → Type 0) (old new :
 abbrev pub LeavesArchive : {S : Type 0} → Ghosts S → (old new : Held S) → (Archive → Type 0) → Type 0
 LeavesArchive g old new Is = Survives (state g old) (state g new) (λ (trees : Trees). (db : Database) ×
     ((a : Archive) → Is a → StoresArchive db a) × (trees ≡ db.trees))
+
+-- the rows of the plan, and what a store keeps beside the connection, are the archive's
+abbrev pub TellsContents : Contents → Archive → Type 0
+TellsContents r a = TellsPlan r.plan_rows a.plan × IsOverview r.overview a
+
+-- the archive that is found in this way before is stored with its due days, if this is its plan and these are its due days
+abbrev pub IsSettled : (Database → Archive → Type 0) → PlanRows → List Due → (old new : Database) → Type 0
+IsSettled FindsIn plan dues old new = (a : Archive) → FindsIn old a → TellsPlan plan a.plan → dues ≡ due_rows a →
+    StoresArchive new a
+
+-- a crash leaves what it might have left before, or tables that keep each archive that is found in this way before
+abbrev pub LeavesFound : {S : Type 0} → Ghosts S → (old new : Held S) → (Database → Archive → Type 0) →
+    (Archive → Type 0) → Type 0
+LeavesFound g old new FindsIn Is = LeavesArchive g old new (λ a. FindsIn (state g old).now a × Is a)
+
+-- while the disk is clean, the store represents each archive that is found in this way in the database of the connection
+abbrev pub TakesOver : {S : Type 0} → Ghosts S → Held S → Store S → (Database → Archive → Type 0) →
+    (Archive → Type 0) → Type 0
+TakesOver g conn store FindsIn Is = HasCleanDisk (state g store.conn) → (a : Archive) → FindsIn (state g conn).now a →
+    Is a → StandsFor g store a

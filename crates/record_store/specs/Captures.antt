@@ -1,11 +1,19 @@
 -- What a capture adds to the tables, and the lines that it answers.
-use Rattle.std.specs.Prelude.{ℕ, ◌+◌, pos, List, [], ◌∷◌, ◌++◌, Option, Some, None, IfSome}
+use Rattle.std.specs.Prelude.{◌≡◌, ℕ, ◌+◌, pos, List, [], ◌∷◌, ◌++◌, map, Option, Some, None, IfSome, Result, Vec}
+use Rattle.std.specs.declared.alloc.Global.{Global}
+use Rattle.sqlite.specs.Store.{Ghosts}
+use Rattle.sqlite.specs.Effect.{Database}
+use Rattle.sqlite.specs.Held.{Held}
 use Rattle.jiff.specs.Words.{epoch_day, IsBetween}
 use Rattle.class_plan.specs.Plans.{Listing}
 use Rattle.class_plan.specs.Calendar.{due_on}
 use Rattle.record_tables.specs.Rows.{Tables, Message, Record, Due}
-use Rattle.record_tables.specs.Changes.{IsPastMessages, IsPastRecords, AreAscending}
-use Rattle.record_store.specs.Archive.{Line}
+use Rattle.record_tables.specs.Changes.{Turns, IsPastMessages, IsPastRecords, AreAscending, new_message}
+use Rattle.record_tables.specs.Steps.{PutsOnOk}
+use Rattle.record_store.specs.Archive.{Line, records_of, capture, capture_lines}
+use Rattle.record_store.specs.Stores.{Obeys, line_view}
+use Rattle.record_store.specs.declared.fault.StoreFault.{StoreFault}
+use Rattle.record_store.specs.declared.store.Store.{Store}
 use Rattle.record_store.specs.declared.store.Line as code
 
 abbrev pub with_records : List Record → Tables → Tables
@@ -42,3 +50,26 @@ dues_of_lines (l ∷ ls) = due_before l.number l.due (dues_of_lines ls)
 -- the due date, if there is one, has a day number of 1970 to 9999
 abbrev pub HasDueDay : code.Line → Type 0
 HasDueDay l = IfSome l.due (λ d. IsBetween (pos 0) (pos 2932896) (epoch_day d))
+
+-- the bytes of each path
+abbrev pub path_list : List (Vec ℕ Global) → List (List ℕ)
+path_list paths = map (λ p. p.items) paths
+
+-- a message, its records numbered upwards from its own number, and these due days are added
+abbrev pub with_capture : (first : ℕ) → (body : List ℕ) → (day : ℕ) → (paths : List (List ℕ)) → List Due → Tables → Tables
+with_capture first body day paths ds = with_captured (new_message first body) (records_of first first day paths) ds
+
+-- the whole transaction of a capture
+abbrev pub IsCaptured : (first : ℕ) → (body : List ℕ) → (day : ℕ) → (paths : List (List ℕ)) → List Due → (old new : Database) → Type 0
+IsCaptured first body day paths ds old new = Turns old new (ArePast first ds) (with_capture first body day paths ds)
+
+-- the same in a transaction that continues, where the call succeeds
+abbrev pub PutsCapture : {S T E : Type 0} → Ghosts S → (old new : Held S) → Result T E → (first : ℕ) → (body : List ℕ) → (day : ℕ) →
+    (paths : List (List ℕ)) → List Due → Type 0
+PutsCapture g old new result first body day paths ds = PutsOnOk g old new result (ArePast first ds) (with_capture first body day paths ds)
+
+-- a call carries out a capture on a day, and answers a line for each new record
+abbrev pub ObeysCapture : {S : Type 0} → Ghosts S → (old new : Store S) → Result (Vec code.Line Global) StoreFault →
+    (body : List ℕ) → (day : ℕ) → (paths : List (List ℕ)) → Type 0
+ObeysCapture g old new result body day paths = Obeys g old new result (λ a. capture a body day paths)
+    (λ a lines. map line_view lines.items ≡ capture_lines a day paths)

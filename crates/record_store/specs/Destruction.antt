@@ -1,11 +1,11 @@
 -- Which record may be destroyed, and what its destruction makes of the tables.
-use Rattle.std.specs.Prelude.{◌≡◌, ℕ, false, not, if◌then◌else◌, Option, Some, None}
+use Rattle.std.specs.Prelude.{◌≡◌, ℕ, false, not, if◌then◌else◌, Option, Some, None, Ok}
 use Rattle.sqlite.specs.Effect.{Database}
 use Rattle.class_plan.specs.Calendar.{due_on}
 use Rattle.class_plan.specs.Plans.{Listing, schedule_at}
 use Rattle.record_tables.specs.Rows.{Tables, Record}
 use Rattle.record_tables.specs.Changes.{Turns, Always, with_destruction as with_mark, without_due, without_message}
-use Rattle.record_store.specs.Archive.{Archive, record_at, is_held, is_by, destroys}
+use Rattle.record_store.specs.Archive.{Archive, record_at, is_held, is_by, destroys, destroy, without}
 use Rattle.record_store.specs.declared.fault.StoreFault.{StoreFault}
 use Rattle.record_store.specs.declared.fault.StoreFault.TheVariants as fault
 
@@ -14,6 +14,10 @@ pub record IsFree (a : Archive) (n : ℕ) (r : Record) : Type 0 where
   pub found : record_at a n ≡ Some r
   pub live : r.destroyed ≡ false
   pub free : is_held a n ≡ false
+
+-- the record is live, no hold keeps it, and the command destroys it
+abbrev pub IsDestroyable : ℕ → ℕ → Archive → Record → Type 0
+IsDestroyable n day a r = IsFree a n r × (destroy a n day ≡ Ok (without a r))
 
 -- the plan's refusal, if any, of the destruction of a record by a day
 abbrev pub against_destruction : Listing → ℕ → Record → Option StoreFault

@@ -1,14 +1,20 @@
 -- The records that are due, and their lines.
-use Rattle.std.specs.Prelude.{ℕ, List, filter, Some}
+use Rattle.std.specs.Prelude.{ℕ, ◌==◌, Bool, List, filter, Some}
 use Rattle.sqlite_keyed.specs.Lists.{sort_by}
 use Rattle.record_tables.specs.Reads.{due_cmp, is_by}
 use Rattle.record_tables.specs.DueRecords.{DueRecord, with_records}
 use Rattle.record_store.specs.Archive.{Archive, Line}
+use Rattle.record_store.specs.Counts.{count_at}
 use Rattle.record_store.specs.Stores.{due_rows}
+use Rattle.record_store.specs.declared.counts.Counts.{Counts}
 
 -- the live records that are due by a day, held ones too, by their due days and then by number
 abbrev pub due_records : Archive → ℕ → List DueRecord
 due_records a day = with_records a.records (sort_by due_cmp (filter (is_by day) (due_rows a)))
+
+-- no hold keeps the record, by these counts
+abbrev pub is_unheld : Counts → DueRecord → Bool
+is_unheld held d = count_at held d.number == 0
 
 -- the line of a record that is due
 abbrev pub due_line : DueRecord → Line

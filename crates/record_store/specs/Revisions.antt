@@ -1,11 +1,15 @@
 -- Another plan for an archive, the due days by it, and a class that is added.
-use Rattle.std.specs.Prelude.{◌≡◌, ℕ, [], List, true, None}
+use Rattle.std.specs.Prelude.{◌≡◌, ℕ, [], List, true, false, None}
 use Rattle.sqlite.specs.Effect.{Database}
+use Rattle.class_plan.specs.Calendar.{due_on}
 use Rattle.class_plan.specs.Plans.{Listing, keeps}
+use Rattle.class_plan.specs.declared.faults.PlanFault.TheVariants.{PathDropped}
 use Rattle.record_tables.specs.Rows.{Record, Due}
 use Rattle.record_tables.specs.Changes.{Turns, Always, with_class}
 use Rattle.record_store.specs.Archive.{Archive}
 use Rattle.record_store.specs.Stores.{due_rows}
+use Rattle.record_store.specs.declared.fault.StoreFault.{StoreFault}
+use Rattle.record_store.specs.declared.fault.StoreFault.TheVariants.{Plan}
 
 -- the archive with another plan
 abbrev pub with_plan : Archive → Listing → Archive
@@ -19,6 +23,14 @@ dues_in p rs = due_rows (record { plan = p; messages = []; records = rs; holds =
 pub record IsRevision (a : Archive) (p : Listing) (ds : List Due) : Type 0 where
   pub kept : keeps a.plan p ≡ true
   pub dues : ds ≡ dues_in p a.records
+
+-- the new plan drops a path of the old one, and that is the refusal
+abbrev pub RefusesDrop : (old new : Listing) → StoreFault → Type 0
+RefusesDrop old new f = (keeps old new ≡ false) × (f ≡ Plan PathDropped)
+
+-- the due day of the record is the same by both plans
+abbrev pub HasSameDue : (old new : Listing) → Record → Type 0
+HasSameDue old new r = due_on new r.path r.day ≡ due_on old r.path r.day
 
 -- an open class without a schedule of its own is added
 abbrev pub IsClassAdded : List ℕ → Database → Database → Type 0

@@ -1,5 +1,5 @@
 -- How tables keep an archive, and which archive a store represents.
-use Rattle.std.specs.Prelude.{◌≡◌, ◌-◌, ◌==◌, ℕ, ℤ, pos, negsuc, Bool, true, false, ◌&&◌, unsigned_abs, List, [], ◌∷◌, map, filter, is_some, option_map, unwrap_or, codes, Result, Ok, Err, IsTrue, IsPermutation, All}
+use Rattle.std.specs.Prelude.{◌≡◌, ◌-◌, ◌==◌, ℕ, ℤ, pos, negsuc, Bool, true, false, ◌&&◌, unsigned_abs, List, [], ◌∷◌, map, filter, is_some, option_map, unwrap_or, codes, None, Result, Ok, Err, OnOk, IsTrue, IsPermutation, All}
 use Rattle.std.specs.List.Sorted.{IsStrictlySortedBy}
 use Rattle.std.specs.Ordering.{nat_cmp}
 use Rattle.std.specs.Cmp.Lexicographic.{slice_cmp}
@@ -13,7 +13,7 @@ use Rattle.sqlite.specs.Held.{state}
 use Rattle.record_tables.specs.Rows.{Tables, Stores, AreKeyed, Record, Due, Hold as HoldRow}
 use Rattle.record_tables.specs.Reads.{class_entry, rule, pair}
 use Rattle.record_rows.specs.Rules.{rules_of, classes_of}
-use Rattle.record_store.specs.Archive.{Archive, Hold, Line, IsArchive, due_of, due_list, is_live, next_number}
+use Rattle.record_store.specs.Archive.{Archive, Hold, Line, IsArchive, due_of, due_list, is_live, next_number, record_at}
 use Rattle.record_store.specs.declared.fault.StoreFault.{StoreFault}
 use Rattle.record_store.specs.declared.fault.StoreFault.TheVariants as fault
 use Rattle.record_store.specs.Counts.{count_at, tally}
@@ -146,6 +146,39 @@ LeavesAllowed g old new Allowed change = (a : Archive) → StandsFor g old a →
 -- a disk that is clean after the call was clean before it
 abbrev pub Falls : {S : Type 0} → Ghosts S → (old new : Store S) → Type 0
 Falls g old new = HasCleanDisk (state g new.conn) → HasCleanDisk (state g old.conn)
+
+-- the store represents what this change makes of the archive
+abbrev pub ChangesBy : {S : Type 0} → Ghosts S → (old new : Store S) → (Archive → Archive) → Type 0
+ChangesBy g old new change = (a : Archive) → StandsFor g old a → StandsFor g new (change a)
+
+-- the same for a change that is allowed by a condition
+abbrev pub ChangesWhere : {S : Type 0} → Ghosts S → (old new : Store S) → (Archive → Type 0) → (Archive → Archive) →
+    Type 0
+ChangesWhere g old new Allowed change = (a : Archive) → StandsFor g old a → Allowed a → StandsFor g new (change a)
+
+-- the same for a change that the archive's command makes
+abbrev pub CarriesOut : {S : Type 0} → Ghosts S → (old new : Store S) → (Archive → Result Archive StoreFault) →
+    (Archive → Archive) → Type 0
+CarriesOut g old new command change = ChangesWhere g old new (λ a. command a ≡ Ok (change a)) change
+
+-- A call reads whether the archive's command makes this change. Where it does not, the refusal is the command's.
+abbrev pub TellsOutcome : {S X : Type 0} → Ghosts S → (old new : Store S) → Result X StoreFault →
+    (Archive → Result Archive StoreFault) → (Archive → Archive) → Type 0
+TellsOutcome g old new result command change =
+    Tells g old new result (λ a _. command a ≡ Ok (change a)) (λ a f. command a ≡ Err f)
+
+-- what a crash may leave while the archive is changed on an open connection: what a crash might have left before it,
+-- or the changed archive
+abbrev pub LeavesChange : {S : Type 0} → Ghosts S → (old new : Store S) → (Archive → Archive) → Type 0
+LeavesChange g old new change = LeavesMade g old new (λ a. Ok (change a)) change
+
+-- where the call succeeds, the connection is open
+abbrev pub IsOpenOnOk : {S X : Type 0} → Ghosts S → (new : Store S) → Result X StoreFault → Type 0
+IsOpenOnOk g new result = HasCleanDisk (state g new.conn) → OnOk result (IsTrue (state g new.conn).is_open)
+
+-- the archive has no record of this number, and that is the refusal
+abbrev pub LacksRecord : ℕ → Archive → StoreFault → Type 0
+LacksRecord n a f = (f ≡ fault.NoRecord) × (record_at a n ≡ None)
 
 -- ---- lines
 

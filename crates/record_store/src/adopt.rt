@@ -1,18 +1,15 @@
 //! A store over a database that may have an archive's tables.
 
-ghost use Rattle.std.specs.Prelude.{◌≡◌, false, true, List, map, Err, IfOk, IfErr, OnOk, OnErr, IsTrue};
+ghost use Rattle.std.specs.Prelude.{◌≡◌, false, map, IfOk, IfErr};
 ghost use Rattle.sqlite.specs.State.{HasCleanDisk};
 ghost use Rattle.sqlite.specs.Held.{state};
 ghost use Rattle.record_tables.specs.Tables.{no_schema, HasCommonTables, IsArchiveSchema};
-ghost use Rattle.record_tables.specs.Rows.{Tables};
-ghost use Rattle.record_tables.specs.Changes.{AreAscending, ClassEntry, Rule};
-ghost use Rattle.record_tables.specs.Reads.{Pair};
-ghost use Rattle.record_tables.specs.Layout.{IsLayout};
-ghost use Rattle.record_tables.specs.Steps.{ReadsAlone};
+ghost use Rattle.record_tables.specs.Changes.{AreAscending};
+ghost use Rattle.record_tables.specs.Steps.{ReadsAlone, Learns, Rejects, Relates, IsUntouched, FailsStill, FailsStillOn, Makes};
 ghost use Rattle.record_tables.specs.CodeRows.{due_of};
 ghost use Rattle.record_store.specs.Archive.{Archive, IsArchive, empty_archive};
 ghost use Rattle.record_store.specs.Stores.{StandsFor, StoresArchive, due_rows, is_trouble};
-ghost use Rattle.record_store.specs.Adoption.{Finds, FindsRows, FindsSecond, FindsFirst, HasNoArchive, HasArchive, HasRows, IsKeyed, IsLaidSchema, ReadsSecond, ReadsFirst, TellsPlan, IsOverview, Sees, LeavesArchive};
+ghost use Rattle.record_store.specs.Adoption.{Finds, FindsRows, FindsSecond, FindsFirst, HasNoArchive, HasArchive, HasRows, IsKeyed, IsLaidSchema, TellsPlan, IsOverview, Sees, LeavesArchive, IsSoundSecond, IsSoundFirst, FindsNone, IsSettled, TellsContents, LeavesFound, TakesOver};
 
 use crate::fault::StoreFault;
 use crate::overview::{Overview, archive_rows, gather};
@@ -45,16 +42,13 @@ fn settle_dues<S: Alter>(
     requires idle { conn.old.in_transaction ≡ false }
     requires ascending { AreAscending (map due_of dues.now) }
     ensures idle { conn.new.in_transaction ≡ false }
-    ensures ok { HasCleanDisk (state S.Store conn.new) →
-        OnOk result ((a : Archive) → FindsSecond (state S.Store conn.old).now a → TellsPlan plan.now a.plan →
-        map due_of dues.now ≡ due_rows a → StoresArchive (state S.Store conn.new).now a) }
-    ensures err { (IsTrue (state S.Store conn.old).is_open → IsArchiveSchema (state S.Store conn.old).now.schema) →
-        HasCleanDisk (state S.Store conn.new) → IsTrue (state S.Store conn.new).is_open
-        → OnErr result (IsTrue (state S.Store conn.old).is_open ×
-        ((state S.Store conn.new).now ≡ (state S.Store conn.old).now)) }
+    ensures ok { Makes S.Store conn.old conn.new result
+        (IsSettled FindsSecond plan.now (map due_of dues.now)) }
+    ensures err { FailsStillOn S.Store conn.old conn.new IsArchiveSchema result }
     ensures falls { HasCleanDisk (state S.Store conn.new) → HasCleanDisk (state S.Store conn.old) }
-    ensures crash { LeavesArchive S.Store conn.old conn.new (λ a. FindsSecond (state S.Store conn.old).now a ×
-        TellsPlan plan.now a.plan × (map due_of dues.now ≡ due_rows a)) }
+    ensures crash { LeavesArchive S.Store conn.old conn.new
+        (λ a. FindsSecond (state S.Store conn.old).now a
+        × TellsPlan plan.now a.plan × (map due_of dues.now ≡ due_rows a)) }
 {
     let are_stored = are_dues(conn, dues)?;
     if are_stored {
@@ -73,15 +67,13 @@ fn move_over<S: Alter>(
     requires idle { conn.old.in_transaction ≡ false }
     requires ascending { AreAscending (map due_of dues.now) }
     ensures idle { conn.new.in_transaction ≡ false }
-    ensures ok { HasCleanDisk (state S.Store conn.new) →
-        OnOk result ((a : Archive) → FindsFirst (state S.Store conn.old).now a → TellsPlan plan.now a.plan →
-        map due_of dues.now ≡ due_rows a → StoresArchive (state S.Store conn.new).now a) }
-    ensures err { HasCleanDisk (state S.Store conn.new) → IsTrue (state S.Store conn.new).is_open →
-        OnErr result (IsTrue (state S.Store conn.old).is_open ×
-        ((state S.Store conn.new).now ≡ (state S.Store conn.old).now)) }
+    ensures ok { Makes S.Store conn.old conn.new result
+        (IsSettled FindsFirst plan.now (map due_of dues.now)) }
+    ensures err { FailsStill S.Store conn.old conn.new result }
     ensures falls { HasCleanDisk (state S.Store conn.new) → HasCleanDisk (state S.Store conn.old) }
-    ensures crash { LeavesArchive S.Store conn.old conn.new (λ a. FindsFirst (state S.Store conn.old).now a ×
-        TellsPlan plan.now a.plan × (map due_of dues.now ≡ due_rows a)) }
+    ensures crash { LeavesArchive S.Store conn.old conn.new
+        (λ a. FindsFirst (state S.Store conn.old).now a
+        × TellsPlan plan.now a.plan × (map due_of dues.now ≡ due_rows a)) }
 {
     move_first(conn, plan.rules.as_slice(), plan.classes.as_slice(), dues)?;
     Ok(())
@@ -89,16 +81,14 @@ fn move_over<S: Alter>(
 
 /// Reads version 2: the rows of its plan, and what a store keeps beside the connection.
 fn read_second<S: Alter>(alloc: Global, conn: &mut Connection<S>) -> Result<Contents, Fault>
-    ensures sound { HasCleanDisk (state S.Store conn.new) →
-        IfOk result (λ r. (t : Tables) (ps : List Pair) (rs : List Rule) (cs : List ClassEntry) →
-        ReadsSecond (state S.Store conn.old).now t ps rs cs → HasArchive (state S.Store conn.old).now) }
-    ensures found { HasCleanDisk (state S.Store conn.new) →
-        IfOk result (λ r. (a : Archive) → FindsSecond (state S.Store conn.old).now a → IsKeyed a →
-        TellsPlan r.plan_rows a.plan × IsOverview r.overview a) }
+    ensures sound { Learns S.Store conn.old conn.new result (λ db r. IsSoundSecond db) }
+    ensures found { Learns S.Store conn.old conn.new result
+        (λ db r. (a : Archive) → FindsSecond db a → IsKeyed a →
+        TellsContents r a) }
     ensures ascending { IfOk result (λ r. AreAscending (map due_of r.overview.dues.items)) }
-    ensures none { HasCleanDisk (state S.Store conn.new) → result ≡ Err Fault.NoArchive → (a : Archive) →
-        FindsSecond (state S.Store conn.old).now a → IsArchive a → ⊥ }
-    ensures same { ReadsAlone S.Store conn.old conn.new result (IsArchiveSchema (state S.Store conn.old).now.schema) }
+    ensures none { Rejects S.Store conn.old conn.new result (FindsNone FindsSecond) }
+    ensures same { ReadsAlone S.Store conn.old conn.new result
+        (IsArchiveSchema (state S.Store conn.old).now.schema) }
     ensures sees { Sees S.Store IsArchiveSchema conn.old conn.new }
 {
     let plan_rows = plan_rows(alloc, conn)?;
@@ -113,16 +103,14 @@ fn read_second<S: Alter>(alloc: Global, conn: &mut Connection<S>) -> Result<Cont
 
 /// Reads version 1: the rows that its plan has in version 2, and what a store keeps beside the connection.
 fn read_first<S: Alter>(alloc: Global, conn: &mut Connection<S>) -> Result<Contents, Fault>
-    ensures sound { HasCleanDisk (state S.Store conn.new) →
-        IfOk result (λ r. (t : Tables) (ps : List Pair) (cs : List ClassEntry) →
-        ReadsFirst (state S.Store conn.old).now t ps cs → HasArchive (state S.Store conn.old).now) }
-    ensures found { HasCleanDisk (state S.Store conn.new) →
-        IfOk result (λ r. (a : Archive) → FindsFirst (state S.Store conn.old).now a → IsKeyed a →
-        TellsPlan r.plan_rows a.plan × IsOverview r.overview a) }
+    ensures sound { Learns S.Store conn.old conn.new result (λ db r. IsSoundFirst db) }
+    ensures found { Learns S.Store conn.old conn.new result
+        (λ db r. (a : Archive) → FindsFirst db a → IsKeyed a →
+        TellsContents r a) }
     ensures ascending { IfOk result (λ r. AreAscending (map due_of r.overview.dues.items)) }
-    ensures none { HasCleanDisk (state S.Store conn.new) → result ≡ Err Fault.NoArchive → (a : Archive) →
-        FindsFirst (state S.Store conn.old).now a → IsArchive a → ⊥ }
-    ensures same { ReadsAlone S.Store conn.old conn.new result (HasCommonTables (state S.Store conn.old).now.schema) }
+    ensures none { Rejects S.Store conn.old conn.new result (FindsNone FindsFirst) }
+    ensures same { ReadsAlone S.Store conn.old conn.new result
+        (HasCommonTables (state S.Store conn.old).now.schema) }
     ensures sees { Sees S.Store HasCommonTables conn.old conn.new }
 {
     let texts = text_rows(alloc, conn)?;
@@ -140,20 +128,13 @@ fn read_first<S: Alter>(alloc: Global, conn: &mut Connection<S>) -> Result<Conte
 fn settle_second<S: Alter>(alloc: Global, conn: &mut Connection<S>) -> Result<Overview, Fault>
     requires { conn.old.in_transaction ≡ false }
     ensures idle { conn.new.in_transaction ≡ false }
-    ensures sound { HasCleanDisk (state S.Store conn.new) →
-        IfOk result (λ f. (t : Tables) (ps : List Pair) (rs : List Rule) (cs : List ClassEntry) →
-        ReadsSecond (state S.Store conn.old).now t ps rs cs → HasArchive (state S.Store conn.old).now) }
-    ensures found { HasCleanDisk (state S.Store conn.new) →
-        IfOk result (λ f. (a : Archive) → FindsSecond (state S.Store conn.old).now a → IsKeyed a → IsOverview f a ×
-        StoresArchive (state S.Store conn.new).now a) }
-    ensures none { HasCleanDisk (state S.Store conn.new) → result ≡ Err Fault.NoArchive → (a : Archive) →
-        FindsSecond (state S.Store conn.old).now a → IsArchive a → ⊥ }
-    ensures err { (IsTrue (state S.Store conn.old).is_open → IsArchiveSchema (state S.Store conn.old).now.schema) →
-        HasCleanDisk (state S.Store conn.new) → IsTrue (state S.Store conn.new).is_open
-        → OnErr result (IsTrue (state S.Store conn.old).is_open ×
-        ((state S.Store conn.new).now ≡ (state S.Store conn.old).now)) }
-    ensures crash { LeavesArchive S.Store conn.old conn.new (λ a. FindsSecond (state S.Store conn.old).now a ×
-        IsKeyed a) }
+    ensures sound { Learns S.Store conn.old conn.new result (λ db f. IsSoundSecond db) }
+    ensures found { Relates S.Store conn.old conn.new result
+        (λ old new f. (a : Archive) → FindsSecond old a → IsKeyed a →
+        IsOverview f a × StoresArchive new a) }
+    ensures none { Rejects S.Store conn.old conn.new result (FindsNone FindsSecond) }
+    ensures err { FailsStillOn S.Store conn.old conn.new IsArchiveSchema result }
+    ensures crash { LeavesFound S.Store conn.old conn.new FindsSecond IsKeyed }
 {
     let contents = read_second(alloc, conn)?;
     settle_dues(conn, &contents.plan_rows, contents.overview.dues.as_slice())?;
@@ -164,20 +145,13 @@ fn settle_second<S: Alter>(alloc: Global, conn: &mut Connection<S>) -> Result<Ov
 fn settle_first<S: Alter>(alloc: Global, conn: &mut Connection<S>) -> Result<Overview, Fault>
     requires { conn.old.in_transaction ≡ false }
     ensures idle { conn.new.in_transaction ≡ false }
-    ensures sound { HasCleanDisk (state S.Store conn.new) →
-        IfOk result (λ f. (t : Tables) (ps : List Pair) (cs : List ClassEntry) →
-        ReadsFirst (state S.Store conn.old).now t ps cs → HasArchive (state S.Store conn.old).now) }
-    ensures found { HasCleanDisk (state S.Store conn.new) →
-        IfOk result (λ f. (a : Archive) → FindsFirst (state S.Store conn.old).now a → IsKeyed a → IsOverview f a ×
-        StoresArchive (state S.Store conn.new).now a) }
-    ensures none { HasCleanDisk (state S.Store conn.new) → result ≡ Err Fault.NoArchive → (a : Archive) →
-        FindsFirst (state S.Store conn.old).now a → IsArchive a → ⊥ }
-    ensures err { (IsTrue (state S.Store conn.old).is_open → HasCommonTables (state S.Store conn.old).now.schema) →
-        HasCleanDisk (state S.Store conn.new) → IsTrue (state S.Store conn.new).is_open
-        → OnErr result (IsTrue (state S.Store conn.old).is_open ×
-        ((state S.Store conn.new).now ≡ (state S.Store conn.old).now)) }
-    ensures crash { LeavesArchive S.Store conn.old conn.new (λ a. FindsFirst (state S.Store conn.old).now a ×
-        IsKeyed a) }
+    ensures sound { Learns S.Store conn.old conn.new result (λ db f. IsSoundFirst db) }
+    ensures found { Relates S.Store conn.old conn.new result
+        (λ old new f. (a : Archive) → FindsFirst old a → IsKeyed a →
+        IsOverview f a × StoresArchive new a) }
+    ensures none { Rejects S.Store conn.old conn.new result (FindsNone FindsFirst) }
+    ensures err { FailsStillOn S.Store conn.old conn.new HasCommonTables result }
+    ensures crash { LeavesFound S.Store conn.old conn.new FindsFirst IsKeyed }
 {
     let contents = read_first(alloc, conn)?;
     move_over(conn, &contents.plan_rows, contents.overview.dues.as_slice())?;
@@ -214,22 +188,17 @@ impl<S: Alter> Store<S> {
         mut conn: Connection<S>,
     ) -> Result<Store<S>, (StoreFault, Connection<S>)>
         requires { conn.in_transaction ≡ false }
-        ensures sound { IfOk result (λ s. HasCleanDisk (state S.Store s.conn) →
-            (t : Tables) (ps : List Pair) (rs : List Rule) (cs : List ClassEntry) →
-            ReadsSecond (state S.Store conn).now t ps rs cs → HasArchive (state S.Store conn).now) }
-        ensures found { IfOk result (λ s. HasCleanDisk (state S.Store s.conn) → (a : Archive) →
-            FindsSecond (state S.Store conn).now a → IsKeyed a → StandsFor S.Store s a) }
-        ensures no_archive { IfErr result (λ e. e.0 ≡ StoreFault.NoArchive → HasCleanDisk (state S.Store e.1) →
-            (a : Archive) → FindsSecond (state S.Store conn).now a → IsArchive a → ⊥) }
+        ensures sound { IfOk result
+            (λ s. HasCleanDisk (state S.Store s.conn) → IsSoundSecond (state S.Store conn).now) }
+        ensures found { IfOk result (λ s. TakesOver S.Store conn s FindsSecond IsKeyed) }
+        ensures no_archive { IfErr result (λ e. e.0 ≡ StoreFault.NoArchive →
+            HasCleanDisk (state S.Store e.1) → FindsNone FindsSecond (state S.Store conn).now) }
         ensures trouble { IfErr result (λ e. is_trouble e.0 ≡ false → e.0 ≡ StoreFault.NoArchive) }
-        ensures unchanged { IfErr result (λ e. IsArchiveSchema (state S.Store conn).now.schema →
-            HasCleanDisk (state S.Store e.1) → IsTrue (state S.Store e.1).is_open
-            → ((state S.Store e.1).now ≡ (state S.Store conn).now) ×
-            ((state S.Store e.1).committed ≡ (state S.Store conn).committed)) }
-        ensures crash { IfOk result
-            (λ s. LeavesArchive S.Store conn s.conn (λ a. FindsSecond (state S.Store conn).now a × IsKeyed a)) }
+        ensures unchanged { IfErr result
+            (λ e. IsArchiveSchema (state S.Store conn).now.schema → IsUntouched S.Store conn e.1) }
+        ensures crash { IfOk result (λ s. LeavesFound S.Store conn s.conn FindsSecond IsKeyed) }
         ensures crash_refused { IfErr result
-            (λ e. LeavesArchive S.Store conn e.1 (λ a. FindsSecond (state S.Store conn).now a × IsKeyed a)) }
+            (λ e. LeavesFound S.Store conn e.1 FindsSecond IsKeyed) }
     {
         let _settled = conn.is_autocommit();
         match settle_second(alloc, &mut conn) {
@@ -246,22 +215,17 @@ impl<S: Alter> Store<S> {
         mut conn: Connection<S>,
     ) -> Result<Store<S>, (StoreFault, Connection<S>)>
         requires { conn.in_transaction ≡ false }
-        ensures sound { IfOk result (λ s. HasCleanDisk (state S.Store s.conn) →
-            (t : Tables) (ps : List Pair) (cs : List ClassEntry) → ReadsFirst (state S.Store conn).now t ps cs →
-            HasArchive (state S.Store conn).now) }
-        ensures found { IfOk result (λ s. HasCleanDisk (state S.Store s.conn) → (a : Archive) →
-            FindsFirst (state S.Store conn).now a → IsKeyed a → StandsFor S.Store s a) }
-        ensures no_archive { IfErr result (λ e. e.0 ≡ StoreFault.NoArchive → HasCleanDisk (state S.Store e.1) →
-            (a : Archive) → FindsFirst (state S.Store conn).now a → IsArchive a → ⊥) }
+        ensures sound { IfOk result
+            (λ s. HasCleanDisk (state S.Store s.conn) → IsSoundFirst (state S.Store conn).now) }
+        ensures found { IfOk result (λ s. TakesOver S.Store conn s FindsFirst IsKeyed) }
+        ensures no_archive { IfErr result (λ e. e.0 ≡ StoreFault.NoArchive →
+            HasCleanDisk (state S.Store e.1) → FindsNone FindsFirst (state S.Store conn).now) }
         ensures trouble { IfErr result (λ e. is_trouble e.0 ≡ false → e.0 ≡ StoreFault.NoArchive) }
-        ensures unchanged { IfErr result (λ e. HasCommonTables (state S.Store conn).now.schema →
-            HasCleanDisk (state S.Store e.1) → IsTrue (state S.Store e.1).is_open
-            → ((state S.Store e.1).now ≡ (state S.Store conn).now) ×
-            ((state S.Store e.1).committed ≡ (state S.Store conn).committed)) }
-        ensures crash { IfOk result
-            (λ s. LeavesArchive S.Store conn s.conn (λ a. FindsFirst (state S.Store conn).now a × IsKeyed a)) }
+        ensures unchanged { IfErr result
+            (λ e. HasCommonTables (state S.Store conn).now.schema → IsUntouched S.Store conn e.1) }
+        ensures crash { IfOk result (λ s. LeavesFound S.Store conn s.conn FindsFirst IsKeyed) }
         ensures crash_refused { IfErr result
-            (λ e. LeavesArchive S.Store conn e.1 (λ a. FindsFirst (state S.Store conn).now a × IsKeyed a)) }
+            (λ e. LeavesFound S.Store conn e.1 FindsFirst IsKeyed) }
     {
         let _settled = conn.is_autocommit();
         match settle_first(alloc, &mut conn) {
@@ -288,21 +252,19 @@ impl<S: Alter> Store<S> {
         requires { conn.in_transaction ≡ false }
         ensures empty { IfOk result (λ s. HasCleanDisk (state S.Store s.conn) →
             (state S.Store conn).now.schema ≡ no_schema → StandsFor S.Store s empty_archive) }
-        ensures found { IfOk result (λ s. HasCleanDisk (state S.Store s.conn) → (a : Archive) →
-            FindsRows (state S.Store conn).now a → IsKeyed a → StandsFor S.Store s a) }
-        ensures reopened { IfOk result (λ s. HasCleanDisk (state S.Store s.conn) → (a : Archive) →
-            StoresArchive (state S.Store conn).now a → IsArchive a → StandsFor S.Store s a) }
-        ensures sound { IfOk result (λ s. HasCleanDisk (state S.Store s.conn) → HasRows (state S.Store conn).now →
-            HasArchive (state S.Store conn).now) }
-        ensures no_archive { IfErr result (λ e. e.0 ≡ StoreFault.NoArchive → HasCleanDisk (state S.Store e.1) →
-            HasNoArchive (state S.Store conn).now) }
+        ensures found { IfOk result (λ s. TakesOver S.Store conn s FindsRows IsKeyed) }
+        ensures reopened { IfOk result (λ s. TakesOver S.Store conn s StoresArchive IsArchive) }
+        ensures sound { IfOk result (λ s. HasCleanDisk (state S.Store s.conn)
+            → HasRows (state S.Store conn).now → HasArchive (state S.Store conn).now) }
+        ensures no_archive { IfErr result (λ e. e.0 ≡ StoreFault.NoArchive
+            → HasCleanDisk (state S.Store e.1) → HasNoArchive (state S.Store conn).now) }
         ensures trouble { IfErr result (λ e. is_trouble e.0 ≡ false → e.0 ≡ StoreFault.NoArchive) }
-        ensures unchanged { IfErr result (λ e. IsLaidSchema (state S.Store conn).now.schema →
-            HasCleanDisk (state S.Store e.1) → IsTrue (state S.Store e.1).is_open
-            → ((state S.Store e.1).now ≡ (state S.Store conn).now) ×
-            ((state S.Store e.1).committed ≡ (state S.Store conn).committed)) }
-        ensures crash { IfOk result (λ s. LeavesArchive S.Store conn s.conn (Finds (state S.Store conn).now)) }
-        ensures crash_refused { IfErr result (λ e. LeavesArchive S.Store conn e.1 (Finds (state S.Store conn).now)) }
+        ensures unchanged { IfErr result
+            (λ e. IsLaidSchema (state S.Store conn).now.schema → IsUntouched S.Store conn e.1) }
+        ensures crash { IfOk result
+            (λ s. LeavesArchive S.Store conn s.conn (Finds (state S.Store conn).now)) }
+        ensures crash_refused { IfErr result
+            (λ e. LeavesArchive S.Store conn e.1 (Finds (state S.Store conn).now)) }
     {
         match layout_of(conn.schema()) {
             Layout::Empty => Store::create(alloc, conn),

@@ -1,6 +1,6 @@
 //! Captures: a message is stored, with a record in each of its classes.
 
-ghost use Rattle.std.specs.Prelude.{◌≡◌, ◌+◌, ◌≤◌, ◌<◌, ◌^◌, length, map, ◌++◌, [], pos, unsigned_abs, true, false, Ok, Err, Some, None, IsTrue, IfOk, IfErr, OnOk, OnErr};
+ghost use Rattle.std.specs.Prelude.{◌≡◌, ◌+◌, ◌≤◌, ◌<◌, ◌^◌, length, map, ◌++◌, [], pos, true, IfOk, IfErr, OnOk, OnErr};
 ghost use Rattle.std.specs.List.{All};
 ghost use Rattle.jiff.specs.Words.{IsBetween, epoch_day};
 ghost use Rattle.class_plan.specs.Dates.{IsCaptureDay};
@@ -8,8 +8,8 @@ ghost use Rattle.class_plan.specs.Calendar.{number_of_day, due_on};
 ghost use Rattle.record_tables.specs.CodeRows.{due_of};
 ghost use Rattle.record_store.specs.Archive as archive;
 ghost use Rattle.record_store.specs.Archive.{Archive};
-ghost use Rattle.record_store.specs.Captures.{HasDueDay, lines_of, dues_of_lines, due_before};
-ghost use Rattle.record_store.specs.Stores.{StandsFor, AreClasses, Obeys, Leaves, LeavesMade, Falls, line_view, is_trouble};
+ghost use Rattle.record_store.specs.Captures.{HasDueDay, lines_of, dues_of_lines, due_before, path_list, ObeysCapture};
+ghost use Rattle.record_store.specs.Stores.{StandsFor, AreClasses, Leaves, Falls, line_view, is_trouble, ChangesBy, LeavesChange};
 
 use crate::fault::StoreFault;
 use crate::store::{Line, Store};
@@ -62,7 +62,11 @@ impl<S: Alter> Store<S> {
     /// The line of a new record, with the due date by the plan.
     fn new_line(&self, number: u32, path: &[u8], day: Date) -> Result<Line, AllocError>
         requires { IsCaptureDay day }
-        ensures line { IfOk result (λ l. line_view l ≡ record { number = number; path = path.now; due = due_on self.now.plan path.now (number_of_day day) }) }
+        ensures line { IfOk result (λ l. line_view l ≡ record {
+          number = number;
+          path = path.now;
+          due = due_on self.now.plan path.now (number_of_day day);
+        }) }
         ensures day { IfOk result HasDueDay }
     {
         let due = self.plan.due_of(path, day);
@@ -78,7 +82,7 @@ impl<S: Alter> Store<S> {
         requires room { first + length paths.now ≤ 2 ^ 32 }
         requires day { IsCaptureDay day }
         ensures lines { IfOk result (λ v. map line_view v.items ≡
-            lines_of self.now.plan first (number_of_day day) (map (λ p. p.items) paths.now)) }
+            lines_of self.now.plan first (number_of_day day) (path_list paths.now)) }
         ensures days { IfOk result (λ v. All HasDueDay v.items) }
     {
         let mut lines = Vec::new(self.alloc);
@@ -101,18 +105,18 @@ impl<S: Alter> Store<S> {
         requires some { 0 < length paths.now }
         requires room { first + length paths.now ≤ 2 ^ 32 }
         requires first { first ≡ self.old.next }
-        requires classes { AreClasses self.old.plan (map (λ p. p.items) paths.now) }
+        requires classes { AreClasses self.old.plan (path_list paths.now) }
         requires day { day ≤ 84005 }
         requires dues { map due_of dues.now ≡
-            dues_of_lines (lines_of self.old.plan first day (map (λ p. p.items) paths.now)) }
-        ensures ok { OnOk result ((a : Archive) → StandsFor S.Store self.old a →
-            StandsFor S.Store self.new (archive.after_capture a body.now day (map (λ p. p.items) paths.now))) }
-        ensures err { OnErr result ((a : Archive) → StandsFor S.Store self.old a → StandsFor S.Store self.new a) }
+            dues_of_lines (lines_of self.old.plan first day (path_list paths.now)) }
+        ensures ok { OnOk result (ChangesBy S.Store self.old self.new
+            (λ a. archive.after_capture a body.now day (path_list paths.now))) }
+        ensures err { OnErr result
+            ((a : Archive) → StandsFor S.Store self.old a → StandsFor S.Store self.new a) }
         ensures trouble { IfErr result (λ f. is_trouble f ≡ true) }
         ensures falls { Falls S.Store self.old self.new }
-        ensures crash { LeavesMade S.Store self.old self.new
-            (λ a. Ok (archive.after_capture a body.now day (map (λ p. p.items) paths.now)))
-            (λ a. archive.after_capture a body.now day (map (λ p. p.items) paths.now)) }
+        ensures crash { LeavesChange S.Store self.old self.new
+            (λ a. archive.after_capture a body.now day (path_list paths.now)) }
     {
         if !self.conn.is_autocommit() {
             return Err(StoreFault::BUSY);
@@ -147,13 +151,12 @@ impl<S: Alter> Store<S> {
         paths: &[Vec<u8>],
     ) -> Result<Vec<Line>, StoreFault>
         requires day { IsCaptureDay day }
-        requires paths { AreClasses self.old.plan (map (λ p. p.items) paths.now) }
-        ensures obeys { Obeys S.Store self.old self.new result
-            (λ a. archive.capture a body.now (number_of_day day) (map (λ p. p.items) paths.now))
-            (λ a lines. map line_view lines.items ≡ archive.capture_lines a (number_of_day day) (map (λ p. p.items) paths.now)) }
+        requires paths { AreClasses self.old.plan (path_list paths.now) }
+        ensures obeys { ObeysCapture S.Store self.old self.new result
+            body.now (number_of_day day) (path_list paths.now) }
         ensures falls { Falls S.Store self.old self.new }
         ensures crash { Leaves S.Store self.old self.new
-            (λ a. archive.capture a body.now (number_of_day day) (map (λ p. p.items) paths.now)) }
+            (λ a. archive.capture a body.now (number_of_day day) (path_list paths.now)) }
     {
         if paths.is_empty() {
             return Ok(Vec::new(self.alloc));

@@ -1,14 +1,13 @@
 //! Classes that are added to the plan.
 
-ghost use Rattle.std.specs.Prelude.{◌≡◌, true, false, Ok, Err, IfErr, OnOk, OnErr};
+ghost use Rattle.std.specs.Prelude.{◌≡◌, false, Ok, Err, IfErr, OnOk, OnErr};
 ghost use Rattle.std.specs.List.{All};
-ghost use Rattle.class_plan.specs.Calendar.{due_on};
 ghost use Rattle.class_plan.specs.Changes.{addition};
 ghost use Rattle.class_plan.specs.Plans.{IsPlan};
 ghost use Rattle.record_tables.specs.Steps.{CommitsWhole, Makes, IsUndone, WasOpen};
 ghost use Rattle.record_store.specs.Archive as archive;
 ghost use Rattle.record_store.specs.Archive.{Archive};
-ghost use Rattle.record_store.specs.Revisions.{IsClassAdded};
+ghost use Rattle.record_store.specs.Revisions.{IsClassAdded, HasSameDue};
 ghost use Rattle.record_store.specs.Stores.{StandsFor, Obeys, Leaves, Falls, Quietly, is_trouble};
 
 use crate::fault::StoreFault;
@@ -60,9 +59,11 @@ impl<S: Alter> Store<S> {
     ///
     /// A refusal changes nothing.
     pub fn add_class(&mut self, path: &[u8]) -> Result<(), StoreFault>
-        ensures obeys { Obeys S.Store self.old self.new result (λ a. archive.add_class a path.now) Quietly }
-        ensures dues { OnOk result ((a : Archive) → StandsFor S.Store self.old a
-            → All (λ r. due_on self.new.plan r.path r.day ≡ due_on self.old.plan r.path r.day) a.records) }
+        ensures obeys { Obeys S.Store self.old self.new result
+            (λ a. archive.add_class a path.now) Quietly }
+        ensures dues { OnOk result
+            ((a : Archive) → StandsFor S.Store self.old a →
+            All (HasSameDue self.old.plan self.new.plan) a.records) }
         ensures falls { Falls S.Store self.old self.new }
         ensures crash { Leaves S.Store self.old self.new (λ a. archive.add_class a path.now) }
     {

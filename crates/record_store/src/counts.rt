@@ -33,7 +33,8 @@ impl Counts {
     /// Counts a number `by` times more. Refused for no memory (99), also where the count would pass 2^64 - 1; the
     /// counts are then unchanged.
     pub fn add(&mut self, number: u32, by: u64) -> Result<(), AllocError>
-        ensures ok { OnOk result ((n : ℕ) → count_at self.new n ≡ count_at self.old n + only_at number by n) }
+        ensures ok { OnOk result
+            ((n : ℕ) → count_at self.new n ≡ count_at self.old n + only_at number by n) }
         ensures err { OnErr result ((n : ℕ) → count_at self.new n ≡ count_at self.old n) }
     {
         if by == 0 {

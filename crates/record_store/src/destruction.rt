@@ -1,18 +1,16 @@
 //! Destruction: the number, the path and the day of a destroyed record stay.
 
-ghost use Rattle.std.specs.Prelude.{◌≡◌, ◌<◌, pos, true, false, Ok, Err, Some, None, IsTrue, IfErr, OnOk, OnErr, MatchOption};
+ghost use Rattle.std.specs.Prelude.{◌≡◌, ◌<◌, pos, true, false, Err, Some, None, IfErr, OnOk, OnErr, MatchOption};
 ghost use Rattle.jiff.specs.Words.{IsBetween, epoch_day};
 ghost use Rattle.class_plan.specs.Calendar.{number_of_day};
-ghost use Rattle.sqlite.specs.State.{HasCleanDisk};
-ghost use Rattle.sqlite.specs.Held.{state};
 ghost use Rattle.record_tables.specs.Changes.{Always};
 ghost use Rattle.record_tables.specs.Steps.{PutsIn, KeepsIn, CommitsNothing, CommitsWhole, Makes, IsUndone, WasOpen};
 ghost use Rattle.record_tables.specs.CodeRows.{record_of};
 ghost use Rattle.record_store.specs.Archive as archive;
 ghost use Rattle.record_store.specs.Archive.{Archive};
 ghost use Rattle.record_store.specs.Counts.{count_at};
-ghost use Rattle.record_store.specs.Destruction.{IsFree, IsDestruction, against_destruction, with_destruction, without_body};
-ghost use Rattle.record_store.specs.Stores.{StandsFor, ObeysRows, Tells, Leaves, LeavesAll, LeavesAllowed, Falls, Quietly, is_trouble};
+ghost use Rattle.record_store.specs.Destruction.{IsFree, IsDestruction, against_destruction, with_destruction, without_body, IsDestroyable};
+ghost use Rattle.record_store.specs.Stores.{StandsFor, ObeysRows, Tells, Leaves, LeavesAll, LeavesAllowed, Falls, Quietly, is_trouble, ChangesWhere, IsOpenOnOk};
 
 use crate::captures::number_of;
 use crate::fault::StoreFault;
@@ -26,7 +24,8 @@ use sqlite::{Alter, Connection, Error, Transaction};
 /// Removes the message, if one is given.
 fn delete_body<S: Alter>(tx: &mut Transaction<'_, S>, last: Option<u32>) -> Result<(), Error>
     ensures same_reference { tx.new.conn.ghost_name ≡ tx.old.conn.ghost_name }
-    ensures ok { OnOk result (PutsIn S.Store tx.old.conn.now tx.new.conn.now Always (without_body last)) }
+    ensures ok { OnOk result
+        (PutsIn S.Store tx.old.conn.now tx.new.conn.now Always (without_body last)) }
     ensures err { KeepsIn S.Store tx.old.conn.now tx.new.conn.now result }
     ensures survives { CommitsNothing S.Store tx.old.conn.now tx.new.conn.now }
 {
@@ -43,7 +42,8 @@ fn delete_record<S: Alter>(
     last: Option<u32>,
 ) -> Result<(), Error>
     ensures same_reference { tx.new.conn.ghost_name ≡ tx.old.conn.ghost_name }
-    ensures ok { OnOk result (PutsIn S.Store tx.old.conn.now tx.new.conn.now Always (with_destruction number last)) }
+    ensures ok { OnOk result
+        (PutsIn S.Store tx.old.conn.now tx.new.conn.now Always (with_destruction number last)) }
     ensures err { KeepsIn S.Store tx.old.conn.now tx.new.conn.now result }
     ensures survives { CommitsNothing S.Store tx.old.conn.now tx.new.conn.now }
 {
@@ -119,11 +119,10 @@ impl<S: Alter> Store<S> {
     /// The record, if it may be destroyed by a day; refused with the first of 80, 84, 81, 83 and 82, in this order.
     fn judge_destruction(&mut self, number: u32, day: u32) -> Result<RecordRow, StoreFault>
         ensures tells { Tells S.Store self.old self.new result
-            (λ a r. IsFree a number (record_of r) × (archive.destroy a number day ≡ Ok (archive.without a (record_of r))))
+            (λ a r. IsDestroyable number day a (record_of r))
             (λ a f. archive.destroy a number day ≡ Err f) }
         ensures falls { Falls S.Store self.old self.new }
-        ensures open { HasCleanDisk (state S.Store self.new.conn) →
-            OnOk result (IsTrue (state S.Store self.new.conn).is_open) }
+        ensures open { IsOpenOnOk S.Store self.new result }
         ensures crash { LeavesAll S.Store self.old self.new }
     {
         let record = self.record_at(number)?;
@@ -153,12 +152,15 @@ impl<S: Alter> Store<S> {
 
     /// Destroys a live record that no hold keeps.
     fn remove_record(&mut self, number: u32, row: &RecordRow) -> Result<(), StoreFault>
-        ensures ok { OnOk result ((a : Archive) → StandsFor S.Store self.old a → IsFree a number (record_of row.now) →
-            StandsFor S.Store self.new (archive.without a (record_of row.now))) }
-        ensures err { OnErr result ((a : Archive) → StandsFor S.Store self.old a → StandsFor S.Store self.new a) }
+        ensures ok { OnOk result (ChangesWhere S.Store self.old self.new
+            (λ a. IsFree a number (record_of row.now))
+            (λ a. archive.without a (record_of row.now))) }
+        ensures err { OnErr result
+            ((a : Archive) → StandsFor S.Store self.old a → StandsFor S.Store self.new a) }
         ensures trouble { IfErr result (λ f. is_trouble f ≡ true) }
         ensures falls { Falls S.Store self.old self.new }
-        ensures crash { LeavesAllowed S.Store self.old self.new (λ a. IsFree a number (record_of row.now))
+        ensures crash { LeavesAllowed S.Store self.old self.new
+            (λ a. IsFree a number (record_of row.now))
             (λ a. archive.without a (record_of row.now)) }
     {
         if !self.conn.is_autocommit() {
@@ -193,7 +195,8 @@ impl<S: Alter> Store<S> {
         ensures obeys { ObeysRows S.Store self.old self.new result
             (λ a. archive.destroy a number (number_of_day day)) Quietly }
         ensures falls { Falls S.Store self.old self.new }
-        ensures crash { Leaves S.Store self.old self.new (λ a. archive.destroy a number (number_of_day day)) }
+        ensures crash { Leaves S.Store self.old self.new
+            (λ a. archive.destroy a number (number_of_day day)) }
     {
         let record = self.judge_destruction(number, number_of(day))?;
         self.remove_record(number, &record)?;

@@ -1,13 +1,12 @@
 //! Due lists.
 
-ghost use Rattle.std.specs.Prelude.{◌≡◌, ◌==◌, map, pos, Ok, Err, Some, None, IfOk, IfErr, filter, true};
+ghost use Rattle.std.specs.Prelude.{◌≡◌, map, pos, IfOk, IfErr, filter, true};
 ghost use Rattle.jiff.specs.Words.{IsBetween, epoch_day};
 ghost use Rattle.class_plan.specs.Calendar.{number_of_day};
 ghost use Rattle.record_tables.specs.DueRecords.{due_record_of};
-ghost use Rattle.record_store.specs.Archive.{Archive, due_list};
-ghost use Rattle.record_store.specs.Counts.{count_at};
-ghost use Rattle.record_store.specs.Dues.{due_records, due_line};
-ghost use Rattle.record_store.specs.Stores.{StandsFor, Tells, LeavesAll, Falls, line_view, is_trouble};
+ghost use Rattle.record_store.specs.Archive.{due_list};
+ghost use Rattle.record_store.specs.Dues.{due_records, due_line, is_unheld};
+ghost use Rattle.record_store.specs.Stores.{Tells, LeavesAll, Falls, line_view, is_trouble};
 
 use crate::captures::number_of;
 use crate::fault::StoreFault;
@@ -35,8 +34,8 @@ fn line_of(due: DueRecordRow) -> Result<Line, StoreFault>
 impl<S: Alter> Store<S> {
     /// The live records that are due by a day, by their due days and then by number.
     fn due_records(&mut self, day: u32) -> Result<Vec<DueRecordRow>, StoreFault>
-        ensures tells { Tells S.Store self.old self.new result (λ a rows. map due_record_of rows.items ≡
-            due_records a day) (λ a f. ⊥) }
+        ensures tells { Tells S.Store self.old self.new result
+            (λ a rows. map due_record_of rows.items ≡ due_records a day) (λ a f. ⊥) }
         ensures falls { Falls S.Store self.old self.new }
         ensures crash { LeavesAll S.Store self.old self.new }
     {
@@ -51,7 +50,7 @@ impl<S: Alter> Store<S> {
     /// The lines of the records that no hold keeps.
     fn unheld_lines(&self, due: Vec<DueRecordRow>) -> Result<Vec<Line>, StoreFault>
         ensures lines { IfOk result (λ lines. map line_view lines.items ≡
-            map due_line (filter (λ d. count_at self.now.held d.number == 0) (map due_record_of due.items))) }
+            map due_line (filter (is_unheld self.now.held) (map due_record_of due.items))) }
         ensures trouble { IfErr result (λ f. is_trouble f ≡ true) }
     {
         let mut lines = Vec::new(self.alloc);
@@ -70,8 +69,8 @@ impl<S: Alter> Store<S> {
     /// The caller gives a day of 1970 to 9999.
     pub fn due(&mut self, day: Date) -> Result<Vec<Line>, StoreFault>
         requires { IsBetween (pos 0) (pos 2932896) (epoch_day day) }
-        ensures tells { Tells S.Store self.old self.new result (λ a lines. map line_view lines.items ≡
-            due_list a (number_of_day day)) (λ a f. ⊥) }
+        ensures tells { Tells S.Store self.old self.new result
+            (λ a lines. map line_view lines.items ≡ due_list a (number_of_day day)) (λ a f. ⊥) }
         ensures falls { Falls S.Store self.old self.new }
         ensures crash { LeavesAll S.Store self.old self.new }
     {

@@ -1,11 +1,9 @@
 //! Holds: what keeps a record from destruction.
 
-ghost use Rattle.std.specs.Prelude.{◌≡◌, true, false, Ok, Err, Some, None, IsTrue, IfErr, OnOk, OnErr};
-ghost use Rattle.sqlite.specs.State.{HasCleanDisk};
-ghost use Rattle.sqlite.specs.Held.{state};
+ghost use Rattle.std.specs.Prelude.{◌≡◌, true, IfErr, OnOk, OnErr};
 ghost use Rattle.record_store.specs.Archive as archive;
 ghost use Rattle.record_store.specs.Archive.{Archive};
-ghost use Rattle.record_store.specs.Stores.{StandsFor, ObeysRows, Tells, Leaves, LeavesAll, LeavesMade, Falls, Quietly, is_trouble};
+ghost use Rattle.record_store.specs.Stores.{StandsFor, ObeysRows, Leaves, LeavesAll, LeavesMade, Falls, Quietly, is_trouble, CarriesOut, TellsOutcome, IsOpenOnOk};
 
 use crate::fault::StoreFault;
 use crate::store::Store;
@@ -15,11 +13,10 @@ use sqlite::Alter;
 impl<S: Alter> Store<S> {
     /// Whether a record may be held by that name; refused with the first of 80, 84 and 86, in this order.
     fn judge_hold(&mut self, name: &[u8], number: u32) -> Result<(), StoreFault>
-        ensures tells { Tells S.Store self.old self.new result (λ a _. archive.hold a name.now number ≡
-            Ok (archive.with_hold a name.now number)) (λ a f. archive.hold a name.now number ≡ Err f) }
+        ensures tells { TellsOutcome S.Store self.old self.new result
+            (λ a. archive.hold a name.now number) (λ a. archive.with_hold a name.now number) }
         ensures falls { Falls S.Store self.old self.new }
-        ensures open { HasCleanDisk (state S.Store self.new.conn) →
-            OnOk result (IsTrue (state S.Store self.new.conn).is_open) }
+        ensures open { IsOpenOnOk S.Store self.new result }
         ensures crash { LeavesAll S.Store self.old self.new }
     {
         let record = self.record_at(number)?;
@@ -33,10 +30,11 @@ impl<S: Alter> Store<S> {
     }
 
     fn place_hold(&mut self, name: &[u8], number: u32) -> Result<(), StoreFault>
-        ensures ok { OnOk result ((a : Archive) → StandsFor S.Store self.old a →
-            archive.hold a name.now number ≡ Ok (archive.with_hold a name.now number) →
-            StandsFor S.Store self.new (archive.with_hold a name.now number)) }
-        ensures err { OnErr result ((a : Archive) → StandsFor S.Store self.old a → StandsFor S.Store self.new a) }
+        ensures ok { OnOk result
+            (CarriesOut S.Store self.old self.new (λ a. archive.hold a name.now number)
+            (λ a. archive.with_hold a name.now number)) }
+        ensures err { OnErr result
+            ((a : Archive) → StandsFor S.Store self.old a → StandsFor S.Store self.new a) }
         ensures trouble { IfErr result (λ f. is_trouble f ≡ true) }
         ensures falls { Falls S.Store self.old self.new }
         ensures crash { LeavesMade S.Store self.old self.new (λ a. archive.hold a name.now number)
@@ -62,7 +60,8 @@ impl<S: Alter> Store<S> {
     /// Refused with 80 where there is no such record, 84 where it is destroyed, 86 where that hold is there already,
     /// 89 (`sqlite`) or 99 (no memory). A refusal changes nothing.
     pub fn hold(&mut self, name: &[u8], number: u32) -> Result<(), StoreFault>
-        ensures obeys { ObeysRows S.Store self.old self.new result (λ a. archive.hold a name.now number) Quietly }
+        ensures obeys { ObeysRows S.Store self.old self.new result
+            (λ a. archive.hold a name.now number) Quietly }
         ensures falls { Falls S.Store self.old self.new }
         ensures crash { Leaves S.Store self.old self.new (λ a. archive.hold a name.now number) }
     {
@@ -73,11 +72,10 @@ impl<S: Alter> Store<S> {
 
     /// Whether a hold of that name may end; refused with the first of 80 and 85, in this order.
     fn judge_release(&mut self, name: &[u8], number: u32) -> Result<(), StoreFault>
-        ensures tells { Tells S.Store self.old self.new result (λ a _. archive.release a name.now number ≡
-            Ok (archive.without_hold a name.now number)) (λ a f. archive.release a name.now number ≡ Err f) }
+        ensures tells { TellsOutcome S.Store self.old self.new result
+            (λ a. archive.release a name.now number) (λ a. archive.without_hold a name.now number) }
         ensures falls { Falls S.Store self.old self.new }
-        ensures open { HasCleanDisk (state S.Store self.new.conn) →
-            OnOk result (IsTrue (state S.Store self.new.conn).is_open) }
+        ensures open { IsOpenOnOk S.Store self.new result }
         ensures crash { LeavesAll S.Store self.old self.new }
     {
         let _record = self.record_at(number)?;
@@ -89,14 +87,15 @@ impl<S: Alter> Store<S> {
     }
 
     fn end_hold(&mut self, name: &[u8], number: u32) -> Result<(), StoreFault>
-        ensures ok { OnOk result ((a : Archive) → StandsFor S.Store self.old a →
-            archive.release a name.now number ≡ Ok (archive.without_hold a name.now number) →
-            StandsFor S.Store self.new (archive.without_hold a name.now number)) }
-        ensures err { OnErr result ((a : Archive) → StandsFor S.Store self.old a → StandsFor S.Store self.new a) }
+        ensures ok { OnOk result
+            (CarriesOut S.Store self.old self.new (λ a. archive.release a name.now number)
+            (λ a. archive.without_hold a name.now number)) }
+        ensures err { OnErr result
+            ((a : Archive) → StandsFor S.Store self.old a → StandsFor S.Store self.new a) }
         ensures trouble { IfErr result (λ f. is_trouble f ≡ true) }
         ensures falls { Falls S.Store self.old self.new }
-        ensures crash { LeavesMade S.Store self.old self.new (λ a. archive.release a name.now number)
-            (λ a. archive.without_hold a name.now number) }
+        ensures crash { LeavesMade S.Store self.old self.new
+            (λ a. archive.release a name.now number) (λ a. archive.without_hold a name.now number) }
     {
         if !self.conn.is_autocommit() {
             return Err(StoreFault::BUSY);
@@ -115,7 +114,8 @@ impl<S: Alter> Store<S> {
     /// Refused with 80 where there is no such record, 85 where there is no such hold, 89 (`sqlite`) or 99 (no
     /// memory). A refusal changes nothing.
     pub fn release(&mut self, name: &[u8], number: u32) -> Result<(), StoreFault>
-        ensures obeys { ObeysRows S.Store self.old self.new result (λ a. archive.release a name.now number) Quietly }
+        ensures obeys { ObeysRows S.Store self.old self.new result
+            (λ a. archive.release a name.now number) Quietly }
         ensures falls { Falls S.Store self.old self.new }
         ensures crash { Leaves S.Store self.old self.new (λ a. archive.release a name.now number) }
     {

@@ -1,14 +1,13 @@
 //! The rows of messages, records and holds, and what a store keeps of them beside the connection.
 
 ghost use Rattle.std.specs.Prelude.{◌≡◌, map, Err, IfOk};
-ghost use Rattle.sqlite.specs.State.{HasCleanDisk};
 ghost use Rattle.sqlite.specs.Held.{state};
 ghost use Rattle.record_tables.specs.Tables.{HasCommonTables};
 ghost use Rattle.record_tables.specs.Changes.{AreAscending};
-ghost use Rattle.record_tables.specs.Steps.{ReadsAlone};
+ghost use Rattle.record_tables.specs.Steps.{ReadsAlone, Learns, Rejects};
 ghost use Rattle.record_tables.specs.CodeRows.{due_of};
 ghost use Rattle.record_store.specs.Archive.{Archive, IsArchive};
-ghost use Rattle.record_store.specs.Adoption.{FindsCommon, AreOnce, IsKeyed, TellsRows, IsOverview, IsJudged, Sees};
+ghost use Rattle.record_store.specs.Adoption.{FindsCommon, AreOnce, IsKeyed, TellsRows, IsOverview, IsJudged, Sees, FindsNone};
 
 use crate::counts::Counts;
 use crate::plan_days::due_rows_by;
@@ -45,12 +44,11 @@ pub(crate) fn archive_rows<S: Alter>(
     alloc: Global,
     conn: &mut Connection<S>,
 ) -> Result<ArchiveRows, Fault>
-    ensures tells { HasCleanDisk (state S.Store conn.new) →
-        IfOk result (λ r. (a : Archive) → FindsCommon (state S.Store conn.old).now a → AreOnce a.holds →
-        TellsRows r a) }
-    ensures none { HasCleanDisk (state S.Store conn.new) → result ≡ Err Fault.NoArchive → (a : Archive) →
-        FindsCommon (state S.Store conn.old).now a → IsArchive a → ⊥ }
-    ensures same { ReadsAlone S.Store conn.old conn.new result (HasCommonTables (state S.Store conn.old).now.schema) }
+    ensures tells { Learns S.Store conn.old conn.new result
+        (λ db r. (a : Archive) → FindsCommon db a → AreOnce a.holds → TellsRows r a) }
+    ensures none { Rejects S.Store conn.old conn.new result (FindsNone FindsCommon) }
+    ensures same { ReadsAlone S.Store conn.old conn.new result
+        (HasCommonTables (state S.Store conn.old).now.schema) }
     ensures sees { Sees S.Store HasCommonTables conn.old conn.new }
 {
     let records = records(alloc, conn)?;
@@ -65,12 +63,12 @@ pub(crate) fn archive_rows<S: Alter>(
 
 /// What a store keeps beside the connection, by the rows and their plan; refused where they are not an archive's.
 pub(crate) fn gather(alloc: Global, plan: Plan, rows: &ArchiveRows) -> Result<Overview, Fault>
-    ensures found { IfOk result (λ f. (a : Archive) → plan ≡ a.plan → IsKeyed a → TellsRows rows.now a →
-        IsOverview f a) }
+    ensures found { IfOk result
+        (λ f. (a : Archive) → plan ≡ a.plan → IsKeyed a → TellsRows rows.now a → IsOverview f a) }
     ensures sound { IfOk result (λ f. IsJudged plan rows.now) }
     ensures ascending { IfOk result (λ f. AreAscending (map due_of f.dues.items)) }
-    ensures none { result ≡ Err Fault.NoArchive → (a : Archive) → plan ≡ a.plan → TellsRows rows.now a → IsArchive a →
-        ⊥ }
+    ensures none { result ≡ Err Fault.NoArchive → (a : Archive) → plan ≡ a.plan
+        → TellsRows rows.now a → IsArchive a → ⊥ }
 {
     let records = rows.records.as_slice();
     let messages = rows.messages.as_slice();

@@ -89,7 +89,8 @@ pub(crate) fn due_rows_by(
     plan: &Plan,
     records: &[RecordRow],
 ) -> Result<Vec<DueRow>, Error>
-    ensures rows { IfOk result (λ v. map due_of v.items ≡ dues_in plan.now (map record_of records.now)) }
+    ensures rows { IfOk result
+        (λ v. map due_of v.items ≡ dues_in plan.now (map record_of records.now)) }
     ensures ascending { IfOk result (λ v. AreAscending (map due_of v.items)) }
 {
     let mut dues = Vec::new(alloc);

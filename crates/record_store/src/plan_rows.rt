@@ -1,17 +1,13 @@
 //! The rows of a plan in version 2.
 
-ghost use Rattle.std.specs.Prelude.{◌≡◌, ◌↔◌, ◌∷◌, [], List, map, codes, Err, IfOk, IsTrue};
-ghost use Rattle.sqlite.specs.State.{HasCleanDisk};
+ghost use Rattle.std.specs.Prelude.{◌≡◌, ◌↔◌, ◌∷◌, [], map, codes, Err, IfOk, IsTrue};
 ghost use Rattle.sqlite.specs.Held.{state};
 ghost use Rattle.class_plan.specs.Plans.{Listing, IsPlan};
 ghost use Rattle.record_tables.specs.Tables.{IsArchiveSchema};
-ghost use Rattle.record_tables.specs.Rows.{Tables};
-ghost use Rattle.record_tables.specs.Changes.{ClassEntry, Rule};
-ghost use Rattle.record_tables.specs.Reads.{Pair};
-ghost use Rattle.record_tables.specs.Steps.{ReadsAlone};
+ghost use Rattle.record_tables.specs.Steps.{ReadsAlone, Learns, Rejects};
 ghost use Rattle.record_tables.specs.CodeRows.{pair_of};
 ghost use Rattle.record_store.specs.Archive.{Archive};
-ghost use Rattle.record_store.specs.Adoption.{FindsSecond, IsKeyed, ReadsSecond, TellsPlan, ShowsPlan, Sees};
+ghost use Rattle.record_store.specs.Adoption.{FindsSecond, IsKeyed, TellsPlan, ShowsPlan, Sees, ForSecond};
 
 use class_plan::Plan;
 use record_rows::{classes_of, plan_of_rows, rules_of};
@@ -36,7 +32,8 @@ pub(crate) fn is_setting(setting: &SettingRow, key: &[u8], value: &[u8]) -> bool
 
 /// Whether the settings are those of version 2.
 fn is_second(settings: &[SettingRow]) -> bool
-    ensures { IsTrue result ↔ (map pair_of settings.now ≡ record { key = codes "version"; value = codes "2" } ∷ []) }
+    ensures { IsTrue result
+        ↔ (map pair_of settings.now ≡ record { key = codes "version"; value = codes "2" } ∷ []) }
 {
     match settings {
         [setting] => is_setting(setting, b"version", b"2"),
@@ -49,14 +46,14 @@ pub(crate) fn plan_rows<S: Alter>(
     alloc: Global,
     conn: &mut Connection<S>,
 ) -> Result<PlanRows, Fault>
-    ensures tells { HasCleanDisk (state S.Store conn.new) →
-        IfOk result (λ r. (a : Archive) → FindsSecond (state S.Store conn.old).now a → IsKeyed a → TellsPlan r a.plan) }
-    ensures sound { HasCleanDisk (state S.Store conn.new) →
-        IfOk result (λ r. (t : Tables) (ps : List Pair) (rs : List Rule) (cs : List ClassEntry) →
-        ReadsSecond (state S.Store conn.old).now t ps rs cs → ShowsPlan r ps rs cs) }
-    ensures none { HasCleanDisk (state S.Store conn.new) → result ≡ Err Fault.NoArchive → (a : Archive) →
-        FindsSecond (state S.Store conn.old).now a → IsKeyed a → ⊥ }
-    ensures same { ReadsAlone S.Store conn.old conn.new result (IsArchiveSchema (state S.Store conn.old).now.schema) }
+    ensures tells { Learns S.Store conn.old conn.new result
+        (λ db r. (a : Archive) → FindsSecond db a → IsKeyed a → TellsPlan r a.plan) }
+    ensures sound { Learns S.Store conn.old conn.new result
+        (λ db r. ForSecond db (λ ps rs cs. ShowsPlan r ps rs cs)) }
+    ensures none { Rejects S.Store conn.old conn.new result
+        (λ db. (a : Archive) → FindsSecond db a → IsKeyed a → ⊥) }
+    ensures same { ReadsAlone S.Store conn.old conn.new result
+        (IsArchiveSchema (state S.Store conn.old).now.schema) }
     ensures sees { Sees S.Store IsArchiveSchema conn.old conn.new }
 {
     let settings = settings(alloc, conn)?;
@@ -72,7 +69,8 @@ pub(crate) fn plan_rows<S: Alter>(
 pub(crate) fn plan_in(alloc: Global, rows: &PlanRows) -> Result<Plan, Fault>
     ensures plan { IfOk result (λ p. (q : Listing) → IsPlan q → TellsPlan rows.now q → p ≡ q) }
     ensures sound { IfOk result (λ p. IsPlan p × TellsPlan rows.now p) }
-    ensures none { result ≡ Err Fault.NoArchive → (q : Listing) → IsPlan q → TellsPlan rows.now q → ⊥ }
+    ensures none { result ≡ Err Fault.NoArchive → (q : Listing) → IsPlan q → TellsPlan rows.now q
+        → ⊥ }
 {
     match plan_of_rows(alloc, rows.rules.as_slice(), rows.classes.as_slice())? {
         Some(plan) => Ok(plan),

@@ -1,16 +1,13 @@
 //! Changes of the plan: the due days follow it at once.
 
-ghost use Rattle.std.specs.Prelude.{◌≡◌, true, false, map, Ok, Err, IsTrue, IfOk, IfErr, OnOk, OnErr, MatchResult};
-ghost use Rattle.sqlite.specs.State.{HasCleanDisk};
-ghost use Rattle.sqlite.specs.Held.{state};
+ghost use Rattle.std.specs.Prelude.{◌≡◌, true, false, map, IfOk, IfErr, OnOk, OnErr, MatchResult};
 ghost use Rattle.class_plan.specs.Plans.{keeps};
-ghost use Rattle.class_plan.specs.declared.faults.PlanFault.TheVariants.{PathDropped};
 ghost use Rattle.record_tables.specs.Changes.{AreAscending};
 ghost use Rattle.record_tables.specs.CodeRows.{record_of, due_of};
 ghost use Rattle.record_store.specs.Archive as archive;
 ghost use Rattle.record_store.specs.Archive.{Archive};
-ghost use Rattle.record_store.specs.Revisions.{IsRevision, with_plan, dues_in};
-ghost use Rattle.record_store.specs.Stores.{StandsFor, ObeysRows, Tells, Leaves, LeavesAll, LeavesAllowed, Falls, Quietly, is_trouble};
+ghost use Rattle.record_store.specs.Revisions.{IsRevision, with_plan, dues_in, RefusesDrop};
+ghost use Rattle.record_store.specs.Stores.{StandsFor, ObeysRows, Tells, Leaves, LeavesAll, LeavesAllowed, Falls, Quietly, is_trouble, ChangesWhere, IsOpenOnOk};
 
 use crate::fault::StoreFault;
 use crate::plan_days::due_rows_by;
@@ -37,8 +34,9 @@ fn read_fault(fault: Fault) -> StoreFault
 impl<S: Alter> Store<S> {
     /// The new plan; refused with 57 where it drops a path of the present one.
     fn judge_revision(&self, plan: Plan) -> Result<Plan, StoreFault>
-        ensures { MatchResult result (λ p. (keeps self.now.plan plan ≡ true) × (p ≡ plan)) (λ f. is_trouble f ≡ false →
-            (keeps self.now.plan plan ≡ false) × (f ≡ StoreFault.Plan PathDropped)) }
+        ensures { MatchResult result
+            (λ p. (keeps self.now.plan plan ≡ true) × (p ≡ plan))
+            (λ f. is_trouble f ≡ false → RefusesDrop self.now.plan plan f) }
     {
         let mut kept = self.plan.copy()?;
         match kept.revise(plan) {
@@ -52,8 +50,8 @@ impl<S: Alter> Store<S> {
         ensures tells { Tells S.Store self.old self.new result (λ a rows. map record_of rows.items ≡
             a.records) (λ a f. ⊥) }
         ensures falls { Falls S.Store self.old self.new }
-        ensures open { (a : Archive) → StandsFor S.Store self.old a → HasCleanDisk (state S.Store self.new.conn) →
-            OnOk result (IsTrue (state S.Store self.new.conn).is_open) }
+        ensures open { (a : Archive) → StandsFor S.Store self.old a →
+            IsOpenOnOk S.Store self.new result }
         ensures crash { LeavesAll S.Store self.old self.new }
     {
         match records(self.alloc, &mut self.conn) {
@@ -64,7 +62,8 @@ impl<S: Alter> Store<S> {
 
     /// The due days of records by a plan.
     fn due_rows(&self, plan: &Plan, rows: &[RecordRow]) -> Result<Vec<DueRow>, StoreFault>
-        ensures rows { IfOk result (λ v. map due_of v.items ≡ dues_in plan.now (map record_of rows.now)) }
+        ensures rows { IfOk result
+            (λ v. map due_of v.items ≡ dues_in plan.now (map record_of rows.now)) }
         ensures ascending { IfOk result (λ v. AreAscending (map due_of v.items)) }
         ensures trouble { IfErr result (λ f. is_trouble f ≡ true) }
     {
@@ -77,13 +76,14 @@ impl<S: Alter> Store<S> {
     /// Replaces the plan, and the due days by it.
     fn place_plan(&mut self, plan: Plan, dues: &[DueRow]) -> Result<(), StoreFault>
         requires { AreAscending (map due_of dues.now) }
-        ensures ok { OnOk result ((a : Archive) → StandsFor S.Store self.old a →
-            IsRevision a plan (map due_of dues.now) → StandsFor S.Store self.new (with_plan a plan)) }
-        ensures err { OnErr result ((a : Archive) → StandsFor S.Store self.old a → StandsFor S.Store self.new a) }
+        ensures ok { OnOk result (ChangesWhere S.Store self.old self.new
+            (λ a. IsRevision a plan (map due_of dues.now)) (λ a. with_plan a plan)) }
+        ensures err { OnErr result
+            ((a : Archive) → StandsFor S.Store self.old a → StandsFor S.Store self.new a) }
         ensures trouble { IfErr result (λ f. is_trouble f ≡ true) }
         ensures falls { Falls S.Store self.old self.new }
-        ensures crash { LeavesAllowed S.Store self.old self.new (λ a. IsRevision a plan (map due_of dues.now))
-            (λ a. with_plan a plan) }
+        ensures crash { LeavesAllowed S.Store self.old self.new
+            (λ a. IsRevision a plan (map due_of dues.now)) (λ a. with_plan a plan) }
     {
         if !self.conn.is_autocommit() {
             return Err(StoreFault::BUSY);
@@ -104,7 +104,8 @@ impl<S: Alter> Store<S> {
     /// Refused with 57 where the new plan drops a path of the present one, with 89 (`sqlite`) or with 99 (no memory).
     /// A refusal changes nothing.
     pub fn revise(&mut self, plan: Plan) -> Result<(), StoreFault>
-        ensures obeys { ObeysRows S.Store self.old self.new result (λ a. archive.revise a plan) Quietly }
+        ensures obeys { ObeysRows S.Store self.old self.new result
+            (λ a. archive.revise a plan) Quietly }
         ensures falls { Falls S.Store self.old self.new }
         ensures crash { Leaves S.Store self.old self.new (λ a. archive.revise a plan) }
     {

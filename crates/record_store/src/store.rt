@@ -1,6 +1,6 @@
 //! The store and its calls.
 
-ghost use Rattle.std.specs.Prelude.{◌≡◌, false, true, Some, None, Ok, Err, IfOk, IfErr, OnOk, OnErr, IsTrue};
+ghost use Rattle.std.specs.Prelude.{◌≡◌, false, true, Some, IfOk, IfErr};
 ghost use Rattle.sqlite.specs.State.{HasCleanDisk};
 ghost use Rattle.sqlite.specs.Held.{state};
 ghost use Rattle.record_tables.specs.Tables.{no_schema};
@@ -8,7 +8,8 @@ ghost use Rattle.record_tables.specs.CodeRows.{record_of};
 ghost use Rattle.record_store.specs.Archive as archive;
 ghost use Rattle.record_store.specs.Archive.{Archive, empty_archive};
 ghost use Rattle.record_store.specs.Adoption.{FindsNothing, LeavesArchive};
-ghost use Rattle.record_store.specs.Stores.{StandsFor, is_trouble, Tells, LeavesAll, Falls};
+ghost use Rattle.record_store.specs.Stores.{StandsFor, is_trouble, Tells, LeavesAll, Falls, IsOpenOnOk, LacksRecord};
+ghost use Rattle.record_tables.specs.Steps.{IsUntouched};
 
 use crate::counts::Counts;
 use crate::fault::StoreFault;
@@ -51,10 +52,9 @@ impl<S: Alter> Store<S> {
         ensures ok { IfOk result (λ s. HasCleanDisk (state S.Store s.conn) →
             (state S.Store conn).now.schema ≡ no_schema → StandsFor S.Store s empty_archive) }
         ensures trouble { IfErr result (λ e. is_trouble e.0 ≡ true) }
-        ensures unchanged { IfErr result (λ e. HasCleanDisk (state S.Store e.1) → IsTrue (state S.Store e.1).is_open
-            → ((state S.Store e.1).now ≡ (state S.Store conn).now) ×
-            ((state S.Store e.1).committed ≡ (state S.Store conn).committed)) }
-        ensures crash { IfOk result (λ s. LeavesArchive S.Store conn s.conn (FindsNothing (state S.Store conn).now)) }
+        ensures unchanged { IfErr result (λ e. IsUntouched S.Store conn e.1) }
+        ensures crash { IfOk result
+            (λ s. LeavesArchive S.Store conn s.conn (FindsNothing (state S.Store conn).now)) }
         ensures crash_refused { IfErr result
             (λ e. LeavesArchive S.Store conn e.1 (FindsNothing (state S.Store conn).now)) }
     {
@@ -84,11 +84,10 @@ impl<S: Alter> Store<S> {
 
     /// The record with a number; refused with 80 where there is none.
     pub(crate) fn record_at(&mut self, number: u32) -> Result<RecordRow, StoreFault>
-        ensures tells { Tells S.Store self.old self.new result (λ a r. archive.record_at a number ≡
-            Some (record_of r)) (λ a f. (f ≡ StoreFault.NoRecord) × (archive.record_at a number ≡ None)) }
+        ensures tells { Tells S.Store self.old self.new result
+            (λ a r. archive.record_at a number ≡ Some (record_of r)) (LacksRecord number) }
         ensures falls { Falls S.Store self.old self.new }
-        ensures open { HasCleanDisk (state S.Store self.new.conn) →
-            OnOk result (IsTrue (state S.Store self.new.conn).is_open) }
+        ensures open { IsOpenOnOk S.Store self.new result }
         ensures crash { LeavesAll S.Store self.old self.new }
     {
         match record_by_number(&mut self.conn, number) {
@@ -103,8 +102,7 @@ impl<S: Alter> Store<S> {
         ensures tells { Tells S.Store self.old self.new result (λ a b. b ≡
             archive.is_held_by a name.now number) (λ a f. ⊥) }
         ensures falls { Falls S.Store self.old self.new }
-        ensures open { HasCleanDisk (state S.Store self.new.conn) →
-            OnOk result (IsTrue (state S.Store self.new.conn).is_open) }
+        ensures open { IsOpenOnOk S.Store self.new result }
         ensures crash { LeavesAll S.Store self.old self.new }
     {
         match has_hold(&mut self.conn, name, number) {

@@ -34,7 +34,8 @@ pub(crate) fn held_counts(alloc: Global, holds: &[HoldRow]) -> Result<Counts, Al
 
 /// The number of live records of each message.
 fn live_counts(alloc: Global, records: &[RecordRow]) -> Result<Counts, AllocError>
-    ensures { IfOk result (λ c. (m : ℕ) → count_at c m ≡ tally (λ r. not r.destroyed && (r.message == m)) records.now) }
+    ensures { IfOk result (λ c. (m : ℕ)
+        → count_at c m ≡ tally (λ r. not r.destroyed && (r.message == m)) records.now) }
 {
     let mut counts = Counts::new(alloc);
     for record in records {
@@ -47,7 +48,8 @@ fn live_counts(alloc: Global, records: &[RecordRow]) -> Result<Counts, AllocErro
 
 /// Takes 1 from a number's count for each time that the number appears here.
 fn take_each(counts: &mut Counts, numbers: &[u32])
-    ensures { (n : ℕ) → count_at counts.new n ≡ count_at counts.old n - tally (λ k. k == n) numbers.now }
+    ensures { (n : ℕ)
+        → count_at counts.new n ≡ count_at counts.old n - tally (λ k. k == n) numbers.now }
 {
     for number in numbers {
         counts.take(*number, 1);

@@ -1,17 +1,13 @@
 //! The rows of a plan in version 1, in which schedules are texts.
 
 ghost use Rattle.std.specs.Prelude.{◌≡◌, ◌↔◌, List, ℕ, map, codes, Err, IfOk, IsTrue};
-ghost use Rattle.sqlite.specs.State.{HasCleanDisk};
 ghost use Rattle.sqlite.specs.Held.{state};
 ghost use Rattle.class_plan.specs.Plans.{Listing, IsPlan};
 ghost use Rattle.record_tables.specs.Tables.{HasCommonTables};
-ghost use Rattle.record_tables.specs.Rows.{Tables};
-ghost use Rattle.record_tables.specs.Changes.{ClassEntry};
-ghost use Rattle.record_tables.specs.Reads.{Pair};
-ghost use Rattle.record_tables.specs.Steps.{ReadsAlone};
+ghost use Rattle.record_tables.specs.Steps.{ReadsAlone, Learns, Rejects};
 ghost use Rattle.record_tables.specs.CodeRows.{pair_of};
 ghost use Rattle.record_store.specs.Archive.{Archive};
-ghost use Rattle.record_store.specs.Adoption.{FindsFirst, IsKeyed, ReadsFirst, TellsTexts, ShowsTexts, Sees, first_pairs};
+ghost use Rattle.record_store.specs.Adoption.{FindsFirst, IsKeyed, TellsTexts, ShowsTexts, Sees, first_pairs, ForFirst};
 
 use crate::plan_rows::is_setting;
 use class_plan::Plan;
@@ -37,7 +33,8 @@ fn has_key(setting: &SettingRow, key: &[u8]) -> bool
 
 /// Whether two settings are those of version 1, of which the first has the text of the root's schedule.
 fn are_first(root: &SettingRow, version: &SettingRow) -> bool
-    ensures { IsTrue result ↔ (((pair_of root.now).key ≡ codes "root") × (pair_of version.now ≡ record { key = codes "version"; value = codes "1" })) }
+    ensures { IsTrue result ↔ (((pair_of root.now).key ≡ codes "root")
+        × (pair_of version.now ≡ record { key = codes "version"; value = codes "1" })) }
 {
     has_key(root, b"root") && is_setting(version, b"version", b"1")
 }
@@ -45,7 +42,8 @@ fn are_first(root: &SettingRow, version: &SettingRow) -> bool
 /// The text of the root's schedule, where the settings are those of version 1.
 fn root_in(alloc: Global, settings: &[SettingRow]) -> Result<Vec<u8>, Fault>
     ensures root { IfOk result (λ r. map pair_of settings.now ≡ first_pairs r.items) }
-    ensures none { result ≡ Err Fault.NoArchive → (root : List ℕ) → map pair_of settings.now ≡ first_pairs root → ⊥ }
+    ensures none { result ≡ Err Fault.NoArchive → (root : List ℕ)
+        → map pair_of settings.now ≡ first_pairs root → ⊥ }
 {
     let [root, version] = settings else {
         return Err(Fault::NoArchive);
@@ -62,14 +60,14 @@ pub(crate) fn text_rows<S: Alter>(
     alloc: Global,
     conn: &mut Connection<S>,
 ) -> Result<TextRows, Fault>
-    ensures tells { HasCleanDisk (state S.Store conn.new) →
-        IfOk result (λ r. (a : Archive) → FindsFirst (state S.Store conn.old).now a → IsKeyed a → TellsTexts r a.plan) }
-    ensures sound { HasCleanDisk (state S.Store conn.new) →
-        IfOk result (λ r. (t : Tables) (ps : List Pair) (cs : List ClassEntry) →
-        ReadsFirst (state S.Store conn.old).now t ps cs → ShowsTexts r ps cs) }
-    ensures none { HasCleanDisk (state S.Store conn.new) → result ≡ Err Fault.NoArchive → (a : Archive) →
-        FindsFirst (state S.Store conn.old).now a → IsKeyed a → ⊥ }
-    ensures same { ReadsAlone S.Store conn.old conn.new result (HasCommonTables (state S.Store conn.old).now.schema) }
+    ensures tells { Learns S.Store conn.old conn.new result
+        (λ db r. (a : Archive) → FindsFirst db a → IsKeyed a → TellsTexts r a.plan) }
+    ensures sound { Learns S.Store conn.old conn.new result
+        (λ db r. ForFirst db (λ ps cs. ShowsTexts r ps cs)) }
+    ensures none { Rejects S.Store conn.old conn.new result
+        (λ db. (a : Archive) → FindsFirst db a → IsKeyed a → ⊥) }
+    ensures same { ReadsAlone S.Store conn.old conn.new result
+        (HasCommonTables (state S.Store conn.old).now.schema) }
     ensures sees { Sees S.Store HasCommonTables conn.old conn.new }
 {
     let settings = settings(alloc, conn)?;
@@ -82,7 +80,8 @@ pub(crate) fn text_rows<S: Alter>(
 pub(crate) fn plan_in_texts(alloc: Global, texts: &TextRows) -> Result<Plan, Fault>
     ensures plan { IfOk result (λ p. (q : Listing) → IsPlan q → TellsTexts texts.now q → p ≡ q) }
     ensures sound { IfOk result (λ p. IsPlan p × TellsTexts texts.now p) }
-    ensures none { result ≡ Err Fault.NoArchive → (q : Listing) → IsPlan q → TellsTexts texts.now q → ⊥ }
+    ensures none { result ≡ Err Fault.NoArchive → (q : Listing) → IsPlan q → TellsTexts texts.now q
+        → ⊥ }
 {
     match plan_of_texts(alloc, texts.root.as_slice(), texts.classes.as_slice())? {
         Some(plan) => Ok(plan),

@@ -28,7 +28,8 @@ pub(crate) fn number_at(row: &Row, at: usize) -> Result<u32, Fault>
 /// The boolean in a column, exactly where the column holds 0 or 1.
 pub(crate) fn flag_at(row: &Row, at: usize) -> Result<bool, Fault>
     ensures flag { IfOk result (λ b. column row.now at ≡ Int (as_flag b)) }
-    ensures none { IfErr result (λ f. (f ≡ Fault.NoArchive) × ((b : Bool) → column row.now at ≡ Int (as_flag b) → ⊥)) }
+    ensures none { IfErr result
+        (λ f. (f ≡ Fault.NoArchive) × ((b : Bool) → column row.now at ≡ Int (as_flag b) → ⊥)) }
 {
     match row.get_ref(at) {
         Ok(ValueRef::Int(0)) => Ok(false),

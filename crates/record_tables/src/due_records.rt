@@ -43,8 +43,10 @@ pub fn due_records_by<S: Alter>(
         map due_record_of all.items ≡ due_records_by day t) }
     ensures none { Rejects S.Store conn.old conn.new result
         (λ db. (t : Tables) → Stores db t → AreKeyed t → FitsDueRecordsBy day t → ⊥) }
-    ensures same { ReadsAlone S.Store conn.old conn.new result (IsArchiveSchema (state S.Store conn.old).now.schema) }
-    ensures still { IsStill S.Store conn.old conn.new (IsArchiveSchema (state S.Store conn.old).now.schema) }
+    ensures same { ReadsAlone S.Store conn.old conn.new result
+        (IsArchiveSchema (state S.Store conn.old).now.schema) }
+    ensures still { IsStill S.Store conn.old conn.new
+        (IsArchiveSchema (state S.Store conn.old).now.schema) }
     ensures was_open { WasOpenOnOk S.Store conn.old conn.new result }
     ensures falls { Falls S.Store conn.old conn.new }
     ensures idle { IsIdle S.Store conn.old conn.new }

@@ -40,7 +40,8 @@ fn define_index<S: Alter>(tx: &mut Transaction<'_, S>, text: &str) -> Result<(),
 /// Creates the table of due days and its index.
 fn lay_dues<S: Alter>(tx: &mut Transaction<'_, S>) -> Result<(), Error>
     ensures same_reference { tx.new.conn.ghost_name ≡ tx.old.conn.ghost_name }
-    ensures ok { OnOk result (LaysIn S.Store tx.old.conn.now tx.new.conn.now schema_6 (due_table ∷ []) archive_schema) }
+    ensures ok { OnOk result
+        (LaysIn S.Store tx.old.conn.now tx.new.conn.now schema_6 (due_table ∷ []) archive_schema) }
     ensures err { KeepsIn S.Store tx.old.conn.now tx.new.conn.now result }
     ensures survives { CommitsNothing S.Store tx.old.conn.now tx.new.conn.now }
 {
@@ -55,8 +56,8 @@ fn lay_dues<S: Alter>(tx: &mut Transaction<'_, S>) -> Result<(), Error>
 /// Creates the tables that version 1 lacks, or has in another place.
 fn lay_later<S: Alter>(tx: &mut Transaction<'_, S>) -> Result<(), Error>
     ensures same_reference { tx.new.conn.ghost_name ≡ tx.old.conn.ghost_name }
-    ensures ok { OnOk result (LaysIn S.Store tx.old.conn.now tx.new.conn.now first_schema (schedule_table ∷ due_table ∷
-        []) archive_schema) }
+    ensures ok { OnOk result (LaysIn S.Store tx.old.conn.now tx.new.conn.now first_schema
+        (schedule_table ∷ due_table ∷ []) archive_schema) }
     ensures err { KeepsIn S.Store tx.old.conn.now tx.new.conn.now result }
     ensures survives { CommitsNothing S.Store tx.old.conn.now tx.new.conn.now }
 {
@@ -71,7 +72,8 @@ fn lay_later<S: Alter>(tx: &mut Transaction<'_, S>) -> Result<(), Error>
 /// Creates all tables in a database that has none.
 fn lay_tables<S: Alter>(tx: &mut Transaction<'_, S>) -> Result<(), Error>
     ensures same_reference { tx.new.conn.ghost_name ≡ tx.old.conn.ghost_name }
-    ensures ok { OnOk result (LaysIn S.Store tx.old.conn.now tx.new.conn.now no_schema archive_tables archive_schema) }
+    ensures ok { OnOk result
+        (LaysIn S.Store tx.old.conn.now tx.new.conn.now no_schema archive_tables archive_schema) }
     ensures err { KeepsIn S.Store tx.old.conn.now tx.new.conn.now result }
     ensures survives { CommitsNothing S.Store tx.old.conn.now tx.new.conn.now }
 {

@@ -98,7 +98,8 @@ fn has_plain_order(table: &Table) -> bool
 }
 
 fn is_uniquely_keyed_table(table: &Table, name: &[u8], key: &[usize]) -> bool
-    ensures { IsTrue result ↔ (table.now ≡ uniquely_keyed_table name.now table.now.tree key.now table.now.columns) }
+    ensures { IsTrue result
+        ↔ (table.now ≡ uniquely_keyed_table name.now table.now.tree key.now table.now.columns) }
 {
     table.name.as_slice() == name
         && table.key == None

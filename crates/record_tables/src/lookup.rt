@@ -23,8 +23,8 @@ fn look<S: Alter>(
 ) -> Result<Vec<Row>, Error>
     requires { (f : Foreign) → IsPlain (understood (archive_beside f) sql.now) }
     ensures shown { ShowsOnOk S.Store conn.old conn.new result sql.now (bound params.now) }
-    ensures open { HasCleanDisk (state S.Store conn.new) →
-        OnOk result (IsTrue (state S.Store conn.old).is_open × IsTrue (state S.Store conn.new).is_open) }
+    ensures open { HasCleanDisk (state S.Store conn.new) → OnOk result
+        (IsTrue (state S.Store conn.old).is_open × IsTrue (state S.Store conn.new).is_open) }
     ensures looks { Looks S.Store conn.old conn.new }
 {
     let _settled = conn.is_autocommit();
@@ -57,8 +57,8 @@ pub fn record_by_number<S: Alter>(
     ensures record { Learns S.Store conn.old conn.new result
         (λ db r. (t : Tables) → Stores db t → AreKeyed t →
         option_map record_of r ≡ record_with number t) }
-    ensures open { HasCleanDisk (state S.Store conn.new) →
-        OnOk result (IsTrue (state S.Store conn.old).is_open × IsTrue (state S.Store conn.new).is_open) }
+    ensures open { HasCleanDisk (state S.Store conn.new) → OnOk result
+        (IsTrue (state S.Store conn.old).is_open × IsTrue (state S.Store conn.new).is_open) }
     ensures looks { Looks S.Store conn.old conn.new }
 {
     let rows = look(
@@ -80,8 +80,8 @@ pub fn message_body<S: Alter>(
     ensures body { Learns S.Store conn.old conn.new result
         (λ db b. (t : Tables) → Stores db t → AreKeyed t →
         option_map (λ v. v.items) b ≡ body_with number t) }
-    ensures open { HasCleanDisk (state S.Store conn.new) →
-        OnOk result (IsTrue (state S.Store conn.old).is_open × IsTrue (state S.Store conn.new).is_open) }
+    ensures open { HasCleanDisk (state S.Store conn.new) → OnOk result
+        (IsTrue (state S.Store conn.old).is_open × IsTrue (state S.Store conn.new).is_open) }
     ensures looks { Looks S.Store conn.old conn.new }
 {
     let rows = look(
@@ -100,8 +100,8 @@ pub fn has_hold<S: Alter>(conn: &mut Connection<S>, name: &[u8], number: u32) ->
     ensures there { Learns S.Store conn.old conn.new result
         (λ db b. (t : Tables) → Stores db t → AreKeyed t →
         b ≡ has_hold_of name.now number t) }
-    ensures open { HasCleanDisk (state S.Store conn.new) →
-        OnOk result (IsTrue (state S.Store conn.old).is_open × IsTrue (state S.Store conn.new).is_open) }
+    ensures open { HasCleanDisk (state S.Store conn.new) → OnOk result
+        (IsTrue (state S.Store conn.old).is_open × IsTrue (state S.Store conn.new).is_open) }
     ensures looks { Looks S.Store conn.old conn.new }
 {
     let rows = look(

@@ -27,8 +27,10 @@ pub fn records<S: Alter>(alloc: Global, conn: &mut Connection<S>) -> Result<Vec<
     ensures none { Rejects S.Store conn.old conn.new result
         (λ db. (t : Tables) → StoresCommon db t → AreKeyed t →
         AllByRecursion FitsRecord t.records → ⊥) }
-    ensures same { ReadsAlone S.Store conn.old conn.new result (HasCommonTables (state S.Store conn.old).now.schema) }
-    ensures still { IsStill S.Store conn.old conn.new (HasCommonTables (state S.Store conn.old).now.schema) }
+    ensures same { ReadsAlone S.Store conn.old conn.new result
+        (HasCommonTables (state S.Store conn.old).now.schema) }
+    ensures still { IsStill S.Store conn.old conn.new
+        (HasCommonTables (state S.Store conn.old).now.schema) }
     ensures was_open { WasOpenOnOk S.Store conn.old conn.new result }
     ensures falls { Falls S.Store conn.old conn.new }
     ensures idle { IsIdle S.Store conn.old conn.new }
@@ -51,8 +53,10 @@ pub fn message_numbers<S: Alter>(alloc: Global, conn: &mut Connection<S>) -> Res
     ensures none { Rejects S.Store conn.old conn.new result
         (λ db. (t : Tables) → StoresCommon db t → AreKeyed t →
         AllByRecursion FitsNumber (numbers_of t) → ⊥) }
-    ensures same { ReadsAlone S.Store conn.old conn.new result (HasCommonTables (state S.Store conn.old).now.schema) }
-    ensures still { IsStill S.Store conn.old conn.new (HasCommonTables (state S.Store conn.old).now.schema) }
+    ensures same { ReadsAlone S.Store conn.old conn.new result
+        (HasCommonTables (state S.Store conn.old).now.schema) }
+    ensures still { IsStill S.Store conn.old conn.new
+        (HasCommonTables (state S.Store conn.old).now.schema) }
     ensures was_open { WasOpenOnOk S.Store conn.old conn.new result }
     ensures falls { Falls S.Store conn.old conn.new }
     ensures idle { IsIdle S.Store conn.old conn.new }
@@ -69,8 +73,10 @@ pub fn holds<S: Alter>(alloc: Global, conn: &mut Connection<S>) -> Result<Vec<Ho
         (λ db all. ForRows StoresCommon AreHolds db (λ hs. map hold_entry_of all.items ≡ hs)) }
     ensures none { Rejects S.Store conn.old conn.new result
         (λ db. ForRows StoresCommon AreHolds db (λ hs. AllByRecursion FitsHold hs → ⊥)) }
-    ensures same { ReadsAlone S.Store conn.old conn.new result (HasCommonTables (state S.Store conn.old).now.schema) }
-    ensures still { IsStill S.Store conn.old conn.new (HasCommonTables (state S.Store conn.old).now.schema) }
+    ensures same { ReadsAlone S.Store conn.old conn.new result
+        (HasCommonTables (state S.Store conn.old).now.schema) }
+    ensures still { IsStill S.Store conn.old conn.new
+        (HasCommonTables (state S.Store conn.old).now.schema) }
     ensures was_open { WasOpenOnOk S.Store conn.old conn.new result }
     ensures falls { Falls S.Store conn.old conn.new }
     ensures idle { IsIdle S.Store conn.old conn.new }
@@ -91,8 +97,10 @@ pub fn settings<S: Alter>(alloc: Global, conn: &mut Connection<S>) -> Result<Vec
         (λ db all. ForRows StoresCommon ArePairs db (λ ps. map pair_of all.items ≡ ps)) }
     ensures none { Rejects S.Store conn.old conn.new result
         (λ db. ForRows StoresCommon ArePairs db (λ ps. ⊥)) }
-    ensures same { ReadsAlone S.Store conn.old conn.new result (HasCommonTables (state S.Store conn.old).now.schema) }
-    ensures still { IsStill S.Store conn.old conn.new (HasCommonTables (state S.Store conn.old).now.schema) }
+    ensures same { ReadsAlone S.Store conn.old conn.new result
+        (HasCommonTables (state S.Store conn.old).now.schema) }
+    ensures still { IsStill S.Store conn.old conn.new
+        (HasCommonTables (state S.Store conn.old).now.schema) }
     ensures was_open { WasOpenOnOk S.Store conn.old conn.new result }
     ensures falls { Falls S.Store conn.old conn.new }
     ensures idle { IsIdle S.Store conn.old conn.new }
@@ -109,8 +117,10 @@ pub fn classes<S: Alter>(alloc: Global, conn: &mut Connection<S>) -> Result<Vec<
         (λ db all. ForRows StoresCommon AreClasses db (λ cs. map class_entry_of all.items ≡ cs)) }
     ensures none { Rejects S.Store conn.old conn.new result
         (λ db. ForRows StoresCommon AreClasses db (λ cs. ⊥)) }
-    ensures same { ReadsAlone S.Store conn.old conn.new result (HasCommonTables (state S.Store conn.old).now.schema) }
-    ensures still { IsStill S.Store conn.old conn.new (HasCommonTables (state S.Store conn.old).now.schema) }
+    ensures same { ReadsAlone S.Store conn.old conn.new result
+        (HasCommonTables (state S.Store conn.old).now.schema) }
+    ensures still { IsStill S.Store conn.old conn.new
+        (HasCommonTables (state S.Store conn.old).now.schema) }
     ensures was_open { WasOpenOnOk S.Store conn.old conn.new result }
     ensures falls { Falls S.Store conn.old conn.new }
     ensures idle { IsIdle S.Store conn.old conn.new }
@@ -134,8 +144,10 @@ pub fn schedules<S: Alter>(
         (λ db all. ForRows Stores AreRules db (λ rs. map rule_of all.items ≡ rs)) }
     ensures none { Rejects S.Store conn.old conn.new result
         (λ db. ForRows Stores AreRules db (λ rs. AllByRecursion FitsRule rs → ⊥)) }
-    ensures same { ReadsAlone S.Store conn.old conn.new result (IsArchiveSchema (state S.Store conn.old).now.schema) }
-    ensures still { IsStill S.Store conn.old conn.new (IsArchiveSchema (state S.Store conn.old).now.schema) }
+    ensures same { ReadsAlone S.Store conn.old conn.new result
+        (IsArchiveSchema (state S.Store conn.old).now.schema) }
+    ensures still { IsStill S.Store conn.old conn.new
+        (IsArchiveSchema (state S.Store conn.old).now.schema) }
     ensures was_open { WasOpenOnOk S.Store conn.old conn.new result }
     ensures falls { Falls S.Store conn.old conn.new }
     ensures idle { IsIdle S.Store conn.old conn.new }

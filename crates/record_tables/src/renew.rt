@@ -32,8 +32,8 @@ fn insert_due_row<S: Alter>(tx: &mut Transaction<'_, S>, due: &DueRow) -> Result
 fn insert_dues<S: Alter>(tx: &mut Transaction<'_, S>, dues: &[DueRow]) -> Result<(), Error>
     requires { AreAscending (map due_of dues.now) }
     ensures same_reference { tx.new.conn.ghost_name ≡ tx.old.conn.ghost_name }
-    ensures ok { OnOk result
-        (PutsIn S.Store tx.old.conn.now tx.new.conn.now HasNoDues (with_dues (map due_of dues.now))) }
+    ensures ok { OnOk result (PutsIn S.Store tx.old.conn.now tx.new.conn.now HasNoDues
+        (with_dues (map due_of dues.now))) }
     ensures err { KeepsIn S.Store tx.old.conn.now tx.new.conn.now result }
     ensures survives { CommitsNothing S.Store tx.old.conn.now tx.new.conn.now }
 {
@@ -47,7 +47,8 @@ fn insert_dues<S: Alter>(tx: &mut Transaction<'_, S>, dues: &[DueRow]) -> Result
 fn renew_dues<S: Alter>(tx: &mut Transaction<'_, S>, dues: &[DueRow]) -> Result<(), Error>
     requires { AreAscending (map due_of dues.now) }
     ensures same_reference { tx.new.conn.ghost_name ≡ tx.old.conn.ghost_name }
-    ensures ok { OnOk result (PutsIn S.Store tx.old.conn.now tx.new.conn.now Always (with_dues (map due_of dues.now))) }
+    ensures ok { OnOk result
+        (PutsIn S.Store tx.old.conn.now tx.new.conn.now Always (with_dues (map due_of dues.now))) }
     ensures err { KeepsIn S.Store tx.old.conn.now tx.new.conn.now result }
     ensures survives { CommitsNothing S.Store tx.old.conn.now tx.new.conn.now }
 {
@@ -79,8 +80,8 @@ fn insert_class_row<S: Alter>(tx: &mut Transaction<'_, S>, class: &ClassRow) -> 
 /// Adds the classes to a table that has none.
 fn insert_classes<S: Alter>(tx: &mut Transaction<'_, S>, classes: &[ClassRow]) -> Result<(), Error>
     ensures same_reference { tx.new.conn.ghost_name ≡ tx.old.conn.ghost_name }
-    ensures ok { OnOk result
-        (PutsIn S.Store tx.old.conn.now tx.new.conn.now HasNoClasses (with_classes (map class_entry_of classes.now))) }
+    ensures ok { OnOk result (PutsIn S.Store tx.old.conn.now tx.new.conn.now HasNoClasses
+        (with_classes (map class_entry_of classes.now))) }
     ensures err { KeepsIn S.Store tx.old.conn.now tx.new.conn.now result }
     ensures survives { CommitsNothing S.Store tx.old.conn.now tx.new.conn.now }
 {
@@ -92,8 +93,8 @@ fn insert_classes<S: Alter>(tx: &mut Transaction<'_, S>, classes: &[ClassRow]) -
 
 fn renew_classes<S: Alter>(tx: &mut Transaction<'_, S>, classes: &[ClassRow]) -> Result<(), Error>
     ensures same_reference { tx.new.conn.ghost_name ≡ tx.old.conn.ghost_name }
-    ensures ok { OnOk result
-        (PutsIn S.Store tx.old.conn.now tx.new.conn.now Always (with_classes (map class_entry_of classes.now))) }
+    ensures ok { OnOk result (PutsIn S.Store tx.old.conn.now tx.new.conn.now Always
+        (with_classes (map class_entry_of classes.now))) }
     ensures err { KeepsIn S.Store tx.old.conn.now tx.new.conn.now result }
     ensures survives { CommitsNothing S.Store tx.old.conn.now tx.new.conn.now }
 {
@@ -108,8 +109,8 @@ fn insert_schedules<S: Alter>(
     schedules: &[ScheduleRow],
 ) -> Result<(), Error>
     ensures same_reference { tx.new.conn.ghost_name ≡ tx.old.conn.ghost_name }
-    ensures ok { OnOk result
-        (PutsIn S.Store tx.old.conn.now tx.new.conn.now HasNoSchedules (with_schedules (map rule_of schedules.now))) }
+    ensures ok { OnOk result (PutsIn S.Store tx.old.conn.now tx.new.conn.now HasNoSchedules
+        (with_schedules (map rule_of schedules.now))) }
     ensures err { KeepsIn S.Store tx.old.conn.now tx.new.conn.now result }
     ensures survives { CommitsNothing S.Store tx.old.conn.now tx.new.conn.now }
 {
@@ -124,8 +125,8 @@ fn renew_schedules<S: Alter>(
     schedules: &[ScheduleRow],
 ) -> Result<(), Error>
     ensures same_reference { tx.new.conn.ghost_name ≡ tx.old.conn.ghost_name }
-    ensures ok { OnOk result
-        (PutsIn S.Store tx.old.conn.now tx.new.conn.now Always (with_schedules (map rule_of schedules.now))) }
+    ensures ok { OnOk result (PutsIn S.Store tx.old.conn.now tx.new.conn.now Always
+        (with_schedules (map rule_of schedules.now))) }
     ensures err { KeepsIn S.Store tx.old.conn.now tx.new.conn.now result }
     ensures survives { CommitsNothing S.Store tx.old.conn.now tx.new.conn.now }
 {
@@ -207,13 +208,13 @@ pub fn replace_plan<S: Alter>(
     requires idle { conn.old.in_transaction ≡ false }
     requires ascending { AreAscending (map due_of dues.now) }
     ensures idle { conn.new.in_transaction ≡ false }
-    ensures ok { Makes S.Store conn.old conn.new result
-        (IsRevised (map rule_of schedules.now) (map class_entry_of classes.now) (map due_of dues.now)) }
+    ensures ok { Makes S.Store conn.old conn.new result (IsRevised (map rule_of schedules.now)
+        (map class_entry_of classes.now) (map due_of dues.now)) }
     ensures committed { IsCommitted S.Store conn.old conn.new result }
     ensures err { IsUndone S.Store conn.old conn.new result }
     ensures was_open { WasOpen S.Store conn.old conn.new }
-    ensures crash { CommitsWhole S.Store conn.old conn.new
-        (IsRevised (map rule_of schedules.now) (map class_entry_of classes.now) (map due_of dues.now)) }
+    ensures crash { CommitsWhole S.Store conn.old conn.new (IsRevised (map rule_of schedules.now)
+        (map class_entry_of classes.now) (map due_of dues.now)) }
 {
     let alone = is_alone(conn.schema());
     let _settled = conn.is_autocommit();

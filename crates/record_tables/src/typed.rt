@@ -24,7 +24,8 @@ pub(crate) trait FromRow: Drop {
     /// Reads the value, exactly where each column has the right kind, and each number is below 2^32.
     fn from_row(alloc: Global, row: &Row) -> Result<Self, Fault>
         ensures ok { IfOk result (λ x. reads row.now x) }
-        ensures none { IfErr result (λ f. f ≢ Fault.NoMemory → (f ≡ Fault.NoArchive) × (is_readable row.now → ⊥)) };
+        ensures none { IfErr result
+            (λ f. f ≢ Fault.NoMemory → (f ≡ Fault.NoArchive) × (is_readable row.now → ⊥)) };
 }
 
 impl FromRow for u32 {

@@ -32,7 +32,8 @@ pub fn insert_message<S: Alter>(
     body: &[u8],
 ) -> Result<(), Error>
     ensures same_reference { tx.new.conn.ghost_name ≡ tx.old.conn.ghost_name }
-    ensures ok { OnOk result (PutsIn S.Store tx.old.conn.now tx.new.conn.now (IsPastMessages number) (with_message (new_message number body.now))) }
+    ensures ok { OnOk result (PutsIn S.Store tx.old.conn.now tx.new.conn.now (IsPastMessages number)
+        (with_message (new_message number body.now))) }
     ensures err { KeepsIn S.Store tx.old.conn.now tx.new.conn.now result }
     ensures survives { CommitsNothing S.Store tx.old.conn.now tx.new.conn.now }
 {
@@ -73,7 +74,8 @@ pub fn insert_record<S: Alter>(
 /// Adds the due day of a record, in days since 1970-01-01. The caller gives a record after all those with due days.
 pub fn insert_due<S: Alter>(tx: &mut Transaction<'_, S>, number: u32, day: u32) -> Result<(), Error>
     ensures same_reference { tx.new.conn.ghost_name ≡ tx.old.conn.ghost_name }
-    ensures ok { OnOk result (PutsIn S.Store tx.old.conn.now tx.new.conn.now (IsPastDues number) (with_due (record { number = number; day = day }))) }
+    ensures ok { OnOk result (PutsIn S.Store tx.old.conn.now tx.new.conn.now (IsPastDues number)
+        (with_due (record { number = number; day = day }))) }
     ensures err { KeepsIn S.Store tx.old.conn.now tx.new.conn.now result }
     ensures survives { CommitsNothing S.Store tx.old.conn.now tx.new.conn.now }
 {
@@ -91,7 +93,8 @@ pub fn insert_hold<S: Alter>(
     number: u32,
 ) -> Result<(), Error>
     ensures same_reference { tx.new.conn.ghost_name ≡ tx.old.conn.ghost_name }
-    ensures ok { OnOk result (PutsIn S.Store tx.old.conn.now tx.new.conn.now Always (with_hold name.now number)) }
+    ensures ok { OnOk result
+        (PutsIn S.Store tx.old.conn.now tx.new.conn.now Always (with_hold name.now number)) }
     ensures err { KeepsIn S.Store tx.old.conn.now tx.new.conn.now result }
     ensures survives { CommitsNothing S.Store tx.old.conn.now tx.new.conn.now }
 {
@@ -109,7 +112,8 @@ pub fn insert_setting<S: Alter>(
     value: &[u8],
 ) -> Result<(), Error>
     ensures same_reference { tx.new.conn.ghost_name ≡ tx.old.conn.ghost_name }
-    ensures ok { OnOk result (PutsIn S.Store tx.old.conn.now tx.new.conn.now Always (with_setting key.now value.now)) }
+    ensures ok { OnOk result
+        (PutsIn S.Store tx.old.conn.now tx.new.conn.now Always (with_setting key.now value.now)) }
     ensures err { KeepsIn S.Store tx.old.conn.now tx.new.conn.now result }
     ensures survives { CommitsNothing S.Store tx.old.conn.now tx.new.conn.now }
 {
@@ -151,8 +155,8 @@ pub fn insert_schedule<S: Alter>(
     schedule: &ScheduleRow,
 ) -> Result<(), Error>
     ensures same_reference { tx.new.conn.ghost_name ≡ tx.old.conn.ghost_name }
-    ensures ok { OnOk result
-        (PutsIn S.Store tx.old.conn.now tx.new.conn.now Always (with_schedule (rule_of schedule.now))) }
+    ensures ok { OnOk result (PutsIn S.Store tx.old.conn.now tx.new.conn.now Always
+        (with_schedule (rule_of schedule.now))) }
     ensures err { KeepsIn S.Store tx.old.conn.now tx.new.conn.now result }
     ensures survives { CommitsNothing S.Store tx.old.conn.now tx.new.conn.now }
 {
@@ -183,7 +187,8 @@ pub fn clear_dues<S: Alter>(tx: &mut Transaction<'_, S>) -> Result<(), Error>
 /// Removes all classes.
 pub fn clear_classes<S: Alter>(tx: &mut Transaction<'_, S>) -> Result<(), Error>
     ensures same_reference { tx.new.conn.ghost_name ≡ tx.old.conn.ghost_name }
-    ensures ok { OnOk result (PutsIn S.Store tx.old.conn.now tx.new.conn.now Always without_classes) }
+    ensures ok { OnOk result
+        (PutsIn S.Store tx.old.conn.now tx.new.conn.now Always without_classes) }
     ensures err { KeepsIn S.Store tx.old.conn.now tx.new.conn.now result }
     ensures survives { CommitsNothing S.Store tx.old.conn.now tx.new.conn.now }
 {
@@ -194,7 +199,8 @@ pub fn clear_classes<S: Alter>(tx: &mut Transaction<'_, S>) -> Result<(), Error>
 /// Removes all schedules, that of the whole plan too.
 pub fn clear_schedules<S: Alter>(tx: &mut Transaction<'_, S>) -> Result<(), Error>
     ensures same_reference { tx.new.conn.ghost_name ≡ tx.old.conn.ghost_name }
-    ensures ok { OnOk result (PutsIn S.Store tx.old.conn.now tx.new.conn.now Always without_schedules) }
+    ensures ok { OnOk result
+        (PutsIn S.Store tx.old.conn.now tx.new.conn.now Always without_schedules) }
     ensures err { KeepsIn S.Store tx.old.conn.now tx.new.conn.now result }
     ensures survives { CommitsNothing S.Store tx.old.conn.now tx.new.conn.now }
 {
@@ -205,7 +211,8 @@ pub fn clear_schedules<S: Alter>(tx: &mut Transaction<'_, S>) -> Result<(), Erro
 /// Removes all settings, the rows of `meta`.
 pub fn clear_settings<S: Alter>(tx: &mut Transaction<'_, S>) -> Result<(), Error>
     ensures same_reference { tx.new.conn.ghost_name ≡ tx.old.conn.ghost_name }
-    ensures ok { OnOk result (PutsIn S.Store tx.old.conn.now tx.new.conn.now Always without_settings) }
+    ensures ok { OnOk result
+        (PutsIn S.Store tx.old.conn.now tx.new.conn.now Always without_settings) }
     ensures err { KeepsIn S.Store tx.old.conn.now tx.new.conn.now result }
     ensures survives { CommitsNothing S.Store tx.old.conn.now tx.new.conn.now }
 {
@@ -216,7 +223,8 @@ pub fn clear_settings<S: Alter>(tx: &mut Transaction<'_, S>) -> Result<(), Error
 /// Removes the due day of a record; where it has none, nothing changes.
 pub fn delete_due<S: Alter>(tx: &mut Transaction<'_, S>, number: u32) -> Result<(), Error>
     ensures same_reference { tx.new.conn.ghost_name ≡ tx.old.conn.ghost_name }
-    ensures ok { OnOk result (PutsIn S.Store tx.old.conn.now tx.new.conn.now Always (without_due number)) }
+    ensures ok { OnOk result
+        (PutsIn S.Store tx.old.conn.now tx.new.conn.now Always (without_due number)) }
     ensures err { KeepsIn S.Store tx.old.conn.now tx.new.conn.now result }
     ensures survives { CommitsNothing S.Store tx.old.conn.now tx.new.conn.now }
 {
@@ -227,7 +235,8 @@ pub fn delete_due<S: Alter>(tx: &mut Transaction<'_, S>, number: u32) -> Result<
 /// Removes the message with a number; where there is none, nothing changes.
 pub fn delete_message<S: Alter>(tx: &mut Transaction<'_, S>, number: u32) -> Result<(), Error>
     ensures same_reference { tx.new.conn.ghost_name ≡ tx.old.conn.ghost_name }
-    ensures ok { OnOk result (PutsIn S.Store tx.old.conn.now tx.new.conn.now Always (without_message number)) }
+    ensures ok { OnOk result
+        (PutsIn S.Store tx.old.conn.now tx.new.conn.now Always (without_message number)) }
     ensures err { KeepsIn S.Store tx.old.conn.now tx.new.conn.now result }
     ensures survives { CommitsNothing S.Store tx.old.conn.now tx.new.conn.now }
 {
@@ -242,7 +251,8 @@ pub fn delete_hold<S: Alter>(
     number: u32,
 ) -> Result<(), Error>
     ensures same_reference { tx.new.conn.ghost_name ≡ tx.old.conn.ghost_name }
-    ensures ok { OnOk result (PutsIn S.Store tx.old.conn.now tx.new.conn.now Always (without_hold name.now number)) }
+    ensures ok { OnOk result
+        (PutsIn S.Store tx.old.conn.now tx.new.conn.now Always (without_hold name.now number)) }
     ensures err { KeepsIn S.Store tx.old.conn.now tx.new.conn.now result }
     ensures survives { CommitsNothing S.Store tx.old.conn.now tx.new.conn.now }
 {
@@ -256,7 +266,8 @@ pub fn delete_hold<S: Alter>(
 /// Marks the record with a number as destroyed; where there is none, nothing changes.
 pub fn set_destroyed<S: Alter>(tx: &mut Transaction<'_, S>, number: u32) -> Result<(), Error>
     ensures same_reference { tx.new.conn.ghost_name ≡ tx.old.conn.ghost_name }
-    ensures ok { OnOk result (PutsIn S.Store tx.old.conn.now tx.new.conn.now Always (with_destruction number)) }
+    ensures ok { OnOk result
+        (PutsIn S.Store tx.old.conn.now tx.new.conn.now Always (with_destruction number)) }
     ensures err { KeepsIn S.Store tx.old.conn.now tx.new.conn.now result }
     ensures survives { CommitsNothing S.Store tx.old.conn.now tx.new.conn.now }
 {

@@ -50,8 +50,11 @@ impl Library {
     /// exactly where the name is new and thirty-two scripts are there, and with `NoMemory` (99) only for a new name.
     /// The library is then unchanged.
     pub fn set_personal(&mut self, name: &[u8], script: Rc<Checked>) -> Result<(), LibraryFault>
-        ensures ok { OnOk result (self.new ≡ record self.old { personal = with_entry (named_script name.now script.value.script) self.old.personal }) }
-        ensures found { OnOk result (IsFoundIn (named_script name.now script.value.script) self.old.personal self.new.personal) }
+        ensures ok { OnOk result (self.new ≡ record self.old {
+          personal = with_entry (named_script name.now script.value.script) self.old.personal;
+        }) }
+        ensures found { OnOk result (IsFoundIn
+            (named_script name.now script.value.script) self.old.personal self.new.personal) }
         ensures full { result ≡ Err Full ↔ HasNoRoom self.old.personal name.now }
         ensures replaced { IsSome (script_under name.now self.old.personal) → IsOk result }
         ensures err { OnErr result (self.new ≡ self.old) }
@@ -63,8 +66,10 @@ impl Library {
     /// (96) exactly where the name is new and thirty-two scripts are there, and with `NoMemory` (99) only for a new
     /// name. The library is then unchanged.
     pub fn set_global(&mut self, name: &[u8], script: Rc<Checked>) -> Result<(), LibraryFault>
-        ensures ok { OnOk result (self.new ≡ record self.old { global = with_entry (named_script name.now script.value.script) self.old.global }) }
-        ensures found { OnOk result (IsFoundIn (named_script name.now script.value.script) self.old.global self.new.global) }
+        ensures ok { OnOk result (self.new ≡ record self.old
+            { global = with_entry (named_script name.now script.value.script) self.old.global }) }
+        ensures found { OnOk result (IsFoundIn
+            (named_script name.now script.value.script) self.old.global self.new.global) }
         ensures full { result ≡ Err Full ↔ HasNoRoom self.old.global name.now }
         ensures replaced { IsSome (script_under name.now self.old.global) → IsOk result }
         ensures err { OnErr result (self.new ≡ self.old) }
@@ -74,7 +79,8 @@ impl Library {
 
     /// The script at a name of a location, if there is one. Names are compared octet by octet.
     pub fn get(&self, location: Location, name: &[u8]) -> Option<&Checked>
-        ensures { option_map (λ c. c.now.script) result ≡ script_under name.now (location_of (is_global location) self.now) }
+        ensures { option_map (λ c. c.now.script) result
+            ≡ script_under name.now (location_of (is_global location) self.now) }
     {
         self.shelves().get(location, name)
     }

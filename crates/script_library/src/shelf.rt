@@ -91,7 +91,8 @@ impl Shelf {
 
     /// The script at a place, counted from 0; none from the number of scripts on.
     pub fn at(&self, place: usize) -> Option<&Checked>
-        ensures script { option_map (λ c. c.now.script) result ≡ option_map (λ e. e.script) (slice_get self.now place) }
+        ensures script { option_map (λ c. c.now.script) result
+            ≡ option_map (λ e. e.script) (slice_get self.now place) }
         ensures location { IsLocation self.now }
     {
         match self.entries.get(place) {
@@ -114,8 +115,10 @@ impl Shelf {
     /// name is new and thirty-two scripts are there, and with `NoMemory` (99) only for a new name. The shelf is then
     /// unchanged.
     pub fn put(&mut self, name: &[u8], script: Rc<Checked>) -> Result<(), LibraryFault>
-        ensures ok { OnOk result (self.new ≡ with_entry (record { name = name.now; script = script.value.script }) self.old) }
-        ensures found { OnOk result (IsFoundIn (record { name = name.now; script = script.value.script }) self.old self.new) }
+        ensures ok { OnOk result (self.new
+            ≡ with_entry (record { name = name.now; script = script.value.script }) self.old) }
+        ensures found { OnOk result (IsFoundIn
+            (record { name = name.now; script = script.value.script }) self.old self.new) }
         ensures full { result ≡ Err Full ↔ HasNoRoom self.old name.now }
         ensures replaced { IsSome (script_under name.now self.old) → IsOk result }
         ensures err { OnErr result (self.new ≡ self.old) }

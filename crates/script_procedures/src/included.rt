@@ -20,7 +20,8 @@ use std::alloc::{AllocError, Global};
 
 /// Whether a name is among these.
 fn is_listed(names: &[ScriptName<'_>], name: &ScriptName<'_>) -> bool
-    ensures { result ≡ list_any (λ t. same_script t (script_of name.now)) (map script_of names.now) }
+    ensures { result
+        ≡ list_any (λ t. same_script t (script_of name.now)) (map script_of names.now) }
 {
     names.iter().any(|other| other.is_same(name))
 }

@@ -27,7 +27,8 @@ pub struct Key {
 
 /// The slots of those of these active scripts that can be included.
 pub fn slots_of_active(shelves: Shelves<'_>, chain: &[ScriptName<'_>]) -> SlotSet
-    ensures { (k : ℕ) → has result k ≡ is_active (scripts_of shelves.entry) (map script_of chain.now) k }
+    ensures { (k : ℕ)
+        → has result k ≡ is_active (scripts_of shelves.entry) (map script_of chain.now) k }
 {
     let mut active = SlotSet::empty();
     for script in chain {

@@ -91,7 +91,8 @@ fn called<'a>(
 ) -> Result<Option<Vec<Procedure<'a>>>, AllocError>
     requires left { All (λ p. 0 < p.key.left) level.now }
     requires keys { All (HasKey (scripts_of reach.now.shelves)) level.now }
-    ensures each { IfOk result (λ o. IfSome o (λ next. All (IsEntered (scripts_of reach.now.shelves)) next.items)) }
+    ensures each { IfOk result
+        (λ o. IfSome o (λ next. All (IsEntered (scripts_of reach.now.shelves)) next.items)) }
     ensures few { IfOk result (λ o. IfSome o (λ next. length next.items ≤ room)) }
     ensures made { (left : ℕ) → All (λ p. p.key.left ≡ suc left) level.now
         → IfOk result (GivenUnlessMore room (called_from reach.now.shelves left level.now)) }

@@ -55,7 +55,8 @@ fn included_slots(
 
 /// For each slot below `count` the slots of the scripts that its script includes.
 fn rows(alloc: Global, shelves: Shelves<'_>, count: usize) -> Result<Vec<Vec<usize>>, AllocError>
-    ensures { IfOk result (λ v. AreRows (scripts_of shelves.entry) count (map (λ r. r.items) v.items)) }
+    ensures { IfOk result
+        (λ v. AreRows (scripts_of shelves.entry) count (map (λ r. r.items) v.items)) }
 {
     let mut rows = Vec::with_capacity(alloc, count)?;
     for slot in 0..count {

@@ -1,4 +1,4 @@
-use Rattle.std.proofs.Common.{◌≡◌, ◌∙◌, ap, Err, inl}
+use Rattle.std.proofs.Common.{ap, Err, inl}
 use Rattle.sqlite.specs.State.{HasCleanDisk}
 use Rattle.sqlite.specs.Held.{state}
 use Rattle.record_tables.specs.Tables.{HasCommonTables, IsArchiveSchema}

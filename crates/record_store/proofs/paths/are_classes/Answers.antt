@@ -1,4 +1,4 @@
-use Rattle.std.proofs.Common.{◌∙◌, sym, true, false, true≢false}
+use Rattle.std.proofs.Common.{◌∙◌, sym, true≢false}
 use Rattle.record_store.proofs.PathLemmas.{classes_are, are_listed}
 use Rattle.record_store.proofs.paths.are_classes.Goals as goal
 

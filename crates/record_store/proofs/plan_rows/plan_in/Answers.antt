@@ -1,4 +1,4 @@
-use Rattle.std.proofs.Common.{◌≡◌, ◌∙◌, sym, ap, map}
+use Rattle.std.proofs.Common.{◌∙◌, sym, ap, map}
 use Rattle.class_plan.specs.Plans.{Listing, IsPlan}
 use Rattle.record_tables.specs.CodeRows.{rule_of, class_entry_of}
 use Rattle.record_rows.specs.Rules.{HasRows}
