@@ -22,7 +22,7 @@ module _ (p : Program) where
   cost_of cost q None = 0
   cost_of cost q (Some o) = cost_by p cost q o
 
-  -- the costs over so many places at most
+  -- the costs over at most this number of places
   within : (places : ℕ) → ℕ → ℕ
   within zero q = 0
   within (suc n) q = cost_of (within n) q (slice_get p.code q)

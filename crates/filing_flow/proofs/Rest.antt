@@ -8,7 +8,7 @@ use Rattle.filing_flow.specs.Structure.{Flow, size}
 use Rattle.filing_flow.specs.Code.{places_in}
 use Rattle.filing_flow.specs.Procedures.{places_from, ProceduresStand, AreProceduresOf, AreSound}
 
--- From this number and place on, of so many, they are these.
+-- Of a given number of them, they are these from this number and place on.
 pub record RestOf (p : Program) (count from place : ℕ) (procedures : List Flow) : Type 0 where
   pub stand : ProceduresStand (places_in p.texts p.numbers) p.code procedures place
   pub places : (n : ℕ) → first_place p (from + n) ≡ slice_get (places_from place procedures) n

@@ -15,7 +15,7 @@ use Rattle.filing_gen.specs.declared.callees.Call.TheVariants.{TooDeep, To, Miss
 use Rattle.filing_gen.specs.declared.callees.Inclusion.{Inclusion}
 use Rattle.filing_gen.specs.declared.callees.Inclusion.TheVariants.{Pass, Fault, Enter}
 
--- how a script is entered where so many further ones may be active, and its procedure has this number
+-- how a script is entered where this number of further ones may be active, and its procedure has this number
 abbrev pub call_of : (left : ℕ) → (number : Option ℕ) → Call
 call_of zero number = TooDeep
 call_of (suc left) None = Missing
@@ -44,13 +44,13 @@ path_of paths Pass = 0
 path_of paths (Fault fault) = 0
 path_of paths (Enter slot call) = path_of_call paths call
 
--- a procedure that is called is one of so many
+-- a procedure that is called is one of this number of procedures
 abbrev pub CallsOneOf : (count : ℕ) → Call → Type 0
 CallsOneOf count TooDeep = Unit {0}
 CallsOneOf count (To n) = n < count
 CallsOneOf count Missing = Unit {0}
 
--- a script that is entered has a slot below 64, and calls one of so many procedures
+-- a script that is entered has a slot below 64, and calls one of this number of procedures
 abbrev pub EntersOneOf : (count : ℕ) → Inclusion → Type 0
 EntersOneOf count Pass = Unit {0}
 EntersOneOf count (Fault fault) = Unit {0}

@@ -45,8 +45,8 @@ pub trait EntryCode: Level {
         requires slot { slot < 64 }
         requires room { HasRoom out.old (size
             (flow_of_entry scope.now Self.depth (C.names chain.now) slot (program_in script.now))) }
-        ensures adds { OnOk result (EmitsAnywhere out.old out.new
-            (flow_of_entry scope.now Self.depth (C.names chain.now) slot (program_in script.now))) };
+        ensures adds { OnOk result (EmitsAnywhere out.old out.new (flow_of_entry scope.now
+            Self.depth (C.names chain.now) slot (program_in script.now))) };
 }
 
 /// No further script may be active: the entry is a fault.

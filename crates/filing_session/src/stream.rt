@@ -52,7 +52,8 @@ pub trait Source {
             (interruptions self.new) }
         ensures most { most_interruptions self.new
             ≡ max (most_interruptions self.old) (interruptions self.new) }
-        ensures ends { Counts (tells_end (length room.old) result) (ends self.old) (ends self.new) };
+        ensures ends { Counts (tells_end (length room.old) result)
+            (ends self.old) (ends self.new) };
 }
 
 /// A sink of octets.

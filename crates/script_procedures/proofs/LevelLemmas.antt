@@ -39,7 +39,7 @@ module _ (l : Scripts) where
   more_keys [] next h k = entered_keys next k
   more_keys (p ∷ ps) next h k = (h.0, All-append (IsEntered l) ps next h.1 k)
 
-  -- those after so many have their keys too
+  -- those after a number of them have their keys too
   pub keys_after : (n : ℕ) (ps : List code.Procedure) → HaveKeys l ps → HaveKeys l (drop n ps)
   keys_after zero ps h = h
   keys_after (suc n) [] h = tt
@@ -51,7 +51,7 @@ led_longer : (lib : Library) (left : ℕ) (ps : List Procedure) → length ps �
 led_longer lib zero ps = omega arith
 led_longer lib (suc left) ps = let long = length-append ps (led_to lib left (called_by lib left ps)) in omega (arith, long)
 
--- so many levels are made, whose last begins at `first`
+-- a number of levels are made, whose last begins at `first`
 pub record AreLevels (l : Scripts) (known_as : Option (List ℕ)) (main : Commands) (count first : ℕ) (ps : List code.Procedure) : Type 0 where
   pub few : length ps ≤ 256
   pub inside : first ≤ length ps

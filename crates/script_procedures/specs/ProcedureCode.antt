@@ -58,7 +58,7 @@ abbrev pub with_all_entered : Shelves → (made : List code.Procedure) → (call
 with_all_entered shelves made caller = with_procedures (library_on shelves) (map procedure_of made)
     (entered_by (library_on shelves) (procedure_of caller))
 
--- the procedures that those of a level call, where so many further scripts may be active
+-- the procedures that those of a level call, where this number of further scripts may be active
 abbrev pub called_from : Shelves → (left : ℕ) → (level : List code.Procedure) → List Procedure
 called_from shelves left level = called_by (library_on shelves) left (map procedure_of level)
 
