@@ -3,12 +3,12 @@ use Rattle.std.proofs.Common.{◌≡◌, [], ◌∷◌, ℕ, List, None, refl, i
 use Rattle.filing_commands.specs.Answers.{Answer, refused}
 use Rattle.filing_commands.specs.Standing.{Standing, Step}
 use Rattle.promises.specs.Alike.{AreAlike, AllAlike}
-use Rattle.promises.specs.Serial.{Serial, SerialStep, forget, is_struck}
+use Rattle.promises.specs.Serial.{Serial, SerialStep, SameButTurns, forget, is_struck}
 use Rattle.promises.proofs.SerialOnce.{step_once}
 use Rattle.promises.proofs.Sessions.{Follows, step_follows}
-use Rattle.filing_session.specs.Session.{Item, Call, UnknownCommand, WrongWord, Session, ItemStep, Run}
+use Rattle.filing_session.specs.Session.{Item, Call, UnknownCommand, WrongWord, ItemStep, Run, session_in}
 use Rattle.filing_session.proofs.Refinement.{run_refines}
-use Rattle.promises.specs.Lines.{is_struck_item, kept_items, kept_replies, IsSession, IsServedFrom, LeaveTheSame, AreServedAlike}
+use Rattle.promises.specs.Lines.{is_struck_item, kept_items, kept_replies, LineSession, ServedSession, EqualLinesLeft, ReplyAlike, LeaveTheSame, AreServedAlike}
 
 -- items with their answers, one after the other, none of them struck
 abbrev SerialItems : Serial → List Item → List Answer → Serial → Type 0
@@ -71,21 +71,23 @@ equal_states s t items others answers replies x y same h k e =
     lines_once (forget t) (kept_items others replies) (kept_replies items answers) (kept_replies others replies) (forget x) (forget y) (subst Q e (subst P same (lines s items answers x h))) (lines t others replies y k)
 
 module _ {D : Type 0} (clean : D → Type 0) (stands : D → Standing → Type 0) where
-  pub equal_lines : (s t : Standing) (old new first last : D) (items others : List Item) (answers replies : List Answer) → forget s ≡ forget t → IsSession clean stands s old items answers new → IsSession clean stands t first others replies last → kept_items items answers ≡ kept_items others replies → AllAlike (kept_replies items answers) (kept_replies others replies) × LeaveTheSame stands new last
-  equal_lines s t old new first last items others answers replies same h k e =
-      let one = (run_refines clean stands items answers old new h.run h.is_clean).1 s h.at_begin in
-      let two = (run_refines clean stands others replies first last k.run k.is_clean).1 t k.at_begin in
-      let equal = equal_states s t items others answers replies one.to two.to same one.is_one two.is_one e in
+  pub equal_lines : (x y : LineSession clean stands) → SameButTurns x.state y.state → EqualLinesLeft x y → ReplyAlike x y × LeaveTheSame stands x.new y.new
+  equal_lines x y same e =
+      let one = (run_refines clean stands x.items x.answers x.old x.new x.run x.is_clean).1 x.state x.at_begin in
+      let two = (run_refines clean stands y.items y.answers y.old y.new y.run y.is_clean).1 y.state y.at_begin in
+      let equal = equal_states x.state y.state x.items y.items x.answers y.answers one.to two.to same one.is_one two.is_one e in
       (equal.0, record { first = one.to; second = two.to; first_stands = one.there; second_stands = two.there; same = equal.1 })
 
-  pub equal_octets : (s t : Standing) (old new first last : D) (asked other : Session) (before written ahead told : List ℕ) → forget s ≡ forget t → IsServedFrom clean stands s old asked before written new → IsServedFrom clean stands t first other ahead told last → AreServedAlike stands asked other before written ahead told new last
-  equal_octets s t old new first last asked other before written ahead told same h k =
-      let a = h.served in
-      let b = k.served in
-      record {
-        answers = a.0;
-        replies = b.0;
-        first = a.2;
-        second = b.2;
-        equal = equal_lines s t old new first last asked.items other.items a.0 b.0 same (record { at_begin = h.at_begin; run = a.1; is_clean = h.is_clean }) (record { at_begin = k.at_begin; run = b.1; is_clean = k.is_clean });
-      }
+  -- the lines of a session that was served
+  served_lines : (x : ServedSession clean stands) → LineSession clean stands
+  served_lines x = record { state = x.state; old = x.old; items = (session_in x.input).items; answers = x.served.0; new = x.new; at_begin = x.at_begin; run = x.served.1; is_clean = x.is_clean }
+
+  pub equal_octets : (x y : ServedSession clean stands) → SameButTurns x.state y.state → AreServedAlike x y
+  unfolding served_lines
+  equal_octets x y same = record {
+    answers = x.served.0;
+    replies = y.served.0;
+    first = x.served.2;
+    second = y.served.2;
+    equal = equal_lines (served_lines x) (served_lines y) same;
+  }

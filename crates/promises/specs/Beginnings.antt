@@ -1,8 +1,8 @@
--- Where a capture in flight began.
-use Rattle.std.specs.Prelude.{◌≡◌, ℕ, ◌+◌, ◌≤◌, List, [], ◌∷◌, ◌++◌, length}
+-- Where a capture in flight began, and what keeps one from beginning.
+use Rattle.std.specs.Prelude.{◌≡◌, ℕ, ◌+◌, ◌<◌, ◌≤◌, List, [], ◌∷◌, ◌++◌, length}
 use Rattle.filing_commands.specs.Answers.{Answer, done, dry_run, begun, running, ended, captured, listed, refused}
-use Rattle.filing_commands.specs.Limits.{greatest_message, last_moment}
-use Rattle.filing_commands.specs.Standing.{Command, begin, Flight, Standing, begin_state}
+use Rattle.filing_commands.specs.Limits.{greatest_message, last_moment, last_ticket, most_in_flight}
+use Rattle.filing_commands.specs.Standing.{Command, begin, Flight, Standing, Step, begin_state}
 use Rattle.promises.specs.Runs.{Run}
 
 -- One of the commands, with these answers, was a BEGIN that gave the ticket and answered the budget of what is pinned.
@@ -20,6 +20,27 @@ pub record HasBegun (old : Standing) (commands : List Command) (answers : List A
   pub state : Standing
   pub run : Run old earlier earlier_answers state
   pub at_begin : f.at_begin ≡ begin_state state.office officer moment message
+
+-- a BEGIN in a state, its answer, and the state that it leaves
+pub record BeginFrom (s : Standing) : Type 0 where
+  pub officer : List ℕ
+  pub moment : ℕ
+  pub message : List ℕ
+  pub answer : Answer
+  pub new : Standing
+  pub step : Step s (begin officer moment message) answer new
+
+-- as many captures are in flight as may be
+abbrev pub HasNoPlace : Standing → Type 0
+HasNoPlace s = length s.flights ≡ most_in_flight
+
+-- fewer captures are in flight than may be
+abbrev pub HasPlace : Standing → Type 0
+HasPlace s = length s.flights < most_in_flight
+
+-- the last of all tickets was given
+abbrev pub HasNoTicket : Standing → Type 0
+HasNoTicket s = s.last ≡ last_ticket
 
 -- a BEGIN is refused neither for its moment (94) nor for its message (95)
 abbrev pub MayBegin : (moment : ℕ) → (message : List ℕ) → Type 0

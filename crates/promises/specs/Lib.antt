@@ -1,4 +1,5 @@
 pub mod Runs
+pub mod Flights
 pub mod Serial
 pub mod Alike
 pub mod Beginnings

@@ -4,7 +4,7 @@ use Rattle.filing_commands.specs.Answers.{Answer}
 use Rattle.filing_commands.specs.Calls.{Calls}
 use Rattle.filing_commands.specs.Standing.{Standing}
 use Rattle.filing_session.specs.Session as session
-use Rattle.filing_session.specs.Session.{Item, Call, UnknownCommand, WrongWord, Session, answers_octets, ending_octets}
+use Rattle.filing_session.specs.Session.{Item, Call, UnknownCommand, WrongWord, answers_octets, ending_octets, session_in}
 use Rattle.promises.specs.Alike.{AllAlike}
 use Rattle.promises.specs.Serial.{is_struck, forget}
 
@@ -28,17 +28,41 @@ kept_replies (i ∷ items) [] = []
 
 -- These definitions are over registries, by when they are clean and which states they represent.
 module _ {D : Type 0} (clean : D → Type 0) (stands : D → Standing → Type 0) where
-  -- a registry that represents a state gives these answers to lines, and is clean afterwards
-  pub record IsSession (s : Standing) (old : D) (items : List Item) (answers : List Answer) (new : D) : Type 0 where
-    pub at_begin : stands old s
+  -- a registry that represents a state gives answers to lines, and is clean afterwards
+  pub record LineSession : Type 0 where
+    pub state : Standing
+    pub old : D
+    pub items : List Item
+    pub answers : List Answer
+    pub new : D
+    pub at_begin : stands old state
     pub run : session.Run (Calls clean stands) old items answers new
     pub is_clean : clean new
 
-  -- a registry that represents a state serves a session, and is clean afterwards
-  pub record IsServedFrom (s : Standing) (old : D) (asked : Session) (before written : List ℕ) (new : D) : Type 0 where
-    pub at_begin : stands old s
-    pub served : session.IsServed (Calls clean stands) asked old before written new
+  -- A registry that represents a state serves the session of an input, and is clean afterwards. `before` is what was
+  -- written before the session, and `written` what is written after it.
+  pub record ServedSession : Type 0 where
+    pub state : Standing
+    pub old : D
+    pub input : List ℕ
+    pub before : List ℕ
+    pub written : List ℕ
+    pub new : D
+    pub at_begin : stands old state
+    pub served : session.IsServed (Calls clean stands) (session_in input) old before written new
     pub is_clean : clean new
+
+-- the lines of two sessions are equal after striking
+abbrev pub EqualLinesLeft : {D : Type 0} {clean : D → Type 0} {stands : D → Standing → Type 0} →
+    (x y : LineSession clean stands)
+    → Type 0
+EqualLinesLeft x y = kept_items x.items x.answers ≡ kept_items y.items y.answers
+
+-- what is left of the answers to the lines of two sessions after striking says the same
+abbrev pub ReplyAlike : {D : Type 0} {clean : D → Type 0} {stands : D → Standing → Type 0} →
+    (x y : LineSession clean stands)
+    → Type 0
+ReplyAlike x y = AllAlike (kept_replies x.items x.answers) (kept_replies y.items y.answers)
 
 -- two registries represent states that differ only in the turns of captures in flight
 pub record LeaveTheSame {D : Type 0} (stands : D → Standing → Type 0) (one other : D) : Type 0 where
@@ -50,12 +74,12 @@ pub record LeaveTheSame {D : Type 0} (stands : D → Standing → Type 0) (one o
 
 -- Two sessions have written answers, and how they ended. Where the sessions are equal after striking, what is left of
 -- the answers is alike, and they leave the same.
-pub record AreServedAlike {D : Type 0} (stands : D → Standing → Type 0) (asked other : Session)
-    (before written ahead told : List ℕ)
-    (new last : D) : Type 0 where
+pub record AreServedAlike {D : Type 0} {clean : D → Type 0} {stands : D → Standing → Type 0}
+    (x y : ServedSession clean stands) : Type 0 where
   pub answers : List Answer
   pub replies : List Answer
-  pub first : written ≡ before ++ answers_octets answers ++ ending_octets asked.ending
-  pub second : told ≡ ahead ++ answers_octets replies ++ ending_octets other.ending
-  pub equal : kept_items asked.items answers ≡ kept_items other.items replies
-      → AllAlike (kept_replies asked.items answers) (kept_replies other.items replies) × LeaveTheSame stands new last
+  pub first : x.written ≡ x.before ++ answers_octets answers ++ ending_octets (session_in x.input).ending
+  pub second : y.written ≡ y.before ++ answers_octets replies ++ ending_octets (session_in y.input).ending
+  pub equal : kept_items (session_in x.input).items answers ≡ kept_items (session_in y.input).items replies
+      → AllAlike (kept_replies (session_in x.input).items answers) (kept_replies (session_in y.input).items replies)
+      × LeaveTheSame stands x.new y.new

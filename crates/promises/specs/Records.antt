@@ -2,16 +2,21 @@
 use Rattle.std.specs.Prelude.{◌≡◌, ℕ, ◌<◌, ◌≤◌, List, [], ◌∷◌, ◌++◌, map, false, Option, Some, All, Contains}
 use Rattle.std.specs.List.{AllZip}
 use Rattle.class_paths.specs.Path.{unfiled}
-use Rattle.class_plan.specs.Plans.{Listing}
+use Rattle.class_plan.specs.Plans.{Listing, is_open_in}
 use Rattle.class_plan.specs.Calendar.{due_on}
 use Rattle.sieve_meaning.specs.declared.outcome.Outcome.{Outcome}
 use Rattle.sieve_meaning.specs.declared.run_fault.RunFault.{RunFault}
 use Rattle.sieve_meaning.specs.Case.{Facts}
 use Rattle.filing_image.specs.Program.{Program}
+use Rattle.filing_case.specs.Message.{case_of}
 use Rattle.filing_table.specs.Ends.{HasOutcome}
 use Rattle.record_tables.specs.Rows.{Record}
-use Rattle.record_store.specs.Archive.{Archive, Line, is_held}
+use Rattle.record_store.specs.Archive.{Archive, Line, due_list, is_held}
+use Rattle.filing_commands.specs.Answers.{dry_run}
+use Rattle.filing_commands.specs.Office.{Office, PlainCommand}
+use Rattle.filing_commands.specs.Parts.{IsGoodImage}
 use Rattle.filing_commands.specs.Pinning.{BeginState, IsAlone}
+use Rattle.filing_commands.specs.Standing.{Standing, Step, plain}
 
 -- a capture that ended in a fault is in the default class alone
 abbrev pub IsFaultAlone : Outcome → Type 0
@@ -22,6 +27,16 @@ pub record EndsWithinBudget (p : Program) (c : Facts) (o : Outcome) : Type 0 whe
   pub steps : ℕ
   pub within : steps ≤ p.budget
   pub outcome : HasOutcome p c steps o
+
+-- a command is answered with this outcome of a dry run, and leaves the new state
+abbrev pub IsDryRun : Standing → PlainCommand → Outcome → (new : Standing) → Type 0
+IsDryRun s c o new = Step s (plain c) (dry_run o) new
+
+-- The octets are the image of a program. Its run on the message, with the open classes of the plan, ends within its
+-- budget and with this outcome.
+abbrev pub ImageEnds : Office → (octets message : List ℕ) → Outcome → Type 0
+ImageEnds s octets message o =
+    (p : Program) × IsGoodImage octets p × EndsWithinBudget p (case_of message (is_open_in s.archive.plan)) o
 
 -- the line of a record: its number, its class, and the day that comes the class's period after its own, if the period
 -- ends
@@ -65,3 +80,7 @@ pub record IsDueBy (a : Archive) (day : ℕ) (r : Record) : Type 0 where
 -- the line of a record that is due
 abbrev pub IsDueLine : Archive → (day : ℕ) → Line → Type 0
 IsDueLine a day l = (r : Record) × Contains a.records r × IsDueBy a day r × IsLineOf a.plan r l
+
+-- the due list of the day, each line of which is that of a record that is due
+abbrev pub IsDueList : Archive → (day : ℕ) → List Line → Type 0
+IsDueList a day lines = (lines ≡ due_list a day) × All (IsDueLine a day) lines

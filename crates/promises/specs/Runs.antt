@@ -11,6 +11,13 @@ Run s (c ∷ commands) (a ∷ answers) new = (mid : Standing) × Step s c a mid 
 Run s [] (a ∷ answers) new = ⊥
 Run s (c ∷ commands) [] new = ⊥
 
+-- a session from a state: its commands with their answers, and the state that it leaves
+pub record SessionFrom (s : Standing) : Type 0 where
+  pub commands : List Command
+  pub answers : List Answer
+  pub new : Standing
+  pub run : Run s commands answers new
+
 -- a session that begins with an archive comes to this state
 pub record IsReached (s : Standing) : Type 0 where
   pub archive : Archive

@@ -6,6 +6,7 @@ use Rattle.filing_commands.specs.Answers.{Answer, begun, refused}
 use Rattle.filing_commands.specs.Pinning.{BeginState, budget_of}
 use Rattle.filing_commands.specs.Office.{Office, OfficeRule, with_archive}
 use Rattle.filing_commands.specs.Standing.{Command, plain, begin, turn, finish, Flight, Standing, begin_refusal, begin_state, Files, is_refusal}
+use Rattle.promises.specs.Runs.{SessionFrom}
 
 -- a capture that has begun, with what stood at its beginning
 pub record Ticket : Type 0 where
@@ -24,6 +25,10 @@ ticket_of f = record { number = f.ticket; at_begin = f.at_begin }
 
 abbrev pub forget : Standing → Serial
 forget s = record { office = s.office; tickets = map ticket_of s.flights; last = s.last }
+
+-- two states that differ only in the turns of captures in flight
+abbrev pub SameButTurns : Standing → Standing → Type 0
+SameButTurns s t = forget s ≡ forget t
 
 -- what stood at the beginning of the first capture of this ticket
 abbrev pub stood_of : ℕ → List Ticket → Option BeginState
@@ -99,3 +104,7 @@ kept_answers (c ∷ commands) (a ∷ answers) = if is_struck c a then kept_answe
     else a ∷ kept_answers commands answers
 kept_answers [] answers = []
 kept_answers (c ∷ commands) [] = []
+
+-- the commands of two sessions are equal after striking
+abbrev pub EqualAfterStriking : {s t : Standing} → SessionFrom s → SessionFrom t → Type 0
+EqualAfterStriking x y = kept_commands x.commands x.answers ≡ kept_commands y.commands y.answers

@@ -32,6 +32,10 @@ TellsTurns k n (running m) = (k < n) × (m ≡ k)
 TellsTurns k n (refused m at) = m ≡ 99
 TellsTurns k n _ = ⊥
 
+-- the steps granted to the capture do not reach the length of its run
+abbrev pub IsRunning : Flight → Type 0
+IsRunning f = f.granted < f.run_length
+
 -- the capture has come to its end
 abbrev pub HasEnded : Flight → Type 0
 HasEnded f = f.run_length ≤ f.granted

@@ -40,8 +40,8 @@ pub fn images_are_refused_by_one_number()
 /// default class alone.
 pub fn scripts_capture_what_they_mean()
     ensures text { (text : List ℕ) (t u : CommandTrees) → IsGood text t → IsGood text u → t ≡ u }
-    ensures runs { (lib : Library) (name : List ℕ) (script : Commands) (p : Program) (c : Facts)
-        → Compiles lib name script p → EndsWithinBudget p c (outcome c lib (Some name) script) }
+    ensures runs { (lib : Library) (n : List ℕ) (s : Commands) (p : Program) (c : Facts)
+        → Compiles lib n s p → EndsWithinBudget p c (outcome c lib (Some n) s) }
     ensures fault { (lib : Library) (name : List ℕ) (script : Commands) (c : Facts) →
         IsFaultAlone (outcome c lib (Some name) script) }
 {}

@@ -13,8 +13,8 @@
 //! The laws of sessions are about states of an office and the steps that commands make between them (`Standing` and
 //! `Step` of `filing_commands`). While the disk returns what was written to it, each call of a desk makes such a step,
 //! by its contract (`Calls`). What a session reads and writes is then a run of such steps (`serve` and
-//! `sessions_refine_states` of `filing_session`). `specs/Serial` defines what is struck of a list of commands, and
-//! `specs/Alike` which answers say the same.
+//! `sessions_refine_states` of `filing_session`). `specs/Runs` says what a session is, `specs/Flights` which captures
+//! are in flight, `specs/Serial` what is struck of a session, and `specs/Alike` which answers say the same.
 #![tactic(auto)]
 
 mod images;

@@ -4,7 +4,7 @@ use Rattle.promises.proofs.Sources.{stood_at_beginning}
 use Rattle.promises.proofs.laws.captures_are_pinned.Goals as goal
 
 pub returns-clause-at_begin : goal.returns-clause-at_begin
-returns-clause-at_begin c = stood_at_beginning
+returns-clause-at_begin c = λ a x t f. stood_at_beginning a x.commands x.answers x.new t f x.run
 
 pub returns-clause-pinned : goal.returns-clause-pinned
 returns-clause-pinned c = all_pinned

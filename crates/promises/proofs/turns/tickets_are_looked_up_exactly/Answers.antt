@@ -9,4 +9,4 @@ pub returns-clause-finish : goal.returns-clause-finish
 returns-clause-finish c = no_ticket_to_finish
 
 pub returns-clause-given_up : goal.returns-clause-given_up
-returns-clause-given_up c = given_up
+returns-clause-given_up c = λ s t x reached. given_up s t x.fault x.lines x.new reached x.step
