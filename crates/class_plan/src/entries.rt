@@ -2,7 +2,7 @@
 use crate::schedules::Schedule;
 
 /// What a listed class states of its own schedule.
-#[derive(Clone, Copy, Debug)]
+#[derive(Clone, Copy)]
 pub(crate) enum Stated {
     /// It has none.
     Nothing,
@@ -12,7 +12,7 @@ pub(crate) enum Stated {
     Own(Schedule),
 }
 
-#[derive(Clone, Copy, Debug)]
+#[derive(Clone, Copy)]
 pub(crate) struct Listed<'a> {
     pub(crate) path: &'a [u8],
     pub(crate) is_open: bool,

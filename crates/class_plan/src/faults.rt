@@ -8,7 +8,7 @@ use thiserror::Error;
 
 /// Why a plan is refused. Where several reasons hold, the one with the smallest number is
 /// answered.
-#[derive(Clone, Copy, Debug, PartialEq, Eq, Error)]
+#[derive(Clone, Copy, Debug, Error)]
 pub enum PlanFault {
     /// 50: the text is not UTF-8, or not TOML.
     #[error("the plan is not TOML")]

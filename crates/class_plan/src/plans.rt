@@ -19,7 +19,7 @@ use std::marker::Model;
 pub(crate) const MAX_CLASSES: usize = 4096;
 
 /// What a plan keeps of a class besides its path.
-#[derive(Clone, Copy, Debug)]
+#[derive(Clone, Copy)]
 pub(crate) struct Class {
     pub(crate) is_open: bool,
     pub(crate) schedule: Option<Schedule>,

@@ -1,7 +1,7 @@
 //! Disposal schedules: how long after its capture a record falls due, and what is done then.
 
 /// The unit of a schedule's period.
-#[derive(Clone, Copy, Debug, PartialEq, Eq)]
+#[derive(Clone, Copy, Debug)]
 pub enum Unit {
     /// Days, 1 to 366,000 of them.
     Days,
@@ -12,7 +12,7 @@ pub enum Unit {
 }
 
 /// What is done with a record once it is due.
-#[derive(Clone, Copy, Debug, PartialEq, Eq)]
+#[derive(Clone, Copy, Debug)]
 pub enum Action {
     /// Somebody reviews it.
     Review,
@@ -23,7 +23,7 @@ pub enum Action {
 }
 
 /// A disposal schedule, as MoReq2010 has them for classes.
-#[derive(Clone, Copy, Debug, PartialEq, Eq)]
+#[derive(Clone, Copy, Debug)]
 pub enum Schedule {
     /// The record is kept for good.
     Permanent,

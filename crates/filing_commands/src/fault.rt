@@ -13,14 +13,14 @@ use sieve_text::{TextFault, TextRefusal};
 use std::alloc::{AllocError, AllocFailed};
 
 /// A refusal as a session shows it: its number, and for some numbers the offset in octets in a script.
-#[derive(Clone, Copy, Debug, PartialEq, Eq)]
+#[derive(Clone, Copy)]
 pub struct Refusal {
     pub number: u8,
     pub offset: Option<usize>,
 }
 
 /// Why a call is refused.
-#[derive(Clone, Copy, Debug, PartialEq, Eq)]
+#[derive(Clone, Copy)]
 pub enum DeskFault {
     /// 99: out of memory.
     NoMemory,

@@ -6,7 +6,7 @@ ghost use Rattle.filing_commands.specs.Payloads.{IsOf, IsOffered};
 use crate::fault::DeskFault;
 
 /// A payload that was read to its end.
-#[derive(Debug, Drop)]
+#[derive(Drop)]
 pub enum Payload {
     /// The octets of the payload.
     Whole(Vec<u8>),

@@ -4,7 +4,7 @@ use record_store::Line;
 use sieve_meaning::RunFault;
 
 /// A capture's steps so far, and whether it has come to its end.
-#[derive(Clone, Copy, Debug, PartialEq, Eq)]
+#[derive(Clone, Copy)]
 pub struct Turn {
     pub steps: u64,
     pub ended: bool,

@@ -8,7 +8,7 @@ use std::alloc::{AllocError, AllocFailed};
 use thiserror::Error;
 
 /// Why there is no image of a script.
-#[derive(Clone, Copy, Debug, PartialEq, Eq, Error)]
+#[derive(Clone, Copy, Debug, Error)]
 pub enum GenFault {
     /// 5: the script is too heavy, also where the scripts that it includes share their code. `compile` says the limits.
     #[error("the script is too heavy")]

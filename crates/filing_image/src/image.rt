@@ -12,7 +12,7 @@ use std::marker::Model;
 
 /// The image of a filing program. Contracts see the program: its budget in steps, its texts, numbers and slots, in
 /// version 2 the first place of each of its procedures, and its code.
-#[derive(Debug, Drop)]
+#[derive(Drop)]
 pub struct Image {
     budget: u32,
     texts: Vec<Vec<u8>>,

@@ -6,7 +6,7 @@ ghost use Rattle.filing_image.specs.Spelling.{FitsInstruction};
 
 /// An instruction, which takes four octets: the operation's number `op`, 1 to 23, in one octet, the operand `a` in one,
 /// and the operand `b` in two. An operand that the operation does not have is 0.
-#[derive(Clone, Copy, Debug, PartialEq, Eq)]
+#[derive(Clone, Copy)]
 pub struct Instruction {
     pub op: u8,
     pub a: u8,
@@ -16,7 +16,7 @@ pub struct Instruction {
 /// What an instruction does, with its operands. On the stack, T is a truth value, L a list of texts and N a number; the
 /// topmost entry comes last. Each executed operation is one step. An image that is shown has the names of operations in
 /// capitals; six of them have other names there.
-#[derive(Clone, Copy, Debug, PartialEq, Eq)]
+#[derive(Clone, Copy)]
 pub enum Operation {
     /// 1, shown as TRUE: pushes T, true.
     PushTrue,

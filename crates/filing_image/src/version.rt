@@ -4,7 +4,7 @@ ghost use Rattle.std.specs.Prelude.{◌≡◌};
 ghost use Rattle.filing_image.specs.Spelling.{last_operation};
 
 /// A version of the image format. Version 2 alone has procedures, calls and returns.
-#[derive(Clone, Copy, Debug, PartialEq, Eq)]
+#[derive(Clone, Copy, PartialEq, Eq)]
 pub enum Version {
     /// The code is one piece.
     One,

@@ -1,7 +1,7 @@
 //! The topmost entry of a machine's stack.
 
 /// The topmost entry of a machine's stack.
-#[derive(Clone, Copy, Debug, PartialEq, Eq)]
+#[derive(Clone, Copy)]
 pub enum Top {
     Truth(bool),
     /// A list, with the number of its values.

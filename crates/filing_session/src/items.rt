@@ -18,7 +18,7 @@ use filing_commands::Registry;
 use std::alloc::Global;
 
 /// How a session ends.
-#[derive(Clone, Copy, Debug, PartialEq, Eq)]
+#[derive(Clone, Copy)]
 pub enum SessionEnd {
     /// By `QUIT`.
     Quit,

@@ -72,7 +72,7 @@ impl LineBuffer {
 }
 
 /// How a line ends.
-#[derive(Clone, Copy, Debug, PartialEq, Eq)]
+#[derive(Clone, Copy)]
 pub enum LineEnd {
     /// With its LF.
     Whole,

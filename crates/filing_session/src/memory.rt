@@ -104,7 +104,7 @@ impl Source for MemorySource<'_> {
 }
 
 /// What a write to memory can be set to meet.
-#[derive(Clone, Copy, Debug, PartialEq, Eq)]
+#[derive(Clone, Copy)]
 pub enum Hitch {
     /// It is interrupted.
     Interrupted,

@@ -9,7 +9,7 @@ use crate::day::Day;
 use crate::words::{Words, is_name, read_count, read_length, read_number};
 
 /// A command that has no payload.
-#[derive(Clone, Copy, Debug)]
+#[derive(Clone, Copy)]
 pub enum NoPayload<'a> {
     /// Adds the class of this path.
     AddClass(&'a [u8]),
@@ -32,7 +32,7 @@ pub enum NoPayload<'a> {
 }
 
 /// A command with one payload.
-#[derive(Clone, Copy, Debug)]
+#[derive(Clone, Copy)]
 pub enum OnePayload<'a> {
     /// Takes the payload over as the plan.
     SetPlan,
@@ -48,7 +48,7 @@ pub enum OnePayload<'a> {
 }
 
 /// A command with two payloads.
-#[derive(Clone, Copy, Debug)]
+#[derive(Clone, Copy)]
 pub enum TwoPayloads {
     /// Files the second, a message, by the first, a script.
     File,
@@ -57,7 +57,7 @@ pub enum TwoPayloads {
 }
 
 /// What a line asks.
-#[derive(Clone, Copy, Debug)]
+#[derive(Clone, Copy)]
 pub enum Request<'a> {
     /// A command without a payload.
     Alone(NoPayload<'a>),

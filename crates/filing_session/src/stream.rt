@@ -10,7 +10,7 @@ ghost use Rattle.filing_session.specs.Streams.{Counts, tells_end, fails_to_read,
 ghost use Rattle.filing_session.specs.Written.{Writes};
 
 /// Why a call moved no octet.
-#[derive(Clone, Copy, Debug, PartialEq, Eq)]
+#[derive(Clone, Copy)]
 pub enum Trouble {
     /// The call was interrupted, and may be made again.
     Interrupted,
@@ -89,11 +89,11 @@ pub trait Sink {
 }
 
 /// A read that met trouble.
-#[derive(Clone, Copy, Debug, PartialEq, Eq)]
+#[derive(Clone, Copy)]
 pub struct ReadFault;
 
 /// A write that met trouble.
-#[derive(Clone, Copy, Debug, PartialEq, Eq)]
+#[derive(Clone, Copy)]
 pub struct WriteFault;
 
 /// How many interruptions in a row are a fault.

@@ -18,7 +18,7 @@ const MAX_LENGTH: u64 = 4_294_967_295;
 const MAX_COUNT: u64 = 1_000_000;
 
 /// The words of a line that are still to be taken. None are left after the last word. An empty text is one empty word.
-#[derive(Clone, Copy, Debug)]
+#[derive(Clone, Copy)]
 pub struct Words<'a> {
     rest: Option<&'a [u8]>,
 }

@@ -15,7 +15,7 @@ use sieve_meaning::Outcome;
 use std::alloc::{AllocError, Global};
 
 /// The record of one step of a run.
-#[derive(Clone, Copy, Debug, PartialEq, Eq)]
+#[derive(Clone, Copy)]
 pub struct Step {
     /// The place of its instruction in the code.
     pub place: usize,

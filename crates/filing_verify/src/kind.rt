@@ -1,7 +1,7 @@
 //! The kinds of the stack's entries.
 
 /// The kind of an entry of the stack.
-#[derive(Clone, Copy, Debug, PartialEq, Eq)]
+#[derive(Clone, Copy, PartialEq, Eq)]
 pub enum Kind {
     /// A truth value.
     Truth,

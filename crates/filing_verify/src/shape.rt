@@ -8,7 +8,7 @@ use std::marker::Model;
 
 /// The kinds of at most 33 entries, one more than a stack may have. Contracts see them as a list, the topmost first. A
 /// shape owns no memory outside itself, so that a table with one for each place is one allocation.
-#[derive(Debug, Drop)]
+#[derive(Drop)]
 pub struct Shape {
     kinds: [Kind; 33],
     depth: u8,

@@ -24,7 +24,7 @@ const MAX_BUDGET_WITH_CALLS: u32 = 1_000_000;
 
 /// An image that may run: its code is well formed, and each of its runs ends within its budget. Contracts see it as
 /// the image's program.
-#[derive(Debug, Drop)]
+#[derive(Drop)]
 pub struct Verified {
     image: Image,
 }

@@ -13,7 +13,7 @@ use thiserror::Error;
 pub const MAX_OCTETS: u64 = 8_388_608;
 
 /// Why a reader refuses a message.
-#[derive(Clone, Copy, Debug, PartialEq, Eq, Error)]
+#[derive(Clone, Copy, Debug, Error)]
 pub enum HeadFault {
     /// 1: the message has more than 8,388,608 octets.
     #[error("the message has more than 8388608 octets")]

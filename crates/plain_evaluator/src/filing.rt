@@ -17,7 +17,7 @@ pub struct Filing<'a> {
 }
 
 /// How commands end.
-#[derive(Clone, Copy, Debug, PartialEq, Eq)]
+#[derive(Clone, Copy, PartialEq, Eq)]
 pub enum Ending {
     GoesOn,
     /// `return` (RFC 6609, section 3.3).

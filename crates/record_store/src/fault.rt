@@ -9,7 +9,7 @@ use sqlite::{Error, ErrorCode};
 use std::alloc::{AllocError, AllocFailed};
 
 /// Why a call of the store is refused.
-#[derive(Clone, Copy, Debug, PartialEq, Eq)]
+#[derive(Clone, Copy)]
 pub enum StoreFault {
     /// 52, 53, 54, 56 or 57: a refusal of the plan.
     Plan(PlanFault),

@@ -22,7 +22,7 @@ use sqlite::{Alter, Connection};
 use std::alloc::Global;
 
 /// A record as it is answered: its number, the path of its class, and the date on which it falls due, or `None`.
-#[derive(Debug, Drop)]
+#[derive(Drop)]
 pub struct Line {
     pub number: u32,
     pub path: Vec<u8>,

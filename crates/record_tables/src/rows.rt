@@ -1,7 +1,7 @@
 //! Rows of the tables, as they are read and written.
 
 /// A row of the table `record`: a record of a message, live or destroyed.
-#[derive(Debug, Drop)]
+#[derive(Drop)]
 pub struct RecordRow {
     pub number: u32,
     /// The number of its message.
@@ -14,21 +14,21 @@ pub struct RecordRow {
 }
 
 /// A row of the table `hold`: a hold of that name on the record with that number.
-#[derive(Debug, Drop)]
+#[derive(Drop)]
 pub struct HoldRow {
     pub name: Vec<u8>,
     pub record: u32,
 }
 
 /// A row of the table `meta`: a setting, as a key and its value.
-#[derive(Debug, Drop)]
+#[derive(Drop)]
 pub struct SettingRow {
     pub key: Vec<u8>,
     pub value: Vec<u8>,
 }
 
 /// A row of the table `class`: a class of the plan.
-#[derive(Debug, Drop)]
+#[derive(Drop)]
 pub struct ClassRow {
     pub path: Vec<u8>,
     pub is_open: bool,
@@ -37,7 +37,7 @@ pub struct ClassRow {
 }
 
 /// A row of the table `schedule`: the schedule of a class, or of the whole plan.
-#[derive(Debug, Drop)]
+#[derive(Drop)]
 pub struct ScheduleRow {
     /// The path of the class; empty for the schedule of the whole plan.
     pub path: Vec<u8>,
@@ -52,7 +52,7 @@ pub struct ScheduleRow {
 }
 
 /// A row of the table `due_day`: the day on which a record falls due.
-#[derive(Clone, Copy, Debug)]
+#[derive(Clone, Copy)]
 pub struct DueRow {
     pub record: u32,
     /// The day, in days since 1970-01-01.
@@ -60,7 +60,7 @@ pub struct DueRow {
 }
 
 /// A record with its due day, as a query joins them.
-#[derive(Debug, Drop)]
+#[derive(Drop)]
 pub struct DueRecordRow {
     pub record: u32,
     /// The day, in days since 1970-01-01.

@@ -4,7 +4,7 @@ ghost use Rattle.std.specs.Prelude.{◌≡◌, ◌<◌, ◌↔◌, ℕ, false, I
 ghost use Rattle.script_procedures.specs.Sets.{has};
 
 /// A set of slots, of which there are sixty-four.
-#[derive(Clone, Copy, Debug, Drop)]
+#[derive(Clone, Copy, Drop)]
 pub struct SlotSet {
     bits: u64,
 }

@@ -7,7 +7,7 @@ use thiserror::Error;
 
 /// Why a script is not well made: the rule that its first faulty command breaks, the one of the least number if it
 /// breaks several. Tests belong to their command.
-#[derive(Clone, Copy, Debug, PartialEq, Eq, Error)]
+#[derive(Clone, Copy, Debug, Error)]
 pub enum CheckFault {
     /// 30: a `require` names an unknown capability (RFC 5228, section 3.2).
     #[error("unknown capability")]

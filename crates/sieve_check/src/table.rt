@@ -11,7 +11,7 @@ ghost use Rattle.sieve_check.specs.Views.{capability_view, command_view, test_vi
 use sieve_syntax::{Argument, StringList};
 
 /// What a script may name in a `require` (RFC 5228, section 3.2).
-#[derive(Clone, Copy, PartialEq, Eq)]
+#[derive(Clone, Copy)]
 pub enum Capability {
     Fileinto,
     Copy,
@@ -60,7 +60,7 @@ pub struct TagRow {
 }
 
 /// The kind of a positional argument.
-#[derive(Clone, Copy, PartialEq, Eq)]
+#[derive(Clone, Copy)]
 pub enum Positional {
     /// A string outside brackets.
     OneString,
@@ -114,7 +114,7 @@ pub struct Form {
 }
 
 /// What the rules on the order of commands need to know of a command.
-#[derive(Clone, Copy, PartialEq, Eq)]
+#[derive(Clone, Copy)]
 pub enum Role {
     /// Comes before all other commands.
     Require,

@@ -6,7 +6,7 @@ ghost use Rattle.sieve_meaning.specs.Branching.{is_branch as is_branch_of, part_
 use crate::words::CommandWord;
 
 /// The part of a command in a chain of `if`, `elsif` and `else` (RFC 5228, section 3.1).
-#[derive(Clone, Copy, Debug, PartialEq, Eq)]
+#[derive(Clone, Copy)]
 pub enum BranchPart {
     /// An `if`, or an `elsif` after open branches.
     Branch,

@@ -1,7 +1,7 @@
 //! How texts are compared (RFC 5228, sections 2.7.1 and 2.7.3; RFC 4790, sections 9.2 and 9.3).
 
 /// A comparator: which octets count as equal (RFC 5228, section 2.7.3).
-#[derive(Clone, Copy, Debug, PartialEq, Eq)]
+#[derive(Clone, Copy)]
 pub enum Comparator {
     /// `i;octet`: equal octets.
     Octet,
@@ -10,7 +10,7 @@ pub enum Comparator {
 }
 
 /// A match type: how a key is compared with a value (RFC 5228, section 2.7.1).
-#[derive(Clone, Copy, Debug, PartialEq, Eq)]
+#[derive(Clone, Copy)]
 pub enum MatchType {
     /// `:is`: key and value are equal.
     Is,
@@ -21,7 +21,7 @@ pub enum MatchType {
 }
 
 /// One item of a pattern of `:matches`.
-#[derive(Clone, Copy, Debug, PartialEq, Eq)]
+#[derive(Clone, Copy)]
 pub enum Item {
     /// An octet that matches itself.
     Octet(u8),

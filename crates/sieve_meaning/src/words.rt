@@ -4,7 +4,7 @@ ghost use Rattle.std.specs.Prelude.{◌≡◌};
 ghost use Rattle.sieve_meaning.specs.Words.{command_word as command_word_of, test_word as test_word_of, same_word};
 
 /// The commands that a run knows.
-#[derive(Clone, Copy, Debug, PartialEq, Eq)]
+#[derive(Clone, Copy)]
 pub enum CommandWord {
     Require,
     If,
@@ -21,7 +21,7 @@ pub enum CommandWord {
 }
 
 /// The tests that a run knows.
-#[derive(Clone, Copy, Debug, PartialEq, Eq)]
+#[derive(Clone, Copy)]
 pub enum TestWord {
     True,
     False,

@@ -3,7 +3,7 @@
 use crate::text::Text;
 
 /// The marks of the grammar, each of one octet.
-#[derive(Clone, Copy, Debug, PartialEq, Eq)]
+#[derive(Clone, Copy)]
 pub enum Mark {
     Semicolon,
     OpenBrace,

@@ -7,7 +7,7 @@ ghost use Rattle.sieve_text.specs.Tokens.{scan_number};
 use std::alloc::{AllocError, AllocFailed};
 
 /// Why a text is no sequence of tokens (RFC 5228, section 8.1).
-#[derive(Clone, Copy, Debug, PartialEq, Eq)]
+#[derive(Clone, Copy)]
 pub enum ScanRefusal {
     /// 10: the script is not UTF-8 (RFC 5228, section 2.1).
     NotUtf8,
@@ -58,7 +58,7 @@ impl FaultyPlace {
 }
 
 /// Why `scan` gives no tokens.
-#[derive(Clone, Copy, Debug, PartialEq, Eq)]
+#[derive(Clone, Copy)]
 pub enum ScanFault {
     /// 99: no memory; an allocation failed.
     NoMemory,
@@ -101,7 +101,7 @@ impl<T: Drop> From<AllocFailed<T>> for ScanFault {
 }
 
 /// Why a text is not a script.
-#[derive(Clone, Copy, Debug, PartialEq, Eq)]
+#[derive(Clone, Copy)]
 pub enum TextRefusal {
     /// 10 to 16: the text is no sequence of tokens.
     Scan(ScanRefusal),
@@ -125,7 +125,7 @@ impl TextRefusal {
 }
 
 /// Why `parse` gives no script.
-#[derive(Clone, Copy, Debug, PartialEq, Eq)]
+#[derive(Clone, Copy)]
 pub enum TextFault {
     /// 99: no memory; an allocation failed.
     NoMemory,

@@ -8,7 +8,7 @@ use std::alloc::{AllocError, Global};
 use std::str;
 
 /// The kind of a payload of a command.
-#[derive(Clone, Copy, Debug, PartialEq, Eq)]
+#[derive(Clone, Copy)]
 pub enum Payload {
     Script,
     Message,
@@ -30,7 +30,7 @@ impl Payload {
 }
 
 /// The kind of a word after a command's name.
-#[derive(Clone, Copy, Debug, PartialEq, Eq)]
+#[derive(Clone, Copy)]
 pub enum Slot {
     Plain,
     /// A moment, in seconds since 1970-01-01T00:00:00Z.
@@ -58,7 +58,7 @@ pub fn slots(command: &[u8]) -> &'static [Slot] {
 }
 
 /// A word of a command, and what replaces it in a session.
-#[derive(Clone, Copy, Debug, PartialEq, Eq)]
+#[derive(Clone, Copy)]
 pub enum LinePart<'a> {
     /// The word itself.
     Word(&'a [u8]),

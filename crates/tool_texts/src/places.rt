@@ -5,7 +5,7 @@ ghost use Rattle.std.specs.List.{before_first, position};
 ghost use Rattle.tool_texts.specs.Places.{line_of, column_of, line_text, octets_before, is_line_feed};
 
 /// The place of an offset in a text. Both numbers count from 1, and a column counts octets.
-#[derive(Clone, Copy, Debug, PartialEq, Eq)]
+#[derive(Clone, Copy)]
 pub struct Place {
     pub line: usize,
     pub column: usize,
