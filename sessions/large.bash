@@ -11,6 +11,7 @@ if (($# != 1)) || [[ ! -d $1 ]]; then
     echo "usage: sessions/large.bash FOLDER" >&2
     exit 2
 fi
+here=$(dirname -- "$(readlink -f -- "${BASH_SOURCE[0]}")")
 folder=$1
 readonly SCRIPT=262144 MESSAGE=8388608 IMAGE=16777216 PLAN=1048576
 
@@ -172,8 +173,80 @@ commands() {
     { lines 999999 'refused 70' && echo end; } > "$folder/the-last-command.expected"
 }
 
+# Each octet of hexadecimal digits as printf takes it, with a text after each.
+escaped() {
+    local place
+    for ((place = 0; place < ${#1}; place += 2)); do
+        printf '\\x%s%s' "${1:place:2}" "$2"
+    done
+}
+
+# Adds the change of an octet of an image, which is tried on a message, and the answers to it.
+change() {
+    local changed=("${octets[@]}") octet
+    printf -v octet '\\x%02x' "$2"
+    [[ $octet != "${octets[$1]}" ]] || return 0
+    changed[$1]=$octet
+    printf -v octet %s "${changed[@]}"
+    # shellcheck disable=SC2059 # these are octets
+    printf "TRY ${#changed[@]} $((${#message} / 4))\n$octet$message" >&3
+    printf '%s\n' "${3//|/$'\n'}" >&4
+}
+
+# Sessions that try changes of images, from a file: a line `image NAME OCTETS MESSAGE` for each, then lines with a place, the first
+# and last value that another octet there has, and the answers.
+changes() {
+    local word rest value last octets=() message=''
+    while read -r word rest; do
+        if [[ $word == image ]]; then
+            [[ ${#octets[@]} -eq 0 ]] || echo end >&4
+            exec 3> "$folder/${rest%% *}.session" 4> "$folder/${rest%% *}.expected"
+            read -r _ word message <<< "$rest"
+            read -r -a octets <<< "$(escaped "$word" ' ')"
+            message=$(escaped "$message" '')
+        else
+            value=${rest%% *}
+            last=${value#*-}
+            for ((value = ${value%-*}; value <= last; value++)); do
+                change "$word" "$value" "${rest#* }"
+            done
+        fi
+    done < <(grep -v '^#' "$1")
+    echo end >&4
+    exec 3>&- 4>&-
+}
+
+# A session that ends at each of its octets, and after it one that asks for what is in the store.
+cuts() {
+    local name=$1 place=0 lines=0 end=0 archive='' size questions part stages said
+    size=$(stat -c %s -- "$here/$name.session")
+    questions=$(< "$here/questions")
+    mapfile -t stages < "$here/$name.cuts"
+    mapfile -t said < "$here/$name.expected"
+    for ((place = 0; place <= size; place++)); do
+        if [[ ${#stages[@]} -gt 0 && ${stages[0]%% *} -eq $place ]]; then
+            read -r end lines archive <<< "${stages[0]}"
+            stages=("${stages[@]:1}")
+        fi
+        part=$folder/$name-cut-at-$place
+        mkdir -- "$part"
+        head -c "$place" -- "$here/$name.session" > "$part/1.session"
+        {
+            ((lines == 0)) || answers "${said[@]:0:lines}"
+            ((place == end)) || answers 'refused 72'
+            [[ $lines -gt 0 && ${said[lines - 1]} == end ]] || answers end
+        } > "$part/1.expected"
+        answers "$questions" > "$part/2.session"
+        answers "${archive//|/$'\n'}" end > "$part/2.expected"
+    done
+}
+
 payloads
 scripts
 strings
 plans
 commands
+changes "$here/changes"
+for file in "$here"/*.cuts; do
+    cuts "$(basename -- "$file" .cuts)"
+done
