@@ -9,10 +9,10 @@ make_stage() {
     stage=$work/stage
     path=$stage/kit/bin:/usr/bin:/bin
     mkdir -p -- "$stage"/kit/bin "$stage"/tree/{.git,docs,man,beside/measures/src}
-    mkdir -p -- "$stage"/tree/crates/{low,beside,one,two,three,middle,mailfile,mailfile_tool,measures}/src
+    mkdir -p -- "$stage"/tree/crates/{low,beside,one,two,three,middle,mailfile,mailfile_tool,apart}/src
     cp -r -- mailfile bench hostile failing prove install scripts "$stage/tree/"
     printf '%s\n' '# crates' low: beside: one: two: three: 'middle: low thiserror' \
-        'mailfile: beside one two three middle clap' 'mailfile_tool: low' 'measures: low' > "$stage/tree/crates.txt"
+        'mailfile: beside one two three middle clap' 'mailfile_tool: low' 'apart: low' > "$stage/tree/crates.txt"
     echo 'measures: low' > "$stage/tree/beside/measures/uses"
     echo low > "$stage/tree/crates/low/src/lib.rt"
     echo tool > "$stage/tree/crates/mailfile_tool/src/main.rt"
@@ -263,7 +263,7 @@ serves_at_once() {
 }
 
 serves_after_other_edits() {
-    echo edited >> "$stage/tree/crates/measures/src/main.rt" && echo 'other: low' >> "$stage/tree/crates.txt" && serves c && fresh && serves d
+    echo edited > "$stage/tree/crates/apart/src/main.rt" && echo 'other: low' >> "$stage/tree/crates.txt" && serves c && fresh && serves d
 }
 
 # A file in dist/ that is cut off, or is another program: it is told, and neither run nor replaced by a build.
