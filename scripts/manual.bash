@@ -27,20 +27,34 @@ listed() {
 has_all() {
     local word
     for word in $(listed "./$1"); do
-        if ! grep -q -E -e "^\.It (Fl|Ic) ${word#-}( |$)" "man/$1.1"; then
-            echo "not in man/$1.1: $word"
-            return 1
-        fi
+        has_item "$1" "${word#-}" || return
     done
 }
 
-# Whether a page has nothing that mandoc warns of.
+# Whether a page has an item for a word.
+has_item() {
+    grep -q -E -e "^\.It (Fl|Cm|Ic) $2( |$)" "man/$1.1" && return
+    echo "not in man/$1.1: $2"
+    return 1
+}
+
+# Whether the page of mailfile has each command of a session that docs/SPECIFICATION.md has.
+has_commands() {
+    local word
+    # shellcheck disable=SC2013 # a name is one word
+    for word in $(sed -n '/^### 8.2/,/^### 8.3/s/^| `\([A-Z]*\).*/\1/p' docs/SPECIFICATION.md); do
+        has_item mailfile "$word" || return
+    done
+}
+
+# Whether mandoc finds nothing to say of a page. It looks for the pages that a page names where it is started.
 is_well_formed() {
-    [[ -z $(mandoc -T lint -W warning "man/$1.1" | tee -a /dev/stderr) ]]
+    [[ -z $(cd man && mandoc -T lint "$1.1" | tee -a /dev/stderr) ]]
 }
 
 manual() {
     local name
+    count "the commands of a session are in man/mailfile.1" has_commands
     for name in "${PROGRAMS[@]//_/-}"; do
         count "what --help lists is in man/$name.1" has_all "$name"
         if command -v mandoc > "$work/said"; then
