@@ -38,7 +38,7 @@ is_wanted() {
 play_page() {
     local index
     mkdir -p -- "$work/home" || return
-    HOME=$work/home
+    export HOME=$work/home
     for index in "${!typed[@]}"; do
         eval "${typed[index]}" > "$work/written" 2>&1 < /dev/null
         if is_wanted "$work/written" "${wanted[index]}"; then
