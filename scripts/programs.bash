@@ -20,7 +20,6 @@ private=
 # What dist/ says of a program: see read_manifest.
 dist_system='' dist_kit='' dist_sum='' dist_sha256='' dist_octets=''
 
-
 give_up() {
     echo "$self: $1" >&2
     exit 125
