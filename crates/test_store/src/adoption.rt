@@ -145,7 +145,7 @@ fn version_1(rt: HostRuntime) -> Result<(), Fail> {
         assert_eq!(rt; due(alloc, &mut store, 20_040)?.as_str(), "");
         assert_eq!(rt; due(alloc, &mut store, 20_041)?.as_str(), "2 due 20041; ");
         assert!(rt; matches!(&store.message(1), Err(StoreFault::Destroyed)));
-        assert!(rt; matches!(&store.message(3), Ok(body) if body.as_slice() == b"ab"));
+        assert!(rt; matches!(&store.message(3), Ok(body) if body.as_slice() == b"ab".as_slice()));
         assert!(rt; matches!(&store.hold(b"case", 3), Err(StoreFault::HoldThere)));
         assert!(rt; matches!(&store.release(b"case", 2), Err(StoreFault::NoHold)));
         assert!(rt; matches!(&destroyed(&mut store, 3, 20_041)?, Err(StoreFault::Held)));
@@ -153,7 +153,7 @@ fn version_1(rt: HostRuntime) -> Result<(), Fail> {
         let mut again = adopted(alloc, store.into_connection())?;
         let lines = captured(alloc, &mut again, b"next", true)?;
         assert_eq!(rt; shown(alloc, lines)?.as_str(), "4 due 20041; 5 never; ");
-        assert!(rt; matches!(&again.message(5), Ok(body) if body.as_slice() == b"next"));
+        assert!(rt; matches!(&again.message(5), Ok(body) if body.as_slice() == b"next".as_slice()));
     }
     Ok(())
 }
