@@ -1,10 +1,11 @@
-//! Databases from which a store is adopted: of version 1, of version 2, and others, which are refused with 88.
+//! Databases from which a store is adopted: of version 1, of version 2, with other tables before, between and after
+//! ours, and others, which are refused with 88.
 
-use crate::tables::{fill_first, lay_first};
 use class_plan::{Plan, date_of, day_number, day_of};
 use record_store::{Line, Store, StoreFault, are_classes};
-use sqlite::{Connection, MemStore};
+use sqlite::{Connection, Error, MemStore};
 use std::alloc::Global;
+use std::process::Abort;
 use std::test::Fail;
 
 /// A database in memory after a text.
@@ -19,7 +20,16 @@ const LAST_ROWS: &str =
     "INSERT INTO meta VALUES ('version', '1'), ('root', 'permanent'); INSERT INTO class VALUES ('unfiled', 1, NULL), ('tax', 1, NULL); INSERT INTO message VALUES (4294967294, x'61'); INSERT INTO record VALUES (4294967294, 4294967294, 'tax', 19675, 0)";
 
 /// Rows of version 1 that are no archive's.
-const BROKEN_FIRST: [&str; 11] = [
+const BROKEN_FIRST: [&str; 20] = [
+    "DROP TABLE hold",
+    "CREATE TABLE due_day (record INTEGER PRIMARY KEY, day INTEGER) STRICT",
+    "CREATE TABLE schedule (path TEXT NOT NULL PRIMARY KEY, count INTEGER NOT NULL, unit INTEGER NOT NULL, action INTEGER NOT NULL, year_end INTEGER NOT NULL) STRICT",
+    "CREATE TABLE Schedule (x)",
+    "UPDATE record SET destroyed = 2 WHERE number = 2",
+    "UPDATE record SET day = -1 WHERE number = 2",
+    "UPDATE record SET number = 4294967296 WHERE number = 3",
+    "UPDATE class SET is_open = 7",
+    "UPDATE hold SET record = 4294967296",
     "UPDATE meta SET value = '7' WHERE key = 'version'",
     "UPDATE meta SET value = 'never' WHERE key = 'root'",
     "INSERT INTO meta VALUES ('more', '1')",
@@ -47,10 +57,44 @@ const BROKEN_SECOND: [&str; 6] = [
 const ONE_YEAR: &str =
     "root = \"permanent\"\n[[class]]\npath = \"tax\"\nschedule = \"1 years destroy\"\n";
 
+/// Tables of other names: one before the tables of version 1, and one after them that refers to it.
+const OTHERS: [&str; 2] = ["CREATE TABLE a (b)", "CREATE TABLE c (d REFERENCES a)"];
+
+/// The table of schedules of version 2, which may stand before the others, and what then follows these.
+const SECOND: [&str; 2] = [
+    "CREATE TABLE schedule (path TEXT NOT NULL PRIMARY KEY, count INTEGER NOT NULL, unit INTEGER NOT NULL, action INTEGER NOT NULL, year_end INTEGER NOT NULL) STRICT",
+    "CREATE TABLE due_day (record INTEGER PRIMARY KEY, day INTEGER NOT NULL) STRICT; CREATE INDEX due_by_day ON due_day (day, record); INSERT INTO meta VALUES ('version', '2'); INSERT INTO class VALUES ('tax', 1, NULL), ('unfiled', 1, NULL); INSERT INTO schedule VALUES ('', 0, 0, 0, 0)",
+];
+
+/// Creates version 1's tables, without due days.
+fn lay_first(conn: &mut Database) -> Result<(), Error> {
+    conn.execute_batch(
+        "CREATE TABLE message (number INTEGER PRIMARY KEY, body BLOB NOT NULL) STRICT; CREATE TABLE record (number INTEGER PRIMARY KEY, message INTEGER NOT NULL, path TEXT NOT NULL, day INTEGER NOT NULL, destroyed INTEGER NOT NULL) STRICT; CREATE TABLE hold (name TEXT NOT NULL, record INTEGER NOT NULL, PRIMARY KEY (name, record)) STRICT; CREATE TABLE meta (key TEXT NOT NULL PRIMARY KEY, value TEXT NOT NULL) STRICT",
+    )?;
+    conn.execute_batch(
+        "CREATE TABLE class (path TEXT NOT NULL PRIMARY KEY, is_open INTEGER NOT NULL, schedule TEXT) STRICT",
+    )
+}
+
+/// Writes version 1's rows: two live records of one message, a destroyed one whose message is gone, and a hold.
+fn fill_first(conn: &mut Database) -> Result<(), Error> {
+    conn.execute_batch(
+        "INSERT INTO meta VALUES ('version', '1'), ('root', 'permanent'); INSERT INTO class VALUES ('unfiled', 1, NULL), ('tax', 0, '1 years destroy'); INSERT INTO message VALUES (2, x'6162'); INSERT INTO record VALUES (1, 1, 'tax', 19675, 1), (2, 2, 'tax', 19675, 0), (3, 2, 'unfiled', 19675, 0); INSERT INTO hold VALUES ('case', 3)",
+    )
+}
+
+/// A database with the tables of version 1, between two texts.
+fn around(alloc: Global, before: &str, after: &str) -> Result<Database, Fail> {
+    let mut conn = Connection::open_in_memory(alloc)?;
+    conn.execute_batch(before)?;
+    lay_first(&mut conn)?;
+    conn.execute_batch(after)?;
+    Ok(conn)
+}
+
 /// A database with the tables and rows of version 1, after a text.
 fn first(alloc: Global, text: &str) -> Result<Database, Fail> {
-    let mut conn = Connection::open_in_memory(alloc)?;
-    lay_first(&mut conn)?;
+    let mut conn = around(alloc, "", "")?;
     fill_first(&mut conn)?;
     conn.execute_batch(text)?;
     Ok(conn)
@@ -137,24 +181,44 @@ fn captured(
     Ok(store.capture(body, day, paths.as_slice()))
 }
 
+/// Checks the answers of a store that was moved over from version 1.
+fn is_moved(rt: &impl Abort, alloc: Global, conn: Database) -> Result<(), Fail> {
+    let mut store = adopted(alloc, conn)?;
+    assert_eq!(rt; due(alloc, &mut store, 20_040)?.as_str(), "");
+    assert_eq!(rt; due(alloc, &mut store, 20_041)?.as_str(), "2 due 20041; ");
+    assert!(rt; matches!(&store.message(1), Err(StoreFault::Destroyed)));
+    assert!(rt; matches!(&store.message(3), Ok(body) if body.as_slice() == b"ab".as_slice()));
+    assert!(rt; matches!(&store.hold(b"case", 3), Err(StoreFault::HoldThere)));
+    assert!(rt; matches!(&store.release(b"case", 2), Err(StoreFault::NoHold)));
+    assert!(rt; matches!(&destroyed(&mut store, 3, 20_041)?, Err(StoreFault::Held)));
+    assert!(rt; matches!(&destroyed(&mut store, 2, 20_040)?, Err(StoreFault::NotDue)));
+    let mut again = adopted(alloc, store.into_connection())?;
+    let lines = captured(alloc, &mut again, b"next", true)?;
+    assert_eq!(rt; shown(alloc, lines)?.as_str(), "4 due 20041; 5 never; ");
+    assert!(rt; matches!(&again.message(5), Ok(body) if body.as_slice() == b"next".as_slice()));
+    Ok(())
+}
+
 #[test]
 fn version_1(rt: HostRuntime) -> Result<(), Fail> {
     let alloc = rt.alloc();
     for text in ["", DUES] {
-        let mut store = adopted(alloc, first(alloc, text)?)?;
-        assert_eq!(rt; due(alloc, &mut store, 20_040)?.as_str(), "");
-        assert_eq!(rt; due(alloc, &mut store, 20_041)?.as_str(), "2 due 20041; ");
-        assert!(rt; matches!(&store.message(1), Err(StoreFault::Destroyed)));
-        assert!(rt; matches!(&store.message(3), Ok(body) if body.as_slice() == b"ab".as_slice()));
-        assert!(rt; matches!(&store.hold(b"case", 3), Err(StoreFault::HoldThere)));
-        assert!(rt; matches!(&store.release(b"case", 2), Err(StoreFault::NoHold)));
-        assert!(rt; matches!(&destroyed(&mut store, 3, 20_041)?, Err(StoreFault::Held)));
-        assert!(rt; matches!(&destroyed(&mut store, 2, 20_040)?, Err(StoreFault::NotDue)));
-        let mut again = adopted(alloc, store.into_connection())?;
-        let lines = captured(alloc, &mut again, b"next", true)?;
-        assert_eq!(rt; shown(alloc, lines)?.as_str(), "4 due 20041; 5 never; ");
-        assert!(rt; matches!(&again.message(5), Ok(body) if body.as_slice() == b"next".as_slice()));
+        is_moved(&rt, alloc, first(alloc, text)?)?;
     }
+    let [before, between] = OTHERS;
+    let mut conn = around(alloc, before, between)?;
+    fill_first(&mut conn)?;
+    conn.execute_batch(DUES)?;
+    is_moved(&rt, alloc, conn)
+}
+
+#[test]
+fn version_2(rt: HostRuntime) -> Result<(), Fail> {
+    let alloc = rt.alloc();
+    let [before, after] = SECOND;
+    let mut store = adopted(alloc, around(alloc, before, after)?)?;
+    let lines = captured(alloc, &mut store, b"first", true)?;
+    assert_eq!(rt; shown(alloc, lines)?.as_str(), "1 never; 2 never; ");
     Ok(())
 }
 
@@ -173,16 +237,18 @@ fn no_archive(rt: HostRuntime) -> Result<(), Fail> {
     let mut conn = Connection::open_in_memory(alloc)?;
     conn.execute_batch("CREATE TABLE record (x)")?;
     assert!(rt; is_refused(alloc, conn)?);
+    let mut other = Connection::open_in_memory(alloc)?;
+    other.execute_batch("CREATE TABLE a (b); CREATE VIEW v AS SELECT b FROM a")?;
+    let mut store = adopted(alloc, other)?;
+    let lines = captured(alloc, &mut store, b"first", false)?;
+    assert_eq!(rt; shown(alloc, lines)?.as_str(), "1 never; ");
     Ok(())
 }
 
 #[test]
 fn last_number(rt: HostRuntime) -> Result<(), Fail> {
     let alloc = rt.alloc();
-    let mut conn = Connection::open_in_memory(alloc)?;
-    lay_first(&mut conn)?;
-    conn.execute_batch(LAST_ROWS)?;
-    let mut store = adopted(alloc, conn)?;
+    let mut store = adopted(alloc, around(alloc, "", LAST_ROWS)?)?;
     let two = captured(alloc, &mut store, b"two", true)?;
     assert!(rt; matches!(&two, Err(StoreFault::Full)));
     let one = captured(alloc, &mut store, b"one", false)?;
@@ -192,19 +258,32 @@ fn last_number(rt: HostRuntime) -> Result<(), Fail> {
     Ok(())
 }
 
-#[test]
-fn stored_due_days(rt: HostRuntime) -> Result<(), Fail> {
-    let alloc = rt.alloc();
-    let mut store = adopted(alloc, Connection::open_in_memory(alloc)?)?;
+/// A store without records, by a plan, beside tables of other names or alone.
+fn with_plan(alloc: Global, others: &str) -> Result<Store<MemStore>, Fail> {
+    let store = adopted(alloc, Connection::open_in_memory(alloc)?)?;
+    let mut conn = store.into_connection();
+    conn.execute_batch(others)?;
+    let mut store = adopted(alloc, conn)?;
     let Ok(plan) = Plan::from_toml(alloc, ONE_YEAR.as_bytes()) else {
         return Err(Fail::from("no plan"));
     };
-    assert!(rt; store.revise(plan).is_ok());
-    let _lines = captured(alloc, &mut store, b"invoice", true)?;
-    let mut conn = store.into_connection();
-    conn.execute_batch("UPDATE due_day SET day = 7; INSERT INTO due_day VALUES (9, 9)")?;
-    let mut renewed = adopted(alloc, conn)?;
-    assert_eq!(rt; due(alloc, &mut renewed, 20_040)?.as_str(), "");
-    assert_eq!(rt; due(alloc, &mut renewed, 60_000)?.as_str(), "1 due 20041; ");
+    match store.revise(plan) {
+        Ok(()) => Ok(store),
+        Err(_) => Err(Fail::from("the plan is refused")),
+    }
+}
+
+#[test]
+fn stored_due_days(rt: HostRuntime) -> Result<(), Fail> {
+    let alloc = rt.alloc();
+    for others in ["", "CREATE TABLE later (x)"] {
+        let mut store = with_plan(alloc, others)?;
+        let _lines = captured(alloc, &mut store, b"invoice", true)?;
+        let mut conn = store.into_connection();
+        conn.execute_batch("UPDATE due_day SET day = 7; INSERT INTO due_day VALUES (9, 9)")?;
+        let mut renewed = adopted(alloc, conn)?;
+        assert_eq!(rt; due(alloc, &mut renewed, 20_040)?.as_str(), "");
+        assert_eq!(rt; due(alloc, &mut renewed, 60_000)?.as_str(), "1 due 20041; ");
+    }
     Ok(())
 }

@@ -1,12 +1,6 @@
-//! Tests of the store and of its tables, over databases in memory: what no clause says, and no session over a file shows.
-//! These are databases of version 1 and of no archive, tables of other names before and between ours, and messages.
+//! Tests of the store over databases in memory: what no clause says, and no session over a file shows. These are databases
+//! of version 1 and of no archive, tables of other names before and between ours, and messages.
 #![tactic(auto)]
 
 #[cfg(test)]
 mod adoption;
-#[cfg(test)]
-mod layouts;
-#[cfg(test)]
-mod reads;
-#[cfg(test)]
-mod tables;
