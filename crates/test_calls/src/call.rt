@@ -11,15 +11,10 @@ pub enum Call {
     Reader,
     Pieces,
     Case,
-    Parts,
-    Schedule,
-    Image,
-    Stops,
-    LongText,
 }
 
 /// Each call's word.
-const WORDS: [(&str, Call); 13] = [
+const WORDS: [(&str, Call); 8] = [
     ("tokens", Call::Tokens),
     ("tree", Call::Tree),
     ("counted", Call::Counted),
@@ -28,11 +23,6 @@ const WORDS: [(&str, Call); 13] = [
     ("reader", Call::Reader),
     ("pieces", Call::Pieces),
     ("case", Call::Case),
-    ("parts", Call::Parts),
-    ("schedule", Call::Schedule),
-    ("image", Call::Image),
-    ("stops", Call::Stops),
-    ("long_text", Call::LongText),
 ];
 
 impl Call {

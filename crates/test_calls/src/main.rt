@@ -3,10 +3,8 @@
 #![tactic(auto)]
 
 mod call;
-mod images;
 mod matching;
 mod messages;
-mod plans;
 mod row;
 mod tokens;
 mod told;
@@ -31,11 +29,6 @@ fn answer(alloc: Global, row: &Row) -> Result<Vec<u8>> {
         Call::Reader => messages::reader(alloc, first),
         Call::Pieces => messages::pieces(alloc, first),
         Call::Case => messages::case(alloc, first, second, third),
-        Call::Parts => plans::parts(alloc, first, second, third),
-        Call::Schedule => plans::schedule(alloc, first),
-        Call::Image => images::image(alloc, first),
-        Call::Stops => images::stops(alloc, first),
-        Call::LongText => images::long_text(alloc, first),
     }
 }
 
