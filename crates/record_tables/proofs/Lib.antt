@@ -4,6 +4,7 @@ pub mod WriteLemmas
 pub mod DeleteLemmas
 pub mod AnswerLemmas
 pub mod UpdateLemmas
+pub mod Described
 pub mod Statements
 pub mod Loops
 pub mod LayLemmas
