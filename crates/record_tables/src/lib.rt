@@ -12,5 +12,6 @@ pub mod read;
 pub mod renew;
 pub mod rows;
 pub mod stored_dues;
+pub mod transact;
 mod typed;
 pub mod writes;

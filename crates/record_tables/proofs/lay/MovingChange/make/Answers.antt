@@ -2,7 +2,7 @@ use Rattle.std.proofs.Common.{arith, ◌∙◌, subst, IsTrue}
 use Rattle.sqlite.specs.Held.{state}
 use Rattle.sqlite.specs.State.{HasCleanDisk}
 use Rattle.record_tables.proofs.TypedLemmas.{on_err}
-use Rattle.record_tables.proofs.lay.move_all.Goals as goal
+use Rattle.record_tables.proofs.lay.MovingChange.make.Goals as goal
 
 pub returns-clause-ok : goal.returns-clause-ok
 returns-clause-ok g c clean inside =

@@ -2,7 +2,7 @@ use Rattle.std.proofs.Common.{arith, ◌∙◌}
 use Rattle.sqlite.specs.Held.{state}
 use Rattle.record_tables.specs.Layouts.{no_rows}
 use Rattle.record_tables.proofs.LayLemmas.{laid_empty}
-use Rattle.record_tables.proofs.lay.lay_all.Goals as goal
+use Rattle.record_tables.proofs.lay.LayingChange.make.Goals as goal
 
 pub returns-clause-ok : goal.returns-clause-ok
 returns-clause-ok g c clean inside =
