@@ -1,6 +1,6 @@
 -- What each statement makes of the tables.
 use Rattle.std.proofs.Common.{◌≡◌, ◌≢◌, ◌<◌, ◌<ℤ◌, ◌≤◌, ℕ, ℤ, pos, List, [], ◌∷◌, ◌++◌, map, fold, filter, length, Bool, true, false, None, Some, Option, Ok, refl, sym, ap, subst, ◌∙◌, arith, int_eq, IsTrue, ◌+ℤ◌}
-use Rattle.std.specs.List.{AllByRecursion, list_all}
+use Rattle.std.specs.List.{AllByRecursion, list_all, flat_map, filter_map}
 use Rattle.std.specs.Ordering.{match_ordering}
 use Rattle.std.proofs.lemmas.Int.{ints}
 use Rattle.sqlite.specs.declared.types.Value.TheVariants.{Null, Int, Text, Blob}
@@ -18,7 +18,6 @@ use Rattle.sqlite_rules.specs.Edit.{next_rowid, without_all, put_all}
 use Rattle.sqlite_rules.specs.Calls.{ids_of}
 use Rattle.sqlite_rules.specs.Action.{work_for}
 use Rattle.sqlite_schema.specs.declared.schema.Keys.{Keys}
-use Rattle.std.specs.List.{flat_map, filter_map}
 use Rattle.sqlite.specs.Schema.{Schema}
 use Rattle.sqlite_keyed.specs.Keyed.{IsKeyedBy, insert_by, next_key}
 use Rattle.sqlite_keyed.specs.Lists.{delete_where, update_where}
@@ -32,7 +31,8 @@ use Rattle.sqlite_typed.proofs.RowLemmas.{puts-map}
 use Rattle.sqlite_typed.proofs.TestLemmas.{at_texts, at_ints, then_term, last_term}
 use Rattle.sqlite_sql.specs.declared.ops.CompareOp.TheVariants.{Eq}
 use Rattle.record_tables.specs.Tables.{Foreign, HasNoReferences, archive_beside, message_table, record_table, hold_table, meta_table, class_table, schedule_table, due_table}
-use Rattle.record_tables.specs.Rows.{Tables, Message, message_key, message_row, Record, record_key, record_row, Hold, hold_key, hold_row, Setting, setting_key, setting_row, Class, class_key, class_row, Schedule, schedule_key, schedule_row, Due, due_key, due_row, Stores, AreKeyed, as_flag}
+use Rattle.record_archive.specs.Archive.{Message, Record}
+use Rattle.record_tables.specs.Rows.{Tables, message_key, message_row, record_key, record_row, Hold, hold_key, hold_row, Setting, setting_key, setting_row, Class, class_key, class_row, Schedule, schedule_key, schedule_row, Due, due_key, due_row, Stores, AreKeyed, as_flag}
 use Rattle.record_tables.specs.Changes.{Puts, Always, IsPastMessages, IsPastRecords, IsPastDues, with_message, with_record, with_due, with_hold, with_setting, with_class, Rule, schedule_at, with_schedule, without_dues, without_classes, without_schedules, without_settings, without_due, without_message, without_hold, is_hold, destruction_of, with_destruction}
 use Rattle.record_tables.proofs.Texts
 use Rattle.record_tables.proofs.Texts.{deleting, alone}
