@@ -17,7 +17,7 @@ use Rattle.sqlite_keyed.proofs.SortLemmas.{IsPermutation-sort_by}
 use Rattle.record_tables.specs.Rows.{Tables}
 use Rattle.record_tables.specs.Reads.{HoldEntry, hold_entry, hold_cmp as row_cmp, AreHolds}
 use Rattle.record_rows.specs.SoundRows.{hold_cmp}
-use Rattle.record_store.specs.Archive.{Archive, Hold, is_hold}
+use Rattle.record_archive.specs.Archive.{Archive, Hold, is_hold}
 use Rattle.record_store.specs.Adoption.{named_hold, sorted_holds}
 use Rattle.record_store.specs.Counts.{tally}
 use Rattle.record_store.specs.Stores.{hold_of}

@@ -1,5 +1,5 @@
 -- Reads that follow one another, and what the rows of a database are.
-use Rattle.std.proofs.Common.{◌≡◌, ◌⊎◌, inl, inr, List, [], ◌∷◌, map, refl, sym, ap, subst, ◌∙◌, arith, IsTrue}
+use Rattle.std.proofs.Common.{◌≡◌, ◌⊎◌, inl, inr, List, [], ◌∷◌, map, refl, sym, ap, subst, ◌∙◌, arith, IsTrue, IsPermutation}
 use Rattle.sqlite.specs.Store.{Ghosts}
 use Rattle.sqlite.specs.Schema.{Schema}
 use Rattle.sqlite.specs.Effect.{Database}
@@ -8,8 +8,7 @@ use Rattle.sqlite.specs.Held.{Held, state}
 use Rattle.sqlite.proofs.StateLemmas.{survives_then, survives_weaker}
 use Rattle.record_tables.specs.Tables.{schedules_and_dues_beside, none, first_dues, HasCommonTables, IsArchiveSchema, first_schema, first_schema_with_dues}
 use Rattle.record_tables.specs.Rows.{Tables, Stores, StoresFirst, StoresCommon}
-use Rattle.record_store.specs.Archive.{Archive}
-use Rattle.std.proofs.Common.{IsPermutation}
+use Rattle.record_archive.specs.Archive.{Archive}
 use Rattle.std.proofs.lemmas.List.Elements.{All-from_recursion, recursion_from_All}
 use Rattle.std.proofs.lemmas.List.Sorted.{IsPermutation-sym, length_permutation, All-permutation}
 use Rattle.class_plan.specs.Plans.{Listing}

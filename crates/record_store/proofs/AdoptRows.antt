@@ -8,14 +8,13 @@ use Rattle.std.specs.List.{AllByRecursion, list_any}
 use Rattle.sqlite_trees.specs.Tree.{IsAscending}
 use Rattle.sqlite_keyed.proofs.ListLemmas.{all_map, all_unmap}
 use Rattle.class_plan.specs.Plans.{Listing}
-use Rattle.record_tables.specs.Rows.{Message, Record}
+use Rattle.record_archive.specs.Archive.{Message, Record, Archive, Hold, IsArchive, IsRecord, is_live, is_named, has_message, has_number, past_all}
 use Rattle.record_tables.specs.Reads.{HoldEntry, FitsRecord, FitsNumber, FitsHold}
 use Rattle.record_tables.specs.CodeRows.{record_of, hold_entry_of, due_of as due_at}
 use Rattle.record_tables.specs.declared.rows.HoldRow.{HoldRow}
 use Rattle.record_tables.specs.declared.rows.RecordRow.{RecordRow}
 use Rattle.record_rows.specs.SoundRows as judged
 use Rattle.record_rows.specs.SoundRows.{is_one_of, IsSound, AreRows}
-use Rattle.record_store.specs.Archive.{Archive, Hold, IsArchive, IsRecord, is_live, is_named, has_message, has_number, past_all}
 use Rattle.record_store.specs.Adoption.{TellsRows, IsOverview, IsJudged, IsKeyed, named_hold, sorted_holds}
 use Rattle.record_store.specs.Revisions.{dues_in}
 use Rattle.record_store.specs.Counts.{count_at, tally}

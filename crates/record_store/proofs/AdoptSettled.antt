@@ -17,7 +17,7 @@ use Rattle.record_tables.specs.Layouts.{IsLaid, IsMoved}
 use Rattle.record_tables.specs.Reads.{Pair}
 use Rattle.record_tables.specs.Steps.{CommitsNothingOf}
 use Rattle.record_rows.specs.Rules.{rules_of, classes_of}
-use Rattle.record_store.specs.Archive.{Archive, IsArchive}
+use Rattle.record_archive.specs.Archive.{Archive, IsArchive}
 use Rattle.record_store.specs.Adoption.{FindsSecond, FindsFirst, FindsNothing, IsOverview, IsKeyed, LeavesArchive, first_pairs}
 use Rattle.record_store.specs.Counts.{count_at}
 use Rattle.record_store.specs.Stores.{StoresArchive, StandsFor, due_rows}

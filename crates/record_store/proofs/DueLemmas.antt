@@ -1,5 +1,5 @@
 -- The due list is that of the stored due days, in their order.
-use Rattle.std.proofs.Common.{◌≡◌, ◌<◌, ◌≤◌, ◌+◌, ◌==◌, ℕ, zero, suc, pos, Bool, true, false, not, ◌&&◌, ◌||◌, cond, List, [], ◌∷◌, ◌++◌, length, map, filter, flat_map, Option, Some, None, is_some, unwrap_or, refl, sym, ap, ap₂, append_assoc, ◌∙◌, arith, Ordering, Less, Equal, Greater, is_gt, is_eq, int_cmp, int_eq, int_le, nat_le, nat_cmp, true≢false}
+use Rattle.std.proofs.Common.{◌≡◌, ◌<◌, ◌≤◌, ◌+◌, ◌==◌, ℕ, zero, suc, pos, Bool, true, false, not, ◌&&◌, ◌||◌, cond, List, [], ◌∷◌, ◌++◌, length, map, filter, flat_map, Option, Some, None, is_some, option_map, unwrap_or, refl, sym, ap, ap₂, append_assoc, ◌∙◌, arith, Ordering, Less, Equal, Greater, is_gt, is_eq, int_cmp, int_eq, int_le, nat_le, nat_cmp, true≢false}
 use Rattle.std.proofs.lemmas.List.{map-append}
 use Rattle.record_store.specs.Counts.{tally}
 use Rattle.std.specs.List.{AllByRecursion, list_any}
@@ -13,10 +13,10 @@ use Rattle.sqlite_keyed.proofs.KeyedLemmas.{Less-from_lt}
 use Rattle.sqlite_typed.proofs.AnswerLemmas.{no_tie, no_tie_after}
 use Rattle.sqlite_keyed.proofs.ListLemmas.{all_both, all_weaker, all-filter, ascending-filter, ascending_weaker, filter-map, filter_none, filter_same, flat_map-map, map-map}
 use Rattle.sqlite_keyed.proofs.SortLemmas.{sort_by-map}
-use Rattle.record_tables.specs.Rows.{Record, Due}
+use Rattle.record_archive.specs.Archive.{Record, Line, Archive, Hold, IsArchive, line_of, due_of, is_due, is_by, is_live, is_held, line_cmp, due_list}
+use Rattle.record_tables.specs.Rows.{Due}
 use Rattle.record_tables.specs.Reads as reads
 use Rattle.record_tables.specs.DueRecords.{DueRecord, due_record, is_of, with_records}
-use Rattle.record_store.specs.Archive.{Line, Archive, Hold, IsArchive, line_of, due_of, is_due, is_by, is_live, is_held, line_cmp, due_list}
 use Rattle.record_store.specs.Dues.{due_line, due_records}
 use Rattle.record_store.specs.Stores.{has_due, due_row, due_rows, hold_count}
 
@@ -113,6 +113,11 @@ all_found P p (x ∷ xs) h = go (p x) refl (all_found P p xs h)
 cmp_is : (m n : ℕ) → int_cmp (pos m) (pos n) ≡ nat_cmp m n
 cmp_is m n = grind (arith, ints)
 
+-- the stored day of a record is that of its line
+day_is : (o : Option ℕ) → pos (unwrap_or o 0) ≡ unwrap_or (option_map pos o) (pos 0)
+day_is None = refl
+day_is (Some d) = refl
+
 due_cmp_total : IsTotalOrder reads.due_cmp
 due_cmp_total = then_total (on_total (λ (d : Due). pos d.day) int_cmp_total) (on_total (λ (d : Due). pos d.number) int_cmp_total)
 
@@ -189,11 +194,11 @@ due_list_is a is day =
     ap (filter free) (filter-twice by (has_due a) R) ∙ filter-twice free (λ r. has_due a r && by r) R
     ∙ filter_same _ (is_due a day) (λ r. tests_are (is_live r) (is_held a r.number) (due_of a r) day) R in
     let Z = filter (is_due a day) R in
-    let order : c ≡ (λ r s. line_cmp (line_of a r) (line_of a s)) = λ i r s. ordering_then (cmp_is (D r).day (D s).day i) (cmp_is r.number s.number i) in
+    let order : c ≡ (λ r s. line_cmp (line_of a r) (line_of a s)) = λ i r s. ordering_then (int_cmp (day_is (due_of a r) i) (day_is (due_of a s) i)) (cmp_is r.number s.number i) in
     let lines : AllByRecursion (λ r. due_line (E r) ≡ line_of a r) (sort_by c Z) =
     all-sort c total (λ r. due_line (E r) ≡ line_of a r) Z
     (all_found (λ r. due_line (E r) ≡ line_of a r) (is_due a day) R
-    (λ r due. λ i. record { number = r.number; path = r.path; due = there_is (is_live r) (is_held a r.number) (due_of a r) day due i })) in
+    (λ r due. λ i. record { number = r.number; path = r.path; due = option_map pos (there_is (is_live r) (is_held a r.number) (due_of a r) day due i) })) in
     ap (λ l. map due_line (filter (λ d. not (is_held a d.number)) (with_records R (sort_by reads.due_cmp l)))) first
     ∙ ap (λ l. map due_line (filter (λ d. not (is_held a d.number)) (with_records R l))) second
     ∙ ap (λ l. map due_line (filter (λ d. not (is_held a d.number)) l)) third

@@ -6,7 +6,6 @@ pub mod CaptureLemmas
 pub mod CaptureStands
 pub mod MessageLemmas
 pub mod DueLemmas
-pub mod PathLemmas
 pub mod AllowedLemmas
 pub mod DestroyLemmas
 pub mod ReviseLemmas

@@ -14,11 +14,11 @@ use Rattle.class_plan.specs.Plans as plans
 use Rattle.class_plan.specs.Plans.{Listing, IsPlan, keeps, has}
 use Rattle.record_tables.specs.Lookups.{Looks}
 use Rattle.record_tables.specs.Tables.{HasCommonTables, IsArchiveSchema, schedules_and_dues_beside}
-use Rattle.record_tables.specs.Rows.{Tables, Record, Due, Stores, StoresCommon}
+use Rattle.record_archive.specs.Archive.{Record, Archive, IsArchive, revise}
+use Rattle.record_tables.specs.Rows.{Tables, Due, Stores, StoresCommon}
 use Rattle.record_tables.specs.Changes.{ClassEntry, Rule, IsRevised, AreAscending}
 use Rattle.record_tables.specs.Changes as tables
 use Rattle.record_rows.specs.Rules.{rules_of, classes_of}
-use Rattle.record_store.specs.Archive.{Archive, IsArchive, revise}
 use Rattle.record_store.specs.Stores.{StandsFor, StoresArchive, has_due, due_row}
 use Rattle.record_store.specs.Revisions.{IsRevision, with_plan, dues_in}
 use Rattle.record_store.specs.declared.store.Store.{Store}

@@ -11,7 +11,7 @@ use Rattle.record_tables.specs.Changes.{ClassEntry, Rule, classes_from, schedule
 use Rattle.record_tables.specs.Layouts.{IsLaid, no_rows}
 use Rattle.record_tables.specs.Reads.{class_entry, rule}
 use Rattle.record_rows.specs.Rules.{rules_of, classes_of}
-use Rattle.record_store.specs.Archive.{empty_archive, IsArchive}
+use Rattle.record_archive.specs.Archive.{empty_archive, IsArchive}
 use Rattle.record_store.specs.Counts.{count_at}
 use Rattle.record_store.specs.Stores.{StoresArchive, StandsFor}
 use Rattle.record_store.specs.declared.store.Store.{Store}

@@ -12,7 +12,8 @@ use Rattle.sqlite_trees.specs.Tree.{IsAscending}
 use Rattle.class_plan.specs.Plans.{Listing, IsPlan}
 use Rattle.class_plan.specs.Texts.{text_of}
 use Rattle.record_tables.specs.Tables.{IsArchiveSchema, no_schema, first_schema, first_schema_with_dues}
-use Rattle.record_tables.specs.Rows.{Tables, Message, Record, Due, Stores, StoresFirst, StoresCommon, AreKeyed}
+use Rattle.record_archive.specs.Archive.{Message, Record, Archive, Hold, IsArchive, empty_archive, is_hold, next_number}
+use Rattle.record_tables.specs.Rows.{Tables, Due, Stores, StoresFirst, StoresCommon, AreKeyed}
 use Rattle.record_tables.specs.Changes.{ClassEntry, Rule}
 use Rattle.record_tables.specs.Reads.{HoldEntry, Pair, class_entry, pair, hold_cmp, ArePairs, AreClasses, AreRules}
 use Rattle.record_tables.specs.CodeRows.{record_of, hold_entry_of, class_entry_of, rule_of, due_of}
@@ -20,7 +21,6 @@ use Rattle.record_tables.specs.Steps.{IsIdle, Falls, IsStill, CommitsNothingOf}
 use Rattle.record_rows.specs.SoundRows.{AreRows}
 use Rattle.record_rows.specs.Rules.{rules_of, classes_of}
 use Rattle.record_rows.specs.Texts.{text_row}
-use Rattle.record_store.specs.Archive.{Archive, Hold, IsArchive, empty_archive, is_hold, next_number}
 use Rattle.record_store.specs.Counts.{count_at}
 use Rattle.record_store.specs.Stores.{Keeps, StandsFor, StoresArchive, hold_of, hold_count, live_count, due_rows}
 use Rattle.record_store.specs.declared.overview.ArchiveRows.{ArchiveRows}

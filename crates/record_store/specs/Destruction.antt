@@ -3,11 +3,11 @@ use Rattle.std.specs.Prelude.{◌≡◌, ℕ, false, not, if◌then◌else◌, O
 use Rattle.sqlite.specs.Effect.{Database}
 use Rattle.class_plan.specs.Calendar.{due_on}
 use Rattle.class_plan.specs.Plans.{Listing, schedule_at}
-use Rattle.record_tables.specs.Rows.{Tables, Record}
+use Rattle.record_archive.specs.Archive.{Record, Archive, record_at, is_held, is_by, destroys, destroy, without}
+use Rattle.record_tables.specs.Rows.{Tables}
 use Rattle.record_tables.specs.Changes.{Turns, Always, with_destruction as with_mark, without_due, without_message}
-use Rattle.record_store.specs.Archive.{Archive, record_at, is_held, is_by, destroys, destroy, without}
-use Rattle.record_store.specs.declared.fault.StoreFault.{StoreFault}
-use Rattle.record_store.specs.declared.fault.StoreFault.TheVariants as fault
+use Rattle.record_archive.specs.declared.fault.ArchiveRefusal.{ArchiveRefusal}
+use Rattle.record_archive.specs.declared.fault.ArchiveRefusal.TheVariants as fault
 
 -- a live record that no hold keeps
 pub record IsFree (a : Archive) (n : ℕ) (r : Record) : Type 0 where
@@ -20,7 +20,7 @@ abbrev pub IsDestroyable : ℕ → ℕ → Archive → Record → Type 0
 IsDestroyable n day a r = IsFree a n r × (destroy a n day ≡ Ok (without a r))
 
 -- the plan's refusal, if any, of the destruction of a record by a day
-abbrev pub against_destruction : Listing → ℕ → Record → Option StoreFault
+abbrev pub against_destruction : Listing → ℕ → Record → Option ArchiveRefusal
 against_destruction p day r =
     if not (destroys (schedule_at p r.path)) then Some fault.NotForDestruction
     else if not (is_by day (due_on p r.path r.day)) then Some fault.NotDue

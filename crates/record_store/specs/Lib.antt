@@ -1,4 +1,3 @@
-pub mod Archive
 pub mod Stores
 pub mod Faults
 pub mod Counts

@@ -7,15 +7,19 @@ ghost use Rattle.record_tables.specs.Tables.{no_schema, HasCommonTables, IsArchi
 ghost use Rattle.record_tables.specs.Changes.{AreAscending};
 ghost use Rattle.record_tables.specs.Steps.{ReadsAlone, Learns, Rejects, Relates, IsUntouched, FailsStill, FailsStillOn, Makes};
 ghost use Rattle.record_tables.specs.CodeRows.{due_of};
-ghost use Rattle.record_store.specs.Archive.{Archive, IsArchive, empty_archive};
-ghost use Rattle.record_store.specs.Stores.{StandsFor, StoresArchive, due_rows, is_trouble};
+ghost use Rattle.record_archive.specs.declared.fault.ArchiveFault.TheVariants.{Refused};
+ghost use Rattle.record_archive.specs.declared.fault.ArchiveRefusal.TheVariants.{NoArchive};
+ghost use Rattle.record_archive.specs.Archive.{Archive, IsArchive, empty_archive};
+ghost use Rattle.record_archive.specs.Faults.{is_trouble};
+ghost use Rattle.record_store.specs.Stores.{StandsFor, StoresArchive, due_rows};
 ghost use Rattle.record_store.specs.Adoption.{Finds, FindsRows, FindsSecond, FindsFirst, HasNoArchive, HasArchive, HasRows, IsKeyed, IsLaidSchema, TellsPlan, IsOverview, Sees, LeavesArchive, IsSoundSecond, IsSoundFirst, FindsNone, IsSettled, TellsContents, LeavesFound, TakesOver};
 
-use crate::fault::StoreFault;
+use crate::fault::{StoreFault, fault_of_read};
 use crate::overview::{Overview, archive_rows, gather};
 use crate::plan_rows::{PlanRows, plan_in, plan_rows, rows_of_plan};
 use crate::store::Store;
 use crate::text_rows::{plan_in_texts, text_rows};
+use record_archive::ArchiveRefusal;
 use record_tables::fault::Fault;
 use record_tables::lay::move_first;
 use record_tables::layout::{Layout, layout_of};
@@ -191,9 +195,9 @@ impl<S: Alter> Store<S> {
         ensures sound { IfOk result
             (λ s. HasCleanDisk (state S.Store s.conn) → IsSoundSecond (state S.Store conn).now) }
         ensures found { IfOk result (λ s. TakesOver S.Store conn s FindsSecond IsKeyed) }
-        ensures no_archive { IfErr result (λ e. e.0 ≡ StoreFault.NoArchive →
+        ensures no_archive { IfErr result (λ e. e.0 ≡ Refused NoArchive →
             HasCleanDisk (state S.Store e.1) → FindsNone FindsSecond (state S.Store conn).now) }
-        ensures trouble { IfErr result (λ e. is_trouble e.0 ≡ false → e.0 ≡ StoreFault.NoArchive) }
+        ensures trouble { IfErr result (λ e. is_trouble e.0 ≡ false → e.0 ≡ Refused NoArchive) }
         ensures unchanged { IfErr result
             (λ e. IsArchiveSchema (state S.Store conn).now.schema → IsUntouched S.Store conn e.1) }
         ensures crash { IfOk result (λ s. LeavesFound S.Store conn s.conn FindsSecond IsKeyed) }
@@ -205,7 +209,7 @@ impl<S: Alter> Store<S> {
             Ok(overview) => Ok(store_over(alloc, conn, overview)),
             Err(fault) => {
                 let _still = conn.is_autocommit();
-                Err((StoreFault::from(fault), conn))
+                Err((fault_of_read(fault), conn))
             }
         }
     }
@@ -218,9 +222,9 @@ impl<S: Alter> Store<S> {
         ensures sound { IfOk result
             (λ s. HasCleanDisk (state S.Store s.conn) → IsSoundFirst (state S.Store conn).now) }
         ensures found { IfOk result (λ s. TakesOver S.Store conn s FindsFirst IsKeyed) }
-        ensures no_archive { IfErr result (λ e. e.0 ≡ StoreFault.NoArchive →
+        ensures no_archive { IfErr result (λ e. e.0 ≡ Refused NoArchive →
             HasCleanDisk (state S.Store e.1) → FindsNone FindsFirst (state S.Store conn).now) }
-        ensures trouble { IfErr result (λ e. is_trouble e.0 ≡ false → e.0 ≡ StoreFault.NoArchive) }
+        ensures trouble { IfErr result (λ e. is_trouble e.0 ≡ false → e.0 ≡ Refused NoArchive) }
         ensures unchanged { IfErr result
             (λ e. HasCommonTables (state S.Store conn).now.schema → IsUntouched S.Store conn e.1) }
         ensures crash { IfOk result (λ s. LeavesFound S.Store conn s.conn FindsFirst IsKeyed) }
@@ -232,7 +236,7 @@ impl<S: Alter> Store<S> {
             Ok(overview) => Ok(store_over(alloc, conn, overview)),
             Err(fault) => {
                 let _still = conn.is_autocommit();
-                Err((StoreFault::from(fault), conn))
+                Err((fault_of_read(fault), conn))
             }
         }
     }
@@ -256,9 +260,9 @@ impl<S: Alter> Store<S> {
         ensures reopened { IfOk result (λ s. TakesOver S.Store conn s StoresArchive IsArchive) }
         ensures sound { IfOk result (λ s. HasCleanDisk (state S.Store s.conn)
             → HasRows (state S.Store conn).now → HasArchive (state S.Store conn).now) }
-        ensures no_archive { IfErr result (λ e. e.0 ≡ StoreFault.NoArchive
+        ensures no_archive { IfErr result (λ e. e.0 ≡ Refused NoArchive
             → HasCleanDisk (state S.Store e.1) → HasNoArchive (state S.Store conn).now) }
-        ensures trouble { IfErr result (λ e. is_trouble e.0 ≡ false → e.0 ≡ StoreFault.NoArchive) }
+        ensures trouble { IfErr result (λ e. is_trouble e.0 ≡ false → e.0 ≡ Refused NoArchive) }
         ensures unchanged { IfErr result
             (λ e. IsLaidSchema (state S.Store conn).now.schema → IsUntouched S.Store conn e.1) }
         ensures crash { IfOk result
@@ -270,7 +274,7 @@ impl<S: Alter> Store<S> {
             Layout::Empty => Store::create(alloc, conn),
             Layout::Second => Store::adopt_second(alloc, conn),
             Layout::First | Layout::FirstWithDues => Store::adopt_first(alloc, conn),
-            Layout::Other => Err((StoreFault::NoArchive, conn)),
+            Layout::Other => Err((StoreFault::Refused(ArchiveRefusal::NoArchive), conn)),
         }
     }
 }

@@ -5,14 +5,16 @@ ghost use Rattle.std.specs.List.{All};
 ghost use Rattle.class_plan.specs.Changes.{addition};
 ghost use Rattle.class_plan.specs.Plans.{IsPlan};
 ghost use Rattle.record_tables.specs.Steps.{CommitsWhole, Makes, IsUndone, WasOpen};
-ghost use Rattle.record_store.specs.Archive as archive;
-ghost use Rattle.record_store.specs.Archive.{Archive};
+ghost use Rattle.record_archive.specs.Archive as archive;
+ghost use Rattle.record_archive.specs.Archive.{Archive};
 ghost use Rattle.record_store.specs.Revisions.{IsClassAdded, HasSameDue};
-ghost use Rattle.record_store.specs.Stores.{StandsFor, Obeys, Leaves, Falls, Quietly, is_trouble};
+ghost use Rattle.record_archive.specs.Faults.{WhereRefused, is_trouble};
+ghost use Rattle.record_store.specs.Stores.{StandsFor, Obeys, Leaves, Falls, Quietly};
 
-use crate::fault::StoreFault;
+use crate::fault::{BUSY, StoreFault, fault_of};
 use crate::store::Store;
 use class_plan::{Plan, PlanFault};
+use record_archive::ArchiveRefusal;
 use record_tables::writes::insert_class;
 use sqlite::{Alter, Connection, Error};
 
@@ -35,15 +37,15 @@ fn put_class<S: Alter>(conn: &mut Connection<S>, path: &[u8]) -> Result<(), Erro
 /// Adds an open class to a plan; refused with 52, 53, 54 or 56.
 fn plan_class(plan: &mut Plan, path: &[u8]) -> Result<(), StoreFault>
     ensures ok { OnOk result (addition plan.old path.now ≡ Ok plan.new) }
-    ensures err { IfErr result (λ f. is_trouble f ≡ false → (a : Archive) →
-        archive.plan_answer a (addition plan.old path.now) ≡ Err f) }
+    ensures err { IfErr result (WhereRefused (λ r. (a : Archive) →
+        archive.plan_answer a (addition plan.old path.now) ≡ Err r)) }
     ensures unchanged { OnErr result (plan.new ≡ plan.old) }
     ensures plans { IsPlan plan.old × IsPlan plan.new }
 {
     match plan.add(path) {
         Ok(()) => Ok(()),
         Err(PlanFault::NoMemory) => Err(StoreFault::NoMemory),
-        Err(fault) => Err(StoreFault::Plan(fault)),
+        Err(fault) => Err(StoreFault::Refused(ArchiveRefusal::Plan(fault))),
     }
 }
 
@@ -68,14 +70,14 @@ impl<S: Alter> Store<S> {
         ensures crash { Leaves S.Store self.old self.new (λ a. archive.add_class a path.now) }
     {
         if !self.conn.is_autocommit() {
-            return Err(StoreFault::BUSY);
+            return Err(BUSY);
         }
         plan_class(&mut self.plan, path)?;
         match put_class(&mut self.conn, path) {
             Ok(()) => Ok(()),
             Err(error) => {
                 self.plan.remove(path);
-                Err(StoreFault::from(error))
+                Err(fault_of(error))
             }
         }
     }

@@ -6,17 +6,19 @@ ghost use Rattle.class_plan.specs.Calendar.{number_of_day};
 ghost use Rattle.record_tables.specs.Changes.{Always};
 ghost use Rattle.record_tables.specs.Steps.{PutsIn, KeepsIn, CommitsNothing, CommitsWhole, Makes, IsUndone, WasOpen};
 ghost use Rattle.record_tables.specs.CodeRows.{record_of};
-ghost use Rattle.record_store.specs.Archive as archive;
-ghost use Rattle.record_store.specs.Archive.{Archive};
+ghost use Rattle.record_archive.specs.Archive as archive;
+ghost use Rattle.record_archive.specs.Archive.{Archive};
 ghost use Rattle.record_store.specs.Counts.{count_at};
 ghost use Rattle.record_store.specs.Destruction.{IsFree, IsDestruction, against_destruction, with_destruction, without_body, IsDestroyable};
-ghost use Rattle.record_store.specs.Stores.{StandsFor, ObeysRows, Tells, Leaves, LeavesAll, LeavesAllowed, Falls, Quietly, is_trouble, ChangesWhere, IsOpenOnOk};
+ghost use Rattle.record_archive.specs.Faults.{WhereRefused, is_trouble};
+ghost use Rattle.record_store.specs.Stores.{StandsFor, ObeysRows, Tells, Leaves, LeavesAll, LeavesAllowed, Falls, Quietly, ChangesWhere, IsOpenOnOk};
 
 use crate::captures::number_of;
-use crate::fault::StoreFault;
+use crate::fault::{BUSY, LOST, StoreFault, fault_of};
 use crate::plan_days::{LAST_CAPTURE_DAY, due_day_of};
 use crate::store::Store;
 use class_plan::{Action, Date, Plan, Schedule};
+use record_archive::ArchiveRefusal;
 use record_tables::rows::RecordRow;
 use record_tables::writes::{delete_due, delete_message, set_destroyed};
 use sqlite::{Alter, Connection, Error, Transaction};
@@ -99,18 +101,18 @@ fn is_by(day: u32, due: Option<u32>) -> bool
 /// Whether the plan destroys a record by a day; refused with the first of 83 and 82, in this order.
 fn judge_plan(plan: &Plan, row: &RecordRow, day: u32) -> Result<(), StoreFault>
     ensures ok { OnOk result (against_destruction plan.now day (record_of row.now) ≡ None) }
-    ensures err { IfErr result (λ f. is_trouble f ≡ false →
-        against_destruction plan.now day (record_of row.now) ≡ Some f) }
+    ensures err { IfErr result (WhereRefused (λ r.
+        against_destruction plan.now day (record_of row.now) ≡ Some r)) }
 {
     let path = row.path.as_slice();
     if row.day > LAST_CAPTURE_DAY {
-        return Err(StoreFault::LOST);
+        return Err(LOST);
     }
     if !destroys(plan.schedule_of(path)) {
-        return Err(StoreFault::NotForDestruction);
+        return Err(StoreFault::Refused(ArchiveRefusal::NotForDestruction));
     }
     if !is_by(day, due_day_of(plan, path, row.day)) {
-        return Err(StoreFault::NotDue);
+        return Err(StoreFault::Refused(ArchiveRefusal::NotDue));
     }
     Ok(())
 }
@@ -127,10 +129,10 @@ impl<S: Alter> Store<S> {
     {
         let record = self.record_at(number)?;
         if record.destroyed {
-            return Err(StoreFault::Destroyed);
+            return Err(StoreFault::Refused(ArchiveRefusal::Destroyed));
         }
         if self.held.count(number) > 0 {
-            return Err(StoreFault::Held);
+            return Err(StoreFault::Refused(ArchiveRefusal::Held));
         }
         match judge_plan(&self.plan, &record, day) {
             Ok(()) => Ok(record),
@@ -164,7 +166,7 @@ impl<S: Alter> Store<S> {
             (λ a. archive.without a (record_of row.now)) }
     {
         if !self.conn.is_autocommit() {
-            return Err(StoreFault::BUSY);
+            return Err(BUSY);
         }
         let last = self.last_body(row.message);
         match put_destruction(&mut self.conn, number, last) {
@@ -172,7 +174,7 @@ impl<S: Alter> Store<S> {
                 self.others.take(row.message, 1);
                 Ok(())
             }
-            Err(error) => Err(StoreFault::from(error)),
+            Err(error) => Err(fault_of(error)),
         }
     }
 

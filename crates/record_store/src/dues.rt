@@ -4,14 +4,17 @@ ghost use Rattle.std.specs.Prelude.{◌≡◌, map, pos, IfOk, IfErr, filter, tr
 ghost use Rattle.jiff.specs.Words.{IsBetween, epoch_day};
 ghost use Rattle.class_plan.specs.Calendar.{number_of_day};
 ghost use Rattle.record_tables.specs.DueRecords.{due_record_of};
-ghost use Rattle.record_store.specs.Archive.{due_list};
+ghost use Rattle.record_archive.specs.Archive.{due_list};
 ghost use Rattle.record_store.specs.Dues.{due_records, due_line, is_unheld};
-ghost use Rattle.record_store.specs.Stores.{Tells, LeavesAll, Falls, line_view, is_trouble};
+ghost use Rattle.record_archive.specs.Lines.{line_view};
+ghost use Rattle.record_archive.specs.Faults.{is_trouble};
+ghost use Rattle.record_store.specs.Stores.{Tells, LeavesAll, Falls};
 
 use crate::captures::number_of;
-use crate::fault::StoreFault;
-use crate::store::{Line, Store};
+use crate::fault::{LOST, StoreFault};
+use crate::store::Store;
 use class_plan::{Date, date_of};
+use record_archive::Line;
 use record_tables::due_records::due_records_by;
 use record_tables::fault::Fault;
 use record_tables::rows::DueRecordRow;
@@ -22,7 +25,7 @@ fn line_of(due: DueRecordRow) -> Result<Line, StoreFault>
     ensures trouble { IfErr result (λ f. is_trouble f ≡ true) }
 {
     let Some(date) = date_of(i64::from(due.day)) else {
-        return Err(StoreFault::LOST);
+        return Err(LOST);
     };
     Ok(Line {
         number: due.record,
@@ -42,8 +45,8 @@ impl<S: Alter> Store<S> {
         match due_records_by(self.alloc, &mut self.conn, day) {
             Ok(dues) => Ok(dues),
             Err(Fault::NoMemory) => Err(StoreFault::NoMemory),
-            Err(Fault::Sqlite(error)) => Err(StoreFault::Sqlite(error)),
-            Err(Fault::NoArchive) => Err(StoreFault::LOST),
+            Err(Fault::Sqlite(error)) => Err(StoreFault::Database(error)),
+            Err(Fault::NoArchive) => Err(LOST),
         }
     }
 

@@ -1,13 +1,15 @@
 //! Holds: what keeps a record from destruction.
 
 ghost use Rattle.std.specs.Prelude.{◌≡◌, true, IfErr, OnOk, OnErr};
-ghost use Rattle.record_store.specs.Archive as archive;
-ghost use Rattle.record_store.specs.Archive.{Archive};
-ghost use Rattle.record_store.specs.Stores.{StandsFor, ObeysRows, Leaves, LeavesAll, LeavesMade, Falls, Quietly, is_trouble, CarriesOut, TellsOutcome, IsOpenOnOk};
+ghost use Rattle.record_archive.specs.Archive as archive;
+ghost use Rattle.record_archive.specs.Archive.{Archive};
+ghost use Rattle.record_archive.specs.Faults.{is_trouble};
+ghost use Rattle.record_store.specs.Stores.{StandsFor, ObeysRows, Leaves, LeavesAll, LeavesMade, Falls, Quietly, CarriesOut, TellsOutcome, IsOpenOnOk};
 
-use crate::fault::StoreFault;
+use crate::fault::{BUSY, StoreFault, fault_of};
 use crate::store::Store;
 use crate::transactions::{end_hold, put_hold};
+use record_archive::ArchiveRefusal;
 use sqlite::Alter;
 
 impl<S: Alter> Store<S> {
@@ -21,10 +23,10 @@ impl<S: Alter> Store<S> {
     {
         let record = self.record_at(number)?;
         if record.destroyed {
-            return Err(StoreFault::Destroyed);
+            return Err(StoreFault::Refused(ArchiveRefusal::Destroyed));
         }
         if self.has_hold(name, number)? {
-            return Err(StoreFault::HoldThere);
+            return Err(StoreFault::Refused(ArchiveRefusal::HoldThere));
         }
         Ok(())
     }
@@ -41,7 +43,7 @@ impl<S: Alter> Store<S> {
             (λ a. archive.with_hold a name.now number) }
     {
         if !self.conn.is_autocommit() {
-            return Err(StoreFault::BUSY);
+            return Err(BUSY);
         }
         let Ok(()) = self.held.add(number, 1) else {
             return Err(StoreFault::NoMemory);
@@ -50,7 +52,7 @@ impl<S: Alter> Store<S> {
             Ok(()) => Ok(()),
             Err(error) => {
                 self.held.take(number, 1);
-                Err(StoreFault::from(error))
+                Err(fault_of(error))
             }
         }
     }
@@ -82,7 +84,7 @@ impl<S: Alter> Store<S> {
         if self.has_hold(name, number)? {
             Ok(())
         } else {
-            Err(StoreFault::NoHold)
+            Err(StoreFault::Refused(ArchiveRefusal::NoHold))
         }
     }
 
@@ -98,14 +100,14 @@ impl<S: Alter> Store<S> {
             (λ a. archive.release a name.now number) (λ a. archive.without_hold a name.now number) }
     {
         if !self.conn.is_autocommit() {
-            return Err(StoreFault::BUSY);
+            return Err(BUSY);
         }
         match end_hold(&mut self.conn, name, number) {
             Ok(()) => {
                 self.held.take(number, 1);
                 Ok(())
             }
-            Err(error) => Err(StoreFault::from(error)),
+            Err(error) => Err(fault_of(error)),
         }
     }
 

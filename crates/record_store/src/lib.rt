@@ -11,7 +11,6 @@ mod fault;
 mod holds;
 mod messages;
 mod overview;
-mod paths;
 mod plan_days;
 mod plan_rows;
 mod revisions;
@@ -22,5 +21,5 @@ mod transactions;
 
 pub use counts::Counts;
 pub use fault::StoreFault;
-pub use paths::are_classes;
-pub use store::{Line, Store};
+pub use record_archive::{ArchiveRefusal, Line, are_classes};
+pub use store::Store;

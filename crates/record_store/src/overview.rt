@@ -6,7 +6,7 @@ ghost use Rattle.record_tables.specs.Tables.{HasCommonTables};
 ghost use Rattle.record_tables.specs.Changes.{AreAscending};
 ghost use Rattle.record_tables.specs.Steps.{ReadsAlone, Learns, Rejects};
 ghost use Rattle.record_tables.specs.CodeRows.{due_of};
-ghost use Rattle.record_store.specs.Archive.{Archive, IsArchive};
+ghost use Rattle.record_archive.specs.Archive.{Archive, IsArchive};
 ghost use Rattle.record_store.specs.Adoption.{FindsCommon, AreOnce, IsKeyed, TellsRows, IsOverview, IsJudged, Sees, FindsNone};
 
 use crate::counts::Counts;

@@ -6,7 +6,7 @@ ghost use Rattle.class_plan.specs.Plans.{Listing, IsPlan};
 ghost use Rattle.record_tables.specs.Tables.{IsArchiveSchema};
 ghost use Rattle.record_tables.specs.Steps.{ReadsAlone, Learns, Rejects};
 ghost use Rattle.record_tables.specs.CodeRows.{pair_of};
-ghost use Rattle.record_store.specs.Archive.{Archive};
+ghost use Rattle.record_archive.specs.Archive.{Archive};
 ghost use Rattle.record_store.specs.Adoption.{FindsSecond, IsKeyed, TellsPlan, ShowsPlan, Sees, ForSecond};
 
 use class_plan::Plan;

@@ -2,7 +2,7 @@
 
 ghost use Rattle.std.specs.Prelude.{◌≡◌, ◌-◌, ◌≤◌, ◌^◌, ◌==◌, ◌&&◌, not, ℕ, map, IfOk};
 ghost use Rattle.record_tables.specs.CodeRows.{record_of};
-ghost use Rattle.record_store.specs.Archive.{past_all};
+ghost use Rattle.record_archive.specs.Archive.{past_all};
 ghost use Rattle.record_store.specs.Counts.{count_at, tally};
 
 use crate::counts::Counts;

@@ -5,8 +5,8 @@ ghost use Rattle.sqlite.specs.State.{KeepsCommit};
 ghost use Rattle.sqlite.specs.Held.{state};
 ghost use Rattle.record_tables.specs.Changes.{Turns, Always, IsPastRecords, with_hold, without_hold};
 ghost use Rattle.record_tables.specs.CodeRows.{due_of};
-ghost use Rattle.record_store.specs.Archive.{records_of};
-ghost use Rattle.record_store.specs.Captures.{AreAfter, with_records, with_more_dues, path_list, IsCaptured, PutsCapture};
+ghost use Rattle.record_archive.specs.Archive.{records_of, path_list};
+ghost use Rattle.record_store.specs.Captures.{AreAfter, with_records, with_more_dues, IsCaptured, PutsCapture};
 ghost use Rattle.record_tables.specs.Steps.{Inside, PutsOnOk, FailsUnchanged, Makes, CommitsWhole, CommitsNothing, KeepsIn, WasOpen};
 
 use record_tables::rows::DueRow;

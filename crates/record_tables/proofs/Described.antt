@@ -13,7 +13,8 @@ use Rattle.sqlite_schema.specs.declared.schema.Keys.{Keys}
 use Rattle.sqlite_sql.specs.Program.{overlay}
 use Rattle.sqlite_keyed.specs.Keyed.{IsKeyedBy}
 use Rattle.record_tables.specs.Tables.{Foreign, HasNoReferences, IsArchiveSchema, archive_beside, message_table, record_table, hold_table, meta_table, class_table, schedule_table, due_table}
-use Rattle.record_tables.specs.Rows.{Tables, Message, message_key, message_row, Record, record_key, record_row, Hold, hold_key, hold_row, Setting, setting_key, setting_row, Class, class_key, class_row, Schedule, schedule_key, schedule_row, Due, due_key, due_row, Stores, StoresKeyed, AreKeyed}
+use Rattle.record_archive.specs.Archive.{Message, Record}
+use Rattle.record_tables.specs.Rows.{Tables, message_key, message_row, record_key, record_row, Hold, hold_key, hold_row, Setting, setting_key, setting_row, Class, class_key, class_row, Schedule, schedule_key, schedule_row, Due, due_key, due_row, Stores, StoresKeyed, AreKeyed}
 use Rattle.record_tables.proofs.WriteLemmas.{IsQuiet}
 
 -- a tree of the database, and the rows in it

@@ -31,7 +31,8 @@ use Rattle.sqlite_keyed.proofs.RuleLemmas.{at_most_one}
 use Rattle.sqlite_typed.proofs.AnswerLemmas.{last_table, next_table, at_end, matches_are, no_tie, no_tie_after}
 use Rattle.sqlite_typed.proofs.TestLemmas.{last_key, then_key, last_term, then_term, at_ints}
 use Rattle.record_tables.specs.Tables.{Foreign, archive_beside}
-use Rattle.record_tables.specs.Rows.{Tables, Stores, AreKeyed, Record, record_key, record_row, Due, due_key, due_row}
+use Rattle.record_archive.specs.Archive.{Record}
+use Rattle.record_tables.specs.Rows.{Tables, Stores, AreKeyed, record_key, record_row, Due, due_key, due_row}
 use Rattle.record_tables.specs.Reads.{is_by, due_cmp, dues_by}
 use Rattle.record_tables.specs.DueRecords.{DueRecord, due_record, is_of, with_records, due_records_by, due_record_values, ReadsDueRecord, FitsDueRecord}
 use Rattle.record_tables.proofs.Texts.{Asks, on_table, alone}

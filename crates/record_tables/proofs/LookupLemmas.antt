@@ -1,15 +1,14 @@
 -- What the looks by keys answer of the tables.
-use Rattle.std.proofs.Common.{◌≡◌, ◌≤◌, ◌==◌, ℕ, ℤ, pos, List, [], ◌∷◌, map, filter, find, length, Bool, true, false, cond, not, ◌||◌, Option, Some, None, option_map, codes, refl, sym, ap, subst, ◌∙◌, arith, int_eq}
-use Rattle.std.specs.List.{list_any}
+use Rattle.std.proofs.Common.{◌≡◌, ◌≤◌, ◌==◌, ℕ, ℤ, pos, List, [], ◌∷◌, map, filter, find, length, Bool, true, false, cond, not, ◌||◌, Option, Some, None, option_map, codes, refl, sym, ap, subst, ◌∙◌, arith, int_eq, IsTrue, slice_get}
+use Rattle.std.specs.List.{list_any, list_all}
 use Rattle.std.proofs.lemmas.Int.{ints}
 use Rattle.std.proofs.lemmas.List.{length-map}
 use Rattle.std.proofs.lemmas.List.Sorted.{length_permutation}
 use Rattle.sqlite.specs.declared.types.Value.TheVariants.{Null, Int, Text, Blob}
-use Rattle.sqlite.specs.Order.{Row}
+use Rattle.sqlite.specs.Order.{Row, column}
 use Rattle.sqlite.specs.Schema.{Schema}
-use Rattle.sqlite.specs.Term.{Term, col}
+use Rattle.sqlite.specs.Term.{Term, col, holds}
 use Rattle.sqlite.specs.Command.TheVariants.{Select}
-use Rattle.std.proofs.Common.{IsTrue}
 use Rattle.sqlite.specs.State.{State, Shown, ShowsRows, Survives, CommitsShowing}
 use Rattle.sqlite.specs.Clock.{timed}
 use Rattle.sqlite_schema.specs.declared.command.Returning.{Returning}
@@ -22,12 +21,9 @@ use Rattle.sqlite_sql.specs.declared.ops.CompareOp.TheVariants.{Eq}
 use Rattle.sqlite_keyed.proofs.RuleLemmas.{at_most_one}
 use Rattle.sqlite_typed.proofs.TestLemmas.{at_texts, at_ints, then_term, last_term}
 use Rattle.record_tables.specs.Tables.{Foreign, IsArchiveSchema, archive_beside}
-use Rattle.record_tables.specs.Rows.{Tables, Stores, AreKeyed, Message, message_key, message_row, Record, record_key, record_row, Hold, hold_key, hold_row}
+use Rattle.record_archive.specs.Archive.{Message, Record}
+use Rattle.record_tables.specs.Rows.{Tables, Stores, AreKeyed, message_key, message_row, record_key, record_row, Hold, hold_key, hold_row}
 use Rattle.record_tables.specs.Changes.{is_hold}
-use Rattle.std.specs.List.{list_all}
-use Rattle.std.proofs.Common.{slice_get}
-use Rattle.sqlite.specs.Term.{holds}
-use Rattle.sqlite.specs.Order.{column}
 use Rattle.record_tables.specs.Reads.{record_values}
 use Rattle.record_tables.specs.Lookups.{record_with, body_with, has_hold_of, TellsRecord}
 use Rattle.record_tables.proofs.Texts.{Asks, on_table, alone, key_test, hold_test}

@@ -1,6 +1,6 @@
 -- What each query shows of the tables.
 use Rattle.sqlite_sql.proofs.QueryLemmas.{output_cmp_total}
-use Rattle.std.proofs.Common.{◌≡◌, ℕ, ℤ, pos, List, [], ◌∷◌, map, map-id, true, false, refl, sym, ap, subst, ◌∙◌, Less, Option, Some, None, IsPermutation}
+use Rattle.std.proofs.Common.{◌≡◌, ℕ, ℤ, pos, List, [], ◌∷◌, map, map-id, true, false, refl, sym, ap, subst, ◌∙◌, Less, Option, Some, None, IsPermutation, ◌⊎◌, inl, inr, IsTrue}
 use Rattle.std.proofs.lemmas.List.Sorted.{IsPermutation-map, IsPermutation-trans, IsPermutation-sym}
 use Rattle.sqlite.specs.declared.types.Value.TheVariants.{Null, Int, Text}
 use Rattle.sqlite.specs.Order.{Row}
@@ -8,7 +8,6 @@ use Rattle.sqlite.specs.Term.{holds}
 use Rattle.sqlite.specs.Tree.{Trees}
 use Rattle.sqlite.specs.Query.{Query, IsAnswer, Output, output, output_cmp}
 use Rattle.sqlite_sql.specs.Program.{overlay}
-use Rattle.std.proofs.Common.{◌⊎◌, inl, inr, IsTrue}
 use Rattle.sqlite.specs.declared.error.Error.{Error}
 use Rattle.sqlite_schema.specs.declared.command.Returning.{Returning}
 use Rattle.sqlite.specs.Clock.{timed}
@@ -24,7 +23,8 @@ use Rattle.sqlite_keyed.proofs.SortLemmas.{sorted_unique}
 use Rattle.sqlite_typed.proofs.AnswerLemmas.{last_table, at_end, answer_by_keys, unfiltered}
 use Rattle.sqlite_typed.proofs.TestLemmas.{last_key, then_key}
 use Rattle.record_tables.specs.Tables.{common_beside, archive_beside}
-use Rattle.record_tables.specs.Rows.{Tables, Stores, StoresCommon, AreKeyed, Message, message_key, message_row, record_key, record_row, hold_key, hold_row, setting_key, setting_row, class_key, class_row, schedule_key, schedule_row}
+use Rattle.record_archive.specs.Archive.{Message}
+use Rattle.record_tables.specs.Rows.{Tables, Stores, StoresCommon, AreKeyed, message_key, message_row, record_key, record_row, hold_key, hold_row, setting_key, setting_row, class_key, class_row, schedule_key, schedule_row}
 use Rattle.record_tables.specs.Changes.{ClassEntry, Rule}
 use Rattle.record_tables.specs.Reads.{record_values, number_values, numbers_of, class_values, class_entry, AreClasses, rule_values, rule, AreRules, HoldEntry, hold_entry, hold_values, AreHolds, Pair, pair, pair_values, ArePairs}
 use Rattle.record_tables.proofs.Texts

@@ -29,7 +29,8 @@ use Rattle.sqlite_typed.proofs.TestLemmas.{at_texts, at_ints, then_term, last_te
 use Rattle.sqlite_sql.specs.declared.ops.CompareOp.TheVariants.{Eq}
 use Rattle.sqlite_sql.specs.Program.{overlay}
 use Rattle.record_tables.specs.Tables.{Foreign, archive_beside, message_table, record_table, hold_table, meta_table, class_table, schedule_table, due_table}
-use Rattle.record_tables.specs.Rows.{Tables, Message, message_row, Record, record_key, record_row, Hold, hold_row, Setting, setting_row, Class, class_row, Schedule, schedule_row, Due, due_row, Stores, StoresKeyed, AreKeyed, as_flag}
+use Rattle.record_archive.specs.Archive.{Message, Record}
+use Rattle.record_tables.specs.Rows.{Tables, message_row, record_key, record_row, Hold, hold_row, Setting, setting_row, Class, class_row, Schedule, schedule_row, Due, due_row, Stores, StoresKeyed, AreKeyed, as_flag}
 use Rattle.record_tables.specs.Changes.{Puts, Always, IsPastMessages, IsPastRecords, IsPastDues, with_message, with_record, with_due, with_hold, with_setting, with_class, Rule, schedule_at, with_schedule, without_dues, without_classes, without_schedules, without_settings, without_due, without_message, without_hold, is_hold, destruction_of, with_destruction}
 use Rattle.record_tables.proofs.Texts
 use Rattle.record_tables.proofs.Texts.{Means, deleting, alone}

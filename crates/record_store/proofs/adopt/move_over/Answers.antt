@@ -2,7 +2,7 @@ use Rattle.std.proofs.Common.{◌≡◌, ◌∙◌, ap, map}
 use Rattle.sqlite.specs.Held.{state}
 use Rattle.record_tables.specs.Layouts.{IsMoved}
 use Rattle.record_tables.specs.CodeRows.{rule_of, class_entry_of, due_of}
-use Rattle.record_store.specs.Archive.{Archive}
+use Rattle.record_archive.specs.Archive.{Archive}
 use Rattle.record_store.specs.Stores.{due_rows}
 use Rattle.record_store.specs.Adoption.{FindsFirst, TellsPlan}
 use Rattle.record_store.proofs.AdoptSettled.{stores_moved, leaves_made}

@@ -2,7 +2,7 @@ use Rattle.std.proofs.Common.{ap, subst, Err, inr}
 use Rattle.sqlite.specs.State.{HasCleanDisk}
 use Rattle.sqlite.specs.Held.{state}
 use Rattle.record_tables.specs.Tables.{HasCommonTables}
-use Rattle.record_store.specs.Archive.{Archive}
+use Rattle.record_archive.specs.Archive.{Archive}
 use Rattle.record_store.specs.Adoption.{FindsFirst, IsKeyed, TellsPlan}
 use Rattle.record_store.proofs.AdoptReads.{sees_then, kept_then, common_after, first_common, first_found, archive_of, first_told}
 use Rattle.record_store.proofs.AdoptRows.{judged_archive}

@@ -2,7 +2,7 @@ use Rattle.std.proofs.Common.{ap, Err, inl}
 use Rattle.sqlite.specs.State.{HasCleanDisk}
 use Rattle.sqlite.specs.Held.{state}
 use Rattle.record_tables.specs.Tables.{HasCommonTables, IsArchiveSchema}
-use Rattle.record_store.specs.Archive.{Archive}
+use Rattle.record_archive.specs.Archive.{Archive}
 use Rattle.record_store.specs.Adoption.{FindsSecond, IsKeyed}
 use Rattle.record_store.proofs.AdoptReads.{sees_as, sees_then, kept_then, common_after, archive_common, second_common, archive_of, second_told}
 use Rattle.record_store.proofs.AdoptRows.{judged_archive}

@@ -5,7 +5,7 @@ use Rattle.sqlite.specs.Effect.{Database}
 use Rattle.record_tables.specs.Tables.{IsArchiveSchema}
 use Rattle.record_tables.specs.Changes.{IsRevised}
 use Rattle.record_tables.specs.CodeRows.{rule_of, class_entry_of, due_of}
-use Rattle.record_store.specs.Archive.{Archive}
+use Rattle.record_archive.specs.Archive.{Archive}
 use Rattle.record_store.specs.Stores.{due_rows}
 use Rattle.record_store.specs.Adoption.{FindsSecond, TellsPlan}
 use Rattle.record_store.proofs.AdoptReads.{second_after}

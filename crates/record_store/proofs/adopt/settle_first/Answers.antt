@@ -4,7 +4,7 @@ use Rattle.sqlite.specs.Held.{state}
 use Rattle.sqlite.specs.Effect.{Database}
 use Rattle.record_tables.specs.Tables.{HasCommonTables}
 use Rattle.record_tables.specs.CodeRows.{due_of}
-use Rattle.record_store.specs.Archive.{Archive}
+use Rattle.record_archive.specs.Archive.{Archive}
 use Rattle.record_store.specs.Stores.{due_rows, StoresArchive}
 use Rattle.record_store.specs.Adoption.{FindsFirst, IsKeyed, TellsPlan}
 use Rattle.record_store.proofs.AdoptReads.{first_after, first_common}

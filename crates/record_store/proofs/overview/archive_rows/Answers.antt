@@ -3,9 +3,8 @@ use Rattle.std.specs.List.{AllByRecursion}
 use Rattle.sqlite.specs.State.{HasCleanDisk}
 use Rattle.sqlite.specs.Held.{state}
 use Rattle.record_tables.specs.Tables.{HasCommonTables}
-use Rattle.record_tables.specs.Rows.{Message}
+use Rattle.record_archive.specs.Archive.{Message, Archive}
 use Rattle.record_tables.specs.Reads.{FitsNumber}
-use Rattle.record_store.specs.Archive.{Archive}
 use Rattle.record_store.specs.Adoption.{Sees, sorted_holds}
 use Rattle.record_store.proofs.AdoptReads.{sees_then, kept_then, common_after}
 use Rattle.record_store.proofs.AdoptRows.{numbers_fit, holds_fit}

@@ -2,7 +2,7 @@ use Rattle.std.proofs.Common.{◌≡◌, ◌∙◌, sym, ap, map, Err, IsTrue}
 use Rattle.sqlite.specs.State.{HasCleanDisk, IsUnchanged}
 use Rattle.sqlite.specs.Held.{state}
 use Rattle.record_tables.specs.Tables.{HasCommonTables, IsArchiveSchema}
-use Rattle.record_store.specs.Archive.{Archive}
+use Rattle.record_archive.specs.Archive.{Archive}
 use Rattle.record_store.specs.Adoption.{Sees}
 use Rattle.record_rows.specs.Rules.{rules_of, classes_of}
 use Rattle.record_store.proofs.AdoptReads.{sees_as, sees_then, kept_then, second_after, reads_after, stores_common, archive_common, second_stores}

@@ -1,6 +1,6 @@
 use Rattle.std.proofs.Common.{◌≡◌, ◌≤◌, ◌^◌, map, drop}
 use Rattle.record_tables.specs.CodeRows.{record_of}
-use Rattle.record_store.specs.Archive.{past_all}
+use Rattle.record_archive.specs.Archive.{past_all}
 use Rattle.record_store.proofs.tallies.next_after.Given as goal
 
 abbrev pub invariant-loop-record : goal.invariant-loop-record

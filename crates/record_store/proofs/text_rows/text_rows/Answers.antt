@@ -2,7 +2,7 @@ use Rattle.std.proofs.Common.{◌∙◌, sym, ap, map, Err}
 use Rattle.sqlite.specs.State.{HasCleanDisk}
 use Rattle.sqlite.specs.Held.{state}
 use Rattle.record_tables.specs.Tables.{HasCommonTables}
-use Rattle.record_store.specs.Archive.{Archive}
+use Rattle.record_archive.specs.Archive.{Archive}
 use Rattle.record_store.specs.Adoption.{Sees, first_pairs}
 use Rattle.class_plan.specs.Texts.{text_of}
 use Rattle.record_rows.specs.Texts.{text_row}

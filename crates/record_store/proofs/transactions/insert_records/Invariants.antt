@@ -2,7 +2,7 @@ use Rattle.std.proofs.Common.{◌≡◌, map, take, IsTrue}
 use Rattle.sqlite.specs.State.{HasCleanDisk, Survives}
 use Rattle.sqlite.specs.Held.{state}
 use Rattle.record_tables.specs.Changes.{Puts, IsPastRecords}
-use Rattle.record_store.specs.Archive.{records_of}
+use Rattle.record_archive.specs.Archive.{records_of}
 use Rattle.record_store.specs.Captures.{with_records}
 use Rattle.record_store.proofs.transactions.insert_records.Given as goal
 

@@ -5,7 +5,7 @@ use Rattle.sqlite.specs.State.{HasCleanDisk, Survives}
 use Rattle.sqlite.specs.Held.{state}
 use Rattle.record_tables.specs.Changes.{Turns}
 use Rattle.record_tables.specs.CodeRows.{due_of}
-use Rattle.record_store.specs.Archive.{records_of}
+use Rattle.record_archive.specs.Archive.{records_of}
 use Rattle.record_store.specs.Captures.{ArePast, with_captured}
 use Rattle.record_tables.proofs.Loops.{turned, survives_whole}
 use Rattle.record_store.proofs.transactions.put_capture.Goals as goal

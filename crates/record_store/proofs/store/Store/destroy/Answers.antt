@@ -1,7 +1,7 @@
 use Rattle.std.proofs.Common.{subst}
 use Rattle.record_tables.specs.CodeRows.{record_of}
-use Rattle.record_store.specs.Archive as archive
-use Rattle.record_store.specs.Archive.{Archive}
+use Rattle.record_archive.specs.Archive as archive
+use Rattle.record_archive.specs.Archive.{Archive}
 use Rattle.record_store.specs.Destruction.{IsFree}
 use Rattle.record_store.specs.Stores.{Leaves}
 use Rattle.record_store.proofs.AllowedLemmas.{leaves_allowed}

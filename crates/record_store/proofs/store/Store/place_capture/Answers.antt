@@ -4,7 +4,7 @@ use Rattle.sqlite.specs.State.{HasCleanDisk}
 use Rattle.sqlite.specs.Held.{state}
 use Rattle.std.proofs.lemmas.List.{length-map}
 use Rattle.record_tables.specs.CodeRows.{due_of}
-use Rattle.record_store.specs.Archive.{Archive}
+use Rattle.record_archive.specs.Archive.{Archive}
 use Rattle.record_store.proofs.CaptureStands.{Given, stands_captured, leaves_captured}
 use Rattle.record_store.proofs.store.Store.place_capture.Goals as goal
 

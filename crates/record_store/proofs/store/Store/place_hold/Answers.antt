@@ -3,8 +3,8 @@ use Rattle.sqlite.specs.State.{HasCleanDisk}
 use Rattle.sqlite.specs.Held.{state}
 use Rattle.record_tables.specs.Changes as tables
 use Rattle.record_tables.specs.Changes.{Always}
-use Rattle.record_store.specs.Archive as archive
-use Rattle.record_store.specs.Archive.{Archive}
+use Rattle.record_archive.specs.Archive as archive
+use Rattle.record_archive.specs.Archive.{Archive}
 use Rattle.record_store.specs.Counts.{only_at}
 use Rattle.record_store.proofs.CommandLemmas.{stands_turned, leaves_turned}
 use Rattle.record_store.proofs.HoldLemmas.{held_is_archive, stores_held, count_held}

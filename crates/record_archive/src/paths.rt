@@ -6,8 +6,7 @@ ghost use Rattle.std.specs.List.Sorted.{IsStrictlySortedBy};
 ghost use Rattle.std.specs.Ordering.{nat_cmp};
 ghost use Rattle.std.specs.Cmp.Lexicographic.{slice_cmp};
 ghost use Rattle.class_plan.specs.Plans.{has};
-ghost use Rattle.record_store.specs.Stores.{AreClasses};
-ghost use Rattle.record_store.specs.Captures.{path_list};
+ghost use Rattle.record_archive.specs.Archive.{AreClasses, path_list};
 
 use class_plan::Plan;
 
@@ -30,8 +29,7 @@ fn are_listed(plan: &Plan, paths: &[Vec<u8>]) -> bool
     paths.iter().all(|path| plan.contains(path.as_slice()))
 }
 
-/// Whether paths are classes of a plan, in byte order, each once, as [`Store::capture`](crate::Store::capture)
-/// requires.
+/// Whether paths are classes of a plan, in byte order, each once, as a capture requires.
 pub fn are_classes(plan: &Plan, paths: &[Vec<u8>]) -> bool
     ensures { IsTrue result ↔ AreClasses plan.now (path_list paths.now) }
 {

@@ -1,11 +1,12 @@
 -- An archive, and what each command makes of it.
-use Rattle.std.specs.Prelude.{◌≡◌, ◌≤◌, ◌<◌, ℕ, ◌+◌, ◌^◌, max, nat_le, ◌==◌, Bool, true, false, not, ◌&&◌, if◌then◌else◌, List, [], ◌∷◌, ◌++◌, map, filter, find, length, Option, Some, None, unwrap_or, Result, Ok, Err, All}
+use Rattle.std.specs.Prelude.{◌≡◌, ◌≤◌, ◌<◌, ℕ, ◌+◌, ◌^◌, max, nat_le, ◌==◌, Bool, true, false, not, ◌&&◌, if◌then◌else◌, List, [], ◌∷◌, ◌++◌, map, filter, find, length, Option, Some, None, option_map, unwrap_or, Result, Ok, Err, All, ℤ, pos, negsuc, Vec}
 use Rattle.std.specs.Str.{bytes_eq}
 use Rattle.std.specs.List.{list_any}
 use Rattle.std.specs.declared.cmp.Ordering.{Ordering}
-use Rattle.std.specs.Ordering.{nat_cmp, ordering_then}
-use Rattle.sqlite_keyed.specs.Lists.{sort_by, delete_where, update_where}
-use Rattle.sqlite_trees.specs.Tree.{IsAscending}
+use Rattle.std.specs.Ordering.{nat_cmp, int_cmp, ordering_then}
+use Rattle.std.specs.declared.alloc.Global.{Global}
+use Rattle.std.specs.List.Sorted.{IsStrictlySortedBy}
+use Rattle.std.specs.Cmp.Lexicographic.{slice_cmp}
 use Rattle.class_plan.specs.declared.faults.PlanFault.{PlanFault}
 use Rattle.class_plan.specs.declared.faults.PlanFault.TheVariants.{PathDropped}
 use Rattle.class_plan.specs.declared.schedules.Action.TheVariants.{Destroy}
@@ -13,10 +14,23 @@ use Rattle.class_plan.specs.declared.schedules.Schedule.{Schedule}
 use Rattle.class_plan.specs.declared.schedules.Schedule.TheVariants.{After}
 use Rattle.class_plan.specs.Changes.{addition}
 use Rattle.class_plan.specs.Plans.{Listing, IsPlan, first_plan, has, keeps, schedule_at}
-use Rattle.record_tables.specs.Rows.{Message, Record}
 use Rattle.class_plan.specs.Calendar.{due_on}
-use Rattle.record_store.specs.declared.fault.StoreFault.{StoreFault}
-use Rattle.record_store.specs.declared.fault.StoreFault.TheVariants as fault
+use Rattle.record_archive.specs.Lists.{sort_by, IsAscending}
+use Rattle.record_archive.specs.declared.fault.ArchiveRefusal.{ArchiveRefusal}
+use Rattle.record_archive.specs.declared.fault.ArchiveRefusal.TheVariants as refusal
+
+-- a stored message
+pub record Message : Type 0 where
+  pub number : ℕ
+  pub body : List ℕ
+
+-- a record of a message in the class of a path, captured on a day, which is counted from 1970-01-01
+pub record Record : Type 0 where
+  pub number : ℕ
+  pub message : ℕ
+  pub path : List ℕ
+  pub day : ℕ
+  pub destroyed : Bool
 
 -- a hold, by its name, of a record
 pub record Hold : Type 0 where
@@ -35,11 +49,11 @@ pub record Archive : Type 0 where
 abbrev pub empty_archive : Archive
 empty_archive = record { plan = first_plan; messages = []; records = []; holds = [] }
 
--- a record as it is answered: its number, its path, and the number of its due day, if it has one
+-- a record as it is answered: its number, its path, and its due day, if it has one, counted from 1970-01-01
 pub record Line : Type 0 where
   pub number : ℕ
   pub path : List ℕ
-  pub due : Option ℕ
+  pub due : Option ℤ
 
 -- ---- what is looked up
 
@@ -66,7 +80,7 @@ abbrev pub due_of : Archive → Record → Option ℕ
 due_of a r = due_on a.plan r.path r.day
 
 abbrev pub line_of : Archive → Record → Line
-line_of a r = record { number = r.number; path = r.path; due = due_of a r }
+line_of a r = record { number = r.number; path = r.path; due = option_map pos (due_of a r) }
 
 -- there is a day, and it is not later than this one
 abbrev pub is_by : ℕ → Option ℕ → Bool
@@ -106,8 +120,17 @@ abbrev pub has_room : Archive → List (List ℕ) → Bool
 has_room a [] = true
 has_room a (q ∷ qs) = nat_le (next_number a + length (q ∷ qs)) (2 ^ 32)
 
-abbrev pub capture : Archive → List ℕ → ℕ → List (List ℕ) → Result Archive StoreFault
-capture a body day paths = if has_room a paths then Ok (after_capture a body day paths) else Err fault.Full
+-- paths of classes of a plan, in byte order, each once
+pub record AreClasses (p : Listing) (paths : List (List ℕ)) : Type 0 where
+  pub classes : All (λ q. has p.rows q ≡ true) paths
+  pub in_order : IsStrictlySortedBy (slice_cmp nat_cmp) paths
+
+-- the bytes of each path
+abbrev pub path_list : List (Vec ℕ Global) → List (List ℕ)
+path_list paths = map (λ p. p.items) paths
+
+abbrev pub capture : Archive → List ℕ → ℕ → List (List ℕ) → Result Archive ArchiveRefusal
+capture a body day paths = if has_room a paths then Ok (after_capture a body day paths) else Err refusal.Full
 
 -- what a capture answers: a line for each new record
 abbrev pub capture_lines : Archive → ℕ → List (List ℕ) → List Line
@@ -119,25 +142,25 @@ abbrev pub with_hold : Archive → List ℕ → ℕ → Archive
 with_hold a name n = record a { holds = a.holds ++ record { name = name; number = n } ∷ [] }
 
 abbrev pub without_hold : Archive → List ℕ → ℕ → Archive
-without_hold a name n = record a { holds = delete_where (is_hold name n) a.holds }
+without_hold a name n = record a { holds = filter (λ h. not (is_hold name n h)) a.holds }
 
-abbrev pub hold_one : Archive → List ℕ → ℕ → Option Record → Result Archive StoreFault
-hold_one a name n None = Err fault.NoRecord
+abbrev pub hold_one : Archive → List ℕ → ℕ → Option Record → Result Archive ArchiveRefusal
+hold_one a name n None = Err refusal.NoRecord
 hold_one a name n (Some r) =
-    if r.destroyed then Err fault.Destroyed
-    else if is_held_by a name n then Err fault.HoldThere
+    if r.destroyed then Err refusal.Destroyed
+    else if is_held_by a name n then Err refusal.HoldThere
     else Ok (with_hold a name n)
 
 -- a hold of a live record, where that hold is not there
-abbrev pub hold : Archive → List ℕ → ℕ → Result Archive StoreFault
+abbrev pub hold : Archive → List ℕ → ℕ → Result Archive ArchiveRefusal
 hold a name n = hold_one a name n (record_at a n)
 
-abbrev pub release_one : Archive → List ℕ → ℕ → Option Record → Result Archive StoreFault
-release_one a name n None = Err fault.NoRecord
-release_one a name n (Some r) = if is_held_by a name n then Ok (without_hold a name n) else Err fault.NoHold
+abbrev pub release_one : Archive → List ℕ → ℕ → Option Record → Result Archive ArchiveRefusal
+release_one a name n None = Err refusal.NoRecord
+release_one a name n (Some r) = if is_held_by a name n then Ok (without_hold a name n) else Err refusal.NoHold
 
 -- the end of a hold that is there
-abbrev pub release : Archive → List ℕ → ℕ → Result Archive StoreFault
+abbrev pub release : Archive → List ℕ → ℕ → Result Archive ArchiveRefusal
 release a name n = release_one a name n (record_at a n)
 
 -- ---- destruction
@@ -152,36 +175,36 @@ is_shared a r = list_any (λ (x : Record). is_live x &&
 
 abbrev pub messages_without : Archive → Record → List Message
 messages_without a r = if is_shared a r then a.messages
-    else delete_where (λ (m : Message). m.number == r.message) a.messages
+    else filter (λ (m : Message). not (m.number == r.message)) a.messages
 
 -- the record's number, path and day stay, and the message is removed with its last live record
 abbrev pub without : Archive → Record → Archive
-without a r = record a { messages = messages_without a r; records = update_where (has_number r.number) destruction_of a.records }
+without a r = record a { messages = messages_without a r; records = map (λ x. if has_number r.number x then destruction_of x else x) a.records }
 
-abbrev pub destroy_one : Archive → ℕ → ℕ → Option Record → Result Archive StoreFault
-destroy_one a n day None = Err fault.NoRecord
+abbrev pub destroy_one : Archive → ℕ → ℕ → Option Record → Result Archive ArchiveRefusal
+destroy_one a n day None = Err refusal.NoRecord
 destroy_one a n day (Some r) =
-    if r.destroyed then Err fault.Destroyed
-    else if is_held a n then Err fault.Held
-    else if not (destroys (schedule_at a.plan r.path)) then Err fault.NotForDestruction
-    else if not (is_by day (due_of a r)) then Err fault.NotDue
+    if r.destroyed then Err refusal.Destroyed
+    else if is_held a n then Err refusal.Held
+    else if not (destroys (schedule_at a.plan r.path)) then Err refusal.NotForDestruction
+    else if not (is_by day (due_of a r)) then Err refusal.NotDue
     else Ok (without a r)
 
 -- the destruction of a live record that no hold keeps, whose schedule destroys it and that is due by the day
-abbrev pub destroy : Archive → ℕ → ℕ → Result Archive StoreFault
+abbrev pub destroy : Archive → ℕ → ℕ → Result Archive ArchiveRefusal
 destroy a n day = destroy_one a n day (record_at a n)
 
 -- ---- the plan
 
-abbrev pub plan_answer : Archive → Result Listing PlanFault → Result Archive StoreFault
+abbrev pub plan_answer : Archive → Result Listing PlanFault → Result Archive ArchiveRefusal
 plan_answer a (Ok p) = Ok (record a { plan = p })
-plan_answer a (Err f) = Err (fault.Plan f)
+plan_answer a (Err f) = Err (refusal.Plan f)
 
-abbrev pub add_class : Archive → List ℕ → Result Archive StoreFault
+abbrev pub add_class : Archive → List ℕ → Result Archive ArchiveRefusal
 add_class a q = plan_answer a (addition a.plan q)
 
-abbrev pub revise : Archive → Listing → Result Archive StoreFault
-revise a p = if keeps a.plan p then Ok (record a { plan = p }) else Err (fault.Plan PathDropped)
+abbrev pub revise : Archive → Listing → Result Archive ArchiveRefusal
+revise a p = if keeps a.plan p then Ok (record a { plan = p }) else Err (refusal.Plan PathDropped)
 
 -- ---- what is read
 
@@ -189,12 +212,12 @@ abbrev pub body_of : List Message → ℕ → Option (List ℕ)
 body_of [] n = None
 body_of (m ∷ ms) n = if m.number == n then Some m.body else body_of ms n
 
-abbrev pub message_one : Archive → Option Record → Result (Option (List ℕ)) StoreFault
-message_one a None = Err fault.NoRecord
-message_one a (Some r) = if r.destroyed then Err fault.Destroyed else Ok (body_of a.messages r.message)
+abbrev pub message_one : Archive → Option Record → Result (Option (List ℕ)) ArchiveRefusal
+message_one a None = Err refusal.NoRecord
+message_one a (Some r) = if r.destroyed then Err refusal.Destroyed else Ok (body_of a.messages r.message)
 
 -- the message of a record
-abbrev pub message : Archive → ℕ → Result (Option (List ℕ)) StoreFault
+abbrev pub message : Archive → ℕ → Result (Option (List ℕ)) ArchiveRefusal
 message a n = message_one a (record_at a n)
 
 -- a live record without a hold whose due day is not later
@@ -203,11 +226,16 @@ is_due a day r = is_live r && (not (is_held a r.number) && is_by day (due_of a r
 
 -- by due day, then by number; each line of a due list has a due day
 abbrev pub line_cmp : Line → Line → Ordering
-line_cmp x y = ordering_then (nat_cmp (unwrap_or x.due 0) (unwrap_or y.due 0)) (nat_cmp x.number y.number)
+line_cmp x y = ordering_then (int_cmp (unwrap_or x.due (pos 0)) (unwrap_or y.due (pos 0))) (nat_cmp x.number y.number)
 
 -- the due list of a day, in the plan as it is now
 abbrev pub due_list : Archive → ℕ → List Line
 due_list a day = sort_by line_cmp (map (line_of a) (filter (is_due a day) a.records))
+
+-- the due list of a day by its number, which is none before 1970
+abbrev pub due_list_on : Archive → ℤ → List Line
+due_list_on a (pos n) = due_list a n
+due_list_on a (negsuc n) = []
 
 -- ---- which rows are an archive
 

@@ -1,6 +1,6 @@
 use Rattle.std.proofs.Common.{◌∙◌, sym, true≢false}
-use Rattle.record_store.proofs.PathLemmas.{classes_are, are_listed}
-use Rattle.record_store.proofs.paths.are_classes.Goals as goal
+use Rattle.record_archive.proofs.PathLemmas.{classes_are, are_listed}
+use Rattle.record_archive.proofs.paths.are_classes.Goals as goal
 
 pub returns-then-are_listed : goal.returns-then-are_listed
 returns-then-are_listed c = (

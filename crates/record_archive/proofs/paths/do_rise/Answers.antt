@@ -1,7 +1,7 @@
 use Rattle.std.proofs.Common.{◌≡◌, ◌<◌, ◌-◌, ℕ, Vec, Global, List, map, refl, sym, ap₂, ◌∙◌, arith, rules, true≢false, is_lt, ap, Less}
 use Rattle.std.proofs.lemmas.List.{length-map}
-use Rattle.record_store.proofs.PathLemmas.{path_cmp, rises-sorted, sorted-rises, is_less, path_at, next_place}
-use Rattle.record_store.proofs.paths.do_rise.Goals as goal
+use Rattle.record_archive.proofs.PathLemmas.{path_cmp, rises-sorted, sorted-rises, is_less, path_at, next_place}
+use Rattle.record_archive.proofs.paths.do_rise.Goals as goal
 
 pub loop-i-init : goal.loop-i-init
 loop-i-init c = λ j low some. absurd (omega (arith, low, some))

@@ -8,7 +8,7 @@ use Rattle.std.proofs.lemmas.List.{get_or-map}
 use Rattle.std.proofs.lemmas.List.Elements.{All-from_recursion, recursion_from_All}
 use Rattle.std.proofs.lemmas.Map.Keys.{sorted_from_all_adjacent}
 use Rattle.class_plan.specs.Plans.{Listing, has}
-use Rattle.record_store.specs.Stores.{AreClasses}
+use Rattle.record_archive.specs.Archive.{AreClasses}
 
 abbrev pub path_cmp : List ℕ → List ℕ → Ordering
 path_cmp = slice_cmp nat_cmp

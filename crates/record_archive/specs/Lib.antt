@@ -1,0 +1,4 @@
+pub mod Lists
+pub mod Archive
+pub mod Lines
+pub mod Faults
