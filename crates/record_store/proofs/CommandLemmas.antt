@@ -11,7 +11,7 @@ use Rattle.sqlite.specs.declared.error.ErrorCode.TheVariants.{OutOfMemory}
 use Rattle.sqlite.proofs.StateLemmas.{survives_then, survives_weaker}
 use Rattle.record_tables.specs.Rows.{Tables}
 use Rattle.record_tables.specs.Changes.{Turns}
-use Rattle.record_tables.specs.Lookups.{Looks}
+use Rattle.record_reads.specs.Lookups.{Looks}
 use Rattle.record_archive.specs.Archive.{Archive, IsArchive, next_number}
 use Rattle.record_store.specs.Counts.{count_at}
 use Rattle.record_store.specs.Faults.{fault_of}

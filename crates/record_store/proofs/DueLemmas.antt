@@ -16,7 +16,7 @@ use Rattle.sqlite_keyed.proofs.SortLemmas.{sort_by-map}
 use Rattle.record_archive.specs.Archive.{Record, Line, Archive, Hold, IsArchive, line_of, due_of, is_due, is_by, is_live, is_held, line_cmp, due_list}
 use Rattle.record_tables.specs.Rows.{Due}
 use Rattle.record_tables.specs.Reads as reads
-use Rattle.record_tables.specs.DueRecords.{DueRecord, due_record, is_of, with_records}
+use Rattle.record_reads.specs.DueRecords.{DueRecord, due_record, is_of, with_records}
 use Rattle.record_store.specs.Dues.{due_line, due_records}
 use Rattle.record_store.specs.Stores.{has_due, due_row, due_rows, hold_count}
 

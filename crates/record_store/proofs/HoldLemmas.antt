@@ -4,7 +4,7 @@ use Rattle.std.specs.List.{AllByRecursion, list_any}
 use Rattle.std.specs.Str.{bytes_eq}
 use Rattle.std.proofs.lemmas.Map.Text.{is_eq-slice_cmp}
 use Rattle.std.proofs.lemmas.Int.{ints}
-use Rattle.record_tables.specs.Lookups.{has_hold_of}
+use Rattle.record_reads.specs.Lookups.{has_hold_of}
 use Rattle.std.proofs.lemmas.List.{map-append}
 use Rattle.std.proofs.lemmas.List.Elements.{All-push, All-filter}
 use Rattle.sqlite_trees.specs.Tree.{IsAscending}

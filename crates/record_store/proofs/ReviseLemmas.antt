@@ -12,7 +12,7 @@ use Rattle.sqlite.proofs.StateLemmas.{survives_weaker}
 use Rattle.class_plan.specs.Calendar.{due_on}
 use Rattle.class_plan.specs.Plans as plans
 use Rattle.class_plan.specs.Plans.{Listing, IsPlan, keeps, has}
-use Rattle.record_tables.specs.Lookups.{Looks}
+use Rattle.record_reads.specs.Lookups.{Looks}
 use Rattle.record_tables.specs.Tables.{HasCommonTables, IsArchiveSchema, schedules_and_dues_beside}
 use Rattle.record_archive.specs.Archive.{Record, Archive, IsArchive, revise}
 use Rattle.record_tables.specs.Rows.{Tables, Due, Stores, StoresCommon}

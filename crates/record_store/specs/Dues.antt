@@ -2,7 +2,7 @@
 use Rattle.std.specs.Prelude.{ℕ, ◌==◌, Bool, List, filter, Some, pos}
 use Rattle.sqlite_keyed.specs.Lists.{sort_by}
 use Rattle.record_tables.specs.Reads.{due_cmp, is_by}
-use Rattle.record_tables.specs.DueRecords.{DueRecord, with_records}
+use Rattle.record_reads.specs.DueRecords.{DueRecord, with_records}
 use Rattle.record_archive.specs.Archive.{Archive, Line}
 use Rattle.record_store.specs.Counts.{count_at}
 use Rattle.record_store.specs.Stores.{due_rows}

@@ -25,7 +25,7 @@ use record_tables::lay::move_first;
 use record_tables::layout::{Layout, layout_of};
 use record_tables::renew::replace_plan;
 use record_tables::rows::DueRow;
-use record_tables::stored_dues::are_dues;
+use record_reads::stored_dues::are_dues;
 use sqlite::{Alter, Connection, Error};
 use std::alloc::Global;
 

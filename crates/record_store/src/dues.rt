@@ -3,7 +3,7 @@
 ghost use Rattle.std.specs.Prelude.{◌≡◌, map, pos, IfOk, IfErr, filter, true};
 ghost use Rattle.jiff.specs.Words.{IsBetween, epoch_day};
 ghost use Rattle.class_plan.specs.Calendar.{number_of_day};
-ghost use Rattle.record_tables.specs.DueRecords.{due_record_of};
+ghost use Rattle.record_reads.specs.DueRecords.{due_record_of};
 ghost use Rattle.record_archive.specs.Archive.{due_list};
 ghost use Rattle.record_store.specs.Dues.{due_records, due_line, is_unheld};
 ghost use Rattle.record_archive.specs.Lines.{line_view};
@@ -15,7 +15,7 @@ use crate::fault::{LOST, StoreFault};
 use crate::store::Store;
 use class_plan::{Date, date_of};
 use record_archive::Line;
-use record_tables::due_records::due_records_by;
+use record_reads::due_records::due_records_by;
 use record_tables::fault::Fault;
 use record_tables::rows::DueRecordRow;
 use sqlite::Alter;

@@ -15,7 +15,7 @@ use crate::tallies::{held_counts, next_after, other_counts};
 use class_plan::Plan;
 use record_rows::are_rows_of;
 use record_tables::fault::Fault;
-use record_tables::read::{holds, message_numbers, records};
+use record_reads::read::{holds, message_numbers, records};
 use record_tables::rows::{DueRow, HoldRow, RecordRow};
 use sqlite::{Alter, Connection};
 use std::alloc::Global;

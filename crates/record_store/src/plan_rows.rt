@@ -12,7 +12,7 @@ ghost use Rattle.record_store.specs.Adoption.{FindsSecond, IsKeyed, TellsPlan, S
 use class_plan::Plan;
 use record_rows::{classes_of, plan_of_rows, rules_of};
 use record_tables::fault::Fault;
-use record_tables::read::{classes, schedules, settings};
+use record_reads::read::{classes, schedules, settings};
 use record_tables::rows::{ClassRow, ScheduleRow, SettingRow};
 use sqlite::{Alter, Connection};
 use std::alloc::{AllocError, Global};

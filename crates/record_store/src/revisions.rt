@@ -17,7 +17,7 @@ use class_plan::{Plan, PlanFault};
 use record_archive::ArchiveRefusal;
 use record_rows::{classes_of, rules_of};
 use record_tables::fault::Fault;
-use record_tables::read::records;
+use record_reads::read::records;
 use record_tables::renew::replace_plan;
 use record_tables::rows::{DueRow, RecordRow};
 use sqlite::Alter;

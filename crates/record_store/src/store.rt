@@ -18,7 +18,7 @@ use class_plan::Plan;
 use record_archive::ArchiveRefusal;
 use record_rows::{classes_of, rules_of};
 use record_tables::lay::lay;
-use record_tables::lookup::{has_hold, record_by_number};
+use record_reads::lookup::{has_hold, record_by_number};
 use record_tables::rows::RecordRow;
 use sqlite::{Alter, Connection};
 use std::alloc::Global;

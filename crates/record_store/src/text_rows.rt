@@ -13,7 +13,7 @@ use crate::plan_rows::is_setting;
 use class_plan::Plan;
 use record_rows::plan_of_texts;
 use record_tables::fault::Fault;
-use record_tables::read::{classes, settings};
+use record_reads::read::{classes, settings};
 use record_tables::rows::{ClassRow, SettingRow};
 use sqlite::{Alter, Connection};
 use std::alloc::Global;

@@ -10,8 +10,3 @@ pub mod Loops
 pub mod LayLemmas
 pub mod DropLemmas
 pub mod LayoutLemmas
-pub mod TypedLemmas
-pub mod ReadLemmas
-pub mod LookupLemmas
-pub mod DueRecords
-pub mod StoredDueLemmas

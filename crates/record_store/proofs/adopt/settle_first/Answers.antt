@@ -9,7 +9,7 @@ use Rattle.record_store.specs.Stores.{due_rows, StoresArchive}
 use Rattle.record_store.specs.Adoption.{FindsFirst, IsKeyed, TellsPlan}
 use Rattle.record_store.proofs.AdoptReads.{first_after, first_common}
 use Rattle.record_store.proofs.AdoptSettled.{handed_on, leaves_read, leaves_after}
-use Rattle.record_tables.proofs.TypedLemmas.{never_none}
+use Rattle.record_reads.proofs.TypedLemmas.{never_none}
 use Rattle.record_store.proofs.adopt.settle_first.Goals as goal
 
 pub returns-clause-found : goal.returns-clause-found
@@ -30,7 +30,7 @@ pub returns-in_err-move_over-clause-none : goal.returns-in_err-move_over-clause-
 returns-in_err-move_over-clause-none g c clean is = absurd (never_none c.from_residual-in_err-move_over.result c.in_err-move_over.field-0.0 c.from_residual-in_err-move_over.ensures.1 is)
 
 pub returns-in_err-contents-clause-err : goal.returns-in_err-contents-clause-err
-returns-in_err-contents-clause-err g c has clean is_open = Rattle.record_tables.proofs.TypedLemmas.on_err c.from_residual.result _ (c.read_first.ensures.sees.still c.requires has clean is_open)
+returns-in_err-contents-clause-err g c has clean is_open = Rattle.record_reads.proofs.TypedLemmas.on_err c.from_residual.result _ (c.read_first.ensures.sees.still c.requires has clean is_open)
 
 pub returns-in_err-move_over-clause-err : goal.returns-in_err-move_over-clause-err
 returns-in_err-move_over-clause-err g c has clean is_open =
@@ -38,7 +38,7 @@ returns-in_err-move_over-clause-err g c has clean is_open =
     let clean1 : HasCleanDisk mid = c.move_over.ensures.falls clean in
     let last = c.in_err-move_over.ensures.err clean is_open in
     let first = c.read_first.ensures.sees.still c.requires has clean1 last.0 in
-    Rattle.record_tables.proofs.TypedLemmas.on_err c.from_residual-in_err-move_over.result _ (first.0, last.1 ∙ first.1)
+    Rattle.record_reads.proofs.TypedLemmas.on_err c.from_residual-in_err-move_over.result _ (first.0, last.1 ∙ first.1)
 
 pub returns-in_err-contents-clause-crash : goal.returns-in_err-contents-clause-crash
 returns-in_err-contents-clause-crash g c =

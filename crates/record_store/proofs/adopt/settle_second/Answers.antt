@@ -9,7 +9,7 @@ use Rattle.record_store.specs.Stores.{due_rows, StoresArchive}
 use Rattle.record_store.specs.Adoption.{FindsSecond, IsKeyed, TellsPlan}
 use Rattle.record_store.proofs.AdoptReads.{second_after}
 use Rattle.record_store.proofs.AdoptSettled.{handed_on, leaves_read, leaves_after}
-use Rattle.record_tables.proofs.TypedLemmas.{never_none}
+use Rattle.record_reads.proofs.TypedLemmas.{never_none}
 use Rattle.record_store.proofs.adopt.settle_second.Goals as goal
 
 pub returns-clause-found : goal.returns-clause-found
@@ -30,7 +30,7 @@ pub returns-in_err-settle_dues-clause-none : goal.returns-in_err-settle_dues-cla
 returns-in_err-settle_dues-clause-none g c clean is = absurd (never_none c.from_residual-in_err-settle_dues.result c.in_err-settle_dues.field-0.0 c.from_residual-in_err-settle_dues.ensures.1 is)
 
 pub returns-in_err-contents-clause-err : goal.returns-in_err-contents-clause-err
-returns-in_err-contents-clause-err g c has clean is_open = Rattle.record_tables.proofs.TypedLemmas.on_err c.from_residual.result _ (c.read_second.ensures.sees.still c.requires has clean is_open)
+returns-in_err-contents-clause-err g c has clean is_open = Rattle.record_reads.proofs.TypedLemmas.on_err c.from_residual.result _ (c.read_second.ensures.sees.still c.requires has clean is_open)
 
 pub returns-in_err-settle_dues-clause-err : goal.returns-in_err-settle_dues-clause-err
 returns-in_err-settle_dues-clause-err g c has clean is_open =
@@ -40,7 +40,7 @@ returns-in_err-settle_dues-clause-err g c has clean is_open =
     λ mid_open. let it = c.read_second.ensures.sees.still c.requires has clean1 mid_open in subst (λ (d : Database). IsArchiveSchema d.schema) (sym it.1) (has it.0) in
     let last = c.in_err-settle_dues.ensures.err opened clean is_open in
     let first = c.read_second.ensures.sees.still c.requires has clean1 last.0 in
-    Rattle.record_tables.proofs.TypedLemmas.on_err c.from_residual-in_err-settle_dues.result _ (first.0, last.1 ∙ first.1)
+    Rattle.record_reads.proofs.TypedLemmas.on_err c.from_residual-in_err-settle_dues.result _ (first.0, last.1 ∙ first.1)
 
 pub returns-in_err-contents-clause-crash : goal.returns-in_err-contents-clause-crash
 returns-in_err-contents-clause-crash g c =

@@ -1,6 +1,6 @@
 use Rattle.std.proofs.Common.{◌≡◌, ◌∙◌, sym, ap, map, true≢false}
 use Rattle.record_tables.specs.CodeRows.{record_of, hold_entry_of}
-use Rattle.record_tables.proofs.TypedLemmas.{never_none}
+use Rattle.record_reads.proofs.TypedLemmas.{never_none}
 use Rattle.record_rows.specs.SoundRows.{AreRows}
 use Rattle.record_archive.specs.Archive.{Archive}
 use Rattle.record_store.proofs.AdoptRows.{is_overview, judged_at, rows_told}

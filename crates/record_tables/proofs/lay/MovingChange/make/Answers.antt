@@ -1,8 +1,11 @@
-use Rattle.std.proofs.Common.{arith, ◌∙◌, subst, IsTrue}
+use Rattle.std.proofs.Common.{arith, ◌∙◌, subst, IsTrue, Result, Ok, Err, OnErr}
 use Rattle.sqlite.specs.Held.{state}
 use Rattle.sqlite.specs.State.{HasCleanDisk}
-use Rattle.record_tables.proofs.TypedLemmas.{on_err}
 use Rattle.record_tables.proofs.lay.MovingChange.make.Goals as goal
+
+on_err : {T E : Type 0} (r : Result T E) (P : Type 0) → P → OnErr r P
+on_err (Ok x) P p = tt
+on_err (Err e) P p = p
 
 pub returns-clause-ok : goal.returns-clause-ok
 returns-clause-ok g c clean inside =
