@@ -13,9 +13,10 @@ use Rattle.record_tables.specs.Rows.{Due}
 use Rattle.record_tables.specs.Changes as tables
 use Rattle.class_plan.specs.Calendar.{due_on}
 use Rattle.class_plan.specs.Plans.{schedule_at}
-use Rattle.record_store.specs.Counts.{count_at, only_at, tally}
+use Rattle.record_adoption.specs.Counts.{count_at, only_at, tally}
 use Rattle.record_store.specs.Destruction.{IsFree, IsDestruction, against_destruction, with_destruction}
-use Rattle.record_store.specs.Stores.{StandsFor, StoresArchive, has_due, due_row, live_count}
+use Rattle.record_adoption.specs.Keeping.{StoresArchive, has_due, due_row, live_count}
+use Rattle.record_store.specs.Stores.{StandsFor}
 use Rattle.record_archive.specs.declared.fault.ArchiveRefusal.{ArchiveRefusal}
 use Rattle.record_archive.specs.declared.fault.ArchiveRefusal.TheVariants as fault
 use Rattle.record_store.specs.declared.store.Store.{Store}

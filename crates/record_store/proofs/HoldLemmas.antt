@@ -15,8 +15,8 @@ use Rattle.record_archive.specs.Archive.{Record, Archive, Hold, IsArchive, recor
 use Rattle.record_tables.specs.Rows.{Hold as HoldRow}
 use Rattle.record_tables.specs.Changes as tables
 use Rattle.record_tables.specs.Changes.{Turns, Always}
-use Rattle.record_store.specs.Counts.{only_at, tally}
-use Rattle.record_store.specs.Stores.{StoresArchive, hold_of, hold_count}
+use Rattle.record_adoption.specs.Counts.{only_at, tally}
+use Rattle.record_adoption.specs.Keeping.{StoresArchive, hold_of, hold_count}
 use Rattle.record_archive.specs.declared.fault.ArchiveRefusal.TheVariants as fault
 
 -- ---- what is found by a number

@@ -4,24 +4,24 @@ ghost use Rattle.std.specs.Prelude.{◌≡◌, ◌<◌, pos, true, false, Err, S
 ghost use Rattle.jiff.specs.Words.{IsBetween, epoch_day};
 ghost use Rattle.class_plan.specs.Calendar.{number_of_day};
 ghost use Rattle.record_tables.specs.Changes.{Always};
-ghost use Rattle.record_tables.specs.Steps.{PutsIn, KeepsIn, CommitsNothing, CommitsWhole, Makes, IsUndone, WasOpen};
+ghost use Rattle.record_tables.specs.Steps.{PutsIn, KeepsIn, CommitsNothing};
 ghost use Rattle.record_tables.specs.CodeRows.{record_of};
 ghost use Rattle.record_archive.specs.Archive as archive;
 ghost use Rattle.record_archive.specs.Archive.{Archive};
-ghost use Rattle.record_store.specs.Counts.{count_at};
-ghost use Rattle.record_store.specs.Destruction.{IsFree, IsDestruction, against_destruction, with_destruction, without_body, IsDestroyable};
+ghost use Rattle.record_adoption.specs.Counts.{count_at};
+ghost use Rattle.record_store.specs.Destruction.{IsFree, IsDestruction, against_destruction, without_body, IsDestroyable};
 ghost use Rattle.record_archive.specs.Faults.{WhereRefused, is_trouble};
 ghost use Rattle.record_store.specs.Stores.{StandsFor, ObeysRows, Tells, Leaves, LeavesAll, LeavesAllowed, Falls, Quietly, ChangesWhere, IsOpenOnOk};
 
-use crate::captures::number_of;
 use crate::fault::{BUSY, LOST, StoreFault, fault_of};
-use crate::plan_days::{LAST_CAPTURE_DAY, due_day_of};
 use crate::store::Store;
 use class_plan::{Action, Date, Plan, Schedule};
+use record_adoption::{LAST_CAPTURE_DAY, due_day_of, number_of};
 use record_archive::ArchiveRefusal;
 use record_tables::rows::RecordRow;
+use record_tables::transact::{Change, transact};
 use record_tables::writes::{delete_due, delete_message, set_destroyed};
-use sqlite::{Alter, Connection, Error, Transaction};
+use sqlite::{Alter, Error, Transaction};
 
 /// Removes the message, if one is given.
 fn delete_body<S: Alter>(tx: &mut Transaction<'_, S>, last: Option<u32>) -> Result<(), Error>
@@ -37,42 +37,24 @@ fn delete_body<S: Alter>(tx: &mut Transaction<'_, S>, last: Option<u32>) -> Resu
     }
 }
 
-/// Marks a record as destroyed, and removes its due day and the message, if one is given.
-fn delete_record<S: Alter>(
-    tx: &mut Transaction<'_, S>,
+/// A record is marked as destroyed, and its due day is removed, with the message, if one is given.
+#[derive(Drop)]
+struct Destruction {
     number: u32,
     last: Option<u32>,
-) -> Result<(), Error>
-    ensures same_reference { tx.new.conn.ghost_name ≡ tx.old.conn.ghost_name }
-    ensures ok { OnOk result
-        (PutsIn S.Store tx.old.conn.now tx.new.conn.now Always (with_destruction number last)) }
-    ensures err { KeepsIn S.Store tx.old.conn.now tx.new.conn.now result }
-    ensures survives { CommitsNothing S.Store tx.old.conn.now tx.new.conn.now }
-{
-    delete_due(tx, number)?;
-    set_destroyed(tx, number)?;
-    delete_body(tx, last)?;
-    Ok(())
 }
 
-/// Destroys a record in one transaction: all or nothing, even in a crash.
-fn put_destruction<S: Alter>(
-    conn: &mut Connection<S>,
-    number: u32,
-    last: Option<u32>,
-) -> Result<(), Error>
-    requires idle { conn.old.in_transaction ≡ false }
-    ensures idle { conn.new.in_transaction ≡ false }
-    ensures ok { Makes S.Store conn.old conn.new result (IsDestruction number last) }
-    ensures err { IsUndone S.Store conn.old conn.new result }
-    ensures was_open { WasOpen S.Store conn.old conn.new }
-    ensures crash { CommitsWhole S.Store conn.old conn.new (IsDestruction number last) }
-{
-    let _settled = conn.is_autocommit();
-    let mut tx = conn.transaction();
-    delete_record(&mut tx, number, last)?;
-    tx.commit()?;
-    Ok(())
+impl Change for Destruction {
+    ghost may_be_made = { λ c db. Unit {0} };
+
+    ghost makes = { λ c. IsDestruction c.number c.last };
+
+    fn make<S: Alter>(self, tx: &mut Transaction<'_, S>) -> Result<(), Error> {
+        delete_due(tx, self.number)?;
+        set_destroyed(tx, self.number)?;
+        delete_body(tx, self.last)?;
+        Ok(())
+    }
 }
 
 /// Whether a schedule's action is to destroy.
@@ -169,7 +151,7 @@ impl<S: Alter> Store<S> {
             return Err(BUSY);
         }
         let last = self.last_body(row.message);
-        match put_destruction(&mut self.conn, number, last) {
+        match transact(&mut self.conn, Destruction { number, last }) {
             Ok(()) => {
                 self.others.take(row.message, 1);
                 Ok(())

@@ -10,10 +10,10 @@ ghost use Rattle.record_archive.specs.Lines.{line_view};
 ghost use Rattle.record_archive.specs.Faults.{is_trouble};
 ghost use Rattle.record_store.specs.Stores.{Tells, LeavesAll, Falls};
 
-use crate::captures::number_of;
 use crate::fault::{LOST, StoreFault};
 use crate::store::Store;
 use class_plan::{Date, date_of};
+use record_adoption::number_of;
 use record_archive::Line;
 use record_reads::due_records::due_records_by;
 use record_tables::fault::Fault;

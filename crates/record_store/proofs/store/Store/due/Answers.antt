@@ -1,6 +1,6 @@
 use Rattle.std.proofs.Common.{◌==◌, ◌∙◌, map, filter, ap}
 use Rattle.record_archive.specs.Archive.{Archive}
-use Rattle.record_store.specs.Counts.{count_at}
+use Rattle.record_adoption.specs.Counts.{count_at}
 use Rattle.record_store.specs.Dues.{due_records, due_line}
 use Rattle.record_store.proofs.DueLemmas.{due_list_is, unheld_are}
 use Rattle.record_store.proofs.store.Store.due.Goals as goal
