@@ -2,3 +2,4 @@ pub mod Lists
 pub mod Archive
 pub mod Lines
 pub mod Faults
+pub mod Calls

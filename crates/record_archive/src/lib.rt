@@ -7,7 +7,9 @@
 mod fault;
 mod line;
 mod paths;
+mod records;
 
 pub use fault::{ArchiveFault, ArchiveRefusal};
 pub use line::Line;
 pub use paths::are_classes;
+pub use records::Records;
