@@ -52,6 +52,15 @@ pub after_none : {V : Type 0} (f : V → Due) (vs : List V) (n : ℕ) → None �
 after_none f [] n none = tt
 after_none f (x ∷ vs) n none = absurd (is_got (x ∷ vs) (length (x ∷ vs) - 1) (omega arith) none)
 
+last_at : {V : Type 0} (f : V → Due) (vs : List V) (v : V) (n i : ℕ) → AllByRecursion (λ (d : Due). d.number < n) (map f vs) → Some v ≡ slice_get vs i → (f v).number < n
+last_at f [] v n zero all at = absurd cc
+last_at f [] v n (suc i) all at = absurd cc
+last_at f (x ∷ vs) v n zero all at = let same : v ≡ x = cc in subst (λ y. (f y).number < n) (sym same) all.0
+last_at f (x ∷ vs) v n (suc i) all at = last_at f vs v n i all.1 at
+
+pub last_below : {V : Type 0} (f : V → Due) (vs : List V) (v : V) (n : ℕ) → AllByRecursion (λ (d : Due). d.number < n) (map f vs) → Some v ≡ slice_get vs (length vs - 1) → (f v).number < n
+last_below f vs v n all at = last_at f vs v n (length vs - 1) all at
+
 pub rises_after : {V : Type 0} (f : V → Due) (vs : List V) (v : V) → AreAscending (map f vs) → AllByRecursion (λ (d : Due). d.number < (f v).number) (map f vs) → AreAscending (map f (vs ++ v ∷ []))
 rises_after f vs v up below =
     subst AreAscending (sym (map-append f vs (v ∷ [])))

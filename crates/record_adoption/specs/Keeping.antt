@@ -1,5 +1,6 @@
 -- How tables keep an archive.
-use Rattle.std.specs.Prelude.{◌≡◌, ◌==◌, ℕ, Bool, ◌&&◌, List, [], ◌∷◌, map, filter, is_some, unwrap_or, codes, IsPermutation}
+use Rattle.std.specs.Prelude.{◌≡◌, ◌<◌, ◌==◌, ℕ, Bool, ◌&&◌, List, [], ◌∷◌, map, filter, is_some, unwrap_or, codes, IsPermutation}
+use Rattle.std.specs.List.{AllByRecursion}
 use Rattle.sqlite.specs.Effect.{Database}
 use Rattle.class_plan.specs.Plans.{Listing}
 use Rattle.record_archive.specs.Archive.{Record, Archive, Hold, due_of, is_live}
@@ -42,6 +43,10 @@ pub record StoresArchive (db : Database) (a : Archive) : Type 0 where
 -- the due days by a plan, of the records that are live and have one
 abbrev pub dues_in : Listing → List Record → List Due
 dues_in p rs = due_rows (record { plan = p; messages = []; records = rs; holds = [] })
+
+-- the due days are those of records below a number
+abbrev pub AreBelow : ℕ → List Due → Type 0
+AreBelow n = AllByRecursion (λ (d : Due). d.number < n)
 
 -- the number of live records of a message
 abbrev pub live_count : Archive → ℕ → ℕ

@@ -1,12 +1,13 @@
 //! Due days by a plan.
 
-ghost use Rattle.std.specs.Prelude.{pos, ◌≡◌, ◌≤◌, ◌<◌, ◌++◌, [], ◌∷◌, map, true, IfOk, OnOk};
-ghost use Rattle.std.specs.List.{AllByRecursion};
+ghost use Rattle.std.specs.Prelude.{pos, ◌≡◌, ◌≤◌, ◌<◌, ◌++◌, [], ◌∷◌, map, true, false, IfOk, IfErr, OnOk};
 ghost use Rattle.jiff.specs.Words.{IsBetween, epoch_day};
 ghost use Rattle.class_plan.specs.Calendar.{due_on, number_of_day};
 ghost use Rattle.record_tables.specs.Changes.{AreAscending};
 ghost use Rattle.record_tables.specs.CodeRows.{record_of, due_of};
-ghost use Rattle.record_adoption.specs.Keeping.{dues_in};
+ghost use Rattle.sqlite.specs.declared.error.ErrorCode.TheVariants.{OutOfMemory};
+ghost use Rattle.sqlite.specs.declared.error.Error.TheVariants.{SqliteFailure};
+ghost use Rattle.record_adoption.specs.Keeping.{AreBelow, dues_in};
 
 use class_plan::{Date, Plan, date_of, day_number};
 use record_tables::rows::{DueRow, RecordRow};
@@ -43,7 +44,8 @@ pub fn due_day_of(plan: &Plan, path: &[u8], day: u32) -> Option<u32>
 /// Whether a record's number is above those of these due days.
 fn is_after(dues: &[DueRow], number: u32) -> bool
     requires { AreAscending (map due_of dues.now) }
-    ensures { result ≡ true → AllByRecursion (λ d. d.number < number) (map due_of dues.now) }
+    ensures below { result ≡ true → AreBelow number (map due_of dues.now) }
+    ensures otherwise { result ≡ false → AreBelow number (map due_of dues.now) → ⊥ }
 {
     match dues.last() {
         Some(last) => last.record < number,
@@ -56,6 +58,8 @@ fn push_in_order(dues: &mut Vec<DueRow>, due: DueRow) -> Result<(), Error>
     requires { AreAscending (map due_of dues.old.items) }
     ensures items { OnOk result (dues.new.items ≡ dues.old.items ++ due ∷ []) }
     ensures ascending { OnOk result (AreAscending (map due_of dues.new.items)) }
+    ensures refused { IfErr result
+        (λ e. AreBelow due.record (map due_of dues.old.items) → e ≡ SqliteFailure OutOfMemory) }
 {
     if is_after(dues.as_slice(), due.record) {
         dues.push(due)?;
@@ -71,6 +75,8 @@ fn push_due_row(dues: &mut Vec<DueRow>, plan: &Plan, row: &RecordRow) -> Result<
     ensures rows { OnOk result (map due_of dues.new.items ≡ map due_of dues.old.items ++
         dues_in plan.now (record_of row.now ∷ [])) }
     ensures ascending { OnOk result (AreAscending (map due_of dues.new.items)) }
+    ensures refused { IfErr result (λ e. row.now.day ≤ 84005 →
+        AreBelow row.now.number (map due_of dues.old.items) → e ≡ SqliteFailure OutOfMemory) }
 {
     if row.destroyed {
         return Ok(());

@@ -1,8 +1,7 @@
 //! Destruction: the number, the path and the day of a destroyed record stay.
 
 ghost use Rattle.std.specs.Prelude.{◌≡◌, ◌<◌, pos, true, false, Err, Some, None, IfErr, OnOk, OnErr, MatchOption};
-ghost use Rattle.jiff.specs.Words.{IsBetween, epoch_day};
-ghost use Rattle.class_plan.specs.Calendar.{number_of_day};
+ghost use Rattle.jiff.specs.Words.{epoch_day};
 ghost use Rattle.record_tables.specs.Changes.{Always};
 ghost use Rattle.record_tables.specs.Steps.{PutsIn, KeepsIn, CommitsNothing};
 ghost use Rattle.record_tables.specs.CodeRows.{record_of};
@@ -13,10 +12,11 @@ ghost use Rattle.record_store.specs.Destruction.{IsFree, IsDestruction, against_
 ghost use Rattle.record_archive.specs.Faults.{WhereRefused, is_trouble};
 ghost use Rattle.record_store.specs.Stores.{StandsFor, ObeysRows, Tells, Leaves, LeavesAll, LeavesAllowed, Falls, Quietly, ChangesWhere, IsOpenOnOk};
 
+use crate::dues::number_from_1970;
 use crate::fault::{BUSY, LOST, StoreFault, fault_of};
 use crate::store::Store;
 use class_plan::{Action, Date, Plan, Schedule};
-use record_adoption::{LAST_CAPTURE_DAY, due_day_of, number_of};
+use record_adoption::{LAST_CAPTURE_DAY, due_day_of};
 use record_archive::ArchiveRefusal;
 use record_tables::rows::RecordRow;
 use record_tables::transact::{Change, transact};
@@ -70,21 +70,22 @@ fn destroys(schedule: Option<Schedule>) -> bool
     )
 }
 
-/// Whether there is a due day, and it is not after a day.
-fn is_by(day: u32, due: Option<u32>) -> bool
-    ensures { result ≡ archive.is_by day due }
+/// Whether there is a day and a due day, which is not after it.
+fn is_by(day: Option<u32>, due: Option<u32>) -> bool
+    ensures { result ≡ archive.is_by_any day due }
 {
-    match due {
-        Some(due) => due <= day,
-        None => false,
+    match (day, due) {
+        (Some(day), Some(due)) => due <= day,
+        _ => false,
     }
 }
 
 /// Whether the plan destroys a record by a day; refused with the first of 83 and 82, in this order.
-fn judge_plan(plan: &Plan, row: &RecordRow, day: u32) -> Result<(), StoreFault>
+fn judge_plan(plan: &Plan, row: &RecordRow, day: Option<u32>) -> Result<(), StoreFault>
     ensures ok { OnOk result (against_destruction plan.now day (record_of row.now) ≡ None) }
     ensures err { IfErr result (WhereRefused (λ r.
         against_destruction plan.now day (record_of row.now) ≡ Some r)) }
+    ensures lost { IfErr result (λ f. is_trouble f ≡ true → 84005 < row.now.day) }
 {
     let path = row.path.as_slice();
     if row.day > LAST_CAPTURE_DAY {
@@ -101,10 +102,10 @@ fn judge_plan(plan: &Plan, row: &RecordRow, day: u32) -> Result<(), StoreFault>
 
 impl<S: Alter> Store<S> {
     /// The record, if it may be destroyed by a day; refused with the first of 80, 84, 81, 83 and 82, in this order.
-    fn judge_destruction(&mut self, number: u32, day: u32) -> Result<RecordRow, StoreFault>
+    fn judge_destruction(&mut self, number: u32, day: Option<u32>) -> Result<RecordRow, StoreFault>
         ensures tells { Tells S.Store self.old self.new result
             (λ a r. IsDestroyable number day a (record_of r))
-            (λ a f. archive.destroy a number day ≡ Err f) }
+            (λ a f. archive.destroy_by a number day (archive.record_at a number) ≡ Err f) }
         ensures falls { Falls S.Store self.old self.new }
         ensures open { IsOpenOnOk S.Store self.new result }
         ensures crash { LeavesAll S.Store self.old self.new }
@@ -171,18 +172,15 @@ impl<S: Alter> Store<S> {
     /// - 83: its schedule's action is not to destroy;
     /// - 82: it is due after the day.
     ///
-    /// A refusal changes nothing.
-    ///
-    /// The caller gives a day of 1970 to 9999.
+    /// By a day before 1970 no record is due. A refusal changes nothing.
     pub fn destroy(&mut self, number: u32, day: Date) -> Result<(), StoreFault>
-        requires { IsBetween (pos 0) (pos 2932896) (epoch_day day) }
         ensures obeys { ObeysRows S.Store self.old self.new result
-            (λ a. archive.destroy a number (number_of_day day)) Quietly }
+            (λ a. archive.destroy_on a number (epoch_day day)) Quietly }
         ensures falls { Falls S.Store self.old self.new }
         ensures crash { Leaves S.Store self.old self.new
-            (λ a. archive.destroy a number (number_of_day day)) }
+            (λ a. archive.destroy_on a number (epoch_day day)) }
     {
-        let record = self.judge_destruction(number, number_of(day))?;
+        let record = self.judge_destruction(number, number_from_1970(day))?;
         self.remove_record(number, &record)?;
         Ok(())
     }
