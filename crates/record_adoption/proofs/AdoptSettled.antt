@@ -21,7 +21,6 @@ use Rattle.record_archive.specs.Archive.{Archive, IsArchive}
 use Rattle.record_adoption.specs.Adoption.{FindsSecond, FindsFirst, FindsNothing, IsOverview, IsKeyed, LeavesArchive, first_pairs}
 use Rattle.record_adoption.specs.Counts.{count_at}
 use Rattle.record_adoption.specs.Keeping.{StoresArchive, due_rows}
-use Rattle.record_store.specs.Stores.{StandsFor}
 use Rattle.record_adoption.specs.declared.overview.Overview.{Overview}
 use Rattle.record_adoption.proofs.LaidLemmas.{listed-numbered, rules-numbered, same_list, stores_laid}
 

@@ -23,7 +23,6 @@ use Rattle.record_rows.specs.Rules.{rules_of, classes_of}
 use Rattle.record_rows.specs.Texts.{text_row}
 use Rattle.record_adoption.specs.Counts.{count_at}
 use Rattle.record_adoption.specs.Keeping.{Keeps, StoresArchive, hold_of, hold_count, live_count, due_rows}
-use Rattle.record_store.specs.Stores.{StandsFor}
 use Rattle.record_adoption.specs.declared.overview.ArchiveRows.{ArchiveRows}
 use Rattle.record_adoption.specs.declared.overview.Overview.{Overview}
 use Rattle.record_adoption.specs.declared.plan_rows.PlanRows.{PlanRows}

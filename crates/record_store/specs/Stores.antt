@@ -1,26 +1,18 @@
 -- Which archive a store represents, and what its calls promise.
-use Rattle.std.specs.Prelude.{◌≡◌, ◌-◌, ◌==◌, ℕ, ℤ, pos, negsuc, Bool, true, false, ◌&&◌, unsigned_abs, List, [], ◌∷◌, map, filter, is_some, option_map, unwrap_or, codes, None, Result, Ok, Err, OnOk, IsTrue, IsPermutation, All}
-use Rattle.std.specs.List.Sorted.{IsStrictlySortedBy}
-use Rattle.std.specs.Ordering.{nat_cmp}
-use Rattle.std.specs.Cmp.Lexicographic.{slice_cmp}
-use Rattle.jiff.specs.Words.{epoch_day}
-use Rattle.class_plan.specs.Plans as plans
+use Rattle.std.specs.Prelude.{◌≡◌, ◌-◌, ℕ, false, None, Result, Ok, Err, OnOk, IsTrue}
 use Rattle.sqlite.specs.Store.{Ghosts}
 use Rattle.sqlite.specs.Effect.{Database}
 use Rattle.sqlite.specs.State.{HasCleanDisk, Survives}
 use Rattle.sqlite.specs.Tree.{Trees}
 use Rattle.sqlite.specs.Held.{Held, state}
-use Rattle.record_archive.specs.Archive.{Record, Archive, Hold, Line, IsArchive, due_of, due_list, is_live, next_number, record_at}
-use Rattle.record_tables.specs.Rows.{Tables, Stores, AreKeyed, Due, Hold as HoldRow}
-use Rattle.record_tables.specs.Reads.{class_entry, rule, pair}
-use Rattle.record_rows.specs.Rules.{rules_of, classes_of}
+use Rattle.record_archive.specs.Archive.{Archive, IsArchive, next_number, record_at}
 use Rattle.record_archive.specs.Faults.{WhereRefused}
 use Rattle.record_archive.specs.declared.fault.ArchiveRefusal.{ArchiveRefusal}
 use Rattle.record_archive.specs.declared.fault.ArchiveRefusal.TheVariants.{NoRecord}
+use Rattle.record_adoption.specs.Counts.{count_at}
+use Rattle.record_adoption.specs.Keeping.{StoresArchive, live_count, hold_count}
 use Rattle.record_store.specs.Faults.{StoreFault}
-use Rattle.record_adoption.specs.Counts.{count_at, tally}
 use Rattle.record_store.specs.declared.store.Store.{Store}
-use Rattle.record_archive.specs.declared.line.Line as code
 
 -- While the disk is clean and the connection open, the rows are those of the archive. Beside the connection the store
 -- keeps the plan, the next number, the number of holds on each record, and that of each message's live records beyond

@@ -17,6 +17,7 @@ use crate::changes::Capture;
 use crate::fault::{BUSY, StoreFault, fault_of};
 use crate::store::Store;
 use class_plan::{Date, day_number};
+use record_adoption::number_of;
 use record_archive::{ArchiveRefusal, Line};
 use record_tables::rows::DueRow;
 use record_tables::transact::transact;
