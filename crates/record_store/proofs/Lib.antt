@@ -17,3 +17,4 @@ pub mod AdoptReads
 pub mod AdoptSettled
 pub mod AdoptLayouts
 pub mod ChangeRows
+pub mod RecordsLemmas

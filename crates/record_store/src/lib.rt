@@ -13,6 +13,7 @@ mod messages;
 mod overview;
 mod plan_days;
 mod plan_rows;
+mod records;
 mod revisions;
 mod store;
 mod tallies;
