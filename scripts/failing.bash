@@ -363,14 +363,6 @@ write_cases() {
     done
 }
 
-# Copies the tree and adds the program that is swept, which is not part of the gate.
-make_growth() {
-    mkdir -p -- "$work/tree/crates/growth/src"
-    tar -c --exclude='./crates/*/out' ./crates ./crates.txt | tar -x -C "$work/tree" &&
-        cp -- scripts/growth.rt.txt "$work/tree/crates/growth/src/main.rt" &&
-        echo "growth: row_text filing_desk filing_session record_store sqlite sqlite_disk anyhow" >> "$work/tree/crates.txt"
-}
-
 # Reports the cases of a sweep: a line of counts, and those that went wrong. The last case must meet no refusal, so that none is left
 # out.
 judge_sweep() {
@@ -394,8 +386,9 @@ judge_sweep() {
 memory() {
     local session place first last
     [[ -n $(kit) ]] || give_up "there is no command rt of a Rattle kit"
-    make_growth || give_up "there is no place for a copy of the tree"
-    mkdir -- "$work/cases"
+    if ! { mkdir -- "$work/cases" "$work/tree" && lay_beside growth "$work/tree"; }; then
+        give_up "there is no place for a copy of the tree"
+    fi
     while read -r session place first last; do
         write_cases "$session" "$place" "$first" "$last"
     done <<< "$SWEEPS"

@@ -9,11 +9,12 @@
 make_stage() {
     stage=$work/stage
     path=$stage/kit/bin:/usr/bin:/bin
-    mkdir -p -- "$stage"/kit/bin "$stage"/tree/{.git,docs,scripts} "$stage"/tree/crates/{low,beside,one,two,three,middle,mailfile,measures}/src
+    mkdir -p -- "$stage"/kit/bin "$stage"/tree/{.git,docs,scripts} "$stage"/tree/crates/{low,beside,one,two,three,middle,mailfile}/src "$stage/tree/beside/measures/src"
     cp -- mailfile bench hostile failing "$stage/tree/"
-    cp -- scripts/build.bash "$stage/tree/scripts/"
+    cp -- scripts/build.bash scripts/beside.bash "$stage/tree/scripts/"
     printf '%s\n' '# crates' low: beside: one: two: three: 'middle: low thiserror' \
-        'mailfile: beside one two three middle clap' 'measures: low' > "$stage/tree/crates.txt"
+        'mailfile: beside one two three middle clap' > "$stage/tree/crates.txt"
+    echo 'measures: low' > "$stage/tree/beside/measures/uses"
     echo low > "$stage/tree/crates/low/src/lib.rt"
     echo 'Command::new("mailfile").version("1.2.3").about(' > "$stage/tree/crates/mailfile/src/command_line.rt"
     echo 'kit 1' > "$stage/kit/KIT-ID"

@@ -12,7 +12,7 @@ use Rattle.filing_image.specs.Program.{Program}
 use Rattle.filing_image.specs.declared.instruction.Operation.TheVariants.{Stop, Fault}
 use Rattle.filing_table.specs.Ends.{HasOutcome}
 use Rattle.filing_case.specs.Message.{case_of}
-use Rattle.filing_gen.specs.Correct.{IsCompiled}
+use Rattle.filing_flow.specs.Compiled.{IsCompiled}
 use Rattle.filing_commands.specs.Scripts.{script_at}
 
 -- The program that an officer has set.

@@ -4,7 +4,7 @@ use Rattle.std.specs.Prelude.{None, Ok, Err}
 use Rattle.filing_image.specs.Program.{Program}
 use Rattle.filing_table.specs.Ends.{HasOutcome}
 use Rattle.filing_table.proofs.Once.{one_outcome}
-use Rattle.filing_gen.specs.Correct.{IsCompiled}
+use Rattle.filing_flow.specs.Compiled.{IsCompiled}
 use Rattle.sieve_meaning.specs.declared.outcome.Outcome.{Outcome}
 use Rattle.sieve_meaning.specs.Case.{Facts}
 use Rattle.sieve_meaning.specs.Program.{Commands}

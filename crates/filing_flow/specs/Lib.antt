@@ -4,3 +4,4 @@ pub mod Effect
 pub mod Types
 pub mod Whole
 pub mod Procedures
+pub mod Compiled

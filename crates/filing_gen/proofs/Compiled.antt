@@ -29,7 +29,7 @@ use Rattle.filing_flow.proofs.Stands.{Named, stands_there}
 use Rattle.filing_gen.specs.Adds.{operands_of, IsCode, IsImageOf}
 use Rattle.filing_gen.specs.Emission.{commands_long}
 use Rattle.filing_gen.specs.declared.output.Output.{Output}
-use Rattle.filing_gen.specs.Correct.{IsCompiled}
+use Rattle.filing_flow.specs.Compiled.{IsCompiled}
 use Rattle.filing_gen.proofs.Turns.{flow_long}
 use Rattle.filing_gen.proofs.Means.{flow_means}
 use Rattle.filing_gen.proofs.Includes.{included_agrees}

@@ -13,7 +13,7 @@ use Rattle.script_procedures.specs.Slots.{slots_of, HasSlots}
 use Rattle.script_procedures.specs.ProcedureCode.{procedure_of, AreProcedures}
 use Rattle.script_procedures.specs.declared.procedure.Procedure as code
 use Rattle.filing_gen.specs.Adds.{IsImageOf}
-use Rattle.filing_gen.specs.Correct.{IsCompiled}
+use Rattle.filing_flow.specs.Compiled.{IsCompiled}
 use Rattle.filing_gen.specs.Procedures.{procedure_flows, shared_flows}
 use Rattle.filing_gen.specs.SharedCode.{IsSharedCode}
 use Rattle.filing_gen.specs.declared.output.Output.{Output}

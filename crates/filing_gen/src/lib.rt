@@ -1,8 +1,9 @@
 //! The compiler: from checked scripts, and a library of scripts that they include, to images that may run.
 //!
 //! In `specs/`, `BlockCode` defines the code in blocks (`filing_flow`) of a script, `IncludeCode` and `Procedures` that of an
-//! include, and `Correct` what the image of a script must satisfy. `Alike` says how a script and its code run side by
-//! side. The other files have the invariants of the passes over the tree.
+//! include, and `Correct` what is said of an image besides its meaning. What the image of a script must satisfy stands in
+//! `Compiled` of `filing_flow`. `Alike` says how a script and its code run side by side. The other files have the
+//! invariants of the passes over the tree.
 //!
 //! A script is weighed first (`weight`). Then its code is written once, from left to right, by `emit_tests` and
 //! `emit_commands`. A text or number that is named again keeps the place that it got first (`text_pool`,

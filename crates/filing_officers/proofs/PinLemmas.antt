@@ -5,7 +5,7 @@ use Rattle.sieve_meaning.specs.Program.{Commands}
 use Rattle.sieve_meaning.specs.Meaning.{Library}
 use Rattle.sieve_meaning.specs.TooHeavy.{is_too_heavy, IsTooHeavy}
 use Rattle.filing_image.specs.Program.{Program}
-use Rattle.filing_gen.specs.Correct.{IsCompiled}
+use Rattle.filing_flow.specs.Compiled.{IsCompiled}
 use Rattle.filing_commands.specs.Pinning.{PinsChoice, PinsScript, script, script_if, one_fault}
 
 pub compiled_pins : (lib : Library) (name : List ℕ) (c : Commands) (p : Program) → IsCompiled lib (Some name) c p → (IsTooHeavy lib (Some name) c → ⊥) → PinsChoice (script name c) lib p

@@ -13,3 +13,4 @@ pub mod ClassLemmas
 pub mod AdoptSettled
 pub mod AdoptLayouts
 pub mod ChangeRows
+pub mod RecordsLemmas

@@ -56,9 +56,6 @@ Tells g old new (Ok x) Answers Refuses = (a : Archive) → StandsFor g old a →
 Tells g old new (Err f) Answers Refuses = (a : Archive) → StandsFor g old a → StandsFor g new a ×
     (HasCleanDisk (state g new.conn) → WhereRefused (Refuses a) f)
 
-abbrev pub Quietly : {X : Type 0} → Archive → X → Type 0
-Quietly a x = Unit {0}
-
 -- what a crash in a call on an open connection may leave: what a crash might have left before it, or the command's
 -- archive
 abbrev pub Leaves : {S : Type 0} → Ghosts S → (old new : Store S) → (Archive → Result Archive ArchiveRefusal) → Type 0
@@ -102,9 +99,9 @@ abbrev pub ChangesWhere : {S : Type 0} → Ghosts S → (old new : Store S) → 
 ChangesWhere g old new Allowed change = (a : Archive) → StandsFor g old a → Allowed a → StandsFor g new (change a)
 
 -- the same for a change that the archive's command makes
-abbrev pub CarriesOut : {S : Type 0} → Ghosts S → (old new : Store S) → (Archive → Result Archive ArchiveRefusal) →
+abbrev pub ChangesByCommand : {S : Type 0} → Ghosts S → (old new : Store S) → (Archive → Result Archive ArchiveRefusal) →
     (Archive → Archive) → Type 0
-CarriesOut g old new command change = ChangesWhere g old new (λ a. command a ≡ Ok (change a)) change
+ChangesByCommand g old new command change = ChangesWhere g old new (λ a. command a ≡ Ok (change a)) change
 
 -- A call reads whether the archive's command makes this change. Where it does not, the refusal is the command's.
 abbrev pub TellsOutcome : {S X : Type 0} → Ghosts S → (old new : Store S) → Result X StoreFault →

@@ -8,7 +8,8 @@ ghost use Rattle.record_archive.specs.Archive as archive;
 ghost use Rattle.record_archive.specs.Archive.{Archive};
 ghost use Rattle.record_store.specs.Revisions.{IsClassAdded, HasSameDue};
 ghost use Rattle.record_archive.specs.Faults.{WhereRefused, is_trouble};
-ghost use Rattle.record_store.specs.Stores.{StandsFor, Obeys, Leaves, Falls, Quietly};
+ghost use Rattle.record_archive.specs.Calls.{Quietly};
+ghost use Rattle.record_store.specs.Stores.{StandsFor, Obeys, Leaves, Falls};
 
 use crate::fault::{BUSY, StoreFault, fault_of};
 use crate::store::Store;

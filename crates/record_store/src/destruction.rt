@@ -10,7 +10,8 @@ ghost use Rattle.record_archive.specs.Archive.{Archive};
 ghost use Rattle.record_adoption.specs.Counts.{count_at};
 ghost use Rattle.record_store.specs.Destruction.{IsFree, IsDestruction, against_destruction, without_body, IsDestroyable};
 ghost use Rattle.record_archive.specs.Faults.{WhereRefused, is_trouble};
-ghost use Rattle.record_store.specs.Stores.{StandsFor, ObeysRows, Tells, Leaves, LeavesAll, LeavesAllowed, Falls, Quietly, ChangesWhere, IsOpenOnOk};
+ghost use Rattle.record_archive.specs.Calls.{Quietly};
+ghost use Rattle.record_store.specs.Stores.{StandsFor, ObeysRows, Tells, Leaves, LeavesAll, LeavesAllowed, Falls, ChangesWhere, IsOpenOnOk};
 
 use crate::dues::number_from_1970;
 use crate::fault::{BUSY, LOST, StoreFault, fault_of};

@@ -4,7 +4,8 @@ ghost use Rattle.std.specs.Prelude.{◌≡◌, true, IfErr, OnOk, OnErr};
 ghost use Rattle.record_archive.specs.Archive as archive;
 ghost use Rattle.record_archive.specs.Archive.{Archive};
 ghost use Rattle.record_archive.specs.Faults.{is_trouble};
-ghost use Rattle.record_store.specs.Stores.{StandsFor, ObeysRows, Leaves, LeavesAll, LeavesMade, Falls, Quietly, CarriesOut, TellsOutcome, IsOpenOnOk};
+ghost use Rattle.record_archive.specs.Calls.{Quietly};
+ghost use Rattle.record_store.specs.Stores.{StandsFor, ObeysRows, Leaves, LeavesAll, LeavesMade, Falls, ChangesByCommand, TellsOutcome, IsOpenOnOk};
 
 use crate::changes::{Holding, Release};
 use crate::fault::{BUSY, StoreFault, fault_of};
@@ -34,7 +35,7 @@ impl<S: Alter> Store<S> {
 
     fn place_hold(&mut self, name: &[u8], number: u32) -> Result<(), StoreFault>
         ensures ok { OnOk result
-            (CarriesOut S.Store self.old self.new (λ a. archive.hold a name.now number)
+            (ChangesByCommand S.Store self.old self.new (λ a. archive.hold a name.now number)
             (λ a. archive.with_hold a name.now number)) }
         ensures err { OnErr result
             ((a : Archive) → StandsFor S.Store self.old a → StandsFor S.Store self.new a) }
@@ -91,7 +92,7 @@ impl<S: Alter> Store<S> {
 
     fn end_hold(&mut self, name: &[u8], number: u32) -> Result<(), StoreFault>
         ensures ok { OnOk result
-            (CarriesOut S.Store self.old self.new (λ a. archive.release a name.now number)
+            (ChangesByCommand S.Store self.old self.new (λ a. archive.release a name.now number)
             (λ a. archive.without_hold a name.now number)) }
         ensures err { OnErr result
             ((a : Archive) → StandsFor S.Store self.old a → StandsFor S.Store self.new a) }

@@ -10,6 +10,7 @@ mod dues;
 mod fault;
 mod holds;
 mod messages;
+mod records;
 mod revisions;
 mod store;
 

@@ -9,7 +9,8 @@ ghost use Rattle.record_archive.specs.Archive.{Archive};
 ghost use Rattle.record_adoption.specs.Keeping.{dues_in};
 ghost use Rattle.record_store.specs.Revisions.{IsRevision, with_plan, RefusesDrop};
 ghost use Rattle.record_archive.specs.Faults.{WhereRefused, is_trouble};
-ghost use Rattle.record_store.specs.Stores.{StandsFor, ObeysRows, Tells, Leaves, LeavesAll, LeavesAllowed, Falls, Quietly, ChangesWhere, IsOpenOnOk};
+ghost use Rattle.record_archive.specs.Calls.{Quietly};
+ghost use Rattle.record_store.specs.Stores.{StandsFor, ObeysRows, Tells, Leaves, LeavesAll, LeavesAllowed, Falls, ChangesWhere, IsOpenOnOk};
 
 use crate::fault::{BUSY, LOST, StoreFault, fault_of};
 use crate::store::Store;

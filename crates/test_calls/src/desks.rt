@@ -20,7 +20,7 @@ pub fn store_over<S: Alter + Drop>(
 }
 
 /// A desk over an empty store in memory, or none where there is no memory.
-pub fn desk_in_memory(alloc: Global) -> Option<Desk<MemStore>> {
+pub fn desk_in_memory(alloc: Global) -> Option<Desk<Store<MemStore>>> {
     let conn = Connection::open_in_memory(alloc).ok()?;
     let store = store_over(alloc, conn).ok()?;
     Desk::new(alloc, store).ok()

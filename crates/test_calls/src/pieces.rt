@@ -4,11 +4,12 @@ use crate::desks::desk_in_memory;
 use crate::told::refused;
 use anyhow::{Result, bail};
 use filing_desk::Desk;
+use record_store::Store;
 use sqlite::MemStore;
 use std::alloc::Global;
 
 /// Whether the capture of a ticket, made whole, gives one record, whose message has these octets.
-fn is_kept(mut desk: Desk<MemStore>, ticket: u32, message: &[u8]) -> bool {
+fn is_kept(mut desk: Desk<Store<MemStore>>, ticket: u32, message: &[u8]) -> bool {
     let ticket = u64::from(ticket);
     if desk.turn(ticket, 1_000).is_err() || desk.finish(ticket).is_err() {
         return false;

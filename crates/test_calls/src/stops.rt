@@ -7,6 +7,7 @@ use crate::desks::store_over;
 use crate::trials::{QUESTIONS, told};
 use anyhow::{Result, bail};
 use filing_desk::Desk;
+use record_store::Store;
 use sqlite::{Connection, FileStore, Files, Options};
 use sqlite_disk::{Crash, Disk, Fuse, Memory};
 use std::alloc::Global;
@@ -173,7 +174,7 @@ fn open(
 fn desk_over(
     alloc: Global,
     files: Files<Fuse<Memory>>,
-) -> Result<Desk<InFiles>, Files<Fuse<Memory>>> {
+) -> Result<Desk<Store<InFiles>>, Files<Fuse<Memory>>> {
     let conn = open(alloc, files)?;
     let store = match store_over(alloc, conn) {
         Ok(store) => store,
@@ -186,7 +187,7 @@ fn desk_over(
 }
 
 /// The files that a desk leaves.
-fn files_after(desk: Desk<InFiles>) -> Files<Fuse<Memory>> {
+fn files_after(desk: Desk<Store<InFiles>>) -> Files<Fuse<Memory>> {
     files_of(desk.into_store().into_connection())
 }
 
@@ -196,7 +197,11 @@ fn is_answered(reply: &[u8]) -> bool {
 }
 
 /// Plays commands up to the first that is not answered, and answers how many were.
-fn play_some(alloc: Global, desk: &mut Desk<InFiles>, commands: &[&'static str]) -> Result<usize> {
+fn play_some(
+    alloc: Global,
+    desk: &mut Desk<Store<InFiles>>,
+    commands: &[&'static str],
+) -> Result<usize> {
     let mut done = 0usize;
     for command in commands {
         if !is_answered(told(alloc, desk, command.as_bytes())?.as_slice()) {

@@ -7,6 +7,7 @@ use anyhow::{Result, bail};
 use filing_desk::Desk;
 use filing_session::memory::{Hitch, MemorySink, MemorySource};
 use filing_session::{ServeFault, Trouble, serve};
+use record_store::Store;
 use sqlite::{Alter, MemStore};
 use std::alloc::Global;
 use std::env;
@@ -30,7 +31,11 @@ const ENDED: &[u8] = b"end\n";
 const CUT_OFF: &[u8] = b"refused 72\nend\n";
 
 /// What a desk answers to a session.
-pub fn told<S: Alter + Drop>(alloc: Global, desk: &mut Desk<S>, input: &[u8]) -> Result<Vec<u8>> {
+pub fn told<S: Alter + Drop>(
+    alloc: Global,
+    desk: &mut Desk<Store<S>>,
+    input: &[u8],
+) -> Result<Vec<u8>> {
     let mut sink = MemorySink::new(alloc);
     if serve(alloc, &mut MemorySource::new(input), &mut sink, desk) != Ok(()) {
         bail!("a fault where nothing fails");
@@ -38,7 +43,7 @@ pub fn told<S: Alter + Drop>(alloc: Global, desk: &mut Desk<S>, input: &[u8]) ->
     Ok(Vec::from_slice(alloc, sink.as_slice())?)
 }
 
-fn new_desk(alloc: Global) -> Result<Desk<MemStore>> {
+fn new_desk(alloc: Global) -> Result<Desk<Store<MemStore>>> {
     match desk_in_memory(alloc) {
         Some(desk) => Ok(desk),
         None => bail!("there is no desk"),
@@ -156,7 +161,7 @@ const CAPTURE: &[u8] =
     b"SCRIPT ann main 35\nrequire \"fileinto\"; fileinto \"tax\";ACTIVE ann main\nBEGIN ann 1700000000 0\nTURN 1 9\nFINISH 1\n";
 
 /// Whether a desk takes over the plan of a text. It refuses it with 50 to 58 otherwise.
-fn takes_over(alloc: Global, desk: &mut Desk<MemStore>, text: &[u8]) -> Result<bool> {
+fn takes_over(alloc: Global, desk: &mut Desk<Store<MemStore>>, text: &[u8]) -> Result<bool> {
     let length = text.len();
     let mut input = format!(in alloc; "PLAN {length}\n")?.into_bytes();
     input.extend_from_slice(text)?;

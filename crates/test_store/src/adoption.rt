@@ -3,7 +3,7 @@
 use crate::lines::answer;
 use crate::media::{Kept, adopted, in_files, in_memory, kept_in_files, kept_in_memory};
 use crate::tables::{fill_first, lay_first};
-use record_store::{Store, StoreFault};
+use record_store::{ArchiveRefusal, Store, StoreFault};
 use sqlite::{Alter, Connection, MemStore};
 use std::alloc::Global;
 use std::process::Abort;
@@ -76,7 +76,7 @@ fn is_refused<S: Alter + Drop>(alloc: Global, conn: Connection<S>) -> Result<boo
         return Err(Fail::from("a transaction goes on"));
     }
     match Store::adopt(alloc, conn) {
-        Err((StoreFault::NoArchive, mut back)) => {
+        Err((StoreFault::Refused(ArchiveRefusal::NoArchive), mut back)) => {
             back.execute_batch("CREATE TABLE later (x)")?;
             Ok(true)
         }

@@ -40,17 +40,8 @@ pub(crate) fn number(word: &str) -> u32 {
 /// The number of a refusal.
 fn refusal(fault: StoreFault) -> u8 {
     match fault {
-        StoreFault::Plan(fault) => fault.number(),
-        StoreFault::NoRecord => 80,
-        StoreFault::Held => 81,
-        StoreFault::NotDue => 82,
-        StoreFault::NotForDestruction => 83,
-        StoreFault::Destroyed => 84,
-        StoreFault::NoHold => 85,
-        StoreFault::HoldThere => 86,
-        StoreFault::Full => 87,
-        StoreFault::NoArchive => 88,
-        StoreFault::Sqlite(_) => 89,
+        StoreFault::Refused(refusal) => refusal.number(),
+        StoreFault::Database(_) => 89,
         StoreFault::NoMemory => 99,
     }
 }

@@ -22,6 +22,7 @@ use filing_desk::Desk;
 use filing_gen::compile;
 use filing_machine::WholeCase;
 use filing_verify::Verified;
+use record_store::Store;
 use script_library::Library;
 use sieve_check::check;
 use sieve_text::{TextFault, parse};
@@ -42,7 +43,7 @@ pub struct Judges {
     plan: Plan,
     /// The program that messages are run by.
     program: Verified,
-    desk: Desk<MemStore>,
+    desk: Desk<Store<MemStore>>,
     sessions: u32,
 }
 

@@ -8,7 +8,7 @@ use Rattle.script_library.specs.BorrowedShelves.{scripts_of}
 use Rattle.script_library.specs.Libraries.{Scripts, library_of}
 use Rattle.script_procedures.specs.ProcedureCode.{AreProcedures}
 use Rattle.script_procedures.specs.declared.procedure.Procedure as code
-use Rattle.filing_gen.specs.Correct.{IsCompiled}
+use Rattle.filing_flow.specs.Compiled.{IsCompiled}
 use Rattle.filing_gen.proofs.SharedBuilt.{heavy_by_path, heavy_by_code, light_by_all, shared_image, compiled_image}
 use Rattle.filing_gen.proofs.shared.build_procedures.Goals as goal
 
