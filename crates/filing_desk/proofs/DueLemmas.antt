@@ -1,10 +1,6 @@
--- Due lists, and days by their numbers.
+-- Due lists.
 use Rattle.std.proofs.Common.{◌≡◌, ℕ, map, pos, true, false, Bool, Ok, Err, None, Vec, inl, inr, refl, ap, sym, subst}
-use Rattle.std.specs.Prelude.{unsigned_abs}
 use Rattle.std.specs.declared.alloc.Global.{Global}
-use Rattle.jiff.specs.Words.{epoch_day}
-use Rattle.jiff_core.specs.declared.civil.date.Date.{Date}
-use Rattle.class_plan.specs.Calendar.{number_of_day}
 use Rattle.record_archive.specs.Archive.{Archive, due_list}
 use Rattle.record_archive.specs.Lines.{line_view}
 use Rattle.record_archive.specs.declared.line.Line as code
@@ -20,10 +16,6 @@ use Rattle.filing_commands.specs.Standing.{Standing, plain}
 use Rattle.filing_desk.specs.Standing.{IsClean, StandsFor}
 use Rattle.filing_desk.specs.declared.desk.Desk.{Desk}
 use Rattle.filing_desk.proofs.StepLemmas.{KeepsRest, plain_calls, still_stands}
-
--- a day's number, from the day since 1970
-pub number_is : (d : Date) (n : ℕ) → epoch_day d ≡ pos n → number_of_day d ≡ n
-number_is d n e = ap (λ z. unsigned_abs z) e
 
 -- the answer to a due list
 abbrev IsDueList : (n : ℕ) → Archive → Vec code.Line Global → Type 0
