@@ -2,7 +2,7 @@
 use Rattle.std.specs.Prelude.{ℕ, List, Option}
 use Rattle.sieve_meaning.specs.declared.outcome.Outcome.{Outcome}
 use Rattle.sieve_meaning.specs.declared.run_fault.RunFault.{RunFault}
-use Rattle.record_store.specs.Archive.{Line}
+use Rattle.record_archive.specs.Archive.{Line}
 
 pub data Answer : Type 0 where
   done : Answer

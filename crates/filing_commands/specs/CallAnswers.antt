@@ -1,8 +1,8 @@
 -- The results of a desk's calls, as answers.
 use Rattle.std.specs.Prelude.{ℕ, map, if◌then◌else◌, Result, Ok, Err, Vec}
 use Rattle.std.specs.declared.alloc.Global.{Global}
-use Rattle.record_store.specs.Stores.{line_view}
-use Rattle.record_store.specs.declared.store.Line as code
+use Rattle.record_archive.specs.Lines.{line_view}
+use Rattle.record_archive.specs.declared.line.Line as code
 use Rattle.sieve_meaning.specs.declared.outcome.Outcome.{Outcome}
 use Rattle.filing_commands.specs.Answers.{Answer, done, dry_run, begun, running, ended, captured, listed}
 use Rattle.filing_commands.specs.Faults.{refused_by}

@@ -14,8 +14,11 @@ use Rattle.filing_image.specs.declared.fault.FormFault.TheVariants as forms
 use Rattle.filing_verify.specs.declared.fault.VerifyFault.{VerifyFault}
 use Rattle.filing_verify.specs.declared.fault.VerifyFault.TheVariants as verify
 use Rattle.filing_verify.specs.Well.{verify_number}
-use Rattle.record_store.specs.declared.fault.StoreFault.{StoreFault}
-use Rattle.record_store.specs.declared.fault.StoreFault.TheVariants as stores
+use Rattle.record_archive.specs.Faults as archives
+use Rattle.record_archive.specs.declared.fault.ArchiveFault.{ArchiveFault}
+use Rattle.record_archive.specs.declared.fault.ArchiveFault.TheVariants.{Refused, Database, NoMemory}
+use Rattle.record_archive.specs.declared.fault.ArchiveRefusal.{ArchiveRefusal}
+use Rattle.record_archive.specs.declared.fault.ArchiveRefusal.TheVariants as archive
 use Rattle.filing_commands.specs.declared.fault.Refusal.{Refusal}
 use Rattle.filing_commands.specs.declared.fault.DeskFault.{DeskFault}
 use Rattle.filing_commands.specs.declared.fault.DeskFault.TheVariants as faults
@@ -42,25 +45,15 @@ abbrev pub verify_fault : VerifyFault → DeskFault
 verify_fault verify.NoMemory = faults.NoMemory
 verify_fault f = faults.Image f
 
-abbrev pub store_fault : StoreFault → DeskFault
-store_fault stores.NoMemory = faults.NoMemory
-store_fault (stores.Plan f) = plan_fault f
-store_fault f = faults.Store f
+-- the faults of an archive
+abbrev pub refusal_fault : ArchiveRefusal → DeskFault
+refusal_fault (archive.Plan f) = plan_fault f
+refusal_fault r = faults.Archive r
 
--- the number of a refusal of the store
-abbrev pub store_number : StoreFault → ℕ
-store_number (stores.Plan f) = plan.number_of f
-store_number stores.NoRecord = 80
-store_number stores.Held = 81
-store_number stores.NotDue = 82
-store_number stores.NotForDestruction = 83
-store_number stores.Destroyed = 84
-store_number stores.NoHold = 85
-store_number stores.HoldThere = 86
-store_number stores.Full = 87
-store_number stores.NoArchive = 88
-store_number (stores.Sqlite e) = 89
-store_number stores.NoMemory = 99
+abbrev pub archive_fault : {E : Type 0} → ArchiveFault E → DeskFault
+archive_fault NoMemory = faults.NoMemory
+archive_fault (Refused r) = refusal_fault r
+archive_fault (Database e) = faults.Database
 
 -- whether a refusal with this number is shown with its offset
 abbrev pub has_place : ℕ → Bool
@@ -77,7 +70,8 @@ refusal_of faults.ImageForm = record { number = 60; offset = None }
 refusal_of (faults.Image f) = record { number = verify_number f; offset = None }
 refusal_of faults.MessageTooLong = record { number = 95; offset = None }
 refusal_of faults.LibraryFull = record { number = 96; offset = None }
-refusal_of (faults.Store f) = record { number = store_number f; offset = None }
+refusal_of (faults.Archive r) = record { number = archives.number_of r; offset = None }
+refusal_of faults.Database = record { number = 89; offset = None }
 refusal_of faults.TooManyInFlight = record { number = 90; offset = None }
 refusal_of faults.NoTicket = record { number = 91; offset = None }
 refusal_of faults.NotEnded = record { number = 92; offset = None }

@@ -10,11 +10,12 @@ use Rattle.class_plan.specs.Plans.{Listing, is_open_in}
 use Rattle.filing_image.specs.Program.{Program}
 use Rattle.filing_table.specs.Ends.{HasOutcome}
 use Rattle.filing_case.specs.Message.{case_of}
-use Rattle.record_store.specs.Archive as archives
-use Rattle.record_store.specs.Archive.{Archive, Line}
-use Rattle.record_store.specs.declared.fault.StoreFault.{StoreFault}
+use Rattle.record_archive.specs.Archive as archives
+use Rattle.record_archive.specs.Archive.{Archive, Line}
+use Rattle.record_archive.specs.declared.fault.ArchiveRefusal.{ArchiveRefusal}
 use Rattle.filing_commands.specs.Answers.{Answer, done, dry_run, begun, running, ended, captured, listed, refused}
-use Rattle.filing_commands.specs.Faults.{has_place, store_number}
+use Rattle.record_archive.specs.Faults.{number_of}
+use Rattle.filing_commands.specs.Faults.{has_place}
 use Rattle.filing_commands.specs.Limits.{greatest_image, greatest_message, greatest_plan, greatest_script}
 use Rattle.filing_commands.specs.Parts.{IsGood, IsGoodImage, IsKept, IsPlanOf, RefusesImage, RefusesPlan, RefusesScript, RefusesToKeep}
 use Rattle.filing_commands.specs.Pinning.{Active, Officer, no_program, script_named, image, new_officer}
@@ -74,14 +75,14 @@ abbrev pub with_active : Office → (officer : List ℕ) → Active → Office
 with_active s officer active = with_officer s officer (with_program (s.officers officer) active)
 
 -- The archive's command is done, and this is the office afterwards.
-abbrev pub IsMade : Office → Result Archive StoreFault → Office → Type 0
+abbrev pub IsMade : Office → Result Archive ArchiveRefusal → Office → Type 0
 IsMade s (Ok a) new = new ≡ with_archive s a
 IsMade s (Err f) new = ⊥
 
 -- The archive's command is refused with this number.
-abbrev pub IsRefused : Result Archive StoreFault → (number : ℕ) → Type 0
+abbrev pub IsRefused : Result Archive ArchiveRefusal → (number : ℕ) → Type 0
 IsRefused (Ok a) n = ⊥
-IsRefused (Err f) n = n ≡ store_number f
+IsRefused (Err r) n = n ≡ number_of r
 
 -- A script captures a message with this outcome. It can include the global scripts, no personal one, and has no name.
 pub record IsFiled (s : Office) (script message : List ℕ) (o : Outcome) : Type 0 where

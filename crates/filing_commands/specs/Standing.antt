@@ -7,8 +7,8 @@ use Rattle.filing_verify.specs.Well.{IsWell}
 use Rattle.filing_table.specs.Machine.{State, At, after_steps}
 use Rattle.filing_table.specs.Ends.{HasOutcome}
 use Rattle.filing_machine.specs.Runs.{IsModestAt}
-use Rattle.record_store.specs.Archive.{Archive, capture, capture_lines}
-use Rattle.record_store.specs.declared.fault.StoreFault.TheVariants.{Full}
+use Rattle.record_archive.specs.Archive.{Archive, capture, capture_lines}
+use Rattle.record_archive.specs.declared.fault.ArchiveRefusal.TheVariants.{Full}
 use Rattle.filing_commands.specs.Answers.{Answer, begun, running, ended, captured, refused}
 use Rattle.filing_commands.specs.Limits.{greatest_message, last_moment, last_ticket, most_in_flight}
 use Rattle.filing_commands.specs.Pinning.{BeginState, case_in, IsAlone, Pins, choice_by}

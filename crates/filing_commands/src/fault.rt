@@ -1,12 +1,12 @@
 //! Why the desk refuses a call.
 
 ghost use Rattle.std.specs.Prelude.{◌≡◌};
-ghost use Rattle.filing_commands.specs.Faults.{refusal_of, has_place as has_place_of, store_number as store_number_of};
+ghost use Rattle.filing_commands.specs.Faults.{refusal_of, has_place as has_place_of};
 
 use class_plan::PlanFault;
 use filing_image::FormFault;
 use filing_verify::VerifyFault;
-use record_store::StoreFault;
+use record_archive::{ArchiveFault, ArchiveRefusal};
 use script_library::LibraryFault;
 use sieve_check::CheckFault;
 use sieve_text::{TextFault, TextRefusal};
@@ -42,8 +42,10 @@ pub enum DeskFault {
     MessageTooLong,
     /// 96: thirty-two scripts of the location have other names.
     LibraryFull,
-    /// 80 to 88: the archive refuses the command; 89: its database does.
-    Store(StoreFault),
+    /// 80 to 88: the archive refuses the command.
+    Archive(ArchiveRefusal),
+    /// 89: the database of the archive refuses the command.
+    Database,
     /// 90: sixty-four captures are in flight.
     TooManyInFlight,
     /// 91: no capture in flight has the ticket.
@@ -161,38 +163,32 @@ impl From<VerifyFault> for DeskFault {
     }
 }
 
-impl From<StoreFault> for DeskFault {
+impl From<ArchiveRefusal> for DeskFault {
     ghost use Rattle.std.specs.Prelude.{◌≡◌};
-    ghost use Rattle.filing_commands.specs.Faults.{store_fault};
+    ghost use Rattle.filing_commands.specs.Faults.{refusal_fault};
 
-    ghost from_gives = { λ e f. f ≡ store_fault e };
+    ghost from_gives = { λ e f. f ≡ refusal_fault e };
 
-    fn from(fault: StoreFault) -> DeskFault {
-        match fault {
-            StoreFault::NoMemory => DeskFault::NoMemory,
-            StoreFault::Plan(fault) => DeskFault::from(fault),
-            fault => DeskFault::Store(fault),
+    fn from(refusal: ArchiveRefusal) -> DeskFault {
+        match refusal {
+            ArchiveRefusal::Plan(fault) => DeskFault::from(fault),
+            refusal => DeskFault::Archive(refusal),
         }
     }
 }
 
-/// The number of a refusal of the store.
-fn store_number(fault: StoreFault) -> u8
-    ensures { result ≡ store_number_of fault }
-{
-    match fault {
-        StoreFault::Plan(fault) => fault.number(),
-        StoreFault::NoRecord => 80,
-        StoreFault::Held => 81,
-        StoreFault::NotDue => 82,
-        StoreFault::NotForDestruction => 83,
-        StoreFault::Destroyed => 84,
-        StoreFault::NoHold => 85,
-        StoreFault::HoldThere => 86,
-        StoreFault::Full => 87,
-        StoreFault::NoArchive => 88,
-        StoreFault::Sqlite(_) => 89,
-        StoreFault::NoMemory => 99,
+impl<E: Copy> From<ArchiveFault<E>> for DeskFault {
+    ghost use Rattle.std.specs.Prelude.{◌≡◌};
+    ghost use Rattle.filing_commands.specs.Faults.{archive_fault};
+
+    ghost from_gives = { λ e f. f ≡ archive_fault e };
+
+    fn from(fault: ArchiveFault<E>) -> DeskFault {
+        match fault {
+            ArchiveFault::NoMemory => DeskFault::NoMemory,
+            ArchiveFault::Refused(refusal) => DeskFault::from(refusal),
+            ArchiveFault::Database(_) => DeskFault::Database,
+        }
     }
 }
 
@@ -228,7 +224,8 @@ impl DeskFault {
             DeskFault::Image(fault) => fault.number(),
             DeskFault::MessageTooLong => 95,
             DeskFault::LibraryFull => 96,
-            DeskFault::Store(fault) => store_number(*fault),
+            DeskFault::Archive(refusal) => refusal.number(),
+            DeskFault::Database => 89,
             DeskFault::TooManyInFlight => 90,
             DeskFault::NoTicket => 91,
             DeskFault::NotEnded => 92,

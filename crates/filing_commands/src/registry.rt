@@ -12,7 +12,7 @@ use crate::fault::DeskFault;
 use crate::payload::Payload;
 use crate::results::{Capture, Turn};
 use jiff::civil::Date;
-use record_store::Line;
+use record_archive::Line;
 use sieve_meaning::Outcome;
 
 /// An office that captures messages as records: an archive, scripts and officers, and captures in flight.

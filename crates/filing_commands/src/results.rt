@@ -1,6 +1,6 @@
 //! What the calls of a desk answer.
 
-use record_store::Line;
+use record_archive::Line;
 use sieve_meaning::RunFault;
 
 /// A capture's steps so far, and whether it has come to its end.

@@ -5,12 +5,12 @@ use Rattle.std.specs.List.{AllByRecursion}
 use Rattle.std.proofs.lemmas.Bool.Decides.{nat_tests}
 use Rattle.std.specs.Result.{IsErr, IsErrAnd}
 use Rattle.std.proofs.lemmas.Bool.{false≢true}
-use Rattle.sqlite.specs.Store.{Ghosts}
 use Rattle.jiff.specs.Words.{epoch_day}
 use Rattle.jiff_core.specs.declared.civil.date.Date.{Date}
 use Rattle.class_plan.specs.Plans.{Listing, is_open_in}
 use Rattle.filing_case.specs.Message.{is_among}
 use Rattle.filing_image.specs.Program.{Program}
+use Rattle.record_archive.specs.Archive.{Archive}
 use Rattle.filing_commands.specs.Answers.{Answer, begun, refused}
 use Rattle.filing_commands.specs.Calls.{Calls}
 use Rattle.filing_commands.specs.Faults.{refusal_of, refused_by}
@@ -69,13 +69,13 @@ more_classes : (p : Listing) (fs : List Flight) (f : Flight) → AllByRecursion 
 more_classes p [] f all here = (here, tt)
 more_classes p (x ∷ fs) f all here = (all.0, more_classes p fs f all.1 here)
 
-module _ {S : Type 0} (g : Ghosts S) where
+module _ {A : Type 0} (is_clean : A → Type 0) (stood : A → Archive → Type 0) (plan_of : A → Listing) (plan_is : (x : A) (a : Archive) → stood x a → plan_of x ≡ a.plan) where
   -- what refuses a beginning at the desk refuses one in the state
-  against : (desk : Desk S) (s : Standing) (moment size : ℕ) → StandsFor g desk s → against_begin desk moment size ≡ begin_refusal (length s.flights) s.last moment size
+  against : (desk : Desk A) (s : Standing) (moment size : ℕ) → StandsFor stood desk s → against_begin desk moment size ≡ begin_refusal (length s.flights) s.last moment size
   against desk s moment size stands = ap (λ n. begin_refusal n desk.last moment size) (as_many desk.flights s.flights stands.flights) ∙ ap (λ n. begin_refusal (length s.flights) n moment size) stands.last
 
   -- it is refused with that number
-  pub begin_refused : (desk : Desk S) (officer : List ℕ) (moment : ℕ) (message : List ℕ) (f : DeskFault) (a : Answer) → IsNumbered f (against_begin desk moment (length message)) → a ≡ refused_by f → Calls (IsClean g) (StandsFor g) desk (begin officer moment message) a desk
+  pub begin_refused : (desk : Desk A) (officer : List ℕ) (moment : ℕ) (message : List ℕ) (f : DeskFault) (a : Answer) → IsNumbered f (against_begin desk moment (length message)) → a ≡ refused_by f → Calls (IsClean is_clean) (StandsFor stood) desk (begin officer moment message) a desk
   unfolding Step
   begin_refused desk officer moment message f a h is_told = record {
     was_clean = λ clean. clean;
@@ -86,10 +86,10 @@ module _ {S : Type 0} (g : Ghosts S) where
   }
 
   -- there is no memory
-  pub begin_poor : (old new : Desk S) (officer : List ℕ) (moment : ℕ) (message : List ℕ) (f : DeskFault) (a : Answer) → against_begin old moment (length message) ≡ None → f ≡ NoMemory → a ≡ refused_by f → KeepsAll old new → ((p : Listing) → old.store.plan ≡ p → AreOpenPaths old.open_paths p → AreOpenPaths new.open_paths p) → Calls (IsClean g) (StandsFor g) old (begin officer moment message) a new
+  pub begin_poor : (old new : Desk A) (officer : List ℕ) (moment : ℕ) (message : List ℕ) (f : DeskFault) (a : Answer) → against_begin old moment (length message) ≡ None → f ≡ NoMemory → a ≡ refused_by f → KeepsAll old new → ((p : Listing) → plan_of old.store ≡ p → AreOpenPaths old.open_paths p → AreOpenPaths new.open_paths p) → Calls (IsClean is_clean) (StandsFor stood) old (begin officer moment message) a new
   unfolding Step
   begin_poor old new officer moment message f a permitted none told keeps paths = record {
-    was_clean = cleans g old new keeps.store;
+    was_clean = cleans is_clean stood old new keeps.store;
     leads = λ clean s stands.
         let P : Answer → Type 0 = λ x. BeginStep s officer moment message x s in
         let Q : List FlightView → Type 0 = λ xs. AreHeld xs s.flights in
@@ -97,30 +97,30 @@ module _ {S : Type 0} (g : Ghosts S) where
         record {
           to = s;
           is_one = subst P (sym (told ∙ ap (λ x. refused_by x) none)) step;
-          there = reflies g old new s s.flights s.last keeps.store keeps.officers (keeps.last ∙ stands.last) (paths s.office.archive.plan stands.store.plan stands.open_paths) stands (subst Q (sym keeps.flights) stands.flights) stands.classes;
+          there = reflies is_clean stood old new s s.flights s.last keeps.store keeps.officers (keeps.last ∙ stands.last) (paths s.office.archive.plan (plan_is old.store s.office.archive stands.store) stands.open_paths) stands (subst Q (sym keeps.flights) stands.flights) stands.classes;
         };
   }
 
   -- what is pinned for an officer of the desk is what is pinned for what stands in the state
-  pins_stood : (desk : Desk S) (s : Standing) (officer : List ℕ) (moment : ℕ) (message : List ℕ) (p : Program) → StandsFor g desk s → PinsFor (officer_at officer desk.officers.officers) (meanings_of desk.officers.globals) p → Pins (begin_state s.office officer moment message) p
+  pins_stood : (desk : Desk A) (s : Standing) (officer : List ℕ) (moment : ℕ) (message : List ℕ) (p : Program) → StandsFor stood desk s → PinsFor (officer_at officer desk.officers.officers) (meanings_of desk.officers.globals) p → Pins (begin_state s.office officer moment message) p
   pins_stood desk s officer moment message p stands pins =
       let P : Office → Type 0 = λ o. PinsChoice (choice_by (o.officers officer).active (o.officers officer).scripts) (library (o.officers officer).scripts o.globals) p in
       subst P stands.officers pins
 
-  pub begin_done : (old mid new : Desk S) (officer : List ℕ) (moment : ℕ) (message : List ℕ) (day : Date) (x : FlightView) (a : Answer) → against_begin old moment (length message) ≡ None → epoch_day day ≡ pos (moment / 86400) → KeepsAll old mid → (AreOpenPaths old.open_paths old.store.plan → AreOpenPaths mid.open_paths old.store.plan) → (AreOpenPaths old.open_paths old.store.plan → IsEntered old officer (old.last + 1) message day x) → new.store ≡ mid.store → new.officers ≡ mid.officers → Adds mid.flights x new.flights → new.last ≡ old.last + 1 → new.open_paths ≡ mid.open_paths → a ≡ begun (old.last + 1) x.program.budget → Calls (IsClean g) (StandsFor g) old (begin officer moment message) a new
+  pub begin_done : (old mid new : Desk A) (officer : List ℕ) (moment : ℕ) (message : List ℕ) (day : Date) (x : FlightView) (a : Answer) → against_begin old moment (length message) ≡ None → epoch_day day ≡ pos (moment / 86400) → KeepsAll old mid → (AreOpenPaths old.open_paths (plan_of old.store) → AreOpenPaths mid.open_paths (plan_of old.store)) → (AreOpenPaths old.open_paths (plan_of old.store) → IsEntered (plan_of old.store) old officer (old.last + 1) message day x) → new.store ≡ mid.store → new.officers ≡ mid.officers → Adds mid.flights x new.flights → new.last ≡ old.last + 1 → new.open_paths ≡ mid.open_paths → a ≡ begun (old.last + 1) x.program.budget → Calls (IsClean is_clean) (StandsFor stood) old (begin officer moment message) a new
   unfolding Step
   begin_done old mid new officer moment message day x a permitted on keeps paths entered es eo adds el ep told = record {
-    was_clean = cleans g old new (es ∙ keeps.store);
+    was_clean = cleans is_clean stood old new (es ∙ keeps.store);
     leads = λ clean s stands.
         let plan = s.office.archive.plan in
         let P : Listing → Type 0 = λ p. AreOpenPaths old.open_paths p in
-        let there = subst P (sym stands.store.plan) stands.open_paths in
+        let there = subst P (sym (plan_is old.store s.office.archive stands.store)) stands.open_paths in
         let h = entered there in
         let next : old.last + 1 ≡ s.last + 1 = ap (λ n. n + 1) stands.last in
         let at_begin = begin_state s.office officer moment message in
         let pins = pins_stood old s officer moment message h.program stands h.pins in
         let flight = first_flight (s.last + 1) at_begin h.program h.well in
-        let opens : at_begin.is_open ≡ is_among h.paths = ap (λ p. is_open_in p) (sym stands.store.plan) ∙ sym h.open_paths in
+        let opens : at_begin.is_open ≡ is_among h.paths = ap (λ p. is_open_in p) (sym (plan_is old.store s.office.archive stands.store)) ∙ sym h.open_paths in
         let first = first_begun (s.last + 1) at_begin h.program h.well h.paths day pins opens on in
         let H : ℕ → Type 0 = λ n. HoldsBegun n h.program message h.paths day x in
         let holds : Holds x flight = subst H next h.holds flight first in
@@ -135,6 +135,6 @@ module _ {S : Type 0} (g : Ghosts S) where
         record {
           to = to;
           is_one = subst B (sym same) begins_so;
-          there = reflies g old new s (s.flights ++ flight ∷ []) (s.last + 1) (es ∙ keeps.store) (eo ∙ keeps.officers) (el ∙ next) (subst T (sym ep) (subst U stands.store.plan (paths there))) stands (adds s.flights flight (subst Q (sym keeps.flights) stands.flights) holds) (more_classes plan s.flights flight stands.classes (λ q there. open_has plan q there));
+          there = reflies is_clean stood old new s (s.flights ++ flight ∷ []) (s.last + 1) (es ∙ keeps.store) (eo ∙ keeps.officers) (el ∙ next) (subst T (sym ep) (subst U (plan_is old.store s.office.archive stands.store) (paths there))) stands (adds s.flights flight (subst Q (sym keeps.flights) stands.flights) holds) (more_classes plan s.flights flight stands.classes (λ q there. open_has plan q there));
         };
   }

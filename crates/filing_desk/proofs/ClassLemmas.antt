@@ -4,17 +4,15 @@ use Rattle.std.specs.List.{list_all}
 use Rattle.std.specs.Str.{bytes_eq}
 use Rattle.class_plan.proofs.Keeping.{has-more}
 use Rattle.class_plan.specs.Changes.{addition, with_class}
-use Rattle.class_plan.specs.Plans.{Listing, Row, row_at, has, keeps, open_row}
+use Rattle.class_plan.specs.Plans.{Listing, Row, row_at, has, keeps, open_row, schedule_at}
 use Rattle.class_plan.specs.declared.faults.PlanFault.{PlanFault}
 use Rattle.class_plan.specs.declared.faults.PlanFault.TheVariants.{PathDropped}
-use Rattle.record_tables.specs.Rows.{Record}
-use Rattle.record_store.specs.Archive.{Archive, add_class, capture, after_capture, has_room, destroy, destroy_one, destroys, due_of, hold, hold_one, is_by, is_held, is_held_by, plan_answer, record_at, release, release_one, revise, with_hold, without, without_hold}
-use Rattle.class_plan.specs.Plans.{schedule_at}
+use Rattle.record_archive.specs.Archive.{Record, Archive, add_class, capture, after_capture, has_room, destroy, destroy_one, destroys, due_of, hold, hold_one, is_by, is_held, is_held_by, plan_answer, record_at, release, release_one, revise, with_hold, without, without_hold}
 use Rattle.class_plan.proofs.Removed.{added-new}
-use Rattle.record_store.specs.declared.fault.StoreFault.{StoreFault}
-use Rattle.record_store.specs.declared.fault.StoreFault.TheVariants as fault
+use Rattle.record_archive.specs.declared.fault.ArchiveRefusal.{ArchiveRefusal}
+use Rattle.record_archive.specs.declared.fault.ArchiveRefusal.TheVariants as fault
 
-ok_is : (a b : Archive) → ◌≡◌ {A = Result Archive StoreFault} (Ok a) (Ok b) → a ≡ b
+ok_is : (a b : Archive) → ◌≡◌ {A = Result Archive ArchiveRefusal} (Ok a) (Ok b) → a ≡ b
 ok_is a b e = cc
 
 -- ---- the plan stays

@@ -1,47 +1,40 @@
--- Due lists, and days by their numbers.
+-- Due lists.
 use Rattle.std.proofs.Common.{◌≡◌, ℕ, map, pos, true, false, Bool, Ok, Err, None, Vec, inl, inr, refl, ap, sym, subst}
-use Rattle.std.specs.Prelude.{unsigned_abs}
 use Rattle.std.specs.declared.alloc.Global.{Global}
-use Rattle.sqlite.specs.Store.{Ghosts}
-use Rattle.jiff.specs.Words.{epoch_day}
-use Rattle.jiff_core.specs.declared.civil.date.Date.{Date}
-use Rattle.class_plan.specs.Calendar.{number_of_day}
-use Rattle.record_store.specs.Archive.{due_list}
-use Rattle.record_store.specs.Stores as stores
-use Rattle.record_store.specs.Stores.{line_view}
-use Rattle.record_store.specs.declared.store.Line as code
-use Rattle.record_store.specs.declared.fault.StoreFault.{StoreFault}
+use Rattle.record_archive.specs.Archive.{Archive, due_list}
+use Rattle.record_archive.specs.Lines.{line_view}
+use Rattle.record_archive.specs.declared.line.Line as code
+use Rattle.record_archive.specs.Calls.{CarriesOut, unchanged}
+use Rattle.record_archive.specs.Faults.{WhereRefused}
+use Rattle.record_archive.specs.declared.fault.ArchiveFault.{ArchiveFault}
+use Rattle.record_archive.specs.declared.fault.ArchiveFault.TheVariants.{Refused, Database, NoMemory}
 use Rattle.filing_commands.specs.Answers.{Answer, listed, refused}
 use Rattle.filing_commands.specs.Calls.{Calls}
-use Rattle.filing_commands.specs.Faults.{refused_by, store_fault, store_number}
+use Rattle.filing_commands.specs.Faults.{refused_by, archive_fault}
 use Rattle.filing_commands.specs.Office.{OfficeStep, due}
 use Rattle.filing_commands.specs.Standing.{Standing, plain}
 use Rattle.filing_desk.specs.Standing.{IsClean, StandsFor}
 use Rattle.filing_desk.specs.declared.desk.Desk.{Desk}
 use Rattle.filing_desk.proofs.StepLemmas.{KeepsRest, plain_calls, still_stands}
-use Rattle.filing_desk.proofs.StoreLemmas.{told, trouble_number}
 
--- a day's number, from the day since 1970
-pub number_is : (d : Date) (n : ℕ) → epoch_day d ≡ pos n → number_of_day d ≡ n
-number_is d n e = ap (λ z. unsigned_abs z) e
+-- the answer to a due list
+abbrev IsDueList : (n : ℕ) → Archive → Vec code.Line Global → Type 0
+IsDueList n a v = map line_view v.items ≡ due_list a n
 
-module _ {S : Type 0} (g : Ghosts S) where
-  pub due_told : (old new : Desk S) (n : ℕ) (lines : Vec code.Line Global) → KeepsRest g old new → new.open_paths ≡ old.open_paths → stores.Falls g old.store new.store → stores.Tells g old.store new.store (Ok lines) (λ a v. map line_view v.items ≡ due_list a n) (λ a f. ⊥) → Calls (IsClean g) (StandsFor g) old (plain (due n)) (listed (map line_view lines.items)) new
-  due_told old new n lines rest same falls tells = plain_calls g old new (due n) (listed (map line_view lines.items)) falls (λ clean s stands.
-      let h = tells s.office.archive stands.store in
-      (s.office, inl (refl, h.1 clean), still_stands g old new s rest same stands h.0))
+-- the database or the memory refuses, and never the archive
+given_up : {E : Type 0} (s : Standing) (n : ℕ) (f : ArchiveFault E) → WhereRefused (λ r. unchanged s.office.archive ≡ Err r) f → OfficeStep s.office (due n) (refused_by (archive_fault f)) s.office
+given_up s n (Refused r) refuses = absurd (let other : unchanged s.office.archive ≡ Err r = refuses r refl in cc)
+given_up s n (Database e) refuses = inr (89, inr refl, refl, refl)
+given_up s n NoMemory refuses = inr (99, inl refl, refl, refl)
 
-  trouble_step : (s : Standing) (n : ℕ) (f : StoreFault) → (stores.is_trouble f ≡ false → ⊥) → OfficeStep s.office (due n) (refused_by (store_fault f)) s.office
-  trouble_step s n f trouble =
-      let P : Answer → Type 0 = λ a. OfficeStep s.office (due n) a s.office in
-      subst P (sym (told f)) (by (stores.is_trouble f) refl)
-    where
-      by : (b : Bool) → stores.is_trouble f ≡ b → OfficeStep s.office (due n) (refused (store_number f) None) s.office
-      by true e = inr (store_number f, trouble_number f e, refl, refl)
-      by false e = absurd (trouble e)
+module _ {A : Type 0} (is_clean : A → Type 0) (stood : A → Archive → Type 0) where
+  pub due_told : {E : Type 0} (old new : Desk A) (n : ℕ) (lines : Vec code.Line Global) → KeepsRest is_clean stood old new → new.open_paths ≡ old.open_paths → CarriesOut {E = E} is_clean stood old.store new.store unchanged (IsDueList n) (Ok lines) → Calls (IsClean is_clean) (StandsFor stood) old (plain (due n)) (listed (map line_view lines.items)) new
+  due_told old new n lines rest same call = plain_calls is_clean stood old new (due n) (listed (map line_view lines.items)) call.was_clean (λ clean s stands.
+      let h = call.does clean s.office.archive stands.store in
+      (s.office, inl (refl, h.1), still_stands is_clean stood old new s rest same stands h.0))
 
-  pub due_given_up : (old new : Desk S) (n : ℕ) (f : StoreFault) (a : Answer) → KeepsRest g old new → new.open_paths ≡ old.open_paths → stores.Falls g old.store new.store → stores.Tells {X = Vec code.Line Global} g old.store new.store (Err f) (λ a v. map line_view v.items ≡ due_list a n) (λ a f. ⊥) → a ≡ refused_by (store_fault f) → Calls (IsClean g) (StandsFor g) old (plain (due n)) a new
-  due_given_up old new n f a rest same falls tells is_told = plain_calls g old new (due n) a falls (λ clean s stands.
-      let h = tells s.office.archive stands.store in
+  pub due_given_up : {E : Type 0} (old new : Desk A) (n m : ℕ) (f : ArchiveFault E) (a : Answer) → KeepsRest is_clean stood old new → new.open_paths ≡ old.open_paths → CarriesOut {X = Vec code.Line Global} {E = E} is_clean stood old.store new.store unchanged (IsDueList m) (Err f) → a ≡ refused_by (archive_fault f) → Calls (IsClean is_clean) (StandsFor stood) old (plain (due n)) a new
+  due_given_up old new n m f a rest same call is_told = plain_calls is_clean stood old new (due n) a call.was_clean (λ clean s stands.
+      let h = call.does s.office.archive stands.store in
       let P : Answer → Type 0 = λ x. OfficeStep s.office (due n) x s.office in
-      (s.office, subst P (sym is_told) (trouble_step s n f (λ e. h.1 e clean)), still_stands g old new s rest same stands h.0))
+      (s.office, subst P (sym is_told) (given_up s n f (h.1 clean)), still_stands is_clean stood old new s rest same stands h.0))

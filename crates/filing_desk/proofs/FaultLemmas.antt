@@ -3,7 +3,6 @@ use Rattle.std.proofs.Common.{◌≡◌, ℕ, ◌≤◌, List, [], length, None,
 use Rattle.std.specs.Result.{IsErr, IsErrAnd}
 use Rattle.std.specs.declared.alloc.Global.{Global}
 use Rattle.std.proofs.lemmas.Bool.{false≢true}
-use Rattle.sqlite.specs.Store.{Ghosts}
 use Rattle.sieve_syntax.specs.Tree.{CommandTrees}
 use Rattle.sieve_meaning.specs.declared.outcome.Outcome.{Outcome}
 use Rattle.sieve_meaning.specs.Case.{Facts}
@@ -14,7 +13,8 @@ use Rattle.filing_case.specs.Message.{case_of}
 use Rattle.filing_image.specs.Program.{Program}
 use Rattle.filing_table.specs.Ends.{HasOutcome}
 use Rattle.script_library.specs.Libraries.{Scripts, library_of}
-use Rattle.record_store.specs.declared.store.Line.{Line}
+use Rattle.record_archive.specs.Archive.{Archive}
+use Rattle.record_archive.specs.declared.line.Line.{Line}
 use Rattle.filing_commands.specs.Answers.{Answer, dry_run}
 use Rattle.filing_commands.specs.Calls.{Calls}
 use Rattle.filing_commands.specs.Faults.{refused_by}
@@ -53,13 +53,13 @@ lacking s c limit payload f a told is short lacks =
     let P : Answer → Type 0 = λ x. OfficeStep s c x s in
     subst P (sym told) (fault_step s c (λ n. ⊥) limit payload f (λ n r. absurd r) lacks (inr (is, short)))
 
-module _ {S : Type 0} (g : Ghosts S) where
+module _ {A : Type 0} (is_clean : A → Type 0) (stood : A → Archive → Type 0) where
   -- a call that leaves the desk as it was
-  pub unchanged : (desk : Desk S) (c : PlainCommand) (a : Answer) → ((s : Standing) → StandsFor g desk s → OfficeStep s.office c a s.office) → Calls (IsClean g) (StandsFor g) desk (plain c) a desk
-  unchanged desk c a step = plain_calls g desk desk c a (λ clean. clean) (λ clean s stands. (s.office, step s stands, stands))
+  pub unchanged : (desk : Desk A) (c : PlainCommand) (a : Answer) → ((s : Standing) → StandsFor stood desk s → OfficeStep s.office c a s.office) → Calls (IsClean is_clean) (StandsFor stood) desk (plain c) a desk
+  unchanged desk c a step = plain_calls is_clean stood desk desk c a (λ clean. clean) (λ clean s stands. (s.office, step s stands, stands))
 
   -- the outcome of a script with the global scripts of a desk, in a message's case
-  pub file_done : (desk : Desk S) (p : Listing) (lent : Scripts) (tree : CommandTrees) (script message : List ℕ) (facts : Facts) (o : Outcome) → ((s : Standing) → StandsFor g desk s → p ≡ s.office.archive.plan) → lent ≡ record { personal = []; global = desk.officers.globals } → IsGood script tree → length message ≤ greatest_message → facts ≡ case_of message (is_open_in p) → o ≡ meaning.outcome facts (library_of lent) None (program_of tree) → Calls (IsClean g) (StandsFor g) desk (plain (file script message)) (dry_run o) desk
+  pub file_done : (desk : Desk A) (p : Listing) (lent : Scripts) (tree : CommandTrees) (script message : List ℕ) (facts : Facts) (o : Outcome) → ((s : Standing) → StandsFor stood desk s → p ≡ s.office.archive.plan) → lent ≡ record { personal = []; global = desk.officers.globals } → IsGood script tree → length message ≤ greatest_message → facts ≡ case_of message (is_open_in p) → o ≡ meaning.outcome facts (library_of lent) None (program_of tree) → Calls (IsClean is_clean) (StandsFor stood) desk (plain (file script message)) (dry_run o) desk
   file_done desk p lent tree script message facts o is_plan globals good short case is = unchanged desk (file script message) (dry_run o) (λ s stands.
       let main = program_of tree in
       let there : facts ≡ case_of message (is_open_in s.office.archive.plan) = case ∙ ap (λ q. case_of message (is_open_in q)) (is_plan s stands) in
@@ -73,38 +73,38 @@ module _ {S : Type 0} (g : Ghosts S) where
       inl (refl, filed))
 
   -- the outcome of an image's run
-  pub try_done : (desk : Desk S) (p : Listing) (program : Program) (image message : List ℕ) (facts : Facts) (n : ℕ) (o : Outcome) → ((s : Standing) → StandsFor g desk s → p ≡ s.office.archive.plan) → IsGoodImage image program → length message ≤ greatest_message → facts ≡ case_of message (is_open_in p) → HasOutcome program facts n o → Calls (IsClean g) (StandsFor g) desk (plain (try_image image message)) (dry_run o) desk
+  pub try_done : (desk : Desk A) (p : Listing) (program : Program) (image message : List ℕ) (facts : Facts) (n : ℕ) (o : Outcome) → ((s : Standing) → StandsFor stood desk s → p ≡ s.office.archive.plan) → IsGoodImage image program → length message ≤ greatest_message → facts ≡ case_of message (is_open_in p) → HasOutcome program facts n o → Calls (IsClean is_clean) (StandsFor stood) desk (plain (try_image image message)) (dry_run o) desk
   try_done desk p program image message facts n o is_plan good short case ran = unchanged desk (try_image image message) (dry_run o) (λ s stands.
       let there : facts ≡ case_of message (is_open_in s.office.archive.plan) = case ∙ ap (λ q. case_of message (is_open_in q)) (is_plan s stands) in
       let P : Facts → Type 0 = λ f. HasOutcome program f n o in
       let tried : IsTried s.office image message o = record { program = program; good = good; short = short; steps = n; outcome = subst P there ran } in
       inl (refl, tried))
 
-  pub file_no_script : (desk : Desk S) (script message : List ℕ) (f : DeskFault) (a : Answer) → a ≡ refused_by f → IsFaultOf (RefusesScript script) greatest_script script f → Calls (IsClean g) (StandsFor g) desk (plain (file script message)) a desk
+  pub file_no_script : (desk : Desk A) (script message : List ℕ) (f : DeskFault) (a : Answer) → a ≡ refused_by f → IsFaultOf (RefusesScript script) greatest_script script f → Calls (IsClean is_clean) (StandsFor stood) desk (plain (file script message)) a desk
   file_no_script desk script message f a told h = unchanged desk (file script message) a (λ s stands.
       let P : Answer → Type 0 = λ x. OfficeStep s.office (file script message) x s.office in
       subst P (sym told) (fault_step s.office (file script message) (RefusesScript script) greatest_script script f (λ n r. inl r) (λ n l. l) h))
 
-  pub file_no_message : (desk : Desk S) (script message : List ℕ) (tree : CommandTrees) (f : DeskFault) (a : Answer) → a ≡ refused_by f → IsGood script tree → length script ≤ greatest_script → IsFaultOf (IsTooLong message) greatest_message message f → Calls (IsClean g) (StandsFor g) desk (plain (file script message)) a desk
+  pub file_no_message : (desk : Desk A) (script message : List ℕ) (tree : CommandTrees) (f : DeskFault) (a : Answer) → a ≡ refused_by f → IsGood script tree → length script ≤ greatest_script → IsFaultOf (IsTooLong message) greatest_message message f → Calls (IsClean is_clean) (StandsFor stood) desk (plain (file script message)) a desk
   file_no_message desk script message tree f a told good short h = unchanged desk (file script message) a (λ s stands.
       let P : Answer → Type 0 = λ x. OfficeStep s.office (file script message) x s.office in
       subst P (sym told) (fault_step s.office (file script message) (IsTooLong message) greatest_message message f (λ n long. inr (record { tree = tree; good = good; long = long.0; is_number = long.1 })) (λ n l. (l.0, short)) h))
 
-  pub try_no_image : (desk : Desk S) (image message : List ℕ) (f : DeskFault) (a : Answer) → a ≡ refused_by f → IsFaultOf (RefusesImage image) greatest_image image f → Calls (IsClean g) (StandsFor g) desk (plain (try_image image message)) a desk
+  pub try_no_image : (desk : Desk A) (image message : List ℕ) (f : DeskFault) (a : Answer) → a ≡ refused_by f → IsFaultOf (RefusesImage image) greatest_image image f → Calls (IsClean is_clean) (StandsFor stood) desk (plain (try_image image message)) a desk
   try_no_image desk image message f a told h = unchanged desk (try_image image message) a (λ s stands.
       let P : Answer → Type 0 = λ x. OfficeStep s.office (try_image image message) x s.office in
       subst P (sym told) (fault_step s.office (try_image image message) (RefusesImage image) greatest_image image f (λ n r. inl r) (λ n l. l) h))
 
-  pub try_no_message : (desk : Desk S) (image message : List ℕ) (program : Program) (f : DeskFault) (a : Answer) → a ≡ refused_by f → IsGoodImage image program → length image ≤ greatest_image → IsFaultOf (IsTooLong message) greatest_message message f → Calls (IsClean g) (StandsFor g) desk (plain (try_image image message)) a desk
+  pub try_no_message : (desk : Desk A) (image message : List ℕ) (program : Program) (f : DeskFault) (a : Answer) → a ≡ refused_by f → IsGoodImage image program → length image ≤ greatest_image → IsFaultOf (IsTooLong message) greatest_message message f → Calls (IsClean is_clean) (StandsFor stood) desk (plain (try_image image message)) a desk
   try_no_message desk image message program f a told good short h = unchanged desk (try_image image message) a (λ s stands.
       let P : Answer → Type 0 = λ x. OfficeStep s.office (try_image image message) x s.office in
       subst P (sym told) (fault_step s.office (try_image image message) (IsTooLong message) greatest_message message f (λ n long. inr (record { program = program; good = good; long = long.0; is_number = long.1 })) (λ n l. (l.0, short)) h))
 
-  pub refused_part : (desk : Desk S) (c : PlainCommand) (Rule : ℕ → Type 0) (limit : ℕ) (payload : List ℕ) (f : DeskFault) (a : Answer) → ((s : Office) (n : ℕ) → Rule n → Refuses s c n) → ((s : Office) (n : ℕ) → LacksMemory limit payload n → GivesUp s c n) → a ≡ refused_by f → IsFaultOf Rule limit payload f → Calls (IsClean g) (StandsFor g) desk (plain c) a desk
+  pub refused_part : (desk : Desk A) (c : PlainCommand) (Rule : ℕ → Type 0) (limit : ℕ) (payload : List ℕ) (f : DeskFault) (a : Answer) → ((s : Office) (n : ℕ) → Rule n → Refuses s c n) → ((s : Office) (n : ℕ) → LacksMemory limit payload n → GivesUp s c n) → a ≡ refused_by f → IsFaultOf Rule limit payload f → Calls (IsClean is_clean) (StandsFor stood) desk (plain c) a desk
   refused_part desk c Rule limit payload f a refuses lacks told h = unchanged desk c a (λ s stands.
       let P : Answer → Type 0 = λ x. OfficeStep s.office c x s.office in
       subst P (sym told) (fault_step s.office c Rule limit payload f (refuses s.office) (lacks s.office) h))
 
   -- no memory in a run
-  pub gave_up : (desk : Desk S) (c : PlainCommand) (limit : ℕ) (payload : List ℕ) (f : DeskFault) (a : Answer) → a ≡ refused_by f → f ≡ NoMemory → length payload ≤ limit → ((s : Office) (n : ℕ) → LacksMemory limit payload n → GivesUp s c n) → Calls (IsClean g) (StandsFor g) desk (plain c) a desk
+  pub gave_up : (desk : Desk A) (c : PlainCommand) (limit : ℕ) (payload : List ℕ) (f : DeskFault) (a : Answer) → a ≡ refused_by f → f ≡ NoMemory → length payload ≤ limit → ((s : Office) (n : ℕ) → LacksMemory limit payload n → GivesUp s c n) → Calls (IsClean is_clean) (StandsFor stood) desk (plain c) a desk
   gave_up desk c limit payload f a told is short lacks = unchanged desk c a (λ s stands. lacking s.office c limit payload f a told is short (lacks s.office))

@@ -3,22 +3,18 @@ use Rattle.std.proofs.Common.{◌≡◌, ℕ, ◌+◌, ◌==◌, List, [], ◌�
 use Rattle.std.specs.Prelude.{nat_lt, unsigned_abs, All}
 use Rattle.std.specs.List.{AllByRecursion}
 use Rattle.std.specs.declared.alloc.Global.{Global}
-use Rattle.sqlite.specs.Store.{Ghosts}
-use Rattle.sqlite.specs.State.{HasCleanDisk}
-use Rattle.sqlite.specs.Held.{state}
 use Rattle.class_paths.specs.Paths.{IsIncreasing}
 use Rattle.class_plan.specs.Calendar.{number_of_day}
 use Rattle.class_plan.specs.Plans.{Listing}
 use Rattle.sieve_meaning.specs.declared.outcome.Outcome.{Outcome}
 use Rattle.sieve_meaning.specs.Case.{Facts}
 use Rattle.filing_case.specs.Message.{is_among}
-use Rattle.record_store.specs.Archive.{Archive, capture, capture_lines}
-use Rattle.record_store.specs.Stores as stores
-use Rattle.record_store.specs.Stores.{line_view}
-use Rattle.record_store.specs.declared.fault.StoreFault.{StoreFault}
-use Rattle.record_store.specs.declared.fault.StoreFault.TheVariants.{Full}
-use Rattle.record_store.specs.declared.store.Line.{Line}
-use Rattle.record_store.specs.declared.store.Store.{Store}
+use Rattle.record_archive.specs.Archive.{Archive, IsArchive, capture, capture_lines}
+use Rattle.record_archive.specs.Lines.{line_view}
+use Rattle.record_archive.specs.Calls.{Makes}
+use Rattle.record_archive.specs.declared.fault.ArchiveRefusal.{ArchiveRefusal}
+use Rattle.record_archive.specs.declared.fault.ArchiveRefusal.TheVariants.{Full}
+use Rattle.record_archive.specs.declared.line.Line.{Line}
 use Rattle.filing_commands.specs.Answers.{Answer, captured, refused}
 use Rattle.filing_commands.specs.Calls.{Calls}
 use Rattle.filing_commands.specs.Faults.{refused_by}
@@ -88,11 +84,11 @@ early_flag x f b tells holds e = go (nat_lt f.granted f.run_length) (sym (tells 
     go true h = refl
     go false h = absurd cc
 
-module _ {S : Type 0} (g : Ghosts S) where
+module _ {A : Type 0} (is_clean : A → Type 0) (stood : A → Archive → Type 0) where
   -- the desk represents the state with other flights
-  pub reflies : (old new : Desk S) (s : Standing) (fs : List Flight) (n : ℕ) → new.store ≡ old.store → new.officers ≡ old.officers → new.last ≡ n → AreOpenPaths new.open_paths s.office.archive.plan → StandsFor g old s → AreHeld new.flights fs → AllByRecursion (HasPathsOf s.office.archive.plan) fs → StandsFor g new (record { office = s.office; flights = fs; last = n })
+  pub reflies : (old new : Desk A) (s : Standing) (fs : List Flight) (n : ℕ) → new.store ≡ old.store → new.officers ≡ old.officers → new.last ≡ n → AreOpenPaths new.open_paths s.office.archive.plan → StandsFor stood old s → AreHeld new.flights fs → AllByRecursion (HasPathsOf s.office.archive.plan) fs → StandsFor stood new (record { office = s.office; flights = fs; last = n })
   reflies old new s fs n es eo el paths stands held classes =
-      let P : Store S → Type 0 = λ x. stores.StandsFor g x s.office.archive in
+      let P : A → Type 0 = λ x. stood x s.office.archive in
       record {
         store = subst P (sym es) stands.store;
         officers = ap (λ x. office_of s.office.archive x) eo ∙ stands.officers;
@@ -102,11 +98,11 @@ module _ {S : Type 0} (g : Ghosts S) where
         classes = classes;
       }
 
-  pub cleans : (old new : Desk S) → new.store ≡ old.store → HasCleanDisk (state g new.store.conn) → HasCleanDisk (state g old.store.conn)
-  cleans old new same clean = let P : Store S → Type 0 = λ x. HasCleanDisk (state g x.conn) in subst P same clean
+  pub cleans : (old new : Desk A) → new.store ≡ old.store → is_clean new.store → is_clean old.store
+  cleans old new same clean = let P : A → Type 0 = λ x. is_clean x in subst P same clean
 
   -- turns are granted
-  pub turned_by : (old new : Desk S) (t k : ℕ) (a : Answer) → new.store ≡ old.store → new.officers ≡ old.officers → new.last ≡ old.last → new.open_paths ≡ old.open_paths → Turns old.flights t k a new.flights → Calls (IsClean g) (StandsFor g) old (turn t k) a new
+  pub turned_by : (old new : Desk A) (t k : ℕ) (a : Answer) → new.store ≡ old.store → new.officers ≡ old.officers → new.last ≡ old.last → new.open_paths ≡ old.open_paths → Turns old.flights t k a new.flights → Calls (IsClean is_clean) (StandsFor stood) old (turn t k) a new
   unfolding Step
   turned_by old new t k a es eo el ep turns = record {
     was_clean = cleans old new es;
@@ -121,7 +117,7 @@ module _ {S : Type 0} (g : Ghosts S) where
   }
 
   -- nothing is finished
-  finish_same : (desk : Desk S) (t : ℕ) (a : Answer) → ((s : Standing) → StandsFor g desk s → FinishStep s t (flight_of t s.flights) a s) → Calls (IsClean g) (StandsFor g) desk (finish t) a desk
+  finish_same : (desk : Desk A) (t : ℕ) (a : Answer) → ((s : Standing) → StandsFor stood desk s → FinishStep s t (flight_of t s.flights) a s) → Calls (IsClean is_clean) (StandsFor stood) desk (finish t) a desk
   unfolding Step
   finish_same desk t a step = record {
     was_clean = λ clean. clean;
@@ -129,20 +125,20 @@ module _ {S : Type 0} (g : Ghosts S) where
   }
 
   -- no capture in flight has the ticket
-  pub finish_none : (desk : Desk S) (t : ℕ) → Finds desk.flights t None → Calls (IsClean g) (StandsFor g) desk (finish t) (refused 91 None) desk
+  pub finish_none : (desk : Desk A) (t : ℕ) → Finds desk.flights t None → Calls (IsClean is_clean) (StandsFor stood) desk (finish t) (refused 91 None) desk
   finish_none desk t finds = finish_same desk t (refused 91 None) (λ s stands.
       let P : Option Flight → Type 0 = λ o. FinishStep s t o (refused 91 None) s in
       subst P (sym (none_found (flight_of t s.flights) (finds s.flights stands.flights))) (refl, refl))
 
   -- a capture that has not come to its end
-  pub finish_early : (desk : Desk S) (t : ℕ) (x : FlightView) (b : Bool) → Finds desk.flights t (Some x) → TellsEnd x b → b ≡ false → Calls (IsClean g) (StandsFor g) desk (finish t) (refused 92 None) desk
+  pub finish_early : (desk : Desk A) (t : ℕ) (x : FlightView) (b : Bool) → Finds desk.flights t (Some x) → TellsEnd x b → b ≡ false → Calls (IsClean is_clean) (StandsFor stood) desk (finish t) (refused 92 None) desk
   finish_early desk t x b finds tells e = finish_same desk t (refused 92 None) (λ s stands.
       let f = some_found (flight_of t s.flights) x (finds s.flights stands.flights) in
       let early = early_flag x f.0 b tells f.2 e in
       rw (f.1, early) (refl, refl))
 
   -- there is no memory for the outcome
-  pub finish_poor : (desk : Desk S) (t : ℕ) (x : FlightView) (b : Bool) (a : Answer) → Finds desk.flights t (Some x) → TellsEnd x b → b ≡ true → a ≡ refused 99 None → Calls (IsClean g) (StandsFor g) desk (finish t) a desk
+  pub finish_poor : (desk : Desk A) (t : ℕ) (x : FlightView) (b : Bool) (a : Answer) → Finds desk.flights t (Some x) → TellsEnd x b → b ≡ true → a ≡ refused 99 None → Calls (IsClean is_clean) (StandsFor stood) desk (finish t) a desk
   finish_poor desk t x b a finds tells e told = finish_same desk t a (λ s stands.
       let f = some_found (flight_of t s.flights) x (finds s.flights stands.flights) in
       let ended = ended_flag x f.0 b tells f.2 e in
@@ -153,28 +149,29 @@ module _ {S : Type 0} (g : Ghosts S) where
   of_flight x f s holds = ap (λ z. unsigned_abs z) holds.day
 
   -- nothing is filed
-  pub finish_refused : (old new : Desk S) (t : ℕ) (x : FlightView) (b : Bool) (o : Outcome) (f : DeskFault) (a : Answer) → Finds old.flights t (Some x) → TellsEnd x b → b ≡ true → IsOutcome x o → IsIncreasing o.classes → All (IsClass x) o.classes → Files g old.store new.store x.message (number_of_day x.day) o.classes (Err f) → stores.Falls g old.store new.store → new.officers ≡ old.officers → new.flights ≡ old.flights → new.last ≡ old.last → new.open_paths ≡ old.open_paths → a ≡ refused_by f → Calls (IsClean g) (StandsFor g) old (finish t) a new
+  pub finish_refused : ((x : A) (a : Archive) → stood x a → IsArchive a) → (old new : Desk A) (t : ℕ) (x : FlightView) (b : Bool) (o : Outcome) (f : DeskFault) (a : Answer) → Finds old.flights t (Some x) → TellsEnd x b → b ≡ true → IsOutcome x o → IsIncreasing o.classes → All (IsClass x) o.classes → Files is_clean stood old.store new.store x.message (number_of_day x.day) o.classes (Err f) → (is_clean new.store → is_clean old.store) → new.officers ≡ old.officers → new.flights ≡ old.flights → new.last ≡ old.last → new.open_paths ≡ old.open_paths → a ≡ refused_by f → Calls (IsClean is_clean) (StandsFor stood) old (finish t) a new
   unfolding Step
-  finish_refused old new t x b o f a finds tells e alone up each files falls eo ef el ep told = record {
+  finish_refused is_archive old new t x b o f a finds tells e alone up each files falls eo ef el ep told = record {
     was_clean = falls;
     leads = λ clean s stands.
         let here = some_found (flight_of t s.flights) x (finds s.flights stands.flights) in
         let flight = here.0 in
         let ended = ended_flag x flight b tells here.2 e in
-        let classes = are_classes x s.office.archive.plan o.classes stands.store.archive.plan (has_open x flight s.office.archive.plan here.2 (found_classes s.office.archive.plan t s.flights flight stands.classes here.1)) each up in
-        let h = files s.office.archive stands.store classes in
+        let classes = are_classes x s.office.archive.plan o.classes (is_archive old.store s.office.archive stands.store).plan (has_open x flight s.office.archive.plan here.2 (found_classes s.office.archive.plan t s.flights flight stands.classes here.1)) each up in
+        let filed = files s.office.archive stands.store classes in
+        let reason = filed.1 clean in
         let P : Option (List (List ℕ)) → Type 0 = λ y. AreOpenPaths y s.office.archive.plan in
         let Q : List FlightView → Type 0 = λ xs. AreHeld xs s.flights in
-        let there : StandsFor g new s = record {
-          store = h.0;
+        let there : StandsFor stood new s = record {
+          store = filed.0;
           officers = ap (λ y. office_of s.office.archive y) eo ∙ stands.officers;
           flights = subst Q (sym ef) stands.flights;
           last = el ∙ stands.last;
           open_paths = subst P (sym ep) stands.open_paths;
           classes = stands.classes;
         } in
-        let number = h.1.number in
-        let step : FinishStep s t (Some flight) (refused number None) s = rw ended (elim h.1.reason [
+        let number = reason.number in
+        let step : FinishStep s t (Some flight) (refused number None) s = rw ended (elim reason.reason [
           | inl trouble ↦ inr (number, trouble, refl, refl)
           | inr full ↦
               let C : List ℕ → Type 0 = λ m. capture s.office.archive m flight.at_begin.day o.classes ≡ Err Full in
@@ -183,15 +180,15 @@ module _ {S : Type 0} (g : Ghosts S) where
         ]) in
         let R : Answer → Type 0 = λ y. FinishStep s t (flight_of t s.flights) y s in
         let T : Option Flight → Type 0 = λ y. FinishStep s t y (refused number None) s in
-        record { to = s; is_one = subst R (sym (told ∙ h.1.told)) (subst T (sym here.1) step); there = there };
+        record { to = s; is_one = subst R (sym (told ∙ reason.told)) (subst T (sym here.1) step); there = there };
   }
 
-  becomes : (new : Store S) (r : Result Archive StoreFault) → stores.Becomes g new r → (b : Archive) × (r ≡ Ok b) × stores.StandsFor g new b
+  becomes : (new : A) (r : Result Archive ArchiveRefusal) → Makes (stood new) r → (b : Archive) × (r ≡ Ok b) × stood new b
   becomes new (Ok b) h = (b, refl, h)
   becomes new (Err f) h = absurd h
 
   -- a capture is whole
-  pub finish_done : (old new : Desk S) (t : ℕ) (x : FlightView) (b : Bool) (o : Outcome) (lines : Vec Line Global) → Finds old.flights t (Some x) → TellsEnd x b → b ≡ true → IsOutcome x o → Files g old.store new.store x.message (number_of_day x.day) o.classes (Ok lines) → stores.Falls g old.store new.store → new.officers ≡ old.officers → Removes old.flights t new.flights → new.last ≡ old.last → new.open_paths ≡ old.open_paths → Calls (IsClean g) (StandsFor g) old (finish t) (captured o.fault (map line_view lines.items)) new
+  pub finish_done : (old new : Desk A) (t : ℕ) (x : FlightView) (b : Bool) (o : Outcome) (lines : Vec Line Global) → Finds old.flights t (Some x) → TellsEnd x b → b ≡ true → IsOutcome x o → Files is_clean stood old.store new.store x.message (number_of_day x.day) o.classes (Ok lines) → (is_clean new.store → is_clean old.store) → new.officers ≡ old.officers → Removes old.flights t new.flights → new.last ≡ old.last → new.open_paths ≡ old.open_paths → Calls (IsClean is_clean) (StandsFor stood) old (finish t) (captured o.fault (map line_view lines.items)) new
   unfolding Step
   finish_done old new t x b o lines finds tells e alone files falls eo removes el ep = record {
     was_clean = falls;
@@ -200,9 +197,9 @@ module _ {S : Type 0} (g : Ghosts S) where
         let flight = here.0 in
         let ended = ended_flag x flight b tells here.2 e in
         let was = s.office.archive in
-        let h = files was stands.store in
-        let D : ℕ → Type 0 = λ d. stores.Becomes g new.store (capture was x.message d o.classes) × (map line_view lines.items ≡ capture_lines was d o.classes) in
-        let C : List ℕ → Type 0 = λ m. stores.Becomes g new.store (capture was m flight.at_begin.day o.classes) in
+        let h = files clean was stands.store in
+        let D : ℕ → Type 0 = λ d. Makes (stood new.store) (capture was x.message d o.classes) × (map line_view lines.items ≡ capture_lines was d o.classes) in
+        let C : List ℕ → Type 0 = λ m. Makes (stood new.store) (capture was m flight.at_begin.day o.classes) in
         let dated = subst D (of_flight x flight s here.2) h in
         let made = becomes new.store (capture was flight.at_begin.message flight.at_begin.day o.classes) (subst C here.2.message dated.0) in
         let now = made.0 in
@@ -211,7 +208,7 @@ module _ {S : Type 0} (g : Ghosts S) where
         let P : Option (List (List ℕ)) → Type 0 = λ y. AreOpenPaths y now.plan in
         let Q : Listing → Type 0 = λ p. AreOpenPaths old.open_paths p in
         let U : Listing → Type 0 = λ p. AllByRecursion (HasPathsOf p) left in
-        let there : StandsFor g new (record { office = with_archive s.office now; flights = left; last = s.last }) = record {
+        let there : StandsFor stood new (record { office = with_archive s.office now; flights = left; last = s.last }) = record {
           store = made.2;
           officers = ap (λ y. office_of now y) eo ∙ ap (λ y. with_archive y now) stands.officers;
           flights = removes s.flights stands.flights;

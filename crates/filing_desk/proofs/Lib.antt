@@ -1,6 +1,6 @@
 pub mod ScriptLemmas
 pub mod NumberLemmas
-pub mod StoreLemmas
+pub mod ArchiveLemmas
 pub mod StepLemmas
 pub mod ClassLemmas
 pub mod RecordCommands

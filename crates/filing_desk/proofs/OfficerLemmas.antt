@@ -2,15 +2,10 @@
 use Rattle.std.proofs.Common.{◌≡◌, ℕ, ◌≤◌, ◌⊎◌, List, length, Bool, true, false, Option, is_some, Result, Err, inl, inr, refl, ap, sym, ◌∙◌, subst}
 use Rattle.std.specs.List.{AllByRecursion}
 use Rattle.std.proofs.lemmas.Bool.{false≢true}
-use Rattle.sqlite.specs.Store.{Ghosts}
-use Rattle.sqlite.specs.State.{HasCleanDisk}
-use Rattle.sqlite.specs.Held.{state}
 use Rattle.sieve_syntax.specs.Tree.{CommandTrees}
 use Rattle.sieve_meaning.specs.Program.{Commands}
 use Rattle.sieve_meaning.specs.Reading.{program_of}
-use Rattle.record_store.specs.Archive.{Archive}
-use Rattle.record_store.specs.Stores as stores
-use Rattle.record_store.specs.declared.store.Store.{Store}
+use Rattle.record_archive.specs.Archive.{Archive}
 use Rattle.filing_commands.specs.Answers.{Answer, done}
 use Rattle.filing_commands.specs.Calls.{Calls}
 use Rattle.filing_commands.specs.Faults.{refused_by}
@@ -71,19 +66,19 @@ activate_refused s officer name o f same (inr poor) none exact =
     let there : is_some (script_at name o.scripts) ≡ true = has_script (is_some (script_at name o.scripts)) f poor exact in
     subst Q (sym poor) (inr (99, (refl, subst P same there), refl, refl))
 
-module _ {S : Type 0} (g : Ghosts S) where
+module _ {A : Type 0} (is_clean : A → Type 0) (stood : A → Archive → Type 0) where
   -- the desk is as it was, except for its officers
-  pub record KeepsOthers (old new : Desk S) : Type 0 where
+  pub record KeepsOthers (old new : Desk A) : Type 0 where
     pub store : new.store ≡ old.store
     pub flights : new.flights ≡ old.flights
     pub last : new.last ≡ old.last
     pub open_paths : new.open_paths ≡ old.open_paths
 
   -- the desk represents the state with the office that its officers have now
-  resets : (old new : Desk S) (s : Standing) (b : Office) → KeepsOthers old new → StandsFor g old s → b.archive ≡ s.office.archive → office_of s.office.archive new.officers ≡ b → StandsFor g new (record s { office = b })
+  resets : (old new : Desk A) (s : Standing) (b : Office) → KeepsOthers old new → StandsFor stood old s → b.archive ≡ s.office.archive → office_of s.office.archive new.officers ≡ b → StandsFor stood new (record s { office = b })
   resets old new s b rest stands same is =
-      let P : Store S → Type 0 = λ x. stores.StandsFor g x b.archive in
-      let Q : Archive → Type 0 = λ x. stores.StandsFor g old.store x in
+      let P : A → Type 0 = λ x. stood x b.archive in
+      let Q : Archive → Type 0 = λ x. stood old.store x in
       let R : List FlightView → Type 0 = λ xs. AreHeld xs s.flights in
       let T : Option (List (List ℕ)) → Type 0 = λ x. AreOpenPaths x b.archive.plan in
       let U : Archive → Type 0 = λ x. AreOpenPaths old.open_paths x.plan in
@@ -97,22 +92,22 @@ module _ {S : Type 0} (g : Ghosts S) where
         classes = subst V (sym same) stands.classes;
       }
 
-  cleans : (old new : Desk S) → new.store ≡ old.store → HasCleanDisk (state g new.store.conn) → HasCleanDisk (state g old.store.conn)
-  cleans old new same clean = let P : Store S → Type 0 = λ x. HasCleanDisk (state g x.conn) in subst P same clean
+  cleans : (old new : Desk A) → new.store ≡ old.store → is_clean new.store → is_clean old.store
+  cleans old new same clean = let P : A → Type 0 = λ x. is_clean x in subst P same clean
 
   -- something is set
-  pub set_by : (old new : Desk S) (c : PlainCommand) (change : Office → Office) → KeepsOthers old new → ((s : Office) → (change s).archive ≡ s.archive) → ((a : Archive) → office_of a new.officers ≡ change (office_of a old.officers)) → ((s : Standing) → StandsFor g old s → Settles s.office c (change s.office)) → Calls (IsClean g) (StandsFor g) old (plain c) done new
-  set_by old new c change rest keeps is settles = plain_calls g old new c done (cleans old new rest.store) (λ clean s stands.
+  pub set_by : (old new : Desk A) (c : PlainCommand) (change : Office → Office) → KeepsOthers old new → ((s : Office) → (change s).archive ≡ s.archive) → ((a : Archive) → office_of a new.officers ≡ change (office_of a old.officers)) → ((s : Standing) → StandsFor stood old s → Settles s.office c (change s.office)) → Calls (IsClean is_clean) (StandsFor stood) old (plain c) done new
+  set_by old new c change rest keeps is settles = plain_calls is_clean stood old new c done (cleans old new rest.store) (λ clean s stands.
       (change s.office, inl (settles s stands), resets old new s (change s.office) rest stands (keeps s.office) (is s.office.archive ∙ ap change stands.officers)))
 
   -- nothing is set
-  pub not_set : (old new : Desk S) (c : PlainCommand) (a : Answer) → KeepsOthers old new → new.officers ≡ old.officers → ((s : Standing) → StandsFor g old s → OfficeStep s.office c a s.office) → Calls (IsClean g) (StandsFor g) old (plain c) a new
-  not_set old new c a rest same step = plain_calls g old new c a (cleans old new rest.store) (λ clean s stands.
+  pub not_set : (old new : Desk A) (c : PlainCommand) (a : Answer) → KeepsOthers old new → new.officers ≡ old.officers → ((s : Standing) → StandsFor stood old s → OfficeStep s.office c a s.office) → Calls (IsClean is_clean) (StandsFor stood) old (plain c) a new
+  not_set old new c a rest same step = plain_calls is_clean stood old new c a (cleans old new rest.store) (λ clean s stands.
       (s.office, step s stands, resets old new s s.office rest stands refl (ap (λ x. office_of s.office.archive x) same ∙ stands.officers)))
 
   -- what the officers have, as the state does
-  pub globals_are : (desk : Desk S) (s : Standing) → StandsFor g desk s → (office_of s.office.archive desk.officers).globals ≡ s.office.globals
+  pub globals_are : (desk : Desk A) (s : Standing) → StandsFor stood desk s → (office_of s.office.archive desk.officers).globals ≡ s.office.globals
   globals_are desk s stands = ap (λ (o : Office). o.globals) stands.officers
 
-  pub officer_is : (desk : Desk S) (s : Standing) (name : List ℕ) → StandsFor g desk s → officer_at name desk.officers.officers ≡ s.office.officers name
+  pub officer_is : (desk : Desk A) (s : Standing) (name : List ℕ) → StandsFor stood desk s → officer_at name desk.officers.officers ≡ s.office.officers name
   officer_is desk s name stands = ap (λ (o : Office). o.officers name) stands.officers

@@ -1,13 +1,12 @@
 -- Plans that are taken over, or are not.
 use Rattle.std.proofs.Common.{◌≡◌, ℕ, ◌≤◌, ◌<◌, ◌⊎◌, ◌≢◌, List, length, Bool, true, false, if◌then◌else◌, Ok, Err, inl, inr, refl, sym, subst}
-use Rattle.sqlite.specs.Store.{Ghosts}
 use Rattle.class_plan.specs.Plans.{Listing, keeps}
 use Rattle.class_plan.specs.Document.{plan_of_text}
 use Rattle.class_plan.specs.declared.faults.PlanFault.{PlanFault}
 use Rattle.class_plan.specs.declared.faults.PlanFault.TheVariants as plans
 use Rattle.class_plan.specs.declared.faults.PlanFault.TheVariants.{PathDropped}
-use Rattle.record_store.specs.Archive.{Archive, revise}
-use Rattle.record_store.specs.declared.fault.StoreFault.TheVariants.{Plan}
+use Rattle.record_archive.specs.Archive.{Archive, revise}
+use Rattle.record_archive.specs.declared.fault.ArchiveRefusal.TheVariants.{Plan}
 use Rattle.filing_commands.specs.Answers.{Answer}
 use Rattle.filing_commands.specs.Calls.{Calls}
 use Rattle.filing_commands.specs.Faults.{refused_by, plan_fault}
@@ -52,13 +51,13 @@ long_step s t f (inr h) =
     let P : DeskFault → Type 0 = λ x. OfficeStep s (set_plan t) (refused_by x) s in
     subst P (sym h.1) (inr (99, (inl refl, h.0), refl, refl))
 
-module _ {S : Type 0} (g : Ghosts S) where
-  pub no_text : (desk : Desk S) (t : List ℕ) (f : DeskFault) (a : Answer) → a ≡ refused_by f → ((greatest_plan < length t) × (f ≡ faults.PlanTooLong)) ⊎ ((length t ≤ greatest_plan) × (f ≡ faults.NoMemory)) → Calls (IsClean g) (StandsFor g) desk (plain (set_plan t)) a desk
-  no_text desk t f a told h = unchanged g desk (set_plan t) a (λ s stands.
+module _ {A : Type 0} (is_clean : A → Type 0) (stood : A → Archive → Type 0) where
+  pub no_text : (desk : Desk A) (t : List ℕ) (f : DeskFault) (a : Answer) → a ≡ refused_by f → ((greatest_plan < length t) × (f ≡ faults.PlanTooLong)) ⊎ ((length t ≤ greatest_plan) × (f ≡ faults.NoMemory)) → Calls (IsClean is_clean) (StandsFor stood) desk (plain (set_plan t)) a desk
+  no_text desk t f a told h = unchanged is_clean stood desk (set_plan t) a (λ s stands.
       let P : Answer → Type 0 = λ x. OfficeStep s.office (set_plan t) x s.office in
       subst P (sym told) (long_step s.office t f h))
 
-  pub no_plan : (desk : Desk S) (t : List ℕ) (f : PlanFault) (a : Answer) → a ≡ refused_by (plan_fault f) → length t ≤ greatest_plan → (f ≢ plans.NoMemory → plan_of_text t ≡ Err f) → Calls (IsClean g) (StandsFor g) desk (plain (set_plan t)) a desk
-  no_plan desk t f a told short refuses = unchanged g desk (set_plan t) a (λ s stands.
+  pub no_plan : (desk : Desk A) (t : List ℕ) (f : PlanFault) (a : Answer) → a ≡ refused_by (plan_fault f) → length t ≤ greatest_plan → (f ≢ plans.NoMemory → plan_of_text t ≡ Err f) → Calls (IsClean is_clean) (StandsFor stood) desk (plain (set_plan t)) a desk
+  no_plan desk t f a told short refuses = unchanged is_clean stood desk (set_plan t) a (λ s stands.
       let P : Answer → Type 0 = λ x. OfficeStep s.office (set_plan t) x s.office in
       subst P (sym told) (text_step s.office t f short refuses))

@@ -1,26 +1,26 @@
 -- Calls of a desk about one record.
 use Rattle.std.proofs.Common.{◌≡◌, ◌≤◌, ◌^◌, ℕ, List, Option, Result, Ok, Err, ap, sym, ◌∙◌, subst}
-use Rattle.sqlite.specs.Store.{Ghosts}
 use Rattle.class_plan.specs.Plans.{Listing}
-use Rattle.record_store.specs.Archive as archives
-use Rattle.record_store.specs.Archive.{Archive, IsArchive}
-use Rattle.record_store.specs.Stores as stores
-use Rattle.record_store.specs.declared.fault.StoreFault.{StoreFault}
-use Rattle.record_store.specs.declared.fault.StoreFault.TheVariants.{NoRecord}
+use Rattle.record_archive.specs.Archive as archives
+use Rattle.record_archive.specs.Archive.{Archive, IsArchive}
+use Rattle.record_archive.specs.Calls.{CarriesOut, Quietly}
+use Rattle.record_archive.specs.declared.fault.ArchiveFault.{ArchiveFault}
+use Rattle.record_archive.specs.declared.fault.ArchiveRefusal.{ArchiveRefusal}
+use Rattle.record_archive.specs.declared.fault.ArchiveRefusal.TheVariants.{NoRecord}
 use Rattle.filing_commands.specs.Answers.{Answer, done}
 use Rattle.filing_commands.specs.Calls.{Calls}
-use Rattle.filing_commands.specs.Faults.{refused_by, store_fault}
+use Rattle.filing_commands.specs.Faults.{refused_by, refusal_fault, archive_fault}
 use Rattle.filing_commands.specs.Office.{PlainCommand, hold, release, destroy}
 use Rattle.filing_commands.specs.Standing.{plain}
 use Rattle.filing_desk.specs.Standing.{AreOpenPaths, IsClean, StandsFor}
 use Rattle.filing_desk.specs.declared.desk.Desk.{Desk}
 use Rattle.filing_desk.proofs.ClassLemmas.{destroy_stays, hold_stays, release_stays, same_keeps}
 use Rattle.filing_desk.proofs.NumberLemmas.{no_destruction, no_hold, no_release}
-use Rattle.filing_desk.proofs.StepLemmas.{IsCommand, KeepsRest, done_by_rows, refused_by_number, refused_by_rows}
+use Rattle.filing_desk.proofs.StepLemmas.{IsCommand, KeepsRest, done_by, refused_by_number, refused_by_archive}
 
 -- The commands, by the number of the record, are these of the archive. They keep the plan, and no record has a number
 -- above 32 bits.
-pub record IsOfRecord (c : ℕ → PlainCommand) (command : ℕ → Archive → Result Archive StoreFault) : Type 0 where
+pub record IsOfRecord (c : ℕ → PlainCommand) (command : ℕ → Archive → Result Archive ArchiveRefusal) : Type 0 where
   pub is : (n : ℕ) → IsCommand (c n) (command n)
   pub stays : (n : ℕ) (a b : Archive) → command n a ≡ Ok b → b.plan ≡ a.plan
   pub none : (n : ℕ) (a : Archive) → IsArchive a → 2 ^ 32 ≤ n → command n a ≡ Err NoRecord
@@ -46,21 +46,21 @@ destroys day = record {
   none = λ n a is large. no_destruction a n day is large;
 }
 
-module _ {S : Type 0} (g : Ghosts S) (c : ℕ → PlainCommand) (command : ℕ → Archive → Result Archive StoreFault) (of : IsOfRecord c command) where
+module _ {A : Type 0} (is_clean : A → Type 0) (stood : A → Archive → Type 0) (c : ℕ → PlainCommand) (command : ℕ → Archive → Result Archive ArchiveRefusal) (of : IsOfRecord c command) where
   -- the number has more than 32 bits
-  pub number_refused : (desk : Desk S) (n : ℕ) (f : StoreFault) (a : Answer) → (f ≡ NoRecord) × (2 ^ 32 ≤ n) → a ≡ refused_by (store_fault f) → Calls (IsClean g) (StandsFor g) desk (plain (c n)) a desk
-  number_refused desk n f a large told =
-      refused_by_number g desk (c n) (command n) f a (of.is n) (λ x is. of.none n x is large.1 ∙ ap (λ e. Err e) (sym large.0)) told
+  pub number_refused : ((x : A) (a : Archive) → stood x a → IsArchive a) → (desk : Desk A) (n : ℕ) (r : ArchiveRefusal) (a : Answer) → (r ≡ NoRecord) × (2 ^ 32 ≤ n) → a ≡ refused_by (refusal_fault r) → Calls (IsClean is_clean) (StandsFor stood) desk (plain (c n)) a desk
+  number_refused is_archive desk n r a large told =
+      refused_by_number is_clean stood is_archive desk (c n) (command n) r a (of.is n) (λ x is. of.none n x is large.1 ∙ ap (λ e. Err e) (sym large.0)) told
 
-  -- the archive refuses, or the database or the memory does
-  pub record_refused : (old new : Desk S) (n asked : ℕ) (f : StoreFault) (a : Answer) → n ≡ asked → KeepsRest g old new → new.open_paths ≡ old.open_paths → stores.Falls g old.store new.store → stores.ObeysRows {X = Unit {0}} g old.store new.store (Err f) (command n) stores.Quietly → a ≡ refused_by (store_fault f) → Calls (IsClean g) (StandsFor g) old (plain (c asked)) a new
-  record_refused old new n asked f a same rest paths falls obeys told =
-      let P : ℕ → Type 0 = λ m. Calls (IsClean g) (StandsFor g) old (plain (c m)) a new in
-      subst P same (refused_by_rows g old new (c n) (command n) f a (of.is n) rest paths falls obeys told)
+  -- the archive refuses, or its database or the memory does
+  pub record_refused : {E : Type 0} (old new : Desk A) (n asked : ℕ) (f : ArchiveFault E) (a : Answer) → n ≡ asked → KeepsRest is_clean stood old new → new.open_paths ≡ old.open_paths → CarriesOut {X = Unit {0}} {E = E} is_clean stood old.store new.store (command n) Quietly (Err f) → a ≡ refused_by (archive_fault f) → Calls (IsClean is_clean) (StandsFor stood) old (plain (c asked)) a new
+  record_refused old new n asked f a same rest paths call told =
+      let P : ℕ → Type 0 = λ m. Calls (IsClean is_clean) (StandsFor stood) old (plain (c m)) a new in
+      subst P same (refused_by_archive is_clean stood old new (c n) (command n) f a (of.is n) rest paths call told)
 
-  pub record_done : (old new : Desk S) (n asked : ℕ) → n ≡ asked → KeepsRest g old new → new.open_paths ≡ old.open_paths → stores.Falls g old.store new.store → stores.ObeysRows {X = Unit {0}} g old.store new.store (Ok tt) (command n) stores.Quietly → Calls (IsClean g) (StandsFor g) old (plain (c asked)) done new
-  record_done old new n asked same rest paths falls obeys =
-      let P : ℕ → Type 0 = λ m. Calls (IsClean g) (StandsFor g) old (plain (c m)) done new in
+  pub record_done : {E : Type 0} (old new : Desk A) (n asked : ℕ) → n ≡ asked → KeepsRest is_clean stood old new → new.open_paths ≡ old.open_paths → CarriesOut {X = Unit {0}} {E = E} is_clean stood old.store new.store (command n) Quietly (Ok tt) → Calls (IsClean is_clean) (StandsFor stood) old (plain (c asked)) done new
+  record_done old new n asked same rest paths call =
+      let P : ℕ → Type 0 = λ m. Calls (IsClean is_clean) (StandsFor stood) old (plain (c m)) done new in
       subst P same
-      (done_by_rows g old new (c n) (command n) (of.is n) rest
-      (λ a b made there. let P : Listing → Type 0 = λ p. AreOpenPaths old.open_paths p in let Q : Option (List (List ℕ)) → Type 0 = λ x. AreOpenPaths x b.plan in subst Q (sym paths) (subst P (sym (of.stays n a b made)) there)) falls obeys)
+      (done_by is_clean stood old new (c n) (command n) (of.is n) rest
+      (λ a b made there. let P : Listing → Type 0 = λ p. AreOpenPaths old.open_paths p in let Q : Option (List (List ℕ)) → Type 0 = λ x. AreOpenPaths x b.plan in subst Q (sym paths) (subst P (sym (of.stays n a b made)) there)) call)

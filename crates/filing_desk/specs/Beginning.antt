@@ -2,7 +2,7 @@
 use Rattle.std.specs.Prelude.{◌≡◌, ℕ, ◌≤◌, List, length, flat_map, Option, Some, None}
 use denote.Ref.{Bor}
 use Rattle.jiff_core.specs.declared.civil.date.Date.{Date}
-use Rattle.class_plan.specs.Plans.{is_open_in}
+use Rattle.class_plan.specs.Plans.{Listing, is_open_in}
 use Rattle.filing_case.specs.Message.{is_among}
 use Rattle.filing_image.specs.Program.{Program}
 use Rattle.filing_verify.specs.Well.{IsWell}
@@ -18,7 +18,7 @@ use Rattle.filing_officers.specs.Register.{PinsFor, officer_at}
 use Rattle.filing_desk.specs.declared.desk.Desk.{Desk}
 
 -- the number that refuses a beginning at a moment, of a message of this size in octets; none where it is allowed
-abbrev pub against_begin : {S : Type 0} → Desk S → (moment size : ℕ) → Option ℕ
+abbrev pub against_begin : {A : Type 0} → Desk A → (moment size : ℕ) → Option ℕ
 against_begin desk moment size = begin_refusal (length desk.flights) desk.last moment size
 
 -- the fault is that number, and is shown without an offset
@@ -36,18 +36,18 @@ abbrev pub whole_message : (pieces : List (Bor (List ℕ))) → List ℕ
 whole_message pieces = flat_map (λ p. p.now) pieces
 
 -- all of a desk is as it was, except that open paths may be kept
-pub record KeepsAll {S : Type 0} (old new : Desk S) : Type 0 where
+pub record KeepsAll {A : Type 0} (old new : Desk A) : Type 0 where
   pub store : new.store ≡ old.store
   pub officers : new.officers ≡ old.officers
   pub flights : new.flights ≡ old.flights
   pub last : new.last ≡ old.last
 
--- a new capture of what stands at a desk, with no step made
-pub record IsEntered {S : Type 0} (desk : Desk S) (officer : List ℕ) (ticket : ℕ) (message : List ℕ) (day : Date)
+-- a new capture of what stands at a desk with this plan, with no step made
+pub record IsEntered {A : Type 0} (plan : Listing) (desk : Desk A) (officer : List ℕ) (ticket : ℕ) (message : List ℕ) (day : Date)
     (x : FlightView) : Type 0 where
   pub program : Program
   pub paths : List (List ℕ)
-  pub open_paths : is_among paths ≡ is_open_in desk.store.plan
+  pub open_paths : is_among paths ≡ is_open_in plan
   pub pins : PinsFor (officer_at officer desk.officers.officers) (meanings_of desk.officers.globals) program
   pub well : IsWell program
   pub holds : HoldsBegun ticket program message paths day x

@@ -1,23 +1,20 @@
 -- The states that a desk represents.
 use Rattle.std.specs.Prelude.{◌≡◌, ℕ, List, true, Option, Some, None, min}
 use Rattle.std.specs.List.{AllByRecursion}
-use Rattle.sqlite.specs.Store.{Ghosts}
-use Rattle.sqlite.specs.State.{HasCleanDisk}
-use Rattle.sqlite.specs.Held.{state}
 use Rattle.class_plan.specs.Plans.{Listing, has, is_open_in}
 use Rattle.filing_image.specs.Program.{Program}
 use Rattle.filing_case.specs.Message.{is_among}
 use Rattle.filing_machine.specs.Runs.{Stands, Snapshot}
-use Rattle.record_store.specs.Stores as stores
+use Rattle.record_archive.specs.Archive.{Archive}
 use Rattle.filing_commands.specs.Pinning.{case_in}
 use Rattle.filing_commands.specs.Standing.{Standing, Flight}
 use Rattle.filing_flights.specs.Flights.{AreHeld}
 use Rattle.filing_officers.specs.Register.{office_of}
 use Rattle.filing_desk.specs.declared.desk.Desk.{Desk}
 
--- the disk under the store returns what was written to it
-abbrev pub IsClean : {S : Type 0} → Ghosts S → Desk S → Type 0
-IsClean g desk = HasCleanDisk (state g desk.store.conn)
+-- what is read from the desk's archive is what was written to it
+abbrev pub IsClean : {A : Type 0} → (clean : A → Type 0) → Desk A → Type 0
+IsClean clean desk = clean desk.store
 
 -- the paths that are kept for captures are the open ones of the plan
 abbrev pub AreOpenPaths : Option (List (List ℕ)) → Listing → Type 0
@@ -28,9 +25,9 @@ AreOpenPaths (Some paths) p = is_among paths ≡ is_open_in p
 abbrev pub HasPathsOf : Listing → Flight → Type 0
 HasPathsOf p f = (q : List ℕ) → f.at_begin.is_open q ≡ true → has p.rows q ≡ true
 
--- Its store represents the archive of the state, its officers represent the office, and its captures hold the flights.
-pub record StandsFor {S : Type 0} (g : Ghosts S) (desk : Desk S) (s : Standing) : Type 0 where
-  pub store : stores.StandsFor g desk.store s.office.archive
+-- Its store stands for the archive of the state, its officers represent the office, and its captures hold the flights.
+pub record StandsFor {A : Type 0} (stands : A → Archive → Type 0) (desk : Desk A) (s : Standing) : Type 0 where
+  pub store : stands desk.store s.office.archive
   pub officers : office_of s.office.archive desk.officers ≡ s.office
   pub flights : AreHeld desk.flights s.flights
   pub last : desk.last ≡ s.last

@@ -1,55 +1,35 @@
-//! The calls that reach the store: classes, plans, holds, due lists and destruction.
+//! The calls that reach the archive: classes, plans, holds, due lists and destruction.
 
-ghost use Rattle.std.specs.Prelude.{◌≡◌, ℕ, ◌≤◌, ◌^◌, pos, MatchResult};
-ghost use Rattle.jiff.specs.Words.{epoch_day, IsBetween};
-ghost use Rattle.record_store.specs.declared.fault.StoreFault as faults;
-ghost use Rattle.record_store.specs.declared.fault.StoreFault.TheVariants.{NoRecord};
-ghost use Rattle.filing_commands.specs.Limits.{greatest_plan, last_day};
+ghost use Rattle.std.specs.Prelude.{◌≡◌, ◌≤◌, ◌^◌, MatchResult};
+ghost use Rattle.record_archive.specs.declared.fault.ArchiveRefusal.TheVariants.{NoRecord};
+ghost use Rattle.filing_commands.specs.Limits.{greatest_plan};
 ghost use Rattle.filing_commands.specs.Office as office;
 ghost use Rattle.filing_commands.specs.Standing as commands;
 ghost use Rattle.filing_commands.specs.CallAnswers.{answer_of_done, answer_of_lines};
 
 use crate::desk::Desk;
-use class_plan::{Date, Plan, day_number};
+use class_plan::{Date, Plan};
 use filing_commands::{DeskFault, MAX_PLAN_OCTETS, Payload};
-use jiff::civil::date;
-use record_store::{Line, StoreFault};
-use sqlite::Alter;
-
-/// The day number of 9999-12-31.
-const LAST_DAY: i64 = 2_932_896;
+use record_archive::{ArchiveRefusal, Line, Records};
 
 /// A record's number in 32 bits; no record has a greater one (80).
-fn record_number(number: u64) -> Result<u32, StoreFault>
+fn record_number(number: u64) -> Result<u32, ArchiveRefusal>
     ensures { MatchResult result (λ n. n ≡ number) (λ f. (f ≡ NoRecord) × (2 ^ 32 ≤ number)) }
 {
     match u32::try_from(number) {
         Ok(number) => Ok(number),
-        Err(_) => Err(StoreFault::NoRecord),
+        Err(_) => Err(ArchiveRefusal::NoRecord),
     }
 }
 
-/// A day of the years 1970 to 9999; for an earlier one 1970-01-01, by which no record is due either.
-fn day_from_1970(day: Date) -> Date
-    ensures within { IsBetween (pos 0) (pos 2932896) (epoch_day result) }
-    ensures same { (n : ℕ) → epoch_day day ≡ pos n → n ≤ last_day → epoch_day result ≡ pos n }
-{
-    let number = day_number(day);
-    if number < 0 || number > LAST_DAY {
-        date(1970, 1, 1)
-    } else {
-        day
-    }
-}
-
-impl<S: Alter> Desk<S> {
+impl<A: Records> Desk<A> {
     ghost use Rattle.filing_commands.specs.Calls.{Calls, CallsOn, CallsWith};
     ghost use Rattle.filing_desk.specs.Standing.{IsClean, StandsFor};
 
     /// Adds an open class without a schedule of its own, as `Registry` says. Refused with the smallest of 52 (no path),
     /// 53 (no parent), 54 (there already) and 56 (4,096 classes).
     pub fn add_class(&mut self, path: &[u8]) -> Result<(), DeskFault>
-        ensures { Calls (IsClean S.Store) (StandsFor S.Store) self.old
+        ensures { Calls (IsClean A.clean) (StandsFor A.stands) self.old
             (commands.plain (office.add_class path.now)) (answer_of_done result) self.new }
     {
         self.store.add_class(path)?;
@@ -60,7 +40,7 @@ impl<S: Alter> Desk<S> {
     /// Takes over a plan, a TOML document, as `Registry` says. Refused with 58 (more than 1,048,576 octets), then the
     /// smallest of 50 to 56 that holds of its text, then 57 (it drops a path).
     pub fn set_plan(&mut self, text: &Payload) -> Result<(), DeskFault>
-        ensures { CallsWith (IsClean S.Store) (StandsFor S.Store) self.old greatest_plan text.now
+        ensures { CallsWith (IsClean A.clean) (StandsFor A.stands) self.old greatest_plan text.now
             (λ t. commands.plain (office.set_plan t))
             (answer_of_done result) self.new }
     {
@@ -74,7 +54,7 @@ impl<S: Alter> Desk<S> {
     /// Places a hold of a name on a record, as `Registry` says. Refused with 80 (no such record), 84 (destroyed) or 86
     /// (that hold is there).
     pub fn hold(&mut self, name: &[u8], number: u64) -> Result<(), DeskFault>
-        ensures { Calls (IsClean S.Store) (StandsFor S.Store) self.old
+        ensures { Calls (IsClean A.clean) (StandsFor A.stands) self.old
             (commands.plain (office.hold name.now number)) (answer_of_done result) self.new }
     {
         let number = record_number(number)?;
@@ -84,7 +64,7 @@ impl<S: Alter> Desk<S> {
 
     /// Ends a hold of a name on a record, as `Registry` says. Refused with 80 (no such record) or 85 (no such hold).
     pub fn release(&mut self, name: &[u8], number: u64) -> Result<(), DeskFault>
-        ensures { Calls (IsClean S.Store) (StandsFor S.Store) self.old
+        ensures { Calls (IsClean A.clean) (StandsFor A.stands) self.old
             (commands.plain (office.release name.now number)) (answer_of_done result) self.new }
     {
         let number = record_number(number)?;
@@ -95,22 +75,22 @@ impl<S: Alter> Desk<S> {
     /// The due list of a day of the years 1970 to 9999, as `Registry` says: the live records without a hold that are
     /// due by then, by due day and then by number.
     pub fn due(&mut self, day: Date) -> Result<Vec<Line>, DeskFault>
-        ensures { CallsOn (IsClean S.Store) (StandsFor S.Store) self.old day
+        ensures { CallsOn (IsClean A.clean) (StandsFor A.stands) self.old day
             (λ n. commands.plain (office.due n)) (answer_of_lines result) self.new }
     {
-        let lines = self.store.due(day_from_1970(day))?;
+        let lines = self.store.due(day)?;
         Ok(lines)
     }
 
     /// Destroys a record that is due by a day of the years 1970 to 9999, as `Registry` says. Refused with 80 (no such
     /// record), 84 (destroyed), 81 (held), 83 (its schedule does not destroy) or 82 (due later), in this order.
     pub fn destroy(&mut self, number: u64, day: Date) -> Result<(), DeskFault>
-        ensures { CallsOn (IsClean S.Store) (StandsFor S.Store) self.old day
+        ensures { CallsOn (IsClean A.clean) (StandsFor A.stands) self.old day
             (λ n. commands.plain (office.destroy number n))
             (answer_of_done result) self.new }
     {
         let number = record_number(number)?;
-        self.store.destroy(number, day_from_1970(day))?;
+        self.store.destroy(number, day)?;
         Ok(())
     }
 }

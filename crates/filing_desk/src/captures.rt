@@ -6,7 +6,6 @@ ghost use Rattle.class_plan.specs.Calendar.{number_of_day};
 ghost use Rattle.class_plan.specs.Dates.{IsCaptureDay};
 ghost use Rattle.class_plan.specs.Plans.{is_open_in};
 ghost use Rattle.filing_case.specs.Message.{is_among};
-ghost use Rattle.record_store.specs.Stores.{Falls};
 ghost use Rattle.filing_commands.specs.Limits.{greatest_message};
 ghost use Rattle.filing_commands.specs.Payloads.{IsOf};
 ghost use Rattle.filing_commands.specs.Standing as commands;
@@ -24,8 +23,7 @@ use filing_commands::{Capture, DeskFault, MAX_MESSAGE_OCTETS, Payload, Turn};
 use filing_flights::{Flight, PinnedPaths, path_vectors};
 use filing_machine::Machine;
 use filing_verify::Verified;
-use record_store::{Line, Store, StoreFault, are_classes};
-use sqlite::Alter;
+use record_archive::{ArchiveRefusal, Line, Records, are_classes};
 use std::alloc::{AllocError, Global};
 
 /// Whether a payload has more octets than a message may have.
@@ -55,27 +53,27 @@ fn octets_of(message: Payload) -> Result<Vec<u8>, DeskFault>
     }
 }
 
-/// Makes the records of a capture in a store, all or none. Refused with 87 (numbers used up), 89 or 99. A path that is
+/// Makes the records of a capture in an archive, all or none. Refused with 87 (numbers used up), 89 or 99. A path that is
 /// no class of the plan gives 88; no capture of a desk that represents a state files into such a path.
-fn file_outcome<S: Alter>(
+fn file_outcome<A: Records>(
     alloc: Global,
-    store: &mut Store<S>,
+    store: &mut A,
     flight: &Flight,
     classes: &Paths,
 ) -> Result<Vec<Line>, DeskFault>
-    ensures files { Files S.Store store.old store.new flight.now.message
+    ensures files { Files A.clean A.stands store.old store.new flight.now.message
         (number_of_day flight.now.day) classes.now result }
-    ensures falls { Falls S.Store store.old store.new }
+    ensures was_clean { A.clean store.new → A.clean store.old }
 {
     let classes = path_vectors(alloc, classes)?;
     if !are_classes(store.plan(), classes.as_slice()) {
-        return Err(DeskFault::Store(StoreFault::NoArchive));
+        return Err(DeskFault::Archive(ArchiveRefusal::NoArchive));
     }
     let lines = store.capture(flight.message(), flight.day(), classes.as_slice())?;
     Ok(lines)
 }
 
-impl<S: Alter> Desk<S> {
+impl<A: Records> Desk<A> {
     ghost use Rattle.filing_commands.specs.Calls.{Calls, CallsWith};
     ghost use Rattle.filing_desk.specs.Standing.{IsClean, StandsFor};
 
@@ -107,10 +105,10 @@ impl<S: Alter> Desk<S> {
     /// The open paths of the plan, which captures share until the plan is changed.
     fn shared_paths(&mut self) -> Result<PinnedPaths, AllocError>
         ensures same { KeepsAll self.old self.new }
-        ensures kept { AreOpenPaths self.old.open_paths self.old.store.plan →
-            AreOpenPaths self.new.open_paths self.old.store.plan }
-        ensures open { AreOpenPaths self.old.open_paths self.old.store.plan →
-            IfOk result (λ p. is_among p ≡ is_open_in self.old.store.plan) }
+        ensures kept { AreOpenPaths self.old.open_paths (A.plan_of self.old.store) →
+            AreOpenPaths self.new.open_paths (A.plan_of self.old.store) }
+        ensures open { AreOpenPaths self.old.open_paths (A.plan_of self.old.store) →
+            IfOk result (λ p. is_among p ≡ is_open_in (A.plan_of self.old.store)) }
     {
         if let Some(paths) = &self.open_paths {
             return paths.clone();
@@ -132,10 +130,11 @@ impl<S: Alter> Desk<S> {
         requires length { length message.items ≤ greatest_message }
         requires day { IsCaptureDay day }
         ensures same { KeepsAll self.old self.new }
-        ensures kept { AreOpenPaths self.old.open_paths self.old.store.plan →
-            AreOpenPaths self.new.open_paths self.old.store.plan }
-        ensures entered { AreOpenPaths self.old.open_paths self.old.store.plan →
-            IfOk result (IsEntered self.old officer.now ticket message.items day) }
+        ensures kept { AreOpenPaths self.old.open_paths (A.plan_of self.old.store) →
+            AreOpenPaths self.new.open_paths (A.plan_of self.old.store) }
+        ensures entered { AreOpenPaths self.old.open_paths (A.plan_of self.old.store) →
+            IfOk result (IsEntered (A.plan_of self.old.store) self.old
+            officer.now ticket message.items day) }
     {
         let program = self.officers.pin(officer)?;
         let paths = self.shared_paths()?;
@@ -152,7 +151,7 @@ impl<S: Alter> Desk<S> {
         moment: u64,
         message: Payload,
     ) -> Result<(u32, u32), DeskFault>
-        ensures { CallsWith (IsClean S.Store) (StandsFor S.Store) self.old greatest_message message
+        ensures { CallsWith (IsClean A.clean) (StandsFor A.stands) self.old greatest_message message
             (λ m. commands.begin officer.now moment m)
             (answer_of_ticket result) self.new }
     {
@@ -169,7 +168,7 @@ impl<S: Alter> Desk<S> {
     /// Lets the capture of a ticket make `count` more steps, at most, as `Registry` says. Refused with 91 (no such
     /// ticket). Where there is no memory (99), the steps that were made before are kept.
     pub fn turn(&mut self, ticket: u64, count: u32) -> Result<Turn, DeskFault>
-        ensures { Calls (IsClean S.Store) (StandsFor S.Store) self.old (commands.turn ticket count)
+        ensures { Calls (IsClean A.clean) (StandsFor A.stands) self.old (commands.turn ticket count)
             (answer_of_turn result) self.new }
     {
         self.flights.turn(ticket, count)
@@ -178,7 +177,7 @@ impl<S: Alter> Desk<S> {
     /// Makes the records of a capture that has come to its end, and gives its ticket up, as `Registry` says. Refused
     /// with 91 (no such ticket), 92 (not ended) or 87 (numbers of records used up); the ticket is then kept.
     pub fn finish(&mut self, ticket: u64) -> Result<Capture, DeskFault>
-        ensures { Calls (IsClean S.Store) (StandsFor S.Store) self.old (commands.finish ticket)
+        ensures { Calls (IsClean A.clean) (StandsFor A.stands) self.old (commands.finish ticket)
             (answer_of_capture result) self.new }
     {
         let Some(flight) = self.flights.get(ticket) else {
@@ -199,7 +198,7 @@ impl<S: Alter> Desk<S> {
     /// The pinned program of a capture in flight, and its machine; none where no capture in flight has the ticket.
     pub fn in_flight(&self, ticket: u64) -> Option<(&Verified, &Machine)>
         ensures { (s : Standing)
-            → StandsFor S.Store self.now s → MatchOption result (flight_of ticket s.flights ≡ None)
+            → StandsFor A.stands self.now s → MatchOption result (flight_of ticket s.flights ≡ None)
             (λ p. IsShownBy (flight_of ticket s.flights) p.0.now p.1.now) }
     {
         match self.flights.get(ticket) {

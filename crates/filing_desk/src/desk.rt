@@ -1,22 +1,20 @@
 //! The desk: what it keeps, and how it is made and taken apart.
 
 ghost use Rattle.std.specs.Prelude.{◌≡◌, IfOk, IfErr};
-ghost use Rattle.record_store.specs.Archive.{Archive};
-ghost use Rattle.record_store.specs.Stores as stores;
+ghost use Rattle.record_archive.specs.Archive.{Archive};
 
 use filing_flights::{Flights, PinnedPaths};
 use filing_officers::Officers;
-use record_store::Store;
-use sqlite::Alter;
+use record_archive::Records;
 use std::alloc::Global;
 
-/// The office that a session talks to. It keeps records in a store, the scripts and programs of officers, and captures
+/// The office that a session talks to. It keeps records in an archive, the scripts and programs of officers, and captures
 /// in flight. Contracts say which states it represents. Besides its own refusals, a call may be refused with 89 where
 /// the database refuses, and with 99 where there is no memory.
 #[derive(Drop)]
-pub struct Desk<S: Alter> {
+pub struct Desk<A: Records> {
     pub(crate) alloc: Global,
-    pub(crate) store: Store<S>,
+    pub(crate) store: A,
     pub(crate) officers: Officers,
     pub(crate) flights: Flights,
     /// The last ticket that was given.
@@ -25,15 +23,15 @@ pub struct Desk<S: Alter> {
     pub(crate) open_paths: Option<PinnedPaths>,
 }
 
-impl<S: Alter> Desk<S> {
+impl<A: Records> Desk<A> {
     ghost use Rattle.filing_commands.specs.Standing.{Standing, opening};
     ghost use Rattle.filing_desk.specs.Standing.{StandsFor};
 
-    /// A desk over a store, with no script, no program of an officer and no capture in flight. The only error is no
-    /// memory (99), and it hands the store back.
-    pub fn new(alloc: Global, store: Store<S>) -> Result<Desk<S>, Store<S>>
-        ensures opens { IfOk result (λ d. (a : Archive) → stores.StandsFor S.Store store a →
-            StandsFor S.Store d (opening a)) }
+    /// A desk over an archive that is kept, with no script, no program of an officer and no capture in flight. The only error is no
+    /// memory (99), and it hands the archive back.
+    pub fn new(alloc: Global, store: A) -> Result<Desk<A>, A>
+        ensures opens { IfOk result (λ d. (a : Archive) → A.stands store a →
+            StandsFor A.stands d (opening a)) }
         ensures over { IfOk result (λ d. d.store ≡ store) }
         ensures handed_back { IfErr result (λ s. s ≡ store) }
     {
@@ -47,11 +45,11 @@ impl<S: Alter> Desk<S> {
         })
     }
 
-    /// Gives the store back. Scripts, programs and captures in flight are dropped.
-    pub fn into_store(self) -> Store<S>
+    /// Gives the archive back. Scripts, programs and captures in flight are dropped.
+    pub fn into_store(self) -> A
         ensures store { result ≡ self.store }
-        ensures stands { (s : Standing) → StandsFor S.Store self s
-            → stores.StandsFor S.Store result s.office.archive }
+        ensures stands { (s : Standing) → StandsFor A.stands self s
+            → A.stands result s.office.archive }
     {
         let Desk { store, .. } = self;
         store

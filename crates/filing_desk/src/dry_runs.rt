@@ -20,10 +20,10 @@ use filing_commands::{DeskFault, Payload};
 use filing_gen::{GenFault, compile_with};
 use filing_machine::{Case, run};
 use filing_verify::Verified;
+use record_archive::Records;
 use script_library::{Shelf, Shelves};
 use sieve_check::Checked;
 use sieve_meaning::{Outcome, RunFault, fault_alone};
-use sqlite::Alter;
 use std::alloc::{AllocError, Global};
 
 /// The outcome of an image's run in a case, without the number of its steps.
@@ -59,7 +59,7 @@ fn outcome_of<C: Case>(
     }
 }
 
-impl<S: Alter> Desk<S> {
+impl<A: Records> Desk<A> {
     ghost use Rattle.filing_commands.specs.Calls.{CallsWithTwo};
     ghost use Rattle.filing_desk.specs.Standing.{IsClean, StandsFor};
 
@@ -67,7 +67,7 @@ impl<S: Alter> Desk<S> {
     /// 16,777,216 octets), 60 (form) or 62 to 66 (code) for the image, then 95 for a message of more than 8,388,608
     /// octets.
     pub fn try_image(&self, image: &Payload, message: &Payload) -> Result<Outcome, DeskFault>
-        ensures { CallsWithTwo (IsClean S.Store) (StandsFor S.Store) self.now
+        ensures { CallsWithTwo (IsClean A.clean) (StandsFor A.stands) self.now
             (greatest_image, greatest_message) image.now message.now
             (λ i m. commands.plain (office.try_image i m)) (answer_of_outcome result) self.now }
     {
@@ -81,7 +81,7 @@ impl<S: Alter> Desk<S> {
     /// scripts alone. Refused with 10 to 16, 20 and 21 (text) or 30 to 41 (check) for the script, then 95 for a message
     /// of more than 8,388,608 octets. A script that is too heavy has the outcome fault 5.
     pub fn file(&self, script: &Payload, message: &Payload) -> Result<Outcome, DeskFault>
-        ensures { CallsWithTwo (IsClean S.Store) (StandsFor S.Store) self.now
+        ensures { CallsWithTwo (IsClean A.clean) (StandsFor A.stands) self.now
             (greatest_script, greatest_message) script.now message.now
             (λ s m. commands.plain (office.file s m)) (answer_of_outcome result) self.now }
     {

@@ -1,7 +1,8 @@
-//! The desk: the office that a session talks to. It files messages by scripts, and keeps records in a store.
+//! The desk: the office that a session talks to. It files messages by scripts, and keeps records in an
+//! archive.
 //!
 //! - `desk`: what a desk keeps, and how it is made and taken apart;
-//! - `archive`: the calls that reach its store;
+//! - `archive`: the calls that reach its archive;
 //! - `officers`: the scripts that are kept, and what officers set;
 //! - `captures`: captures in flight;
 //! - `pieces`: messages that come in pieces;

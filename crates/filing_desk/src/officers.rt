@@ -9,9 +9,9 @@ ghost use Rattle.filing_commands.specs.CallAnswers.{answer_of_done};
 use crate::desk::Desk;
 use crate::payloads::{judge_image, judge_script};
 use filing_commands::{DeskFault, Payload};
-use sqlite::Alter;
+use record_archive::Records;
 
-impl<S: Alter> Desk<S> {
+impl<A: Records> Desk<A> {
     ghost use Rattle.filing_commands.specs.Calls.{Calls, CallsWith};
     ghost use Rattle.filing_desk.specs.Standing.{IsClean, StandsFor};
 
@@ -23,7 +23,7 @@ impl<S: Alter> Desk<S> {
         name: &[u8],
         text: &Payload,
     ) -> Result<(), DeskFault>
-        ensures { CallsWith (IsClean S.Store) (StandsFor S.Store) self.old greatest_script text.now
+        ensures { CallsWith (IsClean A.clean) (StandsFor A.stands) self.old greatest_script text.now
             (λ t. commands.plain (office.set_script officer.now name.now t))
             (answer_of_done result) self.new }
     {
@@ -35,7 +35,7 @@ impl<S: Alter> Desk<S> {
     /// Keeps a global script under a name, as `Registry` says. Refused with 10 to 16, 20 and 21 (text), 30 to 41
     /// (check), or 96 (thirty-two global scripts have other names).
     pub fn set_global(&mut self, name: &[u8], text: &Payload) -> Result<(), DeskFault>
-        ensures { CallsWith (IsClean S.Store) (StandsFor S.Store) self.old greatest_script text.now
+        ensures { CallsWith (IsClean A.clean) (StandsFor A.stands) self.old greatest_script text.now
             (λ t. commands.plain (office.set_global name.now t)) (answer_of_done result) self.new }
     {
         let script = judge_script(self.alloc, text)?;
@@ -46,7 +46,7 @@ impl<S: Alter> Desk<S> {
     /// Sets the script of a name as an officer's program, as `Registry` says. Refused with 93 where the officer has
     /// none of that name.
     pub fn activate(&mut self, officer: &[u8], name: &[u8]) -> Result<(), DeskFault>
-        ensures { Calls (IsClean S.Store) (StandsFor S.Store) self.old (commands.plain
+        ensures { Calls (IsClean A.clean) (StandsFor A.stands) self.old (commands.plain
             (office.activate officer.now name.now)) (answer_of_done result) self.new }
     {
         self.officers.activate(officer, name)?;
@@ -55,7 +55,7 @@ impl<S: Alter> Desk<S> {
 
     /// Sets no program for an officer, as `Registry` says. It is never refused.
     pub fn deactivate(&mut self, officer: &[u8])
-        ensures { Calls (IsClean S.Store) (StandsFor S.Store) self.old
+        ensures { Calls (IsClean A.clean) (StandsFor A.stands) self.old
             (commands.plain (office.deactivate officer.now)) (answer_of_done (Ok tt)) self.new }
     {
         self.officers.deactivate(officer);
@@ -64,7 +64,7 @@ impl<S: Alter> Desk<S> {
     /// Sets an image as an officer's program, as `Registry` says. Refused with 61 (length), 60 (form) or 62 to 66
     /// (code).
     pub fn set_image(&mut self, officer: &[u8], image: &Payload) -> Result<(), DeskFault>
-        ensures { CallsWith (IsClean S.Store) (StandsFor S.Store) self.old greatest_image image.now
+        ensures { CallsWith (IsClean A.clean) (StandsFor A.stands) self.old greatest_image image.now
             (λ i. commands.plain (office.set_image officer.now i))
             (answer_of_done result) self.new }
     {

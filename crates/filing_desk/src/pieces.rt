@@ -9,7 +9,7 @@ ghost use Rattle.filing_desk.specs.Beginning.{whole_message};
 
 use crate::desk::Desk;
 use filing_commands::{DeskFault, MAX_MESSAGE_OCTETS, Payload};
-use sqlite::Alter;
+use record_archive::Records;
 use std::alloc::{AllocError, Global};
 
 /// How many octets the pieces of a message have together; none where they are more than a message may have.
@@ -51,7 +51,7 @@ fn payload_of(alloc: Global, pieces: &[&[u8]]) -> Payload
     }
 }
 
-impl<S: Alter> Desk<S> {
+impl<A: Records> Desk<A> {
     ghost use Rattle.filing_commands.specs.Calls.{Calls};
     ghost use Rattle.filing_desk.specs.Standing.{IsClean, StandsFor};
 
@@ -63,7 +63,7 @@ impl<S: Alter> Desk<S> {
         moment: u64,
         pieces: &[&[u8]],
     ) -> Result<(u32, u32), DeskFault>
-        ensures { Calls (IsClean S.Store) (StandsFor S.Store) self.old
+        ensures { Calls (IsClean A.clean) (StandsFor A.stands) self.old
             (commands.begin officer.now moment (whole_message pieces.now))
             (answer_of_ticket result) self.new }
     {

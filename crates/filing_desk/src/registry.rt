@@ -5,16 +5,15 @@
 use crate::desk::Desk;
 use class_plan::Date;
 use filing_commands::{Capture, DeskFault, Payload, Registry, Turn};
-use record_store::Line;
+use record_archive::{Line, Records};
 use sieve_meaning::Outcome;
-use sqlite::Alter;
 
-impl<S: Alter> Registry for Desk<S> {
+impl<A: Records> Registry for Desk<A> {
     ghost use Rattle.filing_desk.specs.Standing.{IsClean, StandsFor};
 
-    ghost clean = { IsClean S.Store };
+    ghost clean = { IsClean A.clean };
 
-    ghost stands = { StandsFor S.Store };
+    ghost stands = { StandsFor A.stands };
 
     fn add_class(&mut self, path: &[u8]) -> Result<(), DeskFault> {
         self.add_class(path)

@@ -7,7 +7,7 @@ use Rattle.class_paths.specs.Path.{unfiled}
 use Rattle.class_paths.specs.Paths.{IsIncreasing}
 use Rattle.sieve_meaning.specs.Case.{Facts}
 use Rattle.class_plan.specs.Plans.{IsPlan, Listing, Row, row_at, has, is_open_in}
-use Rattle.record_store.specs.Stores.{AreClasses}
+use Rattle.record_archive.specs.Archive.{AreClasses}
 use Rattle.filing_case.specs.Message.{is_among}
 use Rattle.filing_commands.specs.Standing.{Flight}
 use Rattle.filing_flights.specs.FlightViews.{FlightView, Holds, IsClass}

@@ -10,7 +10,7 @@ use Rattle.std.specs.BTreeMap.{is_at, insert_entry}
 use Rattle.std.specs.Ordering.{is_eq, match_ordering}
 use Rattle.sieve_meaning.specs.Program.{Commands}
 use Rattle.script_library.specs.Libraries.{NamedScript, script_under}
-use Rattle.record_store.specs.Archive.{Archive}
+use Rattle.record_archive.specs.Archive.{Archive}
 use Rattle.filing_commands.specs.Office.{with_officer, with_program}
 use Rattle.filing_commands.specs.Pinning.{Officer, new_officer, no_program}
 use Rattle.filing_commands.specs.Scripts.{HasNoRoom, meanings_of, put_script, script_at}

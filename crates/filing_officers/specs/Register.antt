@@ -8,7 +8,7 @@ use Rattle.sieve_meaning.specs.Program.{Commands}
 use Rattle.sieve_meaning.specs.Reading.{program_of}
 use Rattle.script_library.specs.Libraries.{NamedScript, Scripts}
 use Rattle.filing_image.specs.Program.{Program}
-use Rattle.record_store.specs.Archive.{Archive}
+use Rattle.record_archive.specs.Archive.{Archive}
 use Rattle.filing_commands.specs.Office.{Office, with_globals, with_officer, with_scripts}
 use Rattle.filing_commands.specs.Pinning.{Active, Officer, PinsChoice, choice_by, new_officer}
 use Rattle.filing_commands.specs.Scripts.{library, meanings_of, put_script}

@@ -2,7 +2,7 @@
 
 ghost use Rattle.std.specs.Prelude.{◌≡◌, ◌↔◌, ◌⊎◌, Err, IfErr, IfOk, OnErr, OnOk, false, is_some, true};
 ghost use Rattle.filing_verify.specs.Well.{IsWell};
-ghost use Rattle.record_store.specs.Archive.{Archive};
+ghost use Rattle.record_archive.specs.Archive.{Archive};
 ghost use Rattle.filing_commands.specs.Office.{opening_office, with_active};
 ghost use Rattle.filing_commands.specs.Pinning.{image, no_program, script_named};
 ghost use Rattle.filing_commands.specs.Scripts.{HasNoRoom, meanings_of, script_at};

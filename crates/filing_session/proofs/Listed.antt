@@ -1,8 +1,8 @@
 -- Lists of lines as the program has them.
 use Rattle.std.proofs.Common.{◌≡◌, ◌++◌, ◌<◌, List, [], ◌∷◌, ap, refl, length, arith}
 use Rattle.std.specs.Prelude.{flat_map, map}
-use Rattle.record_store.specs.Stores.{line_view}
-use Rattle.record_store.specs.declared.store.Line as code
+use Rattle.record_archive.specs.Lines.{line_view}
+use Rattle.record_archive.specs.declared.line.Line as code
 use Rattle.filing_session.specs.Replies.{list_octets, line_octets, record_octets, records_octets}
 
 pub list_is : (lines : List code.Line) → flat_map line_octets lines ≡ list_octets (map line_view lines)

@@ -1,5 +1,5 @@
 -- The definitions on worked rows.
-use Rattle.std.proofs.Common.{◌≡◌, ◌∷◌, [], codes, Some, None, refl}
+use Rattle.std.proofs.Common.{◌≡◌, ◌∷◌, [], codes, pos, Some, None, refl}
 use Rattle.std.specs.Fmt.{digits}
 use Rattle.jiff_core.specs.Calendar.{days_from_civil, day_count, days_of_years, days_of_months}
 use Rattle.sieve_meaning.specs.declared.run_fault.RunFault.TheVariants.{ClassNotOpen}
@@ -114,7 +114,7 @@ records_told = refl
 nothing_filed : reply_octets (captured None []) ≡ codes "discarded\n"
 nothing_filed = refl
 
-list_told : reply_octets (listed (record { number = 1; path = codes "tax"; due = Some 20041 } ∷ [])) ≡ codes "record 1 class tax due 2024-11-14\nok\n"
+list_told : reply_octets (listed (record { number = 1; path = codes "tax"; due = Some (pos 20041) } ∷ [])) ≡ codes "record 1 class tax due 2024-11-14\nok\n"
 unfolding day_octets digits
 list_told = refl
 

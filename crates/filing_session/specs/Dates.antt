@@ -1,6 +1,6 @@
 -- Dates as words and in replies: `YYYY-MM-DD`, the full-date of RFC 3339, section 5.6, of the years 1970 to 9999. A day
 -- is given by its number, counted from 1970-01-01.
-use Rattle.std.specs.Prelude.{ℕ, pos, List, ◌++◌, Bool, ◌&&◌, ◌==◌, nat_lt, nat_le, if◌then◌else◌, Option, Some, None, length, slice_index, take, drop, codes, decimal}
+use Rattle.std.specs.Prelude.{ℕ, ℤ, pos, negsuc, List, ◌++◌, Bool, ◌&&◌, ◌==◌, nat_lt, nat_le, if◌then◌else◌, Option, Some, None, length, slice_index, take, drop, codes, decimal}
 use Rattle.jiff.specs.Words.{days_in_month}
 use Rattle.class_plan.specs.Calendar.{Civil, civil, number_of}
 use Rattle.filing_commands.specs.Limits.{last_day}
@@ -48,7 +48,8 @@ civil_octets c = decimal c.year ++ codes "-" ++ two_digits c.month ++ codes "-" 
 unfoldable pub day_octets : ℕ → List ℕ
 day_octets day = civil_octets (civil day)
 
--- when a record is due: on a day, or never where it has none; a day after 9999-12-31 is written as never
-abbrev pub due_octets : Option ℕ → List ℕ
-due_octets (Some day) = if nat_le day last_day then day_octets day else codes "never"
+-- when a record is due: on a day, or never where it has none; a day outside the years 1970 to 9999 is written as never
+abbrev pub due_octets : Option ℤ → List ℕ
+due_octets (Some (pos day)) = if nat_le day last_day then day_octets day else codes "never"
+due_octets (Some (negsuc n)) = codes "never"
 due_octets None = codes "never"

@@ -3,9 +3,9 @@ use Rattle.std.specs.Prelude.{ℕ, List, [], ◌∷◌, ◌++◌, Bool, true, fa
 use Rattle.sieve_meaning.specs.declared.outcome.Outcome.{Outcome}
 use Rattle.sieve_meaning.specs.declared.run_fault.RunFault.{RunFault}
 use Rattle.sieve_meaning.specs.RunFaults.{number_of}
-use Rattle.record_store.specs.Archive.{Line}
-use Rattle.record_store.specs.Stores.{line_view}
-use Rattle.record_store.specs.declared.store.Line as code
+use Rattle.record_archive.specs.Archive.{Line}
+use Rattle.record_archive.specs.Lines.{line_view}
+use Rattle.record_archive.specs.declared.line.Line as code
 use Rattle.filing_commands.specs.Answers.{Answer, done, dry_run, begun, running, ended, captured, listed, refused}
 use Rattle.filing_session.specs.Dates.{due_octets}
 use Rattle.filing_session.specs.declared.reply.Reply.{Reply}

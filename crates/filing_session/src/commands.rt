@@ -15,7 +15,7 @@ use filing_commands::{
     Capture, DeskFault, MAX_IMAGE_OCTETS, MAX_MESSAGE_OCTETS, MAX_PLAN_OCTETS, MAX_SCRIPT_OCTETS,
     Payload, Refusal, Registry, Turn,
 };
-use record_store::Line;
+use record_archive::Line;
 use sieve_meaning::Outcome;
 
 /// A refusal that has no offset.

@@ -1,9 +1,8 @@
 //! How due dates are written.
 
-ghost use Rattle.std.specs.Prelude.{◌≡◌, ◌<◌, ◌++◌, pos, codes, decimal, option_map, MatchOption};
+ghost use Rattle.std.specs.Prelude.{◌≡◌, ◌++◌, pos, codes, decimal, option_map, MatchOption};
 ghost use Rattle.jiff.specs.Words.{epoch_day, IsBetween};
 ghost use Rattle.class_plan.specs.Calendar.{number_of_day};
-ghost use Rattle.filing_commands.specs.Limits.{last_day};
 ghost use Rattle.filing_session.specs.Dates.{civil_octets, day_octets, due_octets, two_digits};
 ghost use Rattle.filing_session.specs.Written.{Writes};
 ghost use Rattle.filing_session.specs.Streams.{TellsTroubles};
@@ -12,12 +11,12 @@ use crate::stream::{Sink, WriteFault, write_all, write_pieces};
 use class_plan::{Date, date_of, day_number};
 use itoa::Buffer;
 
-/// The date that is written for a due date: that date, where it is one of the years 1970 to 9999; none after these.
+/// The date that is written for a due date: that date, where it is one of the years 1970 to 9999; otherwise none.
 fn told_date(due: Date) -> Option<Date>
-    ensures { MatchOption result (last_day < number_of_day due) (λ d.
-        IsBetween (pos 0) (pos 2932896) (epoch_day d) × (epoch_day d ≡ pos (number_of_day due))) }
+    ensures { MatchOption result (¬ (IsBetween (pos 0) (pos 2932896) (epoch_day due))) (λ d.
+        IsBetween (pos 0) (pos 2932896) (epoch_day d) × (epoch_day d ≡ epoch_day due)) }
 {
-    date_of(day_number(due).abs())
+    date_of(day_number(due))
 }
 
 /// What stands between the parts of a date: a dash, and a zero where the part after it has one digit.
@@ -68,11 +67,11 @@ fn write_date<K: Sink>(sink: &mut K, date: Date) -> Result<(), WriteFault>
     write_civil(sink, year, month, day)
 }
 
-/// Writes the due date of a record as `YYYY-MM-DD` and the LF. It is `never` where there is no due date, or one after
-/// 9999-12-31.
+/// Writes the due date of a record as `YYYY-MM-DD` and the LF. It is `never` where there is no due date, or one outside
+/// the years 1970 to 9999.
 pub fn write_due<K: Sink>(sink: &mut K, due: Option<Date>) -> Result<(), WriteFault>
     ensures written { K.tells →
-        Writes result (K.written sink.old) (due_octets (option_map number_of_day due) ++
+        Writes result (K.written sink.old) (due_octets (option_map epoch_day due) ++
         codes "\n") (K.written sink.new) }
     ensures troubles { TellsTroubles K.failures K.interruptions K.most_interruptions result
         sink.old sink.new }

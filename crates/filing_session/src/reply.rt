@@ -1,7 +1,7 @@
 //! Replies, and how they are written.
 
 ghost use Rattle.std.specs.Prelude.{◌++◌, ℕ, codes, flat_map, map};
-ghost use Rattle.record_store.specs.Stores.{line_view};
+ghost use Rattle.record_archive.specs.Lines.{line_view};
 ghost use Rattle.filing_session.specs.Replies.{answer_of, reply_octets, classes_octets, class_octets, refused_octets, outcome_octets, fault_octets, faults_octets, head_octets, ticket_octets, turn_octets, capture_octets, records_octets, list_octets, line_octets};
 ghost use Rattle.filing_session.specs.Written.{Writes};
 ghost use Rattle.filing_session.specs.Streams.{TellsTroubles};
@@ -10,7 +10,7 @@ use crate::due_dates::write_due;
 use crate::stream::{Sink, WriteFault, write_all, write_pieces};
 use filing_commands::{Capture, Refusal, Turn};
 use itoa::Buffer;
-use record_store::Line;
+use record_archive::Line;
 use sieve_meaning::{Outcome, RunFault};
 use sieve_syntax::Text;
 

@@ -21,7 +21,7 @@ const STATUS_USAGE: u8 = 2;
 const STATUS_NO_STORE: u8 = 3;
 
 /// The desk over a database, where that can be taken for an archive.
-fn desk_over<S: Alter + Drop>(alloc: Global, conn: Connection<S>) -> Option<Desk<S>> {
+fn desk_over<S: Alter + Drop>(alloc: Global, conn: Connection<S>) -> Option<Desk<Store<S>>> {
     if !conn.is_autocommit() {
         return None;
     }
@@ -30,7 +30,7 @@ fn desk_over<S: Alter + Drop>(alloc: Global, conn: Connection<S>) -> Option<Desk
 }
 
 /// Serves a session at a desk, from standard input to standard output. `serve` is in `session` of `filing_session`.
-fn serve_at<S: Alter + Drop>(rt: &HostRuntime, desk: &mut Desk<S>) -> ExitCode {
+fn serve_at<S: Alter + Drop>(rt: &HostRuntime, desk: &mut Desk<Store<S>>) -> ExitCode {
     let mut input = Input::new(rt.stdin());
     let mut output = Output::new(rt.stdout());
     match serve(rt.alloc(), &mut input, &mut output, desk) {

@@ -12,8 +12,8 @@ use Rattle.filing_case.specs.Message.{case_of}
 use Rattle.filing_image.specs.Program.{Program}
 use Rattle.filing_table.specs.Ends.{HasOutcome}
 use Rattle.filing_table.proofs.Once.{one_outcome}
-use Rattle.record_store.specs.Archive.{Archive, Line, revise}
-use Rattle.record_store.specs.declared.fault.StoreFault.{StoreFault}
+use Rattle.record_archive.specs.Archive.{Archive, Line, revise}
+use Rattle.record_archive.specs.declared.fault.ArchiveRefusal.{ArchiveRefusal}
 use Rattle.filing_commands.specs.Answers.{Answer, done, dry_run, begun, running, ended, captured, listed, refused}
 use Rattle.filing_commands.specs.Office.{Office, PlainCommand, OfficeRule, Settles, Captures, Lists, Refuses, IsFiled, IsMade, IsRefused, IsTried, add_class, set_plan, set_script, set_global, activate, deactivate, set_image, file, try_image, hold, release, due, destroy, with_globals, with_officer, with_scripts, with_active}
 use Rattle.filing_commands.specs.Parts.{IsKept, IsPlanOf, RefusesPlan, RefusesToKeep}
@@ -37,15 +37,15 @@ true_false e = cc
 
 -- ---- the archive's commands
 
-made_once : (s : Office) (r : Result Archive StoreFault) (x y : Office) → IsMade s r x → IsMade s r y → x ≡ y
+made_once : (s : Office) (r : Result Archive ArchiveRefusal) (x y : Office) → IsMade s r x → IsMade s r y → x ≡ y
 made_once s (Ok a) x y h k = h ∙ sym k
 made_once s (Err f) x y h k = absurd h
 
-made_or : (s : Office) (r : Result Archive StoreFault) (x : Office) (n : ℕ) → IsMade s r x → IsRefused r n → ⊥
+made_or : (s : Office) (r : Result Archive ArchiveRefusal) (x : Office) (n : ℕ) → IsMade s r x → IsRefused r n → ⊥
 made_or s (Ok a) x n h k = k
 made_or s (Err f) x n h k = h
 
-refused_once : (r : Result Archive StoreFault) (m n : ℕ) → IsRefused r m → IsRefused r n → m ≡ n
+refused_once : (r : Result Archive ArchiveRefusal) (m n : ℕ) → IsRefused r m → IsRefused r n → m ≡ n
 refused_once (Ok a) m n h k = absurd h
 refused_once (Err f) m n h k = h ∙ sym k
 
@@ -58,7 +58,7 @@ plan_once s text p q x y hp h kp k =
     made_once s (revise s.archive q) x y (subst P (one_plan text p q hp kp) h) k
 
 -- no plan that drops a path is taken over
-drops_or : (s : Office) (old p : Listing) (x : Office) (keeps_all : Bool) → keeps_all ≡ false → IsMade s (if keeps_all then Ok (record s.archive { plan = p }) else Err (Rattle.record_store.specs.declared.fault.StoreFault.TheVariants.Plan PathDropped)) x → ⊥
+drops_or : (s : Office) (old p : Listing) (x : Office) (keeps_all : Bool) → keeps_all ≡ false → IsMade s (if keeps_all then Ok (record s.archive { plan = p }) else Err (Rattle.record_archive.specs.declared.fault.ArchiveRefusal.TheVariants.Plan PathDropped)) x → ⊥
 drops_or s old p x true e h = true_false e
 drops_or s old p x false e h = h
 

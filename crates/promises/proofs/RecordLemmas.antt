@@ -5,7 +5,7 @@ use Rattle.std.specs.List.{AllByRecursion, AllZip}
 use Rattle.std.proofs.lemmas.Bool.Decides.{nat_tests}
 use Rattle.std.proofs.lemmas.List.{append-nil}
 use Rattle.std.proofs.lemmas.List.Elements.{All-from_recursion, recursion_from_All, All-contains_itself, Contains-push}
-use Rattle.sqlite_keyed.specs.Lists.{sort_by, insert_sorted}
+use Rattle.record_archive.specs.Lists.{sort_by, insert_sorted}
 use Rattle.class_paths.specs.Paths.{Paths}
 use Rattle.class_plan.specs.Plans.{is_open_in}
 use Rattle.sieve_meaning.specs.Case.{Facts}
@@ -19,10 +19,9 @@ use Rattle.sieve_meaning.specs.TooHeavy.{is_too_heavy}
 use Rattle.filing_case.specs.Message.{case_of}
 use Rattle.filing_image.specs.Program.{Program}
 use Rattle.filing_table.specs.Ends.{HasOutcome}
-use Rattle.record_tables.specs.Rows.{Record}
-use Rattle.record_store.specs.Archive.{Archive, Line, capture, after_capture, capture_lines, due_list, due_of, has_room, is_by, is_due, is_held, line_cmp, line_of, new_records, next_number, past_all, records_of}
-use Rattle.record_store.specs.declared.fault.StoreFault.{StoreFault}
-use Rattle.record_store.specs.declared.fault.StoreFault.TheVariants.{Full}
+use Rattle.record_archive.specs.Archive.{Record, Archive, Line, capture, after_capture, capture_lines, due_list, due_of, has_room, is_by, is_due, is_held, line_cmp, line_of, new_records, next_number, past_all, records_of}
+use Rattle.record_archive.specs.declared.fault.ArchiveRefusal.{ArchiveRefusal}
+use Rattle.record_archive.specs.declared.fault.ArchiveRefusal.TheVariants.{Full}
 use Rattle.filing_commands.specs.Answers.{captured, listed, refused}
 use Rattle.filing_commands.specs.Answers as answers
 use Rattle.filing_commands.specs.Office.{Office, IsFiled, IsTried, due, file, try_image}
@@ -160,7 +159,7 @@ made_whole a at_begin o (q ∷ qs) e =
 capture_is : (a : Archive) (body : List ℕ) (day : ℕ) (paths : List (List ℕ)) (new : Archive) → capture a body day paths ≡ Ok new → after_capture a body day paths ≡ new
 capture_is a body day paths new e = go (has_room a paths) e
   where
-    go : (room : Bool) → ◌≡◌ {A = Result Archive StoreFault} (if room then Ok (after_capture a body day paths) else Err Full) (Ok new) → after_capture a body day paths ≡ new
+    go : (room : Bool) → ◌≡◌ {A = Result Archive ArchiveRefusal} (if room then Ok (after_capture a body day paths) else Err Full) (Ok new) → after_capture a body day paths ≡ new
     go true is = cc
     go false is = absurd cc
 

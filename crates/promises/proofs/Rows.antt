@@ -1,6 +1,6 @@
 -- Rows of sessions.
 use Rattle.std.proofs.Common.{◌≡◌, [], ◌∷◌, ℕ, List, None, refl, arith, inl, inr}
-use Rattle.record_store.specs.Archive.{Line}
+use Rattle.record_archive.specs.Archive.{Line}
 use Rattle.filing_commands.specs.Answers.{begun, running, ended, captured, refused}
 use Rattle.filing_commands.specs.Office.{PlainCommand}
 use Rattle.filing_commands.specs.Standing.{plain, begin, turn, finish}

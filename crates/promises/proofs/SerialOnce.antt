@@ -5,8 +5,8 @@ use Rattle.sieve_meaning.specs.Meaning.{Library}
 use Rattle.sieve_meaning.specs.Case.{Facts}
 use Rattle.sieve_meaning.specs.declared.outcome.Outcome.{Outcome}
 use Rattle.filing_table.proofs.Once.{one_outcome}
-use Rattle.record_store.specs.Archive.{Archive, capture, capture_lines}
-use Rattle.record_store.specs.declared.fault.StoreFault.TheVariants.{Full}
+use Rattle.record_archive.specs.Archive.{Archive, capture, capture_lines}
+use Rattle.record_archive.specs.declared.fault.ArchiveRefusal.TheVariants.{Full}
 use Rattle.filing_commands.specs.Answers.{Answer, done, dry_run, begun, running, ended, captured, listed, refused}
 use Rattle.filing_commands.specs.Office.{with_archive}
 use Rattle.filing_commands.specs.Pinning.{BeginState, IsAlone, GivesOutcome, Choice, nothing, script, image_of, case_in}

@@ -8,7 +8,7 @@ use Rattle.sieve_meaning.specs.Program.{Commands}
 use Rattle.sieve_meaning.specs.Meaning.{Library}
 use Rattle.sieve_meaning.specs.TooHeavy.{script_budget}
 use Rattle.filing_image.specs.Program.{Program}
-use Rattle.record_store.specs.Archive.{Archive}
+use Rattle.record_archive.specs.Archive.{Archive}
 use Rattle.filing_commands.specs.Answers.{Answer, done, dry_run, begun, running, ended, captured, listed, refused}
 use Rattle.filing_commands.specs.Office.{Office, PlainCommand, OfficeRule, OfficeStep, GivesUp, IsTrouble, add_class, set_plan, set_script, set_global, activate, deactivate, set_image, file, try_image, hold, release, due, destroy, with_archive}
 use Rattle.filing_commands.specs.Pinning.{BeginState, Choice, nothing, script, image_of, Pins, PinsChoice, PinsScript, budget_of, budget_by}

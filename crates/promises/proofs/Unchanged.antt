@@ -1,7 +1,7 @@
 -- What a refusal leaves as it was, and that a whole capture gives its ticket up.
 use Rattle.std.proofs.Common.{◌≡◌, ◌≢◌, ◌+◌, ◌∷◌, [], ℕ, List, arith, ap, ◌∙◌, sym, subst, inl, inr, Bool, true, false, Option, Some, None}
 use Rattle.std.specs.Prelude.{if◌then◌else◌, nat_le}
-use Rattle.record_store.specs.Archive.{Line}
+use Rattle.record_archive.specs.Archive.{Line}
 use Rattle.sieve_meaning.specs.declared.run_fault.RunFault.{RunFault}
 use Rattle.filing_commands.specs.Answers.{Answer, running, ended, captured, refused}
 use Rattle.filing_commands.specs.Office.{Office, PlainCommand, OfficeStep, with_archive}

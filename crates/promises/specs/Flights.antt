@@ -1,7 +1,7 @@
 -- Captures in flight, and the FINISH that makes the records of one.
 use Rattle.std.specs.Prelude.{◌≡◌, ℕ, List, Option, Some, None}
 use Rattle.sieve_meaning.specs.declared.run_fault.RunFault.{RunFault}
-use Rattle.record_store.specs.Archive.{Line}
+use Rattle.record_archive.specs.Archive.{Line}
 use Rattle.filing_commands.specs.Answers.{captured}
 use Rattle.filing_commands.specs.Standing.{Flight, Standing, Step, finish, flight_of}
 

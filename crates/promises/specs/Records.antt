@@ -1,5 +1,5 @@
 -- What captures and due lists say about records.
-use Rattle.std.specs.Prelude.{◌≡◌, ℕ, ◌<◌, ◌≤◌, List, [], ◌∷◌, ◌++◌, map, false, Option, Some, All, Contains}
+use Rattle.std.specs.Prelude.{◌≡◌, ℕ, ◌<◌, ◌≤◌, List, [], ◌∷◌, ◌++◌, map, false, Option, Some, pos, option_map, All, Contains}
 use Rattle.std.specs.List.{AllZip}
 use Rattle.class_paths.specs.Path.{unfiled}
 use Rattle.class_plan.specs.Plans.{Listing, is_open_in}
@@ -10,8 +10,7 @@ use Rattle.sieve_meaning.specs.Case.{Facts}
 use Rattle.filing_image.specs.Program.{Program}
 use Rattle.filing_case.specs.Message.{case_of}
 use Rattle.filing_table.specs.Ends.{HasOutcome}
-use Rattle.record_tables.specs.Rows.{Record}
-use Rattle.record_store.specs.Archive.{Archive, Line, due_list, is_held}
+use Rattle.record_archive.specs.Archive.{Record, Archive, Line, due_list, is_held}
 use Rattle.filing_commands.specs.Answers.{dry_run}
 use Rattle.filing_commands.specs.Office.{Office, PlainCommand}
 use Rattle.filing_commands.specs.Parts.{IsGoodImage}
@@ -43,7 +42,7 @@ ImageEnds s octets message o =
 pub record IsLineOf (plan : Listing) (r : Record) (l : Line) : Type 0 where
   pub number : l.number ≡ r.number
   pub class : l.path ≡ r.path
-  pub due : l.due ≡ due_on plan r.path r.day
+  pub due : l.due ≡ option_map pos (due_on plan r.path r.day)
 
 -- A capture of what stood made a live record for each of its classes, and no other. Each is of the message, with the
 -- day that stood, and is numbered above all earlier ones. The lines report them in order. Plan and holds are as they

@@ -1,7 +1,7 @@
 -- The serial session: a session without its turns and without the commands that were given up. Each capture is whole at
 -- its finish, and there is no machine, step or half-done capture.
 use Rattle.std.specs.Prelude.{◌≡◌, ℕ, ◌+◌, List, [], ◌∷◌, ◌++◌, length, map, Bool, true, false, ◌==◌, ◌||◌, if◌then◌else◌, Option, Some, None}
-use Rattle.record_store.specs.Archive.{Archive}
+use Rattle.record_archive.specs.Archive.{Archive}
 use Rattle.filing_commands.specs.Answers.{Answer, begun, refused}
 use Rattle.filing_commands.specs.Pinning.{BeginState, budget_of}
 use Rattle.filing_commands.specs.Office.{Office, OfficeRule, with_archive}

@@ -3,7 +3,7 @@
 ghost use Rattle.std.specs.Prelude.{◌≡◌, ◌≢◌, ◌≤◌, ℕ, Option, All};
 ghost use Rattle.sieve_meaning.specs.declared.outcome.Outcome.{Outcome};
 ghost use Rattle.filing_table.specs.Ends.{HasOutcome};
-ghost use Rattle.record_store.specs.Archive.{Archive};
+ghost use Rattle.record_archive.specs.Archive.{Archive};
 ghost use Rattle.filing_commands.specs.Answers.{refused};
 ghost use Rattle.filing_commands.specs.Pinning.{case_in, budget_of, IsAlone};
 ghost use Rattle.filing_commands.specs.Standing.{Command, Flight, Standing, IsPinned, Step, opening};

@@ -1,7 +1,7 @@
 //! Laws of turns and tickets, each the contract of a function without code.
 
 ghost use Rattle.std.specs.Prelude.{◌≡◌, ◌≤◌, ◌↔◌, ℕ, None};
-ghost use Rattle.record_store.specs.Archive.{Archive};
+ghost use Rattle.record_archive.specs.Archive.{Archive};
 ghost use Rattle.filing_commands.specs.Answers.{Answer, refused};
 ghost use Rattle.filing_commands.specs.Standing.{Flight, Standing, Step, finish, opening, turn};
 ghost use Rattle.promises.specs.Beginnings.{tickets_given, AreNumbersUpTo, BeginFrom, HasNoPlace, HasNoTicket, HasPlace, MayBegin};

@@ -5,7 +5,7 @@ use Rattle.std.proofs.lemmas.List.{drop_more, drop_all}
 use Rattle.std.specs.Ordering.{match_ordering}
 use Rattle.std.specs.BTreeSet.{insert_key}
 use Rattle.record_tables.specs.declared.rows.RecordRow.{RecordRow}
-use Rattle.record_tables.specs.Rows.{Record}
+use Rattle.record_archive.specs.Archive.{Record}
 use Rattle.record_tables.specs.CodeRows.{record_of}
 use Rattle.record_rows.specs.SoundRows.{is_of_live, is_one_of}
 

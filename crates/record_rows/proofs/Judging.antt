@@ -10,7 +10,7 @@ use Rattle.std.specs.Str.{bytes_eq}
 use Rattle.class_plan.specs.Plans.{Listing, has}
 use Rattle.record_tables.specs.declared.rows.RecordRow.{RecordRow}
 use Rattle.record_tables.specs.declared.rows.HoldRow.{HoldRow}
-use Rattle.record_tables.specs.Rows.{Record}
+use Rattle.record_archive.specs.Archive.{Record}
 use Rattle.record_tables.specs.Reads.{HoldEntry}
 use Rattle.record_tables.specs.CodeRows.{record_of, hold_entry_of}
 use Rattle.record_rows.specs.SoundRows.{is_named, is_live, is_one_of, IsSound, AreRows}

@@ -5,7 +5,7 @@ use Rattle.class_plan.specs.declared.schedules.Unit.TheVariants.{Months, Years}
 use Rattle.class_plan.specs.declared.schedules.Action.TheVariants.{Review, Destroy}
 use Rattle.class_plan.specs.declared.schedules.Schedule.TheVariants.{After}
 use Rattle.class_plan.specs.Plans.{Listing, open_row}
-use Rattle.record_tables.specs.Rows.{Record}
+use Rattle.record_archive.specs.Archive.{Record}
 use Rattle.record_rows.specs.Rules.{rules_of, classes_of}
 use Rattle.record_rows.specs.Merge.{merge}
 use Rattle.record_rows.specs.SoundRows.{is_named, is_live}

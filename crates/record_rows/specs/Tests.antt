@@ -3,7 +3,7 @@ use Rattle.std.specs.Prelude.{ℕ, ◌+◌, ◌==◌, nat_le, nat_lt, Bool, true
 use Rattle.std.specs.Ordering.{nat_cmp, is_lt}
 use Rattle.std.specs.Cmp.Lexicographic.{slice_cmp}
 use Rattle.class_plan.specs.Plans.{Listing, has}
-use Rattle.record_tables.specs.Rows.{Record}
+use Rattle.record_archive.specs.Archive.{Record}
 use Rattle.record_tables.specs.Reads.{HoldEntry}
 
 abbrev pub is_sound : Listing → Record → Bool

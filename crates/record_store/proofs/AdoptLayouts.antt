@@ -1,18 +1,17 @@
 -- Which version's rows a layout may have.
-use Rattle.std.proofs.Common.{◌≡◌, ◌≢◌, ◌⊎◌, inl, inr, ◌∙◌, subst}
+use Rattle.std.proofs.Common.{◌≡◌, ◌≢◌, ◌⊎◌, inl, inr, ◌∙◌, subst, List}
 use Rattle.sqlite.specs.Schema.{Schema}
 use Rattle.sqlite.specs.Effect.{Database}
 use Rattle.record_tables.specs.Tables.{no_schema, first_schema, first_schema_with_dues, IsArchiveSchema, HasCommonTables}
 use Rattle.record_tables.specs.declared.layout.Layout.{Layout}
 use Rattle.record_tables.specs.declared.layout.Layout.TheVariants.{Empty, First, FirstWithDues, Second}
-use Rattle.std.proofs.Common.{List}
 use Rattle.record_tables.specs.Rows.{Tables}
 use Rattle.record_tables.specs.Changes.{ClassEntry, Rule}
 use Rattle.record_tables.specs.Reads.{Pair}
-use Rattle.record_store.specs.Archive.{Archive, IsArchive}
-use Rattle.record_store.specs.Adoption.{Finds, FindsRows, FindsSecond, FindsFirst, FindsNothing, HasNoArchive, HasRows, IsKeyed, IsLaidSchema, ReadsSecond, ReadsFirst}
-use Rattle.record_store.specs.Stores.{StoresArchive}
-use Rattle.record_store.proofs.AdoptReads.{archive_common, first_common}
+use Rattle.record_archive.specs.Archive.{Archive, IsArchive}
+use Rattle.record_adoption.specs.Adoption.{Finds, FindsRows, FindsSecond, FindsFirst, FindsNothing, HasNoArchive, HasRows, IsKeyed, IsLaidSchema, ReadsSecond, ReadsFirst}
+use Rattle.record_adoption.specs.Keeping.{StoresArchive}
+use Rattle.record_adoption.proofs.AdoptReads.{archive_common, first_common}
 
 -- the layout of each schema that a store creates
 pub record Lays (schema : Schema) (l : Layout) : Type 0 where

@@ -1,5 +1,5 @@
 -- What a capture makes of the tables and of the archive.
-use Rattle.std.proofs.Common.{◌≡◌, ◌<◌, ◌≤◌, ◌+◌, ◌-◌, ◌^◌, ◌==◌, ℕ, max, Bool, true, false, cond, ◌&&◌, ◌||◌, List, [], ◌∷◌, ◌++◌, map, filter, take, length, get_or, Option, Some, None, is_some, unwrap_or, refl, sym, ap, subst, ◌∙◌, arith, true≢false, append_assoc}
+use Rattle.std.proofs.Common.{◌≡◌, ◌<◌, ◌≤◌, ◌+◌, ◌-◌, ◌^◌, ◌==◌, ℕ, ℤ, pos, option_map, max, Bool, true, false, cond, ◌&&◌, ◌||◌, List, [], ◌∷◌, ◌++◌, map, filter, take, length, get_or, Option, Some, None, is_some, unwrap_or, refl, sym, ap, subst, ◌∙◌, arith, true≢false, append_assoc}
 use Rattle.std.specs.List.{AllByRecursion, All, list_any}
 use Rattle.std.proofs.lemmas.List.{take_more, map-append, length-map, append-nil, length-take-le}
 use Rattle.std.proofs.lemmas.List.Elements.{All-push, All-weaker, All-from_recursion, recursion_from_All}
@@ -9,14 +9,14 @@ use Rattle.sqlite.specs.Effect.{Database}
 use Rattle.sqlite.specs.State.{State}
 use Rattle.class_plan.specs.Plans.{Listing, has}
 use Rattle.class_plan.specs.Calendar.{due_on}
-use Rattle.record_tables.specs.Rows.{Tables, Message, Record, Due}
+use Rattle.record_archive.specs.Archive.{Message, Record, Archive, Hold, Line, IsArchive, IsRecord, is_live, is_named, has_message, has_number, next_number, past_all, records_of, new_records, after_capture, line_of}
+use Rattle.record_tables.specs.Rows.{Tables, Due}
 use Rattle.record_tables.specs.Changes.{Puts, Turns, AreAscending, IsPastMessages, IsPastRecords, IsPastDues, with_message, with_record, with_due}
 use Rattle.record_tables.proofs.Loops.{puts_then, puts_as, nothing_yet}
-use Rattle.record_store.specs.Archive.{Archive, Hold, Line, IsArchive, IsRecord, is_live, is_named, has_message, has_number, next_number, past_all, records_of, new_records, after_capture, line_of}
-use Rattle.record_store.specs.Counts.{only_at, tally}
+use Rattle.record_adoption.specs.Counts.{only_at, tally}
 use Rattle.record_store.proofs.HoldLemmas.{tally-append}
 use Rattle.record_store.specs.Captures.{with_records, with_more_dues, with_captured, AreAfter, ArePast, lines_of, due_before, dues_of_lines}
-use Rattle.record_store.specs.Stores.{StoresArchive, has_due, due_row, due_rows, live_count}
+use Rattle.record_adoption.specs.Keeping.{StoresArchive, has_due, due_row, due_rows, live_count}
 
 -- ---- lists that ascend
 
@@ -67,22 +67,22 @@ more_dues_next f old mid new vs v i low is one two =
 
 -- ---- lines and their due days, one after another
 
-lines-push : (p : Listing) (n day : ℕ) (qs : List (List ℕ)) (q : List ℕ) → lines_of p n day (qs ++ q ∷ []) ≡ lines_of p n day qs ++ record { number = n + length qs; path = q; due = due_on p q day } ∷ []
-lines-push p n day [] q = ap (λ k. record { number = k; path = q; due = due_on p q day } ∷ []) (let e : n ≡ n + 0 = omega arith in e)
+lines-push : (p : Listing) (n day : ℕ) (qs : List (List ℕ)) (q : List ℕ) → lines_of p n day (qs ++ q ∷ []) ≡ lines_of p n day qs ++ record { number = n + length qs; path = q; due = option_map pos (due_on p q day) } ∷ []
+lines-push p n day [] q = ap (λ k. record { number = k; path = q; due = option_map pos (due_on p q day) } ∷ []) (let e : n ≡ n + 0 = omega arith in e)
 lines-push p n day (r ∷ qs) q =
     let k : (n + 1) + length qs ≡ n + length (r ∷ qs) = omega arith in
-    ap (λ l. record { number = n; path = r; due = due_on p r day } ∷ l)
-    (lines-push p (n + 1) day qs q ∙ ap (λ k. lines_of p (n + 1) day qs ++ record { number = k; path = q; due = due_on p q day } ∷ []) k)
+    ap (λ l. record { number = n; path = r; due = option_map pos (due_on p r day) } ∷ l)
+    (lines-push p (n + 1) day qs q ∙ ap (λ k. lines_of p (n + 1) day qs ++ record { number = k; path = q; due = option_map pos (due_on p q day) } ∷ []) k)
 
 pub lines_next : {V W : Type 0} (f : V → List ℕ) (view : W → Line) (p : Listing) (n day : ℕ) (vs : List V) (v : V) (i : ℕ) (ls : List W) (l : W) → i < length vs → v ≡ get_or vs i v
-    → map view ls ≡ lines_of p n day (map f (take i vs)) → view l ≡ record { number = n + i; path = f v; due = due_on p (f v) day } → map view (ls ++ l ∷ []) ≡ lines_of p n day (map f (take (i + 1) vs))
+    → map view ls ≡ lines_of p n day (map f (take i vs)) → view l ≡ record { number = n + i; path = f v; due = option_map pos (due_on p (f v) day) } → map view (ls ++ l ∷ []) ≡ lines_of p n day (map f (take (i + 1) vs))
 lines_next f view p n day vs v i ls l low is so_far new =
     let count : length (map f (take i vs)) ≡ i = length-map (take i vs) f ∙ length-take-le i vs (omega arith) in
     let next : map f (take (i + 1) vs) ≡ map f (take i vs) ++ f v ∷ [] = ap (map f) (take_more vs i v low) ∙ map-append f (take i vs) _ ∙ ap (λ x. map f (take i vs) ++ f x ∷ []) (sym is) in
     map-append view ls (l ∷ []) ∙ (λ i. so_far i ++ new i ∷ [])
-    ∙ sym (ap (lines_of p n day) next ∙ lines-push p n day (map f (take i vs)) (f v) ∙ ap (λ k. lines_of p n day (map f (take i vs)) ++ record { number = n + k; path = f v; due = due_on p (f v) day } ∷ []) count)
+    ∙ sym (ap (lines_of p n day) next ∙ lines-push p n day (map f (take i vs)) (f v) ∙ ap (λ k. lines_of p n day (map f (take i vs)) ++ record { number = n + k; path = f v; due = option_map pos (due_on p (f v) day) } ∷ []) count)
 
-due-append : (n : ℕ) (o : Option ℕ) (xs ys : List Due) → due_before n o (xs ++ ys) ≡ due_before n o xs ++ ys
+due-append : (n : ℕ) (o : Option ℤ) (xs ys : List Due) → due_before n o (xs ++ ys) ≡ due_before n o xs ++ ys
 due-append n None xs ys = refl
 due-append n (Some d) xs ys = refl
 
@@ -167,7 +167,7 @@ next_after a body day q qs = past-append 1 a.records (new_records a day (q ∷ q
 -- the lines of new records
 pub lines_are : (a : Archive) (n m day : ℕ) (qs : List (List ℕ)) → map (line_of a) (records_of n m day qs) ≡ lines_of a.plan n day qs
 lines_are a n m day [] = refl
-lines_are a n m day (q ∷ qs) = ap (λ l. record { number = n; path = q; due = due_on a.plan q day } ∷ l) (lines_are a (n + 1) m day qs)
+lines_are a n m day (q ∷ qs) = ap (λ l. record { number = n; path = q; due = option_map pos (due_on a.plan q day) } ∷ l) (lines_are a (n + 1) m day qs)
 
 -- the due days of new records
 dues_are : (a : Archive) (n m day : ℕ) (qs : List (List ℕ)) → map (due_row a) (filter (has_due a) (records_of n m day qs)) ≡ dues_of_lines (lines_of a.plan n day qs)
@@ -178,7 +178,7 @@ dues_are a n m day (q ∷ qs) = go (due_on a.plan q day) refl (dues_are a (n + 1
     new = record { number = n; message = m; path = q; day = day; destroyed = false }
 
     go : (o : Option ℕ) → due_on a.plan q day ≡ o → map (due_row a) (filter (has_due a) (records_of (n + 1) m day qs)) ≡ dues_of_lines (lines_of a.plan (n + 1) day qs)
-        → map (due_row a) (cond (is_some o) (new ∷ filter (has_due a) (records_of (n + 1) m day qs)) (filter (has_due a) (records_of (n + 1) m day qs))) ≡ due_before n o (dues_of_lines (lines_of a.plan (n + 1) day qs))
+        → map (due_row a) (cond (is_some o) (new ∷ filter (has_due a) (records_of (n + 1) m day qs)) (filter (has_due a) (records_of (n + 1) m day qs))) ≡ due_before n (option_map pos o) (dues_of_lines (lines_of a.plan (n + 1) day qs))
     go None is more = more
     go (Some d) is more = (λ i. record { number = n; day = unwrap_or (is i) 0 } ∷ more i)
 

@@ -8,11 +8,12 @@ use Rattle.sqlite.specs.Held.{Held, state}
 use Rattle.sqlite.proofs.StateLemmas.{survives_weaker}
 use Rattle.record_tables.specs.Rows.{Due}
 use Rattle.record_tables.specs.Changes.{Turns}
-use Rattle.record_store.specs.Archive.{Archive, Line, next_number, records_of, after_capture, capture_lines, capture, has_room}
+use Rattle.record_archive.specs.Archive.{Archive, Line, next_number, records_of, after_capture, capture_lines, capture, has_room, AreClasses}
 use Rattle.record_store.specs.Captures.{with_captured, ArePast, lines_of, dues_of_lines}
-use Rattle.record_store.specs.Counts.{count_at, only_at}
-use Rattle.record_store.specs.Stores.{StandsFor, StoresArchive, AreClasses, Becomes, Leaves, LeavesMade}
-use Rattle.record_store.specs.declared.fault.StoreFault.{StoreFault}
+use Rattle.record_adoption.specs.Counts.{count_at, only_at}
+use Rattle.record_adoption.specs.Keeping.{StoresArchive}
+use Rattle.record_store.specs.Stores.{StandsFor, Becomes, Leaves, LeavesMade}
+use Rattle.record_archive.specs.declared.fault.ArchiveRefusal.{ArchiveRefusal}
 use Rattle.record_store.specs.declared.store.Store.{Store}
 use Rattle.record_store.proofs.CommandLemmas.{stands_turned, leaves_turned}
 use Rattle.record_store.proofs.CaptureLemmas.{captured_is_archive, stores_captured, count_captured, next_after, lines_are}
@@ -67,7 +68,7 @@ stands_captured g old new a s body day n (q ∷ qs) ds given idle plan next held
     falls opened turns (λ was db kept turn. keeps_captured g old a s body day n (q ∷ qs) ds given was db kept turn)
 
 abbrev Holds : Archive → List ℕ → ℕ → List (List ℕ) → Type 0
-Holds a body day ps = ◌≡◌ {A = Result Archive StoreFault} (Ok (after_capture a body day ps)) (Ok (after_capture a body day ps))
+Holds a body day ps = ◌≡◌ {A = Result Archive ArchiveRefusal} (Ok (after_capture a body day ps)) (Ok (after_capture a body day ps))
 
 pub leaves_captured : {S : Type 0} (g : Ghosts S) (old : Store S) (new : Held S) (a : Archive) → StandsFor g old a → (body : List ℕ) (day n : ℕ) (ps : List (List ℕ)) (ds : List Due) → Given old day n ps ds
     → Survives (state g old.conn) (state g new) (λ (trees : Trees). (db : Database) × Captures (state g old.conn).now db body day n ps ds × (trees ≡ db.trees))

@@ -6,11 +6,11 @@ use Rattle.class_plan.specs.declared.schedules.Unit.TheVariants.{Days}
 use Rattle.class_plan.specs.declared.schedules.Schedule.TheVariants.{Permanent, After}
 use Rattle.class_plan.specs.declared.faults.PlanFault.TheVariants as plan_fault
 use Rattle.class_plan.specs.Plans.{Listing, open_row}
-use Rattle.record_tables.specs.Rows.{Record, Message}
-use Rattle.record_store.specs.Archive as archive
-use Rattle.record_store.specs.Archive.{Archive}
-use Rattle.record_store.specs.Revisions.{dues_in, with_plan}
-use Rattle.record_store.specs.declared.fault.StoreFault.TheVariants as fault
+use Rattle.record_archive.specs.Archive.{Record, Message, Archive}
+use Rattle.record_archive.specs.Archive as archive
+use Rattle.record_adoption.specs.Keeping.{dues_in}
+use Rattle.record_store.specs.Revisions.{with_plan}
+use Rattle.record_archive.specs.declared.fault.ArchiveRefusal.TheVariants as fault
 
 -- `tax` is destroyed after ten days, `finance` reviewed after five
 abbrev plan : Listing

@@ -18,14 +18,14 @@ use Rattle.class_plan.specs.Calendar.{due_on, due_by}
 use Rattle.class_plan.specs.Plans.{Row, Listing, IsPlan, row_at, has, with_row, open_row, own_at, first_own, schedule_at}
 use Rattle.class_plan.proofs.Put.{placed, put-cons, has-put, say-put}
 use Rattle.class_plan.proofs.Removed.{head_other, tail_other, added-new}
-use Rattle.record_tables.specs.Rows.{Record}
+use Rattle.record_archive.specs.Archive.{Record, Archive, IsArchive, IsRecord, due_of, is_live, add_class, plan_answer}
 use Rattle.record_tables.specs.Changes as tables
 use Rattle.record_tables.specs.Changes.{ClassEntry}
 use Rattle.record_tables.specs.Reads.{class_entry}
 use Rattle.record_rows.specs.Rules.{rule_at, own_rules, with_own, entry_of_row}
-use Rattle.record_store.specs.Archive.{Archive, IsArchive, IsRecord, due_of, is_live, add_class, plan_answer}
 use Rattle.record_store.specs.Revisions.{with_plan, IsClassAdded}
-use Rattle.record_store.specs.Stores.{StoresArchive, Leaves, LeavesMade, has_due, due_row, due_rows}
+use Rattle.record_adoption.specs.Keeping.{StoresArchive, has_due, due_row, due_rows}
+use Rattle.record_store.specs.Stores.{Leaves, LeavesMade}
 use Rattle.record_store.specs.declared.store.Store.{Store}
 
 -- ---- the plan

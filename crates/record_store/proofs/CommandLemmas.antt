@@ -11,12 +11,14 @@ use Rattle.sqlite.specs.declared.error.ErrorCode.TheVariants.{OutOfMemory}
 use Rattle.sqlite.proofs.StateLemmas.{survives_then, survives_weaker}
 use Rattle.record_tables.specs.Rows.{Tables}
 use Rattle.record_tables.specs.Changes.{Turns}
-use Rattle.record_tables.specs.Lookups.{Looks}
-use Rattle.record_store.specs.Archive.{Archive, IsArchive, next_number}
-use Rattle.record_store.specs.Counts.{count_at}
+use Rattle.record_reads.specs.Lookups.{Looks}
+use Rattle.record_archive.specs.Archive.{Archive, IsArchive, next_number}
+use Rattle.record_adoption.specs.Counts.{count_at}
 use Rattle.record_store.specs.Faults.{fault_of}
-use Rattle.record_store.specs.Stores.{is_trouble, StandsFor, StoresArchive, Becomes, live_count, hold_count, Leaves, LeavesAll, LeavesMade}
-use Rattle.record_store.specs.declared.fault.StoreFault.{StoreFault}
+use Rattle.record_archive.specs.Faults.{is_trouble}
+use Rattle.record_adoption.specs.Keeping.{StoresArchive, live_count, hold_count}
+use Rattle.record_store.specs.Stores.{StandsFor, Becomes, Leaves, LeavesAll, LeavesMade}
+use Rattle.record_archive.specs.declared.fault.ArchiveRefusal.{ArchiveRefusal}
 use Rattle.record_store.specs.declared.store.Store.{Store}
 
 -- a refusal of `sqlite` comes from the world
@@ -24,11 +26,11 @@ pub is_trouble-fault_of : (e : Error) → is_trouble (fault_of e) ≡ true
 is_trouble-fault_of (SqliteFailure OutOfMemory) = refl
 is_trouble-fault_of e = refl
 
-becomes : {S : Type 0} (g : Ghosts S) (new : Store S) (r : Result Archive StoreFault) (b : Archive) → r ≡ Ok b → StandsFor g new b → Becomes g new r
+becomes : {S : Type 0} (g : Ghosts S) (new : Store S) (r : Result Archive ArchiveRefusal) (b : Archive) → r ≡ Ok b → StandsFor g new b → Becomes g new r
 becomes g new r b e s = subst (Becomes g new) (sym e) s
 
 -- the command is carried out
-pub obeys_done : {S : Type 0} (g : Ghosts S) (old mid new : Store S) (command : Archive → Result Archive StoreFault) (change : Archive → Archive)
+pub obeys_done : {S : Type 0} (g : Ghosts S) (old mid new : Store S) (command : Archive → Result Archive ArchiveRefusal) (change : Archive → Archive)
     → ((a : Archive) → StandsFor g old a → StandsFor g mid a × (HasCleanDisk (state g mid.conn) → command a ≡ Ok (change a)))
     → ((a : Archive) → StandsFor g mid a → command a ≡ Ok (change a) → StandsFor g new (change a))
     → (HasCleanDisk (state g new.conn) → HasCleanDisk (state g mid.conn))
@@ -39,7 +41,7 @@ obeys_done g old mid new command change judged made falls clean a s =
     (becomes g new (command a) (change a) e (made a j.0 e), tt)
 
 -- what a crash leaves of the command
-pub leaves_done : {S : Type 0} (g : Ghosts S) (old mid new : Store S) (command : Archive → Result Archive StoreFault) (change : Archive → Archive)
+pub leaves_done : {S : Type 0} (g : Ghosts S) (old mid new : Store S) (command : Archive → Result Archive ArchiveRefusal) (change : Archive → Archive)
     → ((a : Archive) → StandsFor g old a → StandsFor g mid a × (HasCleanDisk (state g mid.conn) → command a ≡ Ok (change a)))
     → LeavesAll g old mid → (HasCleanDisk (state g mid.conn) → IsTrue (state g mid.conn).is_open) → LeavesMade g mid new command change → Leaves g old new command
 leaves_done g old mid new command change judged looked opened made a s is_open =
@@ -50,7 +52,7 @@ leaves_done g old mid new command change judged looked opened made a s is_open =
     (λ clean trees left. let e = j.1 (back clean) in (left.0, change a, e, left.1 (opened (back clean)) e, left.2)) (looked a s) two
 
 -- the command is refused by its judge
-pub leaves_refused : {S : Type 0} (g : Ghosts S) (old new : Store S) (command : Archive → Result Archive StoreFault) → LeavesAll g old new → Leaves g old new command
+pub leaves_refused : {S : Type 0} (g : Ghosts S) (old new : Store S) (command : Archive → Result Archive ArchiveRefusal) → LeavesAll g old new → Leaves g old new command
 leaves_refused g old new command looked a s is_open = survives_weaker (state g old.conn) (state g new.conn) _ _ (λ _ db none. absurd (none is_open)) (looked a s)
 
 -- two looks, the second on a connection that the first left open

@@ -1,24 +1,23 @@
 -- Holds that are placed and ended.
-use Rattle.std.proofs.Common.{◌≡◌, ◌+◌, ◌==◌, ℕ, Bool, true, false, not, cond, ◌&&◌, ◌||◌, List, [], ◌∷◌, ◌++◌, map, filter, find, Option, Some, None, Ok, Err, refl, sym, ap, subst, ◌∙◌, arith, true≢false}
+use Rattle.std.proofs.Common.{◌≡◌, ◌+◌, ◌==◌, ℕ, Bool, true, false, not, cond, ◌&&◌, ◌||◌, List, [], ◌∷◌, ◌++◌, map, filter, find, Option, Some, None, Ok, Err, refl, sym, ap, subst, ◌∙◌, arith, true≢false, int_eq, pos, rules}
 use Rattle.std.specs.List.{AllByRecursion, list_any}
 use Rattle.std.specs.Str.{bytes_eq}
 use Rattle.std.proofs.lemmas.Map.Text.{is_eq-slice_cmp}
 use Rattle.std.proofs.lemmas.Int.{ints}
-use Rattle.std.proofs.Common.{int_eq, pos, rules}
-use Rattle.record_tables.specs.Lookups.{has_hold_of}
+use Rattle.record_reads.specs.Lookups.{has_hold_of}
 use Rattle.std.proofs.lemmas.List.{map-append}
 use Rattle.std.proofs.lemmas.List.Elements.{All-push, All-filter}
 use Rattle.sqlite_trees.specs.Tree.{IsAscending}
 use Rattle.sqlite_keyed.specs.Lists.{delete_where}
 use Rattle.sqlite_keyed.proofs.ListLemmas.{filter-map, filter_same, ascending-filter, none_from_any}
 use Rattle.sqlite.specs.Effect.{Database}
-use Rattle.record_tables.specs.Rows.{Record, Hold as HoldRow}
+use Rattle.record_archive.specs.Archive.{Record, Archive, Hold, IsArchive, record_at, has_number, is_live, is_hold, is_held_by, hold, hold_one, release, release_one, with_hold, without_hold}
+use Rattle.record_tables.specs.Rows.{Hold as HoldRow}
 use Rattle.record_tables.specs.Changes as tables
 use Rattle.record_tables.specs.Changes.{Turns, Always}
-use Rattle.record_store.specs.Archive.{Archive, Hold, IsArchive, record_at, has_number, is_live, is_hold, is_held_by, hold, hold_one, release, release_one, with_hold, without_hold}
-use Rattle.record_store.specs.Counts.{only_at, tally}
-use Rattle.record_store.specs.Stores.{StoresArchive, hold_of, hold_count}
-use Rattle.record_store.specs.declared.fault.StoreFault.TheVariants as fault
+use Rattle.record_adoption.specs.Counts.{only_at, tally}
+use Rattle.record_adoption.specs.Keeping.{StoresArchive, hold_of, hold_count}
+use Rattle.record_archive.specs.declared.fault.ArchiveRefusal.TheVariants as fault
 
 -- ---- what is found by a number
 

@@ -6,15 +6,11 @@ pub mod CaptureLemmas
 pub mod CaptureStands
 pub mod MessageLemmas
 pub mod DueLemmas
-pub mod PathLemmas
 pub mod AllowedLemmas
 pub mod DestroyLemmas
 pub mod ReviseLemmas
 pub mod ClassLemmas
-pub mod AdoptHolds
-pub mod AdoptRows
-pub mod AdoptPlan
-pub mod AdoptReads
 pub mod AdoptSettled
 pub mod AdoptLayouts
 pub mod ChangeRows
+pub mod RecordsLemmas

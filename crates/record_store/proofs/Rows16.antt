@@ -6,9 +6,9 @@ use Rattle.class_plan.specs.declared.schedules.Action.TheVariants.{Destroy}
 use Rattle.class_plan.specs.declared.schedules.Schedule.TheVariants.{Permanent, After}
 use Rattle.class_plan.specs.Plans.{Listing, open_row}
 use Rattle.jiff_core.specs.Calendar.{days_from_civil, day_count, days_of_years, days_of_months}
-use Rattle.record_store.specs.declared.fault.StoreFault.TheVariants as fault
+use Rattle.record_archive.specs.declared.fault.ArchiveRefusal.TheVariants as fault
 use Rattle.class_plan.specs.Calendar.{civil, due_on, due_by}
-use Rattle.record_store.specs.Archive
+use Rattle.record_archive.specs.Archive
 
 abbrev plan_of_years : ℕ → Listing
 plan_of_years n = record { root = Permanent; rows = record { path = codes "tax"; is_open = true; schedule = Some (After n Years Destroy false) } ∷ open_row unfiled ∷ [] }
@@ -25,7 +25,7 @@ due_is = refl
 abbrev a0 : Archive.Archive
 a0 = record { plan = plan_of_years 1; messages = []; records = []; holds = [] }
 
-abbrev tax_record : Rattle.record_tables.specs.Rows.Record
+abbrev tax_record : Rattle.record_archive.specs.Archive.Record
 tax_record = record { number = 1; message = 1; path = codes "tax"; day = 19675; destroyed = false }
 
 abbrev a1 : Archive.Archive

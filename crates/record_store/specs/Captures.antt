@@ -1,5 +1,5 @@
 -- What a capture adds to the tables, and the lines that it answers.
-use Rattle.std.specs.Prelude.{◌≡◌, ℕ, ◌+◌, pos, List, [], ◌∷◌, ◌++◌, map, Option, Some, None, IfSome, Result, Vec}
+use Rattle.std.specs.Prelude.{◌≡◌, ℕ, ◌+◌, ℤ, pos, unsigned_abs, option_map, List, [], ◌∷◌, ◌++◌, map, Option, Some, None, IfSome, Result, Vec}
 use Rattle.std.specs.declared.alloc.Global.{Global}
 use Rattle.sqlite.specs.Store.{Ghosts}
 use Rattle.sqlite.specs.Effect.{Database}
@@ -7,14 +7,15 @@ use Rattle.sqlite.specs.Held.{Held}
 use Rattle.jiff.specs.Words.{epoch_day, IsBetween}
 use Rattle.class_plan.specs.Plans.{Listing}
 use Rattle.class_plan.specs.Calendar.{due_on}
-use Rattle.record_tables.specs.Rows.{Tables, Message, Record, Due}
+use Rattle.record_archive.specs.Archive.{Message, Record, Line, records_of, capture, capture_lines}
+use Rattle.record_tables.specs.Rows.{Tables, Due}
 use Rattle.record_tables.specs.Changes.{Turns, IsPastMessages, IsPastRecords, AreAscending, new_message}
 use Rattle.record_tables.specs.Steps.{PutsOnOk}
-use Rattle.record_store.specs.Archive.{Line, records_of, capture, capture_lines}
-use Rattle.record_store.specs.Stores.{Obeys, line_view}
-use Rattle.record_store.specs.declared.fault.StoreFault.{StoreFault}
+use Rattle.record_archive.specs.Lines.{line_view}
+use Rattle.record_store.specs.Stores.{Obeys}
+use Rattle.record_store.specs.Faults.{StoreFault}
 use Rattle.record_store.specs.declared.store.Store.{Store}
-use Rattle.record_store.specs.declared.store.Line as code
+use Rattle.record_archive.specs.declared.line.Line as code
 
 abbrev pub with_records : List Record → Tables → Tables
 with_records rs t = record t { records = t.records ++ rs }
@@ -36,11 +37,11 @@ ArePast n ds t = IsPastMessages n t × IsPastRecords n t × AreAfter ds t
 -- a line for each path, by the plan, numbered upwards
 abbrev pub lines_of : Listing → ℕ → ℕ → List (List ℕ) → List Line
 lines_of p n day [] = []
-lines_of p n day (q ∷ qs) = record { number = n; path = q; due = due_on p q day } ∷ lines_of p (n + 1) day qs
+lines_of p n day (q ∷ qs) = record { number = n; path = q; due = option_map pos (due_on p q day) } ∷ lines_of p (n + 1) day qs
 
-abbrev pub due_before : ℕ → Option ℕ → List Due → List Due
+abbrev pub due_before : ℕ → Option ℤ → List Due → List Due
 due_before n None ds = ds
-due_before n (Some day) ds = record { number = n; day = day } ∷ ds
+due_before n (Some day) ds = record { number = n; day = unsigned_abs day } ∷ ds
 
 -- the due days of lines
 abbrev pub dues_of_lines : List Line → List Due
@@ -50,10 +51,6 @@ dues_of_lines (l ∷ ls) = due_before l.number l.due (dues_of_lines ls)
 -- the due date, if there is one, has a day number of 1970 to 9999
 abbrev pub HasDueDay : code.Line → Type 0
 HasDueDay l = IfSome l.due (λ d. IsBetween (pos 0) (pos 2932896) (epoch_day d))
-
--- the bytes of each path
-abbrev pub path_list : List (Vec ℕ Global) → List (List ℕ)
-path_list paths = map (λ p. p.items) paths
 
 -- a message, its records numbered upwards from its own number, and these due days are added
 abbrev pub with_capture : (first : ℕ) → (body : List ℕ) → (day : ℕ) → (paths : List (List ℕ)) → List Due → Tables → Tables

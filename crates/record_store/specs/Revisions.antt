@@ -4,20 +4,16 @@ use Rattle.sqlite.specs.Effect.{Database}
 use Rattle.class_plan.specs.Calendar.{due_on}
 use Rattle.class_plan.specs.Plans.{Listing, keeps}
 use Rattle.class_plan.specs.declared.faults.PlanFault.TheVariants.{PathDropped}
-use Rattle.record_tables.specs.Rows.{Record, Due}
+use Rattle.record_archive.specs.Archive.{Record, Archive}
+use Rattle.record_tables.specs.Rows.{Due}
 use Rattle.record_tables.specs.Changes.{Turns, Always, with_class}
-use Rattle.record_store.specs.Archive.{Archive}
-use Rattle.record_store.specs.Stores.{due_rows}
-use Rattle.record_store.specs.declared.fault.StoreFault.{StoreFault}
-use Rattle.record_store.specs.declared.fault.StoreFault.TheVariants.{Plan}
+use Rattle.record_adoption.specs.Keeping.{dues_in}
+use Rattle.record_archive.specs.declared.fault.ArchiveRefusal.{ArchiveRefusal}
+use Rattle.record_archive.specs.declared.fault.ArchiveRefusal.TheVariants.{Plan}
 
 -- the archive with another plan
 abbrev pub with_plan : Archive → Listing → Archive
 with_plan a p = record a { plan = p }
-
--- the due days by a plan, of the records that are live and have one
-abbrev pub dues_in : Listing → List Record → List Due
-dues_in p rs = due_rows (record { plan = p; messages = []; records = rs; holds = [] })
 
 -- a plan that drops no path of an archive's plan, and the due days by it
 pub record IsRevision (a : Archive) (p : Listing) (ds : List Due) : Type 0 where
@@ -25,7 +21,7 @@ pub record IsRevision (a : Archive) (p : Listing) (ds : List Due) : Type 0 where
   pub dues : ds ≡ dues_in p a.records
 
 -- the new plan drops a path of the old one, and that is the refusal
-abbrev pub RefusesDrop : (old new : Listing) → StoreFault → Type 0
+abbrev pub RefusesDrop : (old new : Listing) → ArchiveRefusal → Type 0
 RefusesDrop old new f = (keeps old new ≡ false) × (f ≡ Plan PathDropped)
 
 -- the due day of the record is the same by both plans

@@ -1,67 +1,18 @@
--- How tables keep an archive, and which archive a store represents.
-use Rattle.std.specs.Prelude.{◌≡◌, ◌-◌, ◌==◌, ℕ, ℤ, pos, negsuc, Bool, true, false, ◌&&◌, unsigned_abs, List, [], ◌∷◌, map, filter, is_some, option_map, unwrap_or, codes, None, Result, Ok, Err, OnOk, IsTrue, IsPermutation, All}
-use Rattle.std.specs.List.Sorted.{IsStrictlySortedBy}
-use Rattle.std.specs.Ordering.{nat_cmp}
-use Rattle.std.specs.Cmp.Lexicographic.{slice_cmp}
-use Rattle.jiff.specs.Words.{epoch_day}
-use Rattle.class_plan.specs.Plans as plans
+-- Which archive a store represents, and what its calls promise.
+use Rattle.std.specs.Prelude.{◌≡◌, ◌-◌, ℕ, false, None, Result, Ok, Err, OnOk, IsTrue}
 use Rattle.sqlite.specs.Store.{Ghosts}
 use Rattle.sqlite.specs.Effect.{Database}
 use Rattle.sqlite.specs.State.{HasCleanDisk, Survives}
 use Rattle.sqlite.specs.Tree.{Trees}
-use Rattle.sqlite.specs.Held.{state}
-use Rattle.record_tables.specs.Rows.{Tables, Stores, AreKeyed, Record, Due, Hold as HoldRow}
-use Rattle.record_tables.specs.Reads.{class_entry, rule, pair}
-use Rattle.record_rows.specs.Rules.{rules_of, classes_of}
-use Rattle.record_store.specs.Archive.{Archive, Hold, Line, IsArchive, due_of, due_list, is_live, next_number, record_at}
-use Rattle.record_store.specs.declared.fault.StoreFault.{StoreFault}
-use Rattle.record_store.specs.declared.fault.StoreFault.TheVariants as fault
-use Rattle.record_store.specs.Counts.{count_at, tally}
+use Rattle.sqlite.specs.Held.{Held, state}
+use Rattle.record_archive.specs.Archive.{Archive, IsArchive, next_number, record_at}
+use Rattle.record_archive.specs.Faults.{WhereRefused}
+use Rattle.record_archive.specs.declared.fault.ArchiveRefusal.{ArchiveRefusal}
+use Rattle.record_archive.specs.declared.fault.ArchiveRefusal.TheVariants.{NoRecord}
+use Rattle.record_adoption.specs.Counts.{count_at}
+use Rattle.record_adoption.specs.Keeping.{StoresArchive, live_count, hold_count}
+use Rattle.record_store.specs.Faults.{StoreFault}
 use Rattle.record_store.specs.declared.store.Store.{Store}
-use Rattle.record_store.specs.declared.store.Line as code
-
--- ---- the tables
-
-abbrev pub hold_of : HoldRow → Hold
-hold_of h = record { name = h.name; number = h.number }
-
--- a live record with a due day
-abbrev pub has_due : Archive → Record → Bool
-has_due a r = is_live r && is_some (due_of a r)
-
-abbrev pub due_row : Archive → Record → Due
-due_row a r = record { number = r.number; day = unwrap_or (due_of a r) 0 }
-
--- the due day of each live record that has one, by the plan as it is now
-abbrev pub due_rows : Archive → List Due
-due_rows a = map (due_row a) (filter (has_due a) a.records)
-
--- the tables keep the archive; nothing is said about the due days
-pub record Keeps (t : Tables) (a : Archive) : Type 0 where
-  pub messages : t.messages ≡ a.messages
-  pub records : t.records ≡ a.records
-  pub holds : map hold_of t.holds ≡ a.holds
-  pub settings : map pair t.settings ≡ record { key = codes "version"; value = codes "2" } ∷ []
-  pub classes : IsPermutation (map class_entry t.classes) (classes_of a.plan)
-  pub schedules : IsPermutation (map rule t.schedules) (rules_of a.plan)
-
--- the database keeps the archive, with the due days by its plan
-pub record StoresArchive (db : Database) (a : Archive) : Type 0 where
-  pub tables : Tables
-  pub stored : Stores db tables
-  pub keyed : AreKeyed tables
-  pub keeps : Keeps tables a
-  pub dues : tables.dues ≡ due_rows a
-
--- ---- a store
-
--- the number of live records of a message
-abbrev pub live_count : Archive → ℕ → ℕ
-live_count a m = tally (λ (r : Record). is_live r && (r.message == m)) a.records
-
--- the number of holds that keep a record
-abbrev pub hold_count : Archive → ℕ → ℕ
-hold_count a n = tally (λ (h : Hold). h.number == n) a.holds
 
 -- While the disk is clean and the connection open, the rows are those of the archive. Beside the connection the store
 -- keeps the plan, the next number, the number of holds on each record, and that of each message's live records beyond
@@ -76,47 +27,38 @@ pub record StandsFor {S : Type 0} (g : Ghosts S) (store : Store S) (a : Archive)
   pub rows : HasCleanDisk (state g store.conn) → IsTrue (state g store.conn).is_open →
       StoresArchive (state g store.conn).now a
 
--- a refusal that comes from the world and not from the archive: of `sqlite` (89), or for no memory (99)
-abbrev pub is_trouble : StoreFault → Bool
-is_trouble (fault.Sqlite e) = true
-is_trouble fault.NoMemory = true
-is_trouble _ = false
-
-abbrev pub Becomes : {S : Type 0} → Ghosts S → Store S → Result Archive StoreFault → Type 0
+abbrev pub Becomes : {S : Type 0} → Ghosts S → Store S → Result Archive ArchiveRefusal → Type 0
 Becomes g new (Ok b) = StandsFor g new b
 Becomes g new (Err f) = ⊥
 
 -- A call carries out a command of the archive. Where it succeeds, the store represents the command's archive, and the
 -- answer is right. Where it is refused, nothing has changed, and the refusal is the command's or the world's.
 abbrev pub Obeys : {S X : Type 0} → Ghosts S → (old new : Store S) → Result X StoreFault →
-    (Archive → Result Archive StoreFault) → (Archive → X → Type 0) → Type 0
+    (Archive → Result Archive ArchiveRefusal) → (Archive → X → Type 0) → Type 0
 Obeys g old new (Ok x) command Answers = (a : Archive) → StandsFor g old a → Becomes g new (command a) × Answers a x
 Obeys g old new (Err f) command Answers = (a : Archive) → StandsFor g old a → StandsFor g new a ×
-    (is_trouble f ≡ false → command a ≡ Err f)
+    WhereRefused (λ r. command a ≡ Err r) f
 
 -- The same for a call that reads the tables first. It relies on what the disk returns, so it carries out the
 -- archive's command while the disk is clean.
 abbrev pub ObeysRows : {S X : Type 0} → Ghosts S → (old new : Store S) → Result X StoreFault →
-    (Archive → Result Archive StoreFault) → (Archive → X → Type 0) → Type 0
+    (Archive → Result Archive ArchiveRefusal) → (Archive → X → Type 0) → Type 0
 ObeysRows g old new (Ok x) command Answers = HasCleanDisk (state g new.conn) → (a : Archive) → StandsFor g old a →
     Becomes g new (command a) × Answers a x
 ObeysRows g old new (Err f) command Answers = (a : Archive) → StandsFor g old a → StandsFor g new a ×
-    (is_trouble f ≡ false → HasCleanDisk (state g new.conn) → command a ≡ Err f)
+    (HasCleanDisk (state g new.conn) → WhereRefused (λ r. command a ≡ Err r) f)
 
 -- A call reads: the store represents the same archive, and while the disk is clean the answer is the archive's.
 abbrev pub Tells : {S X : Type 0} → Ghosts S → (old new : Store S) → Result X StoreFault → (Archive → X → Type 0) →
-    (Archive → StoreFault → Type 0) → Type 0
+    (Archive → ArchiveRefusal → Type 0) → Type 0
 Tells g old new (Ok x) Answers Refuses = (a : Archive) → StandsFor g old a → StandsFor g new a ×
     (HasCleanDisk (state g new.conn) → Answers a x)
 Tells g old new (Err f) Answers Refuses = (a : Archive) → StandsFor g old a → StandsFor g new a ×
-    (is_trouble f ≡ false → HasCleanDisk (state g new.conn) → Refuses a f)
-
-abbrev pub Quietly : {X : Type 0} → Archive → X → Type 0
-Quietly a x = Unit {0}
+    (HasCleanDisk (state g new.conn) → WhereRefused (Refuses a) f)
 
 -- what a crash in a call on an open connection may leave: what a crash might have left before it, or the command's
 -- archive
-abbrev pub Leaves : {S : Type 0} → Ghosts S → (old new : Store S) → (Archive → Result Archive StoreFault) → Type 0
+abbrev pub Leaves : {S : Type 0} → Ghosts S → (old new : Store S) → (Archive → Result Archive ArchiveRefusal) → Type 0
 Leaves g old new command = (a : Archive) → StandsFor g old a → IsTrue (state g old.conn).is_open →
     Survives (state g old.conn) (state g new.conn)
     (λ (trees : Trees). (db : Database) × (b : Archive) × (command a ≡ Ok b) × StoresArchive db b × (trees ≡ db.trees))
@@ -128,7 +70,7 @@ LeavesAll g old new = (a : Archive) → StandsFor g old a →
 
 -- what a crash may leave while a command is carried out on an open connection: what a crash might have left before
 -- it, or the changed archive, where the archive's command makes that change
-abbrev pub LeavesMade : {S : Type 0} → Ghosts S → (old new : Store S) → (Archive → Result Archive StoreFault) →
+abbrev pub LeavesMade : {S : Type 0} → Ghosts S → (old new : Store S) → (Archive → Result Archive ArchiveRefusal) →
     (Archive → Archive) → Type 0
 LeavesMade g old new command change = (a : Archive) → StandsFor g old a → Survives (state g old.conn) (state g new.conn)
     (λ (trees : Trees). (db : Database) ×
@@ -157,13 +99,13 @@ abbrev pub ChangesWhere : {S : Type 0} → Ghosts S → (old new : Store S) → 
 ChangesWhere g old new Allowed change = (a : Archive) → StandsFor g old a → Allowed a → StandsFor g new (change a)
 
 -- the same for a change that the archive's command makes
-abbrev pub CarriesOut : {S : Type 0} → Ghosts S → (old new : Store S) → (Archive → Result Archive StoreFault) →
+abbrev pub ChangesByCommand : {S : Type 0} → Ghosts S → (old new : Store S) → (Archive → Result Archive ArchiveRefusal) →
     (Archive → Archive) → Type 0
-CarriesOut g old new command change = ChangesWhere g old new (λ a. command a ≡ Ok (change a)) change
+ChangesByCommand g old new command change = ChangesWhere g old new (λ a. command a ≡ Ok (change a)) change
 
 -- A call reads whether the archive's command makes this change. Where it does not, the refusal is the command's.
 abbrev pub TellsOutcome : {S X : Type 0} → Ghosts S → (old new : Store S) → Result X StoreFault →
-    (Archive → Result Archive StoreFault) → (Archive → Archive) → Type 0
+    (Archive → Result Archive ArchiveRefusal) → (Archive → Archive) → Type 0
 TellsOutcome g old new result command change =
     Tells g old new result (λ a _. command a ≡ Ok (change a)) (λ a f. command a ≡ Err f)
 
@@ -177,20 +119,11 @@ abbrev pub IsOpenOnOk : {S X : Type 0} → Ghosts S → (new : Store S) → Resu
 IsOpenOnOk g new result = HasCleanDisk (state g new.conn) → OnOk result (IsTrue (state g new.conn).is_open)
 
 -- the archive has no record of this number, and that is the refusal
-abbrev pub LacksRecord : ℕ → Archive → StoreFault → Type 0
-LacksRecord n a f = (f ≡ fault.NoRecord) × (record_at a n ≡ None)
+abbrev pub LacksRecord : ℕ → Archive → ArchiveRefusal → Type 0
+LacksRecord n a r = (r ≡ NoRecord) × (record_at a n ≡ None)
 
--- ---- lines
-
-abbrev pub line_view : code.Line → Line
-line_view l = record { number = l.number; path = l.path.items; due = option_map (λ d. unsigned_abs (epoch_day d)) l.due }
-
--- the due list of a day by its number, which is none before 1970
-abbrev pub due_list_on : Archive → ℤ → List Line
-due_list_on a (pos n) = due_list a n
-due_list_on a (negsuc n) = []
-
--- paths of classes of a plan, in byte order, each once
-pub record AreClasses (p : plans.Listing) (paths : List (List ℕ)) : Type 0 where
-  pub classes : All (λ q. plans.has p.rows q ≡ true) paths
-  pub in_order : IsStrictlySortedBy (slice_cmp nat_cmp) paths
+-- while the disk is clean, the store represents each archive that is found in this way in the database of the connection
+abbrev pub TakesOver : {S : Type 0} → Ghosts S → Held S → Store S → (Database → Archive → Type 0) →
+    (Archive → Type 0) → Type 0
+TakesOver g conn store FindsIn Is = HasCleanDisk (state g store.conn) → (a : Archive) → FindsIn (state g conn).now a →
+    Is a → StandsFor g store a

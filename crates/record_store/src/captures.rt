@@ -1,34 +1,31 @@
 //! Captures: a message is stored, with a record in each of its classes.
 
-ghost use Rattle.std.specs.Prelude.{◌≡◌, ◌+◌, ◌≤◌, ◌<◌, ◌^◌, length, map, ◌++◌, [], pos, true, IfOk, IfErr, OnOk, OnErr};
+ghost use Rattle.std.specs.Prelude.{◌≡◌, ◌+◌, ◌≤◌, ◌<◌, ◌^◌, length, map, ◌++◌, [], pos, option_map, true, IfOk, IfErr, OnOk, OnErr};
 ghost use Rattle.std.specs.List.{All};
 ghost use Rattle.jiff.specs.Words.{IsBetween, epoch_day};
 ghost use Rattle.class_plan.specs.Dates.{IsCaptureDay};
 ghost use Rattle.class_plan.specs.Calendar.{number_of_day, due_on};
 ghost use Rattle.record_tables.specs.CodeRows.{due_of};
-ghost use Rattle.record_store.specs.Archive as archive;
-ghost use Rattle.record_store.specs.Archive.{Archive};
-ghost use Rattle.record_store.specs.Captures.{HasDueDay, lines_of, dues_of_lines, due_before, path_list, ObeysCapture};
-ghost use Rattle.record_store.specs.Stores.{StandsFor, AreClasses, Leaves, Falls, line_view, is_trouble, ChangesBy, LeavesChange};
+ghost use Rattle.record_archive.specs.Archive as archive;
+ghost use Rattle.record_archive.specs.Archive.{Archive, path_list, AreClasses};
+ghost use Rattle.record_store.specs.Captures.{HasDueDay, lines_of, dues_of_lines, due_before, ObeysCapture};
+ghost use Rattle.record_archive.specs.Lines.{line_view};
+ghost use Rattle.record_archive.specs.Faults.{is_trouble};
+ghost use Rattle.record_store.specs.Stores.{StandsFor, Leaves, Falls, ChangesBy, LeavesChange};
 
-use crate::fault::StoreFault;
-use crate::store::{Line, Store};
-use crate::transactions::put_capture;
+use crate::changes::Capture;
+use crate::fault::{BUSY, StoreFault, fault_of};
+use crate::store::Store;
 use class_plan::{Date, day_number};
+use record_adoption::number_of;
+use record_archive::{ArchiveRefusal, Line};
 use record_tables::rows::DueRow;
+use record_tables::transact::transact;
 use sqlite::Alter;
 use std::alloc::{AllocError, Global};
 
 /// One above the greatest number of a record.
 const NUMBERS: u64 = 1 << 32;
-
-/// The number of a day of 1970 to 9999, in days since 1970-01-01.
-pub(crate) fn number_of(day: Date) -> u32
-    requires { IsBetween (pos 0) (pos 2932896) (epoch_day day) }
-    ensures { result ≡ number_of_day day }
-{
-    day_number(day) as u32
-}
 
 /// Adds the due day of a line, if it has one.
 fn push_due(dues: &mut Vec<DueRow>, line: &Line) -> Result<(), AllocError>
@@ -65,7 +62,7 @@ impl<S: Alter> Store<S> {
         ensures line { IfOk result (λ l. line_view l ≡ record {
           number = number;
           path = path.now;
-          due = due_on self.now.plan path.now (number_of_day day);
+          due = option_map pos (due_on self.now.plan path.now (number_of_day day));
         }) }
         ensures day { IfOk result HasDueDay }
     {
@@ -119,20 +116,27 @@ impl<S: Alter> Store<S> {
             (λ a. archive.after_capture a body.now day (path_list paths.now)) }
     {
         if !self.conn.is_autocommit() {
-            return Err(StoreFault::BUSY);
+            return Err(BUSY);
         }
         let further = paths.len() as u64 - 1;
         let Ok(()) = self.others.add(first, further) else {
             return Err(StoreFault::NoMemory);
         };
-        match put_capture(&mut self.conn, first, body, day, paths, dues) {
+        let change = Capture {
+            first,
+            body,
+            day,
+            paths,
+            dues,
+        };
+        match transact(&mut self.conn, change) {
             Ok(()) => {
                 self.next += paths.len() as u64;
                 Ok(())
             }
             Err(error) => {
                 self.others.take(first, further);
-                Err(StoreFault::from(error))
+                Err(fault_of(error))
             }
         }
     }
@@ -162,7 +166,7 @@ impl<S: Alter> Store<S> {
             return Ok(Vec::new(self.alloc));
         }
         if self.next > NUMBERS || paths.len() as u64 > NUMBERS - self.next {
-            return Err(StoreFault::Full);
+            return Err(StoreFault::Refused(ArchiveRefusal::Full));
         }
         let first = self.next as u32;
         let lines = self.new_lines(first, day, paths)?;

@@ -1,13 +1,17 @@
 //! Holds: what keeps a record from destruction.
 
 ghost use Rattle.std.specs.Prelude.{◌≡◌, true, IfErr, OnOk, OnErr};
-ghost use Rattle.record_store.specs.Archive as archive;
-ghost use Rattle.record_store.specs.Archive.{Archive};
-ghost use Rattle.record_store.specs.Stores.{StandsFor, ObeysRows, Leaves, LeavesAll, LeavesMade, Falls, Quietly, is_trouble, CarriesOut, TellsOutcome, IsOpenOnOk};
+ghost use Rattle.record_archive.specs.Archive as archive;
+ghost use Rattle.record_archive.specs.Archive.{Archive};
+ghost use Rattle.record_archive.specs.Faults.{is_trouble};
+ghost use Rattle.record_archive.specs.Calls.{Quietly};
+ghost use Rattle.record_store.specs.Stores.{StandsFor, ObeysRows, Leaves, LeavesAll, LeavesMade, Falls, ChangesByCommand, TellsOutcome, IsOpenOnOk};
 
-use crate::fault::StoreFault;
+use crate::changes::{Holding, Release};
+use crate::fault::{BUSY, StoreFault, fault_of};
 use crate::store::Store;
-use crate::transactions::{end_hold, put_hold};
+use record_archive::ArchiveRefusal;
+use record_tables::transact::transact;
 use sqlite::Alter;
 
 impl<S: Alter> Store<S> {
@@ -21,17 +25,17 @@ impl<S: Alter> Store<S> {
     {
         let record = self.record_at(number)?;
         if record.destroyed {
-            return Err(StoreFault::Destroyed);
+            return Err(StoreFault::Refused(ArchiveRefusal::Destroyed));
         }
         if self.has_hold(name, number)? {
-            return Err(StoreFault::HoldThere);
+            return Err(StoreFault::Refused(ArchiveRefusal::HoldThere));
         }
         Ok(())
     }
 
     fn place_hold(&mut self, name: &[u8], number: u32) -> Result<(), StoreFault>
         ensures ok { OnOk result
-            (CarriesOut S.Store self.old self.new (λ a. archive.hold a name.now number)
+            (ChangesByCommand S.Store self.old self.new (λ a. archive.hold a name.now number)
             (λ a. archive.with_hold a name.now number)) }
         ensures err { OnErr result
             ((a : Archive) → StandsFor S.Store self.old a → StandsFor S.Store self.new a) }
@@ -41,16 +45,16 @@ impl<S: Alter> Store<S> {
             (λ a. archive.with_hold a name.now number) }
     {
         if !self.conn.is_autocommit() {
-            return Err(StoreFault::BUSY);
+            return Err(BUSY);
         }
         let Ok(()) = self.held.add(number, 1) else {
             return Err(StoreFault::NoMemory);
         };
-        match put_hold(&mut self.conn, name, number) {
+        match transact(&mut self.conn, Holding { name, number }) {
             Ok(()) => Ok(()),
             Err(error) => {
                 self.held.take(number, 1);
-                Err(StoreFault::from(error))
+                Err(fault_of(error))
             }
         }
     }
@@ -82,13 +86,13 @@ impl<S: Alter> Store<S> {
         if self.has_hold(name, number)? {
             Ok(())
         } else {
-            Err(StoreFault::NoHold)
+            Err(StoreFault::Refused(ArchiveRefusal::NoHold))
         }
     }
 
     fn end_hold(&mut self, name: &[u8], number: u32) -> Result<(), StoreFault>
         ensures ok { OnOk result
-            (CarriesOut S.Store self.old self.new (λ a. archive.release a name.now number)
+            (ChangesByCommand S.Store self.old self.new (λ a. archive.release a name.now number)
             (λ a. archive.without_hold a name.now number)) }
         ensures err { OnErr result
             ((a : Archive) → StandsFor S.Store self.old a → StandsFor S.Store self.new a) }
@@ -98,14 +102,14 @@ impl<S: Alter> Store<S> {
             (λ a. archive.release a name.now number) (λ a. archive.without_hold a name.now number) }
     {
         if !self.conn.is_autocommit() {
-            return Err(StoreFault::BUSY);
+            return Err(BUSY);
         }
-        match end_hold(&mut self.conn, name, number) {
+        match transact(&mut self.conn, Release { name, number }) {
             Ok(()) => {
                 self.held.take(number, 1);
                 Ok(())
             }
-            Err(error) => Err(StoreFault::from(error)),
+            Err(error) => Err(fault_of(error)),
         }
     }
 

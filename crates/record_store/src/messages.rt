@@ -3,13 +3,14 @@
 ghost use Rattle.std.specs.Prelude.{◌≡◌, option_map, Ok, Err, Some, None, IsTrue, OnOk};
 ghost use Rattle.sqlite.specs.State.{HasCleanDisk};
 ghost use Rattle.sqlite.specs.Held.{state};
-ghost use Rattle.record_store.specs.Archive as archive;
-ghost use Rattle.record_store.specs.Archive.{Archive};
+ghost use Rattle.record_archive.specs.Archive as archive;
+ghost use Rattle.record_archive.specs.Archive.{Archive};
 ghost use Rattle.record_store.specs.Stores.{StandsFor, Tells, LeavesAll, Falls};
 
-use crate::fault::StoreFault;
+use crate::fault::{LOST, StoreFault, fault_of};
 use crate::store::Store;
-use record_tables::lookup::message_body;
+use record_archive::ArchiveRefusal;
+use record_reads::lookup::message_body;
 use sqlite::Alter;
 
 impl<S: Alter> Store<S> {
@@ -21,7 +22,7 @@ impl<S: Alter> Store<S> {
     {
         match message_body(&mut self.conn, message) {
             Ok(body) => Ok(body),
-            Err(error) => Err(StoreFault::from(error)),
+            Err(error) => Err(fault_of(error)),
         }
     }
 
@@ -36,11 +37,11 @@ impl<S: Alter> Store<S> {
     {
         let record = self.record_at(number)?;
         if record.destroyed {
-            return Err(StoreFault::Destroyed);
+            return Err(StoreFault::Refused(ArchiveRefusal::Destroyed));
         }
         match self.body_of(record.message)? {
             Some(body) => Ok(body),
-            None => Err(StoreFault::LOST),
+            None => Err(LOST),
         }
     }
 }

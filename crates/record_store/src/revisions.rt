@@ -4,18 +4,22 @@ ghost use Rattle.std.specs.Prelude.{◌≡◌, true, false, map, IfOk, IfErr, On
 ghost use Rattle.class_plan.specs.Plans.{keeps};
 ghost use Rattle.record_tables.specs.Changes.{AreAscending};
 ghost use Rattle.record_tables.specs.CodeRows.{record_of, due_of};
-ghost use Rattle.record_store.specs.Archive as archive;
-ghost use Rattle.record_store.specs.Archive.{Archive};
-ghost use Rattle.record_store.specs.Revisions.{IsRevision, with_plan, dues_in, RefusesDrop};
-ghost use Rattle.record_store.specs.Stores.{StandsFor, ObeysRows, Tells, Leaves, LeavesAll, LeavesAllowed, Falls, Quietly, is_trouble, ChangesWhere, IsOpenOnOk};
+ghost use Rattle.record_archive.specs.Archive as archive;
+ghost use Rattle.record_archive.specs.Archive.{Archive};
+ghost use Rattle.record_adoption.specs.Keeping.{dues_in};
+ghost use Rattle.record_store.specs.Revisions.{IsRevision, with_plan, RefusesDrop};
+ghost use Rattle.record_archive.specs.Faults.{WhereRefused, is_trouble};
+ghost use Rattle.record_archive.specs.Calls.{Quietly};
+ghost use Rattle.record_store.specs.Stores.{StandsFor, ObeysRows, Tells, Leaves, LeavesAll, LeavesAllowed, Falls, ChangesWhere, IsOpenOnOk};
 
-use crate::fault::StoreFault;
-use crate::plan_days::due_rows_by;
+use crate::fault::{BUSY, LOST, StoreFault, fault_of};
 use crate::store::Store;
 use class_plan::{Plan, PlanFault};
+use record_adoption::due_rows_by;
+use record_archive::ArchiveRefusal;
+use record_reads::read::records;
 use record_rows::{classes_of, rules_of};
 use record_tables::fault::Fault;
-use record_tables::read::records;
 use record_tables::renew::replace_plan;
 use record_tables::rows::{DueRow, RecordRow};
 use sqlite::Alter;
@@ -26,8 +30,8 @@ fn read_fault(fault: Fault) -> StoreFault
 {
     match fault {
         Fault::NoMemory => StoreFault::NoMemory,
-        Fault::Sqlite(error) => StoreFault::Sqlite(error),
-        Fault::NoArchive => StoreFault::LOST,
+        Fault::Sqlite(error) => StoreFault::Database(error),
+        Fault::NoArchive => LOST,
     }
 }
 
@@ -36,12 +40,12 @@ impl<S: Alter> Store<S> {
     fn judge_revision(&self, plan: Plan) -> Result<Plan, StoreFault>
         ensures { MatchResult result
             (λ p. (keeps self.now.plan plan ≡ true) × (p ≡ plan))
-            (λ f. is_trouble f ≡ false → RefusesDrop self.now.plan plan f) }
+            (WhereRefused (RefusesDrop self.now.plan plan)) }
     {
         let mut kept = self.plan.copy()?;
         match kept.revise(plan) {
             Ok(()) => Ok(kept),
-            Err(_) => Err(StoreFault::Plan(PlanFault::PathDropped)),
+            Err(_) => Err(StoreFault::Refused(ArchiveRefusal::Plan(PlanFault::PathDropped))),
         }
     }
 
@@ -69,7 +73,7 @@ impl<S: Alter> Store<S> {
     {
         match due_rows_by(self.alloc, plan, rows) {
             Ok(dues) => Ok(dues),
-            Err(error) => Err(StoreFault::from(error)),
+            Err(error) => Err(fault_of(error)),
         }
     }
 
@@ -86,7 +90,7 @@ impl<S: Alter> Store<S> {
             (λ a. IsRevision a plan (map due_of dues.now)) (λ a. with_plan a plan) }
     {
         if !self.conn.is_autocommit() {
-            return Err(StoreFault::BUSY);
+            return Err(BUSY);
         }
         let rules = rules_of(self.alloc, &plan)?;
         let classes = classes_of(self.alloc, &plan)?;
@@ -95,7 +99,7 @@ impl<S: Alter> Store<S> {
                 self.plan = plan;
                 Ok(())
             }
-            Err(error) => Err(StoreFault::from(error)),
+            Err(error) => Err(fault_of(error)),
         }
     }
 

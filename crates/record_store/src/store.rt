@@ -5,29 +5,23 @@ ghost use Rattle.sqlite.specs.State.{HasCleanDisk};
 ghost use Rattle.sqlite.specs.Held.{state};
 ghost use Rattle.record_tables.specs.Tables.{no_schema};
 ghost use Rattle.record_tables.specs.CodeRows.{record_of};
-ghost use Rattle.record_store.specs.Archive as archive;
-ghost use Rattle.record_store.specs.Archive.{Archive, empty_archive};
-ghost use Rattle.record_store.specs.Adoption.{FindsNothing, LeavesArchive};
-ghost use Rattle.record_store.specs.Stores.{StandsFor, is_trouble, Tells, LeavesAll, Falls, IsOpenOnOk, LacksRecord};
+ghost use Rattle.record_archive.specs.Archive as archive;
+ghost use Rattle.record_archive.specs.Archive.{Archive, empty_archive};
+ghost use Rattle.record_adoption.specs.Adoption.{FindsNothing, LeavesArchive};
+ghost use Rattle.record_archive.specs.Faults.{is_trouble};
+ghost use Rattle.record_store.specs.Stores.{StandsFor, Tells, LeavesAll, Falls, IsOpenOnOk, LacksRecord};
 ghost use Rattle.record_tables.specs.Steps.{IsUntouched};
 
-use crate::counts::Counts;
-use crate::fault::StoreFault;
-use class_plan::{Date, Plan};
+use crate::fault::{StoreFault, fault_of};
+use class_plan::Plan;
+use record_adoption::Counts;
+use record_archive::ArchiveRefusal;
+use record_reads::lookup::{has_hold, record_by_number};
 use record_rows::{classes_of, rules_of};
 use record_tables::lay::lay;
-use record_tables::lookup::{has_hold, record_by_number};
 use record_tables::rows::RecordRow;
 use sqlite::{Alter, Connection};
 use std::alloc::Global;
-
-/// A record as it is answered: its number, the path of its class, and the date on which it falls due, or `None`.
-#[derive(Drop)]
-pub struct Line {
-    pub number: u32,
-    pub path: Vec<u8>,
-    pub due: Option<Date>,
-}
 
 /// An archive in a database, with the plan and counts that are kept beside the connection.
 #[derive(Drop)]
@@ -78,7 +72,7 @@ impl<S: Alter> Store<S> {
                 held,
                 others,
             }),
-            Err(error) => Err((StoreFault::from(error), conn)),
+            Err(error) => Err((fault_of(error), conn)),
         }
     }
 
@@ -92,8 +86,8 @@ impl<S: Alter> Store<S> {
     {
         match record_by_number(&mut self.conn, number) {
             Ok(Some(record)) => Ok(record),
-            Ok(None) => Err(StoreFault::NoRecord),
-            Err(error) => Err(StoreFault::from(error)),
+            Ok(None) => Err(StoreFault::Refused(ArchiveRefusal::NoRecord)),
+            Err(error) => Err(fault_of(error)),
         }
     }
 
@@ -107,7 +101,7 @@ impl<S: Alter> Store<S> {
     {
         match has_hold(&mut self.conn, name, number) {
             Ok(is_there) => Ok(is_there),
-            Err(error) => Err(StoreFault::from(error)),
+            Err(error) => Err(fault_of(error)),
         }
     }
 

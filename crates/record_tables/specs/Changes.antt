@@ -8,7 +8,8 @@ use Rattle.sqlite_keyed.specs.Lists.{delete_where, update_where}
 use Rattle.sqlite.specs.State.{State}
 use Rattle.sqlite.specs.Effect.{Database}
 use Rattle.sqlite_trees.specs.Tree.{IsAscending}
-use Rattle.record_tables.specs.Rows.{Tables, Message, Record, Hold, Setting, Class, Schedule, Due, Stores, StoresKeyed, AreKeyed, hold_key, setting_key, class_key, schedule_key}
+use Rattle.record_archive.specs.Archive.{Message, Record}
+use Rattle.record_tables.specs.Rows.{Tables, Hold, Setting, Class, Schedule, Due, Stores, StoresKeyed, AreKeyed, hold_key, setting_key, class_key, schedule_key}
 
 -- a statement in a transaction, which continues
 pub record Puts (old new : State) (Allows : Tables → Type 0) (change : Tables → Tables) : Type 0 where

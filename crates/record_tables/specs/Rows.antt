@@ -5,18 +5,8 @@ use Rattle.sqlite.specs.Order.{Row}
 use Rattle.sqlite_typed.specs.Columns.{or_null}
 use Rattle.sqlite_keyed.specs.Keyed.{IsKeyedBy}
 use Rattle.sqlite.specs.Effect.{Database}
+use Rattle.record_archive.specs.Archive.{Message, Record}
 use Rattle.record_tables.specs.Tables.{IsArchiveSchema, HasCommonTables, first_schema, first_schema_with_dues}
-
-pub record Message : Type 0 where
-  pub number : ℕ
-  pub body : List ℕ
-
-pub record Record : Type 0 where
-  pub number : ℕ
-  pub message : ℕ
-  pub path : List ℕ
-  pub day : ℕ
-  pub destroyed : Bool
 
 pub record Hold : Type 0 where
   pub id : ℤ

@@ -2,7 +2,7 @@
 //! ours, and others, which are refused with 88.
 
 use class_plan::{Plan, date_of, day_number, day_of};
-use record_store::{Line, Store, StoreFault, are_classes};
+use record_store::{ArchiveRefusal, Line, Store, StoreFault, are_classes};
 use sqlite::{Connection, Error, MemStore};
 use std::alloc::Global;
 use std::process::Abort;
@@ -116,7 +116,7 @@ fn is_refused(alloc: Global, conn: Database) -> Result<bool, Fail> {
         return Err(Fail::from("a transaction goes on"));
     }
     match Store::adopt(alloc, conn) {
-        Err((StoreFault::NoArchive, mut back)) => {
+        Err((StoreFault::Refused(ArchiveRefusal::NoArchive), mut back)) => {
             back.execute_batch("CREATE TABLE later (x)")?;
             Ok(true)
         }
@@ -186,12 +186,37 @@ fn is_moved(rt: &impl Abort, alloc: Global, conn: Database) -> Result<(), Fail> 
     let mut store = adopted(alloc, conn)?;
     assert_eq!(rt; due(alloc, &mut store, 20_040)?.as_str(), "");
     assert_eq!(rt; due(alloc, &mut store, 20_041)?.as_str(), "2 due 20041; ");
-    assert!(rt; matches!(&store.message(1), Err(StoreFault::Destroyed)));
+    assert!(rt;
+        matches!(
+            &store.message(1),
+            Err(StoreFault::Refused(ArchiveRefusal::Destroyed))
+        )
+    );
     assert!(rt; matches!(&store.message(3), Ok(body) if body.as_slice() == b"ab".as_slice()));
-    assert!(rt; matches!(&store.hold(b"case", 3), Err(StoreFault::HoldThere)));
-    assert!(rt; matches!(&store.release(b"case", 2), Err(StoreFault::NoHold)));
-    assert!(rt; matches!(&destroyed(&mut store, 3, 20_041)?, Err(StoreFault::Held)));
-    assert!(rt; matches!(&destroyed(&mut store, 2, 20_040)?, Err(StoreFault::NotDue)));
+    assert!(rt;
+        matches!(
+            &store.hold(b"case", 3),
+            Err(StoreFault::Refused(ArchiveRefusal::HoldThere))
+        )
+    );
+    assert!(rt;
+        matches!(
+            &store.release(b"case", 2),
+            Err(StoreFault::Refused(ArchiveRefusal::NoHold))
+        )
+    );
+    assert!(rt;
+        matches!(
+            &destroyed(&mut store, 3, 20_041)?,
+            Err(StoreFault::Refused(ArchiveRefusal::Held))
+        )
+    );
+    assert!(rt;
+        matches!(
+            &destroyed(&mut store, 2, 20_040)?,
+            Err(StoreFault::Refused(ArchiveRefusal::NotDue))
+        )
+    );
     let mut again = adopted(alloc, store.into_connection())?;
     let lines = captured(alloc, &mut again, b"next", true)?;
     assert_eq!(rt; shown(alloc, lines)?.as_str(), "4 due 20041; 5 never; ");
@@ -250,11 +275,11 @@ fn last_number(rt: HostRuntime) -> Result<(), Fail> {
     let alloc = rt.alloc();
     let mut store = adopted(alloc, around(alloc, "", LAST_ROWS)?)?;
     let two = captured(alloc, &mut store, b"two", true)?;
-    assert!(rt; matches!(&two, Err(StoreFault::Full)));
+    assert!(rt; matches!(&two, Err(StoreFault::Refused(ArchiveRefusal::Full))));
     let one = captured(alloc, &mut store, b"one", false)?;
     assert_eq!(rt; shown(alloc, one)?.as_str(), "4294967295 never; ");
     let more = captured(alloc, &mut store, b"more", false)?;
-    assert!(rt; matches!(&more, Err(StoreFault::Full)));
+    assert!(rt; matches!(&more, Err(StoreFault::Refused(ArchiveRefusal::Full))));
     Ok(())
 }
 

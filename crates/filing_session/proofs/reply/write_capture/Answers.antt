@@ -1,6 +1,6 @@
 use Rattle.std.proofs.Common.{◌++◌, subst}
 use Rattle.std.specs.Prelude.{map}
-use Rattle.record_store.specs.Stores.{line_view}
+use Rattle.record_archive.specs.Lines.{line_view}
 use Rattle.filing_session.specs.Replies.{faults_octets, records_octets}
 use Rattle.filing_session.specs.Written.{Writes}
 use Rattle.filing_session.proofs.Pieces.{extends, writes_after, as_fault}

@@ -1,6 +1,6 @@
 use Rattle.std.proofs.Common.{◌++◌, List, ℕ, subst}
 use Rattle.std.specs.Prelude.{codes, flat_map, map}
-use Rattle.record_store.specs.Stores.{line_view}
+use Rattle.record_archive.specs.Lines.{line_view}
 use Rattle.filing_session.specs.Replies.{line_octets, list_octets}
 use Rattle.filing_session.specs.Streams.{IsAfter}
 use Rattle.filing_session.specs.Written.{Writes}

@@ -1,6 +1,6 @@
 use Rattle.std.proofs.Common.{map}
 use Rattle.record_tables.specs.CodeRows.{due_of}
-use Rattle.record_store.specs.Stores.{line_view}
+use Rattle.record_archive.specs.Lines.{line_view}
 use Rattle.record_store.proofs.CaptureLemmas.{dues_next}
 use Rattle.record_store.proofs.captures.due_rows.Goals as goal
 

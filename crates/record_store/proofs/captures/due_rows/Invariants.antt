@@ -1,7 +1,7 @@
 use Rattle.std.proofs.Common.{◌≡◌, map, take}
 use Rattle.record_tables.specs.CodeRows.{due_of}
 use Rattle.record_store.specs.Captures.{dues_of_lines}
-use Rattle.record_store.specs.Stores.{line_view}
+use Rattle.record_archive.specs.Lines.{line_view}
 use Rattle.record_store.proofs.captures.due_rows.Given as goal
 
 abbrev pub invariant-loop-line : goal.invariant-loop-line

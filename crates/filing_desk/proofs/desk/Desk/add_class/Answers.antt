@@ -1,15 +1,15 @@
 use Rattle.std.proofs.Common.{refl}
 use Rattle.filing_commands.specs.Office.{add_class}
-use Rattle.record_store.specs.Archive as archives
+use Rattle.record_archive.specs.Archive as archives
 use Rattle.filing_desk.proofs.ClassLemmas.{added_keeps}
-use Rattle.filing_desk.proofs.StepLemmas.{done_by, done_fault, refused_by_store}
+use Rattle.filing_desk.proofs.StepLemmas.{done_by, done_fault, refused_by_archive}
 use Rattle.filing_desk.proofs.desk.Desk.add_class.Goals as goal
 
 pub returns-in_err-add_class : goal.returns-in_err-add_class
 returns-in_err-add_class g c =
     let result = c.from_residual.ensures in
-    refused_by_store g.S.Store c.args.self.now _ (add_class c.args.path.now) (λ a. archives.add_class a c.args.path.now) c.in_err-add_class.field-0.0 _ (record { settles = λ s new h. h; refuses = λ s n h. h; gives_up = λ s n h. h; keeps = λ a b made q. added_keeps a b c.args.path.now q made }) (record { officers = refl; flights = refl; last = refl }) refl c.add_class.ensures.falls (λ clean x stands. c.in_err-add_class.ensures.obeys x stands) (done_fault _ _ result.0 result.1)
+    refused_by_archive g.A.Records.clean g.A.Records.stands c.args.self.now _ (add_class c.args.path.now) (λ a. archives.add_class a c.args.path.now) c.in_err-add_class.field-0.0 _ (record { settles = λ s new h. h; refuses = λ s n h. h; gives_up = λ s n h. h; keeps = λ a b made q. added_keeps a b c.args.path.now q made }) (record { officers = refl; flights = refl; last = refl }) refl c.in_err-add_class.ensures (done_fault _ _ result.0 result.1)
 
 pub returns : goal.returns
 returns g c =
-    done_by g.S.Store c.args.self.now _ (add_class c.args.path.now) (λ a. archives.add_class a c.args.path.now) (record { settles = λ s new h. h; refuses = λ s n h. h; gives_up = λ s n h. h; keeps = λ a b made q. added_keeps a b c.args.path.now q made }) (record { officers = refl; flights = refl; last = refl }) (λ a b made there. tt) c.add_class.ensures.falls (λ clean x stands. (c.in_ok-add_class.ensures.obeys x stands).0)
+    done_by g.A.Records.clean g.A.Records.stands c.args.self.now _ (add_class c.args.path.now) (λ a. archives.add_class a c.args.path.now) (record { settles = λ s new h. h; refuses = λ s n h. h; gives_up = λ s n h. h; keeps = λ a b made q. added_keeps a b c.args.path.now q made }) (record { officers = refl; flights = refl; last = refl }) (λ a b made there. tt) c.in_ok-add_class.ensures

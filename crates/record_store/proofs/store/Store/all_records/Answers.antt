@@ -1,5 +1,6 @@
-use Rattle.std.proofs.Common.{◌∙◌, refl, sym, true≢false}
-use Rattle.record_store.specs.Archive.{Archive}
+use Rattle.std.proofs.Common.{◌∙◌, refl, sym, ap, true≢false}
+use Rattle.record_archive.specs.Archive.{Archive}
+use Rattle.record_archive.specs.Faults.{is_trouble}
 use Rattle.record_store.proofs.CommandLemmas.{stands_looked, leaves_looked}
 use Rattle.record_store.proofs.ReviseLemmas.{looks_common, common_of, common_schema}
 use Rattle.record_store.proofs.store.Store.all_records.Goals as goal
@@ -29,7 +30,7 @@ pub returns-in-Err-clause-tells : goal.returns-in-Err-clause-tells
 returns-in-Err-clause-tells g c = λ (a : Archive) s.
     let made = c.records.ensures in
     let looks = looks_common g.S.Store c.args.self.now.conn c.records.new.conn made.idle made.falls made.still made.survives in
-    (stands_looked g.S.Store c.args.self.now _ a s looks refl refl (λ n. refl) (λ m. refl), λ real clean. absurd (true≢false (sym c.read_fault.ensures ∙ real)))
+    (stands_looked g.S.Store c.args.self.now _ a s looks refl refl (λ n. refl) (λ m. refl), λ clean r is. absurd (true≢false (sym c.read_fault.ensures ∙ ap is_trouble is)))
 
 pub returns-in-Err-clause-crash : goal.returns-in-Err-clause-crash
 returns-in-Err-clause-crash g c = λ (a : Archive) s.

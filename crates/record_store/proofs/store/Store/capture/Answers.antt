@@ -1,9 +1,10 @@
 use Rattle.std.proofs.Common.{arith, subst, ◌∙◌, ◌≤◌, ◌+◌, ◌^◌, length, map, Ok}
 use Rattle.std.proofs.lemmas.List.{length-map}
 use Rattle.class_plan.specs.Calendar.{number_of_day}
-use Rattle.record_store.specs.Archive.{Archive, after_capture, next_number}
+use Rattle.record_archive.specs.Archive.{Archive, after_capture, next_number}
 use Rattle.record_store.specs.Captures.{lines_of}
-use Rattle.record_store.specs.Stores.{StandsFor, LeavesMade, line_view}
+use Rattle.record_archive.specs.Lines.{line_view}
+use Rattle.record_store.specs.Stores.{StandsFor, LeavesMade}
 use Rattle.record_store.proofs.CaptureStands.{obeys_captured, leaves_command}
 use Rattle.record_store.proofs.store.Store.capture.Goals as goal
 

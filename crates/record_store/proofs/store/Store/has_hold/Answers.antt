@@ -1,5 +1,5 @@
 use Rattle.std.proofs.Common.{refl, ◌∙◌}
-use Rattle.record_store.specs.Archive.{Archive}
+use Rattle.record_archive.specs.Archive.{Archive}
 use Rattle.record_store.proofs.CommandLemmas.{stands_looked}
 use Rattle.record_store.proofs.HoldLemmas.{hold_told}
 use Rattle.record_store.proofs.store.Store.has_hold.Goals as goal

@@ -1,6 +1,7 @@
-use Rattle.std.proofs.Common.{◌≡◌, ◌==◌, arith, subst, Some, None}
+use Rattle.std.proofs.Common.{◌≡◌, ◌==◌, arith, subst, Some, None, Err}
 use Rattle.record_tables.specs.CodeRows.{record_of}
-use Rattle.record_store.specs.Archive.{Archive}
+use Rattle.record_archive.specs.Archive.{Archive, destroy_by, record_at}
+use Rattle.record_archive.specs.declared.fault.ArchiveRefusal.TheVariants.{Held}
 use Rattle.record_store.specs.Destruction.{against_destruction}
 use Rattle.record_store.proofs.DueLemmas.{held_if, free_if}
 use Rattle.record_store.proofs.DestroyLemmas.{refused_held, refused_by_plan, may_go}
@@ -10,9 +11,11 @@ pub returns-then-count-gt0-clause-tells : goal.returns-then-count-gt0-clause-tel
 returns-then-count-gt0-clause-tells g c = λ (a : Archive) s.
     let t = c.in_ok-record.ensures.tells a s in (
       t.0,
-      λ _ clean.
-          refused_held a c.args.number c.args.day (record_of c.in_ok-record.record) (t.1 clean) c.if-record.false
-          (held_if (λ h. h.number == c.args.number) a.holds (omega (arith, c.count.ensures, t.0.held c.args.number, c.if-count-gt0.true))),
+      λ clean q is.
+          let same : Held ≡ q = cc in
+          subst (λ k. destroy_by a c.args.number c.args.day (record_at a c.args.number) ≡ Err k) same
+          (refused_held a c.args.number c.args.day (record_of c.in_ok-record.record) (t.1 clean) c.if-record.false
+          (held_if (λ h. h.number == c.args.number) a.holds (omega (arith, c.count.ensures, t.0.held c.args.number, c.if-count-gt0.true)))),
     )
 
 pub returns-in-Err-clause-tells : goal.returns-in-Err-clause-tells
@@ -22,8 +25,8 @@ returns-in-Err-clause-tells g c = λ (a : Archive) s.
     let r = record_of c.in_ok-record.record in
     let free = free_if (λ h. h.number == n) a.holds (omega (arith, c.count.ensures, t.0.held n, c.if-count-gt0.false)) in (
       t.0,
-      λ real clean.
-          refused_by_plan a n c.args.day r c.in-Err.fault (t.1 clean) c.if-record.false free (subst (λ p. against_destruction p c.args.day r ≡ Some c.in-Err.fault) t.0.plan (c.in-Err.ensures.err real)),
+      λ clean q is.
+          refused_by_plan a n c.args.day r q (t.1 clean) c.if-record.false free (subst (λ p. against_destruction p c.args.day r ≡ Some q) t.0.plan (c.in-Err.ensures.err q is)),
     )
 
 pub returns-in-Ok-clause-tells : goal.returns-in-Ok-clause-tells

@@ -1,4 +1,4 @@
-use Rattle.record_store.specs.Archive.{Archive}
+use Rattle.record_archive.specs.Archive.{Archive}
 use Rattle.record_store.proofs.CommandLemmas.{leaves_then}
 use Rattle.record_store.proofs.store.Store.judge_release.Goals as goal
 

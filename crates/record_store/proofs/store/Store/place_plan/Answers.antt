@@ -6,7 +6,7 @@ use Rattle.record_tables.specs.Changes.{Always}
 use Rattle.record_tables.specs.Changes as tables
 use Rattle.record_tables.specs.CodeRows.{due_of, class_entry_of, rule_of}
 use Rattle.record_rows.specs.Rules as rows
-use Rattle.record_store.specs.Archive.{Archive}
+use Rattle.record_archive.specs.Archive.{Archive}
 use Rattle.record_store.specs.Revisions.{IsRevision, with_plan}
 use Rattle.record_store.proofs.CommandLemmas.{stands_turned, leaves_turned}
 use Rattle.record_store.proofs.ReviseLemmas.{revised_is_archive, stores_revised}

@@ -1,4 +1,4 @@
-use Rattle.record_store.specs.Archive as archive
+use Rattle.record_archive.specs.Archive as archive
 use Rattle.record_store.proofs.CommandLemmas.{leaves_done}
 use Rattle.record_store.proofs.store.Store.release.Goals as goal
 

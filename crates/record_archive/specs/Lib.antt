@@ -1,0 +1,5 @@
+pub mod Lists
+pub mod Archive
+pub mod Lines
+pub mod Faults
+pub mod Calls

@@ -1,0 +1,40 @@
+-- Rows that are looked up by their keys, and the connection after a look.
+use Rattle.std.specs.Prelude.{◌≡◌, ◌==◌, ℕ, ℤ, pos, Bool, false, not, List, Option, option_map, find, IsTrue}
+use Rattle.std.specs.Ordering.{int_eq}
+use Rattle.std.specs.List.{list_any}
+use Rattle.sqlite.specs.declared.types.Value.TheVariants.{Int, Text as Words}
+use Rattle.sqlite.specs.Order.{Row, column}
+use Rattle.sqlite.specs.Store.{Ghosts}
+use Rattle.sqlite.specs.State.{HasCleanDisk, Survives}
+use Rattle.sqlite.specs.Held.{Held, state}
+use Rattle.record_tables.specs.Tables.{IsArchiveSchema}
+use Rattle.record_archive.specs.Archive.{Message, Record}
+use Rattle.record_tables.specs.Rows.{Tables}
+use Rattle.record_tables.specs.Changes.{is_hold}
+
+abbrev pub record_with : ℕ → Tables → Option Record
+record_with n t = find (λ (r : Record). r.number == n) t.records
+
+abbrev pub body_with : ℕ → Tables → Option (List ℕ)
+body_with n t = option_map (λ (m : Message). m.body) (find (λ (m : Message). m.number == n) t.messages)
+
+abbrev pub has_hold_of : List ℕ → ℕ → Tables → Bool
+has_hold_of name n t = list_any (is_hold name n) t.holds
+
+-- A look at the tables outside a transaction changes nothing and opens no transaction. A disk that is clean after it
+-- was clean before. In an archive's tables, a crash leaves what it might have left before the look.
+pub record Looks {S : Type 0} (g : Ghosts S) (old new : Held S) : Type 0 where
+  pub idle : old.in_transaction ≡ false → new.in_transaction ≡ false
+  pub falls : HasCleanDisk (state g new) → HasCleanDisk (state g old)
+  pub still : old.in_transaction ≡ false → (IsTrue (state g old).is_open → IsArchiveSchema (state g old).now.schema)
+      → HasCleanDisk (state g new) → IsTrue (state g new).is_open → IsTrue (state g old).is_open ×
+      ((state g new).now ≡ (state g old).now)
+  pub survives : Survives (state g old) (state g new) (λ _. IsArchiveSchema (state g old).now.schema → ⊥)
+
+-- the columns of the row are read as the record's
+pub record TellsRecord (row : Row) (r : Record) : Type 0 where
+  pub number : column row 0 ≡ Int (pos r.number)
+  pub message : column row 1 ≡ Int (pos r.message)
+  pub path : column row 2 ≡ Words r.path
+  pub day : column row 3 ≡ Int (pos r.day)
+  pub destroyed : (n : ℤ) × (column row 4 ≡ Int n) × (r.destroyed ≡ not (int_eq n (pos 0)))
