@@ -1,7 +1,6 @@
 //! The calls that reach the archive: classes, plans, holds, due lists and destruction.
 
 ghost use Rattle.std.specs.Prelude.{◌≡◌, ℕ, ◌≤◌, ◌^◌, pos, MatchResult};
-ghost use Rattle.jiff.specs.Words.{epoch_day, IsBetween};
 ghost use Rattle.record_archive.specs.declared.fault.ArchiveRefusal.TheVariants.{NoRecord};
 ghost use Rattle.filing_commands.specs.Limits.{greatest_plan, last_day};
 ghost use Rattle.filing_commands.specs.Office as office;
@@ -9,13 +8,9 @@ ghost use Rattle.filing_commands.specs.Standing as commands;
 ghost use Rattle.filing_commands.specs.CallAnswers.{answer_of_done, answer_of_lines};
 
 use crate::desk::Desk;
-use class_plan::{Date, Plan, day_number};
+use class_plan::{Date, Plan};
 use filing_commands::{DeskFault, MAX_PLAN_OCTETS, Payload};
-use jiff::civil::date;
 use record_archive::{ArchiveRefusal, Line, Records};
-
-/// The day number of 9999-12-31.
-const LAST_DAY: i64 = 2_932_896;
 
 /// A record's number in 32 bits; no record has a greater one (80).
 fn record_number(number: u64) -> Result<u32, ArchiveRefusal>
@@ -24,19 +19,6 @@ fn record_number(number: u64) -> Result<u32, ArchiveRefusal>
     match u32::try_from(number) {
         Ok(number) => Ok(number),
         Err(_) => Err(ArchiveRefusal::NoRecord),
-    }
-}
-
-/// A day of the years 1970 to 9999; for an earlier one 1970-01-01, by which no record is due either.
-fn day_from_1970(day: Date) -> Date
-    ensures within { IsBetween (pos 0) (pos 2932896) (epoch_day result) }
-    ensures same { (n : ℕ) → epoch_day day ≡ pos n → n ≤ last_day → epoch_day result ≡ pos n }
-{
-    let number = day_number(day);
-    if number < 0 || number > LAST_DAY {
-        date(1970, 1, 1)
-    } else {
-        day
     }
 }
 
@@ -96,7 +78,7 @@ impl<A: Records> Desk<A> {
         ensures { CallsOn (IsClean A.clean) (StandsFor A.stands) self.old day
             (λ n. commands.plain (office.due n)) (answer_of_lines result) self.new }
     {
-        let lines = self.store.due(day_from_1970(day))?;
+        let lines = self.store.due(day)?;
         Ok(lines)
     }
 
@@ -108,7 +90,7 @@ impl<A: Records> Desk<A> {
             (answer_of_done result) self.new }
     {
         let number = record_number(number)?;
-        self.store.destroy(number, day_from_1970(day))?;
+        self.store.destroy(number, day)?;
         Ok(())
     }
 }

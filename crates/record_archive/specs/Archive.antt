@@ -87,6 +87,16 @@ abbrev pub is_by : ℕ → Option ℕ → Bool
 is_by day None = false
 is_by day (Some d) = nat_le d day
 
+-- there are both days, and the second is not later than the first
+abbrev pub is_by_any : Option ℕ → Option ℕ → Bool
+is_by_any None due = false
+is_by_any (Some day) due = is_by day due
+
+-- a day by its number, which is none before 1970
+abbrev pub from_1970 : ℤ → Option ℕ
+from_1970 (pos n) = Some n
+from_1970 (negsuc n) = None
+
 -- the schedule's action is to destroy
 abbrev pub destroys : Option Schedule → Bool
 destroys (Some (After n u Destroy y)) = true
@@ -181,18 +191,26 @@ messages_without a r = if is_shared a r then a.messages
 abbrev pub without : Archive → Record → Archive
 without a r = record a { messages = messages_without a r; records = map (λ x. if has_number r.number x then destruction_of x else x) a.records }
 
-abbrev pub destroy_one : Archive → ℕ → ℕ → Option Record → Result Archive ArchiveRefusal
-destroy_one a n day None = Err refusal.NoRecord
-destroy_one a n day (Some r) =
+-- by no day no record is due
+abbrev pub destroy_by : Archive → ℕ → Option ℕ → Option Record → Result Archive ArchiveRefusal
+destroy_by a n day None = Err refusal.NoRecord
+destroy_by a n day (Some r) =
     if r.destroyed then Err refusal.Destroyed
     else if is_held a n then Err refusal.Held
     else if not (destroys (schedule_at a.plan r.path)) then Err refusal.NotForDestruction
-    else if not (is_by day (due_of a r)) then Err refusal.NotDue
+    else if not (is_by_any day (due_of a r)) then Err refusal.NotDue
     else Ok (without a r)
+
+abbrev pub destroy_one : Archive → ℕ → ℕ → Option Record → Result Archive ArchiveRefusal
+destroy_one a n day = destroy_by a n (Some day)
 
 -- the destruction of a live record that no hold keeps, whose schedule destroys it and that is due by the day
 abbrev pub destroy : Archive → ℕ → ℕ → Result Archive ArchiveRefusal
 destroy a n day = destroy_one a n day (record_at a n)
+
+-- the same by a day by its number; by one before 1970 no record is due
+abbrev pub destroy_on : Archive → ℕ → ℤ → Result Archive ArchiveRefusal
+destroy_on a n day = destroy_by a n (from_1970 day) (record_at a n)
 
 -- ---- the plan
 

@@ -1,12 +1,12 @@
 //! An archive of records that is kept somewhere.
 
-ghost use Rattle.std.specs.Prelude.{◌≡◌, map, pos};
-ghost use Rattle.jiff.specs.Words.{IsBetween, epoch_day};
+ghost use Rattle.std.specs.Prelude.{◌≡◌, map};
+ghost use Rattle.jiff.specs.Words.{epoch_day};
 ghost use Rattle.class_plan.specs.Calendar.{number_of_day};
 ghost use Rattle.class_plan.specs.Dates.{IsCaptureDay};
 ghost use Rattle.class_plan.specs.Plans.{Listing};
 ghost use Rattle.record_archive.specs.Archive as archive;
-ghost use Rattle.record_archive.specs.Archive.{Archive, AreClasses, IsArchive, capture_lines, due_list, path_list};
+ghost use Rattle.record_archive.specs.Archive.{Archive, AreClasses, IsArchive, capture_lines, due_list_on, path_list};
 ghost use Rattle.record_archive.specs.Calls.{CarriesOut, Quietly, unchanged};
 ghost use Rattle.record_archive.specs.Lines.{line_view};
 
@@ -74,18 +74,16 @@ pub trait Records {
         ensures { CarriesOut clean stands self.old self.new
             (λ a. archive.release a name.now number) Quietly result };
 
-    /// The due list of a day of 1970 to 9999.
+    /// The due list of a day. Nothing is due by a day before 1970.
     fn due(&mut self, day: Date) -> Result<Vec<Line>, ArchiveFault<Self::Cause>>
-        requires { IsBetween (pos 0) (pos 2932896) (epoch_day day) }
         ensures { CarriesOut clean stands self.old self.new unchanged
-            (λ a lines. map line_view lines.items ≡ due_list a (number_of_day day)) result };
+            (λ a lines. map line_view lines.items ≡ due_list_on a (epoch_day day)) result };
 
-    /// Destroys a record that is due by a day of 1970 to 9999. Refused with the first that holds of 80 (no such
-    /// record), 84 (destroyed), 81 (held), 83 (its schedule does not destroy) and 82 (due later).
+    /// Destroys a record that is due by a day. Refused with the first that holds of 80 (no such record), 84
+    /// (destroyed), 81 (held), 83 (its schedule does not destroy) and 82 (due later).
     fn destroy(&mut self, number: u32, day: Date) -> Result<(), ArchiveFault<Self::Cause>>
-        requires { IsBetween (pos 0) (pos 2932896) (epoch_day day) }
         ensures { CarriesOut clean stands self.old self.new
-            (λ a. archive.destroy a number (number_of_day day)) Quietly result };
+            (λ a. archive.destroy_on a number (epoch_day day)) Quietly result };
 
     ghost plan_is: { (records : Self) (a : Archive) → stands records a → plan_of records ≡ a.plan };
 

@@ -9,9 +9,9 @@ use Rattle.record_tables.specs.Rows.{Tables}
 use Rattle.record_tables.specs.Changes.{ClassEntry, Rule}
 use Rattle.record_tables.specs.Reads.{Pair}
 use Rattle.record_archive.specs.Archive.{Archive, IsArchive}
-use Rattle.record_store.specs.Adoption.{Finds, FindsRows, FindsSecond, FindsFirst, FindsNothing, HasNoArchive, HasRows, IsKeyed, IsLaidSchema, ReadsSecond, ReadsFirst}
-use Rattle.record_store.specs.Stores.{StoresArchive}
-use Rattle.record_store.proofs.AdoptReads.{archive_common, first_common}
+use Rattle.record_adoption.specs.Adoption.{Finds, FindsRows, FindsSecond, FindsFirst, FindsNothing, HasNoArchive, HasRows, IsKeyed, IsLaidSchema, ReadsSecond, ReadsFirst}
+use Rattle.record_adoption.specs.Keeping.{StoresArchive}
+use Rattle.record_adoption.proofs.AdoptReads.{archive_common, first_common}
 
 -- the layout of each schema that a store creates
 pub record Lays (schema : Schema) (l : Layout) : Type 0 where

@@ -13,10 +13,10 @@ use Rattle.record_archive.specs.Archive.{Message, Record, Archive, Hold, Line, I
 use Rattle.record_tables.specs.Rows.{Tables, Due}
 use Rattle.record_tables.specs.Changes.{Puts, Turns, AreAscending, IsPastMessages, IsPastRecords, IsPastDues, with_message, with_record, with_due}
 use Rattle.record_tables.proofs.Loops.{puts_then, puts_as, nothing_yet}
-use Rattle.record_store.specs.Counts.{only_at, tally}
+use Rattle.record_adoption.specs.Counts.{only_at, tally}
 use Rattle.record_store.proofs.HoldLemmas.{tally-append}
 use Rattle.record_store.specs.Captures.{with_records, with_more_dues, with_captured, AreAfter, ArePast, lines_of, due_before, dues_of_lines}
-use Rattle.record_store.specs.Stores.{StoresArchive, has_due, due_row, due_rows, live_count}
+use Rattle.record_adoption.specs.Keeping.{StoresArchive, has_due, due_row, due_rows, live_count}
 
 -- ---- lists that ascend
 

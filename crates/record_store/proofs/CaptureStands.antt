@@ -10,8 +10,9 @@ use Rattle.record_tables.specs.Rows.{Due}
 use Rattle.record_tables.specs.Changes.{Turns}
 use Rattle.record_archive.specs.Archive.{Archive, Line, next_number, records_of, after_capture, capture_lines, capture, has_room, AreClasses}
 use Rattle.record_store.specs.Captures.{with_captured, ArePast, lines_of, dues_of_lines}
-use Rattle.record_store.specs.Counts.{count_at, only_at}
-use Rattle.record_store.specs.Stores.{StandsFor, StoresArchive, Becomes, Leaves, LeavesMade}
+use Rattle.record_adoption.specs.Counts.{count_at, only_at}
+use Rattle.record_adoption.specs.Keeping.{StoresArchive}
+use Rattle.record_store.specs.Stores.{StandsFor, Becomes, Leaves, LeavesMade}
 use Rattle.record_archive.specs.declared.fault.ArchiveRefusal.{ArchiveRefusal}
 use Rattle.record_store.specs.declared.store.Store.{Store}
 use Rattle.record_store.proofs.CommandLemmas.{stands_turned, leaves_turned}

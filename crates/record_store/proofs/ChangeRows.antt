@@ -8,7 +8,8 @@ use Rattle.class_plan.specs.declared.faults.PlanFault.TheVariants as plan_fault
 use Rattle.class_plan.specs.Plans.{Listing, open_row}
 use Rattle.record_archive.specs.Archive.{Record, Message, Archive}
 use Rattle.record_archive.specs.Archive as archive
-use Rattle.record_store.specs.Revisions.{dues_in, with_plan}
+use Rattle.record_adoption.specs.Keeping.{dues_in}
+use Rattle.record_store.specs.Revisions.{with_plan}
 use Rattle.record_archive.specs.declared.fault.ArchiveRefusal.TheVariants as fault
 
 -- `tax` is destroyed after ten days, `finance` reviewed after five

@@ -24,7 +24,8 @@ use Rattle.record_tables.specs.Changes.{ClassEntry}
 use Rattle.record_tables.specs.Reads.{class_entry}
 use Rattle.record_rows.specs.Rules.{rule_at, own_rules, with_own, entry_of_row}
 use Rattle.record_store.specs.Revisions.{with_plan, IsClassAdded}
-use Rattle.record_store.specs.Stores.{StoresArchive, Leaves, LeavesMade, has_due, due_row, due_rows}
+use Rattle.record_adoption.specs.Keeping.{StoresArchive, has_due, due_row, due_rows}
+use Rattle.record_store.specs.Stores.{Leaves, LeavesMade}
 use Rattle.record_store.specs.declared.store.Store.{Store}
 
 -- ---- the plan

@@ -11,12 +11,13 @@ use Rattle.sqlite.specs.declared.error.ErrorCode.TheVariants.{OutOfMemory}
 use Rattle.sqlite.proofs.StateLemmas.{survives_then, survives_weaker}
 use Rattle.record_tables.specs.Rows.{Tables}
 use Rattle.record_tables.specs.Changes.{Turns}
-use Rattle.record_tables.specs.Lookups.{Looks}
+use Rattle.record_reads.specs.Lookups.{Looks}
 use Rattle.record_archive.specs.Archive.{Archive, IsArchive, next_number}
-use Rattle.record_store.specs.Counts.{count_at}
+use Rattle.record_adoption.specs.Counts.{count_at}
 use Rattle.record_store.specs.Faults.{fault_of}
 use Rattle.record_archive.specs.Faults.{is_trouble}
-use Rattle.record_store.specs.Stores.{StandsFor, StoresArchive, Becomes, live_count, hold_count, Leaves, LeavesAll, LeavesMade}
+use Rattle.record_adoption.specs.Keeping.{StoresArchive, live_count, hold_count}
+use Rattle.record_store.specs.Stores.{StandsFor, Becomes, Leaves, LeavesAll, LeavesMade}
 use Rattle.record_archive.specs.declared.fault.ArchiveRefusal.{ArchiveRefusal}
 use Rattle.record_store.specs.declared.store.Store.{Store}
 

@@ -8,14 +8,15 @@ use Rattle.sqlite_keyed.specs.Lists.{delete_where, update_where}
 use Rattle.sqlite_keyed.proofs.ListLemmas.{all_of, all_weaker, all_both, all_map, filter_same, ascending-map, ascending-filter, ascending_weaker, none_from_any}
 use Rattle.sqlite.specs.Store.{Ghosts}
 use Rattle.sqlite.specs.Effect.{Database}
-use Rattle.record_archive.specs.Archive.{Message, Record, Archive, Hold, IsArchive, IsRecord, destroy, destroys, is_by, record_at, has_number, has_message, is_live, is_held, is_named, is_shared, next_number, past_all, destruction_of, messages_without, without}
+use Rattle.record_archive.specs.Archive.{Message, Record, Archive, Hold, IsArchive, IsRecord, destroy_by, destroys, is_by_any, record_at, has_number, has_message, is_live, is_held, is_named, is_shared, next_number, past_all, destruction_of, messages_without, without}
 use Rattle.record_tables.specs.Rows.{Due}
 use Rattle.record_tables.specs.Changes as tables
 use Rattle.class_plan.specs.Calendar.{due_on}
 use Rattle.class_plan.specs.Plans.{schedule_at}
-use Rattle.record_store.specs.Counts.{count_at, only_at, tally}
+use Rattle.record_adoption.specs.Counts.{count_at, only_at, tally}
 use Rattle.record_store.specs.Destruction.{IsFree, IsDestruction, against_destruction, with_destruction}
-use Rattle.record_store.specs.Stores.{StandsFor, StoresArchive, has_due, due_row, live_count}
+use Rattle.record_adoption.specs.Keeping.{StoresArchive, has_due, due_row, live_count}
+use Rattle.record_store.specs.Stores.{StandsFor}
 use Rattle.record_archive.specs.declared.fault.ArchiveRefusal.{ArchiveRefusal}
 use Rattle.record_archive.specs.declared.fault.ArchiveRefusal.TheVariants as fault
 use Rattle.record_store.specs.declared.store.Store.{Store}
@@ -404,11 +405,11 @@ stores_destroyed a r (Some m) goes was db s turns =
 
 -- ---- the judge
 
-pub refused_held : (a : Archive) (n day : ℕ) (r : Record) → record_at a n ≡ Some r → r.destroyed ≡ false → is_held a n ≡ true → destroy a n day ≡ Err fault.Held
+pub refused_held : (a : Archive) (n : ℕ) (day : Option ℕ) (r : Record) → record_at a n ≡ Some r → r.destroyed ≡ false → is_held a n ≡ true → destroy_by a n day (record_at a n) ≡ Err fault.Held
 refused_held a n day r at live held = rw (at, live, held) refl
 
-pub refused_by_plan : (a : Archive) (n day : ℕ) (r : Record) (f : ArchiveRefusal) → record_at a n ≡ Some r → r.destroyed ≡ false → is_held a n ≡ false → against_destruction a.plan day r ≡ Some f → destroy a n day ≡ Err f
-refused_by_plan a n day r f at live free e = rw (at, live, free) (go (destroys (schedule_at a.plan r.path)) (is_by day (due_on a.plan r.path r.day)) e)
+pub refused_by_plan : (a : Archive) (n : ℕ) (day : Option ℕ) (r : Record) (f : ArchiveRefusal) → record_at a n ≡ Some r → r.destroyed ≡ false → is_held a n ≡ false → against_destruction a.plan day r ≡ Some f → destroy_by a n day (record_at a n) ≡ Err f
+refused_by_plan a n day r f at live free e = rw (at, live, free) (go (destroys (schedule_at a.plan r.path)) (is_by_any day (due_on a.plan r.path r.day)) e)
   where
     go : (x y : Bool) → ◌≡◌ {A = Option ArchiveRefusal} (cond (not x) (Some fault.NotForDestruction) (cond (not y) (Some fault.NotDue) None)) (Some f)
         → ◌≡◌ {A = Result Archive ArchiveRefusal} (cond (not x) (Err fault.NotForDestruction) (cond (not y) (Err fault.NotDue) (Ok (without a r)))) (Err f)
@@ -416,8 +417,8 @@ refused_by_plan a n day r f at live free e = rw (at, live, free) (go (destroys (
     go true false e = let s : fault.NotDue ≡ f = cc in ap (λ x. Err x) s
     go true true e = absurd cc
 
-pub may_go : (a : Archive) (n day : ℕ) (r : Record) → record_at a n ≡ Some r → r.destroyed ≡ false → is_held a n ≡ false → against_destruction a.plan day r ≡ None → destroy a n day ≡ Ok (without a r)
-may_go a n day r at live free e = rw (at, live, free) (go (destroys (schedule_at a.plan r.path)) (is_by day (due_on a.plan r.path r.day)) e)
+pub may_go : (a : Archive) (n : ℕ) (day : Option ℕ) (r : Record) → record_at a n ≡ Some r → r.destroyed ≡ false → is_held a n ≡ false → against_destruction a.plan day r ≡ None → destroy_by a n day (record_at a n) ≡ Ok (without a r)
+may_go a n day r at live free e = rw (at, live, free) (go (destroys (schedule_at a.plan r.path)) (is_by_any day (due_on a.plan r.path r.day)) e)
   where
     go : (x y : Bool) → ◌≡◌ {A = Option ArchiveRefusal} (cond (not x) (Some fault.NotForDestruction) (cond (not y) (Some fault.NotDue) None)) None
         → ◌≡◌ {A = Result Archive ArchiveRefusal} (cond (not x) (Err fault.NotForDestruction) (cond (not y) (Err fault.NotDue) (Ok (without a r)))) (Ok (without a r))

@@ -4,7 +4,7 @@ use Rattle.std.specs.List.{AllByRecursion, list_any}
 use Rattle.std.specs.Str.{bytes_eq}
 use Rattle.std.proofs.lemmas.Map.Text.{is_eq-slice_cmp}
 use Rattle.std.proofs.lemmas.Int.{ints}
-use Rattle.record_tables.specs.Lookups.{has_hold_of}
+use Rattle.record_reads.specs.Lookups.{has_hold_of}
 use Rattle.std.proofs.lemmas.List.{map-append}
 use Rattle.std.proofs.lemmas.List.Elements.{All-push, All-filter}
 use Rattle.sqlite_trees.specs.Tree.{IsAscending}
@@ -15,8 +15,8 @@ use Rattle.record_archive.specs.Archive.{Record, Archive, Hold, IsArchive, recor
 use Rattle.record_tables.specs.Rows.{Hold as HoldRow}
 use Rattle.record_tables.specs.Changes as tables
 use Rattle.record_tables.specs.Changes.{Turns, Always}
-use Rattle.record_store.specs.Counts.{only_at, tally}
-use Rattle.record_store.specs.Stores.{StoresArchive, hold_of, hold_count}
+use Rattle.record_adoption.specs.Counts.{only_at, tally}
+use Rattle.record_adoption.specs.Keeping.{StoresArchive, hold_of, hold_count}
 use Rattle.record_archive.specs.declared.fault.ArchiveRefusal.TheVariants as fault
 
 -- ---- what is found by a number

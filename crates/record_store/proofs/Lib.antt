@@ -10,10 +10,6 @@ pub mod AllowedLemmas
 pub mod DestroyLemmas
 pub mod ReviseLemmas
 pub mod ClassLemmas
-pub mod AdoptHolds
-pub mod AdoptRows
-pub mod AdoptPlan
-pub mod AdoptReads
 pub mod AdoptSettled
 pub mod AdoptLayouts
 pub mod ChangeRows

@@ -2,8 +2,8 @@
 use Rattle.std.proofs.Common.{◌≡◌, ◌==◌, ℕ, Bool, true, false, cond, List, [], ◌∷◌, find, Some, option_map, Ok, Err, refl, sym, ap, ◌∙◌}
 use Rattle.sqlite.specs.Effect.{Database}
 use Rattle.record_archive.specs.Archive.{Message, Record, Archive, body_of, record_at, message, message_one}
-use Rattle.record_tables.specs.Lookups.{body_with}
-use Rattle.record_store.specs.Stores.{StoresArchive}
+use Rattle.record_reads.specs.Lookups.{body_with}
+use Rattle.record_adoption.specs.Keeping.{StoresArchive}
 use Rattle.record_archive.specs.declared.fault.ArchiveRefusal.TheVariants as fault
 
 found_body : (ms : List Message) (n : ℕ) → option_map (λ (m : Message). m.body) (find (λ (m : Message). m.number == n) ms) ≡ body_of ms n

@@ -12,17 +12,19 @@ use Rattle.sqlite.proofs.StateLemmas.{survives_weaker}
 use Rattle.class_plan.specs.Calendar.{due_on}
 use Rattle.class_plan.specs.Plans as plans
 use Rattle.class_plan.specs.Plans.{Listing, IsPlan, keeps, has}
-use Rattle.record_tables.specs.Lookups.{Looks}
+use Rattle.record_reads.specs.Lookups.{Looks}
 use Rattle.record_tables.specs.Tables.{HasCommonTables, IsArchiveSchema, schedules_and_dues_beside}
 use Rattle.record_archive.specs.Archive.{Record, Archive, IsArchive, revise}
 use Rattle.record_tables.specs.Rows.{Tables, Due, Stores, StoresCommon}
 use Rattle.record_tables.specs.Changes.{ClassEntry, Rule, IsRevised, AreAscending}
 use Rattle.record_tables.specs.Changes as tables
 use Rattle.record_rows.specs.Rules.{rules_of, classes_of}
-use Rattle.record_store.specs.Stores.{StandsFor, StoresArchive, has_due, due_row}
-use Rattle.record_store.specs.Revisions.{IsRevision, with_plan, dues_in}
+use Rattle.record_adoption.specs.Keeping.{StoresArchive, has_due, due_row}
+use Rattle.record_store.specs.Stores.{StandsFor}
+use Rattle.record_adoption.specs.Keeping.{dues_in}
+use Rattle.record_store.specs.Revisions.{IsRevision, with_plan}
 use Rattle.record_store.specs.declared.store.Store.{Store}
-use Rattle.record_store.proofs.StoreLemmas.{listed-numbered, rules-numbered, same_list}
+use Rattle.record_adoption.proofs.LaidLemmas.{listed-numbered, rules-numbered, same_list}
 
 -- ---- the archive
 
@@ -97,72 +99,6 @@ looks_common g old new idle falls still survives = record {
   still = λ was are. still was (λ is_open. common_schema (state g old).now.schema (are is_open));
   survives = survives_weaker (state g old) (state g new) _ _ (λ clean db none is. none (common_schema (state g old).now.schema is)) survives;
 }
-
--- ---- due days, one record after another
-
-filter-append : {X : Type 0} (p : X → Bool) (xs ys : List X) → filter p (xs ++ ys) ≡ filter p xs ++ filter p ys
-filter-append p [] ys = refl
-filter-append p (x ∷ xs) ys = go (p x) (filter-append p xs ys)
-  where
-    go : (b : Bool) → filter p (xs ++ ys) ≡ filter p xs ++ filter p ys → cond b (x ∷ filter p (xs ++ ys)) (filter p (xs ++ ys)) ≡ cond b (x ∷ filter p xs) (filter p xs) ++ filter p ys
-    go true more = ap (λ l. x ∷ l) more
-    go false more = more
-
-abbrev alone : Listing → Archive
-alone p = record { plan = p; messages = []; records = []; holds = [] }
-
-pub dues_next : {V : Type 0} (p : Listing) (f : V → Record) (vs : List V) (v : V) (i : ℕ) → i < length vs → v ≡ get_or vs i v
-    → dues_in p (map f (take i vs)) ++ dues_in p (f v ∷ []) ≡ dues_in p (map f (take (i + 1) vs))
-dues_next p f vs v i low is =
-    let next : map f (take (i + 1) vs) ≡ map f (take i vs) ++ f v ∷ [] = ap (map f) (take_more vs i v low) ∙ map-append f (take i vs) _ ∙ ap (λ x. map f (take i vs) ++ f x ∷ []) (sym is) in
-    sym (ap (dues_in p) next ∙ ap (map (due_row (alone p))) (filter-append (has_due (alone p)) (map f (take i vs)) (f v ∷ [])) ∙ map-append (due_row (alone p)) (filter (has_due (alone p)) (map f (take i vs))) (filter (has_due (alone p)) (f v ∷ [])))
-
--- ---- a due day after the last of those that ascend
-
-below_last : {V : Type 0} (f : V → Due) (vs : List V) (v : V) (n i : ℕ) → AreAscending (map f vs) → i + 1 ≡ length vs → Some v ≡ slice_get vs i → (f v).number < n → AllByRecursion (λ (d : Due). d.number < n) (map f vs)
-below_last f [] v n i up long at low = tt
-below_last f (x ∷ []) v n zero up long at low = let same : v ≡ x = cc in (subst (λ y. (f y).number < n) same low, tt)
-below_last f (x ∷ []) v n (suc i) up long at low = absurd (omega arith)
-below_last f (x ∷ y ∷ vs) v n zero up long at low = absurd (omega arith)
-below_last f (x ∷ y ∷ vs) v n (suc i) up long at low =
-    let more = below_last f (y ∷ vs) v n i up.1 (omega arith) at low in
-    let first = up.0.0 in
-    (omega (arith, first, more.0), more)
-
-pub after_last : {V : Type 0} (f : V → Due) (vs : List V) (v : V) (n : ℕ) → AreAscending (map f vs) → Some v ≡ slice_get vs (length vs - 1) → (f v).number < n → AllByRecursion (λ (d : Due). d.number < n) (map f vs)
-after_last f [] v n up at low = tt
-after_last f (x ∷ vs) v n up at low = below_last f (x ∷ vs) v n (length (x ∷ vs) - 1) up (omega arith) at low
-
-is_got : {V : Type 0} (vs : List V) (i : ℕ) → i < length vs → None ≡ slice_get vs i → ⊥
-is_got [] i low none = absurd (omega arith)
-is_got (x ∷ vs) zero low none = absurd cc
-is_got (x ∷ vs) (suc i) low none = is_got vs i (omega arith) none
-
-pub after_none : {V : Type 0} (f : V → Due) (vs : List V) (n : ℕ) → None ≡ slice_get vs (length vs - 1) → AllByRecursion (λ (d : Due). d.number < n) (map f vs)
-after_none f [] n none = tt
-after_none f (x ∷ vs) n none = absurd (is_got (x ∷ vs) (length (x ∷ vs) - 1) (omega arith) none)
-
-pub rises_after : {V : Type 0} (f : V → Due) (vs : List V) (v : V) → AreAscending (map f vs) → AllByRecursion (λ (d : Due). d.number < (f v).number) (map f vs) → AreAscending (map f (vs ++ v ∷ []))
-rises_after f vs v up below =
-    subst AreAscending (sym (map-append f vs (v ∷ [])))
-    (ascending-append (λ (x y : Due). x.number < y.number) (map f vs) (f v ∷ []) up (tt, tt)
-    (all_weaker (λ (x : Due). x.number < (f v).number) (λ (x : Due). AllByRecursion (λ (y : Due). x.number < y.number) (f v ∷ [])) (λ x h. (h, tt)) (map f vs) below))
-
--- what one record adds
-pub none_of_destroyed : (p : Listing) (r : Record) → r.destroyed ≡ true → dues_in p (r ∷ []) ≡ []
-none_of_destroyed p r h = rw h refl
-
-pub none_without_day : (p : Listing) (r : Record) → due_on p r.path r.day ≡ None → dues_in p (r ∷ []) ≡ []
-none_without_day p r h = ap (λ o. map (due_row (alone p)) (cond (not r.destroyed && is_some o) (r ∷ []) [])) h ∙ go r.destroyed
-  where
-    go : (d : Bool) → map (due_row (alone p)) (cond (not d && false) (r ∷ []) []) ≡ []
-    go true = refl
-    go false = refl
-
-pub one_with_day : (p : Listing) (r : Record) (day : ℕ) → r.destroyed ≡ false → due_on p r.path r.day ≡ Some day → dues_in p (r ∷ []) ≡ record { number = r.number; day = day } ∷ []
-one_with_day p r day live h =
-    ap (λ d. map (due_row (alone p)) (cond (not d && is_some (due_on p r.path r.day)) (r ∷ []) [])) live
-    ∙ ap (λ b. map (due_row (alone p)) (cond b (r ∷ []) [])) (ap is_some h) ∙ ap (λ (o : Option ℕ). record { number = r.number; day = unwrap_or o 0 } ∷ []) h
 
 -- ---- the command
 

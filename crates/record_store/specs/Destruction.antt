@@ -3,7 +3,7 @@ use Rattle.std.specs.Prelude.{◌≡◌, ℕ, false, not, if◌then◌else◌, O
 use Rattle.sqlite.specs.Effect.{Database}
 use Rattle.class_plan.specs.Calendar.{due_on}
 use Rattle.class_plan.specs.Plans.{Listing, schedule_at}
-use Rattle.record_archive.specs.Archive.{Record, Archive, record_at, is_held, is_by, destroys, destroy, without}
+use Rattle.record_archive.specs.Archive.{Record, Archive, record_at, is_held, is_by_any, destroys, destroy_by, without}
 use Rattle.record_tables.specs.Rows.{Tables}
 use Rattle.record_tables.specs.Changes.{Turns, Always, with_destruction as with_mark, without_due, without_message}
 use Rattle.record_archive.specs.declared.fault.ArchiveRefusal.{ArchiveRefusal}
@@ -15,15 +15,15 @@ pub record IsFree (a : Archive) (n : ℕ) (r : Record) : Type 0 where
   pub live : r.destroyed ≡ false
   pub free : is_held a n ≡ false
 
--- the record is live, no hold keeps it, and the command destroys it
-abbrev pub IsDestroyable : ℕ → ℕ → Archive → Record → Type 0
-IsDestroyable n day a r = IsFree a n r × (destroy a n day ≡ Ok (without a r))
+-- the record is live, no hold keeps it, and the command destroys it by the day, if there is one
+abbrev pub IsDestroyable : ℕ → Option ℕ → Archive → Record → Type 0
+IsDestroyable n day a r = IsFree a n r × (destroy_by a n day (record_at a n) ≡ Ok (without a r))
 
--- the plan's refusal, if any, of the destruction of a record by a day
-abbrev pub against_destruction : Listing → ℕ → Record → Option ArchiveRefusal
+-- the plan's refusal, if any, of the destruction of a record by a day, if there is one
+abbrev pub against_destruction : Listing → Option ℕ → Record → Option ArchiveRefusal
 against_destruction p day r =
     if not (destroys (schedule_at p r.path)) then Some fault.NotForDestruction
-    else if not (is_by day (due_on p r.path r.day)) then Some fault.NotDue
+    else if not (is_by_any day (due_on p r.path r.day)) then Some fault.NotDue
     else None
 
 -- without the message, if one is given

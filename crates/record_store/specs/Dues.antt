@@ -2,11 +2,11 @@
 use Rattle.std.specs.Prelude.{ℕ, ◌==◌, Bool, List, filter, Some, pos}
 use Rattle.sqlite_keyed.specs.Lists.{sort_by}
 use Rattle.record_tables.specs.Reads.{due_cmp, is_by}
-use Rattle.record_tables.specs.DueRecords.{DueRecord, with_records}
+use Rattle.record_reads.specs.DueRecords.{DueRecord, with_records}
 use Rattle.record_archive.specs.Archive.{Archive, Line}
-use Rattle.record_store.specs.Counts.{count_at}
-use Rattle.record_store.specs.Stores.{due_rows}
-use Rattle.record_store.specs.declared.counts.Counts.{Counts}
+use Rattle.record_adoption.specs.Counts.{count_at}
+use Rattle.record_adoption.specs.Keeping.{due_rows}
+use Rattle.record_adoption.specs.declared.counts.Counts.{Counts}
 
 -- the live records that are due by a day, held ones too, by their due days and then by number
 abbrev pub due_records : Archive → ℕ → List DueRecord

@@ -1,8 +1,6 @@
 pub mod Stores
 pub mod Faults
-pub mod Counts
 pub mod Captures
 pub mod Dues
 pub mod Destruction
 pub mod Revisions
-pub mod Adoption

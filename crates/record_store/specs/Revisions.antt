@@ -7,17 +7,13 @@ use Rattle.class_plan.specs.declared.faults.PlanFault.TheVariants.{PathDropped}
 use Rattle.record_archive.specs.Archive.{Record, Archive}
 use Rattle.record_tables.specs.Rows.{Due}
 use Rattle.record_tables.specs.Changes.{Turns, Always, with_class}
-use Rattle.record_store.specs.Stores.{due_rows}
+use Rattle.record_adoption.specs.Keeping.{dues_in}
 use Rattle.record_archive.specs.declared.fault.ArchiveRefusal.{ArchiveRefusal}
 use Rattle.record_archive.specs.declared.fault.ArchiveRefusal.TheVariants.{Plan}
 
 -- the archive with another plan
 abbrev pub with_plan : Archive → Listing → Archive
 with_plan a p = record a { plan = p }
-
--- the due days by a plan, of the records that are live and have one
-abbrev pub dues_in : Listing → List Record → List Due
-dues_in p rs = due_rows (record { plan = p; messages = []; records = rs; holds = [] })
 
 -- a plan that drops no path of an archive's plan, and the due days by it
 pub record IsRevision (a : Archive) (p : Listing) (ds : List Due) : Type 0 where

@@ -1,69 +1,18 @@
--- How tables keep an archive, and which archive a store represents.
-use Rattle.std.specs.Prelude.{◌≡◌, ◌-◌, ◌==◌, ℕ, ℤ, pos, negsuc, Bool, true, false, ◌&&◌, unsigned_abs, List, [], ◌∷◌, map, filter, is_some, option_map, unwrap_or, codes, None, Result, Ok, Err, OnOk, IsTrue, IsPermutation, All}
-use Rattle.std.specs.List.Sorted.{IsStrictlySortedBy}
-use Rattle.std.specs.Ordering.{nat_cmp}
-use Rattle.std.specs.Cmp.Lexicographic.{slice_cmp}
-use Rattle.jiff.specs.Words.{epoch_day}
-use Rattle.class_plan.specs.Plans as plans
+-- Which archive a store represents, and what its calls promise.
+use Rattle.std.specs.Prelude.{◌≡◌, ◌-◌, ℕ, false, None, Result, Ok, Err, OnOk, IsTrue}
 use Rattle.sqlite.specs.Store.{Ghosts}
 use Rattle.sqlite.specs.Effect.{Database}
 use Rattle.sqlite.specs.State.{HasCleanDisk, Survives}
 use Rattle.sqlite.specs.Tree.{Trees}
-use Rattle.sqlite.specs.Held.{state}
-use Rattle.record_archive.specs.Archive.{Record, Archive, Hold, Line, IsArchive, due_of, due_list, is_live, next_number, record_at}
-use Rattle.record_tables.specs.Rows.{Tables, Stores, AreKeyed, Due, Hold as HoldRow}
-use Rattle.record_tables.specs.Reads.{class_entry, rule, pair}
-use Rattle.record_rows.specs.Rules.{rules_of, classes_of}
+use Rattle.sqlite.specs.Held.{Held, state}
+use Rattle.record_archive.specs.Archive.{Archive, IsArchive, next_number, record_at}
 use Rattle.record_archive.specs.Faults.{WhereRefused}
 use Rattle.record_archive.specs.declared.fault.ArchiveRefusal.{ArchiveRefusal}
 use Rattle.record_archive.specs.declared.fault.ArchiveRefusal.TheVariants.{NoRecord}
+use Rattle.record_adoption.specs.Counts.{count_at}
+use Rattle.record_adoption.specs.Keeping.{StoresArchive, live_count, hold_count}
 use Rattle.record_store.specs.Faults.{StoreFault}
-use Rattle.record_store.specs.Counts.{count_at, tally}
 use Rattle.record_store.specs.declared.store.Store.{Store}
-use Rattle.record_archive.specs.declared.line.Line as code
-
--- ---- the tables
-
-abbrev pub hold_of : HoldRow → Hold
-hold_of h = record { name = h.name; number = h.number }
-
--- a live record with a due day
-abbrev pub has_due : Archive → Record → Bool
-has_due a r = is_live r && is_some (due_of a r)
-
-abbrev pub due_row : Archive → Record → Due
-due_row a r = record { number = r.number; day = unwrap_or (due_of a r) 0 }
-
--- the due day of each live record that has one, by the plan as it is now
-abbrev pub due_rows : Archive → List Due
-due_rows a = map (due_row a) (filter (has_due a) a.records)
-
--- the tables keep the archive; nothing is said about the due days
-pub record Keeps (t : Tables) (a : Archive) : Type 0 where
-  pub messages : t.messages ≡ a.messages
-  pub records : t.records ≡ a.records
-  pub holds : map hold_of t.holds ≡ a.holds
-  pub settings : map pair t.settings ≡ record { key = codes "version"; value = codes "2" } ∷ []
-  pub classes : IsPermutation (map class_entry t.classes) (classes_of a.plan)
-  pub schedules : IsPermutation (map rule t.schedules) (rules_of a.plan)
-
--- the database keeps the archive, with the due days by its plan
-pub record StoresArchive (db : Database) (a : Archive) : Type 0 where
-  pub tables : Tables
-  pub stored : Stores db tables
-  pub keyed : AreKeyed tables
-  pub keeps : Keeps tables a
-  pub dues : tables.dues ≡ due_rows a
-
--- ---- a store
-
--- the number of live records of a message
-abbrev pub live_count : Archive → ℕ → ℕ
-live_count a m = tally (λ (r : Record). is_live r && (r.message == m)) a.records
-
--- the number of holds that keep a record
-abbrev pub hold_count : Archive → ℕ → ℕ
-hold_count a n = tally (λ (h : Hold). h.number == n) a.holds
 
 -- While the disk is clean and the connection open, the rows are those of the archive. Beside the connection the store
 -- keeps the plan, the next number, the number of holds on each record, and that of each message's live records beyond
@@ -172,3 +121,9 @@ IsOpenOnOk g new result = HasCleanDisk (state g new.conn) → OnOk result (IsTru
 -- the archive has no record of this number, and that is the refusal
 abbrev pub LacksRecord : ℕ → Archive → ArchiveRefusal → Type 0
 LacksRecord n a r = (r ≡ NoRecord) × (record_at a n ≡ None)
+
+-- while the disk is clean, the store represents each archive that is found in this way in the database of the connection
+abbrev pub TakesOver : {S : Type 0} → Ghosts S → Held S → Store S → (Database → Archive → Type 0) →
+    (Archive → Type 0) → Type 0
+TakesOver g conn store FindsIn Is = HasCleanDisk (state g store.conn) → (a : Archive) → FindsIn (state g conn).now a →
+    Is a → StandsFor g store a

@@ -1,166 +1,25 @@
 //! A store over a database that may have an archive's tables.
 
-ghost use Rattle.std.specs.Prelude.{◌≡◌, false, map, IfOk, IfErr};
+ghost use Rattle.std.specs.Prelude.{◌≡◌, false, IfOk, IfErr};
 ghost use Rattle.sqlite.specs.State.{HasCleanDisk};
 ghost use Rattle.sqlite.specs.Held.{state};
 ghost use Rattle.record_tables.specs.Tables.{no_schema, HasCommonTables, IsArchiveSchema};
-ghost use Rattle.record_tables.specs.Changes.{AreAscending};
-ghost use Rattle.record_tables.specs.Steps.{ReadsAlone, Learns, Rejects, Relates, IsUntouched, FailsStill, FailsStillOn, Makes};
-ghost use Rattle.record_tables.specs.CodeRows.{due_of};
+ghost use Rattle.record_tables.specs.Steps.{IsUntouched};
 ghost use Rattle.record_archive.specs.declared.fault.ArchiveFault.TheVariants.{Refused};
 ghost use Rattle.record_archive.specs.declared.fault.ArchiveRefusal.TheVariants.{NoArchive};
 ghost use Rattle.record_archive.specs.Archive.{Archive, IsArchive, empty_archive};
 ghost use Rattle.record_archive.specs.Faults.{is_trouble};
-ghost use Rattle.record_store.specs.Stores.{StandsFor, StoresArchive, due_rows};
-ghost use Rattle.record_store.specs.Adoption.{Finds, FindsRows, FindsSecond, FindsFirst, HasNoArchive, HasArchive, HasRows, IsKeyed, IsLaidSchema, TellsPlan, IsOverview, Sees, LeavesArchive, IsSoundSecond, IsSoundFirst, FindsNone, IsSettled, TellsContents, LeavesFound, TakesOver};
+ghost use Rattle.record_adoption.specs.Keeping.{StoresArchive};
+ghost use Rattle.record_store.specs.Stores.{StandsFor, TakesOver};
+ghost use Rattle.record_adoption.specs.Adoption.{Finds, FindsRows, FindsSecond, FindsFirst, HasNoArchive, HasArchive, HasRows, IsKeyed, IsLaidSchema, LeavesArchive, IsSoundSecond, IsSoundFirst, FindsNone, LeavesFound};
 
 use crate::fault::{StoreFault, fault_of_read};
-use crate::overview::{Overview, archive_rows, gather};
-use crate::plan_rows::{PlanRows, plan_in, plan_rows, rows_of_plan};
 use crate::store::Store;
-use crate::text_rows::{plan_in_texts, text_rows};
+use record_adoption::{Overview, settle_first, settle_second};
 use record_archive::ArchiveRefusal;
-use record_tables::fault::Fault;
-use record_tables::lay::move_first;
 use record_tables::layout::{Layout, layout_of};
-use record_tables::renew::replace_plan;
-use record_tables::rows::DueRow;
-use record_tables::stored_dues::are_dues;
-use sqlite::{Alter, Connection, Error};
+use sqlite::{Alter, Connection};
 use std::alloc::Global;
-
-/// What is read from a database.
-#[derive(Drop)]
-struct Contents {
-    /// The rows of the plan in version 2.
-    plan_rows: PlanRows,
-    overview: Overview,
-}
-
-/// Replaces the stored due days where they differ from these.
-fn settle_dues<S: Alter>(
-    conn: &mut Connection<S>,
-    plan: &PlanRows,
-    dues: &[DueRow],
-) -> Result<(), Error>
-    requires idle { conn.old.in_transaction ≡ false }
-    requires ascending { AreAscending (map due_of dues.now) }
-    ensures idle { conn.new.in_transaction ≡ false }
-    ensures ok { Makes S.Store conn.old conn.new result
-        (IsSettled FindsSecond plan.now (map due_of dues.now)) }
-    ensures err { FailsStillOn S.Store conn.old conn.new IsArchiveSchema result }
-    ensures falls { HasCleanDisk (state S.Store conn.new) → HasCleanDisk (state S.Store conn.old) }
-    ensures crash { LeavesArchive S.Store conn.old conn.new
-        (λ a. FindsSecond (state S.Store conn.old).now a
-        × TellsPlan plan.now a.plan × (map due_of dues.now ≡ due_rows a)) }
-{
-    let are_stored = are_dues(conn, dues)?;
-    if are_stored {
-        return Ok(());
-    }
-    replace_plan(conn, plan.rules.as_slice(), plan.classes.as_slice(), dues)?;
-    Ok(())
-}
-
-/// Moves version 1 over to version 2, with these rows of its plan and these due days.
-fn move_over<S: Alter>(
-    conn: &mut Connection<S>,
-    plan: &PlanRows,
-    dues: &[DueRow],
-) -> Result<(), Error>
-    requires idle { conn.old.in_transaction ≡ false }
-    requires ascending { AreAscending (map due_of dues.now) }
-    ensures idle { conn.new.in_transaction ≡ false }
-    ensures ok { Makes S.Store conn.old conn.new result
-        (IsSettled FindsFirst plan.now (map due_of dues.now)) }
-    ensures err { FailsStill S.Store conn.old conn.new result }
-    ensures falls { HasCleanDisk (state S.Store conn.new) → HasCleanDisk (state S.Store conn.old) }
-    ensures crash { LeavesArchive S.Store conn.old conn.new
-        (λ a. FindsFirst (state S.Store conn.old).now a
-        × TellsPlan plan.now a.plan × (map due_of dues.now ≡ due_rows a)) }
-{
-    move_first(conn, plan.rules.as_slice(), plan.classes.as_slice(), dues)?;
-    Ok(())
-}
-
-/// Reads version 2: the rows of its plan, and what a store keeps beside the connection.
-fn read_second<S: Alter>(alloc: Global, conn: &mut Connection<S>) -> Result<Contents, Fault>
-    ensures sound { Learns S.Store conn.old conn.new result (λ db r. IsSoundSecond db) }
-    ensures found { Learns S.Store conn.old conn.new result
-        (λ db r. (a : Archive) → FindsSecond db a → IsKeyed a →
-        TellsContents r a) }
-    ensures ascending { IfOk result (λ r. AreAscending (map due_of r.overview.dues.items)) }
-    ensures none { Rejects S.Store conn.old conn.new result (FindsNone FindsSecond) }
-    ensures same { ReadsAlone S.Store conn.old conn.new result
-        (IsArchiveSchema (state S.Store conn.old).now.schema) }
-    ensures sees { Sees S.Store IsArchiveSchema conn.old conn.new }
-{
-    let plan_rows = plan_rows(alloc, conn)?;
-    let rows = archive_rows(alloc, conn)?;
-    let plan = plan_in(alloc, &plan_rows)?;
-    let overview = gather(alloc, plan, &rows)?;
-    Ok(Contents {
-        plan_rows,
-        overview,
-    })
-}
-
-/// Reads version 1: the rows that its plan has in version 2, and what a store keeps beside the connection.
-fn read_first<S: Alter>(alloc: Global, conn: &mut Connection<S>) -> Result<Contents, Fault>
-    ensures sound { Learns S.Store conn.old conn.new result (λ db r. IsSoundFirst db) }
-    ensures found { Learns S.Store conn.old conn.new result
-        (λ db r. (a : Archive) → FindsFirst db a → IsKeyed a →
-        TellsContents r a) }
-    ensures ascending { IfOk result (λ r. AreAscending (map due_of r.overview.dues.items)) }
-    ensures none { Rejects S.Store conn.old conn.new result (FindsNone FindsFirst) }
-    ensures same { ReadsAlone S.Store conn.old conn.new result
-        (HasCommonTables (state S.Store conn.old).now.schema) }
-    ensures sees { Sees S.Store HasCommonTables conn.old conn.new }
-{
-    let texts = text_rows(alloc, conn)?;
-    let rows = archive_rows(alloc, conn)?;
-    let plan = plan_in_texts(alloc, &texts)?;
-    let plan_rows = rows_of_plan(alloc, &plan)?;
-    let overview = gather(alloc, plan, &rows)?;
-    Ok(Contents {
-        plan_rows,
-        overview,
-    })
-}
-
-/// Reads version 2, and corrects its due days.
-fn settle_second<S: Alter>(alloc: Global, conn: &mut Connection<S>) -> Result<Overview, Fault>
-    requires { conn.old.in_transaction ≡ false }
-    ensures idle { conn.new.in_transaction ≡ false }
-    ensures sound { Learns S.Store conn.old conn.new result (λ db f. IsSoundSecond db) }
-    ensures found { Relates S.Store conn.old conn.new result
-        (λ old new f. (a : Archive) → FindsSecond old a → IsKeyed a →
-        IsOverview f a × StoresArchive new a) }
-    ensures none { Rejects S.Store conn.old conn.new result (FindsNone FindsSecond) }
-    ensures err { FailsStillOn S.Store conn.old conn.new IsArchiveSchema result }
-    ensures crash { LeavesFound S.Store conn.old conn.new FindsSecond IsKeyed }
-{
-    let contents = read_second(alloc, conn)?;
-    settle_dues(conn, &contents.plan_rows, contents.overview.dues.as_slice())?;
-    Ok(contents.overview)
-}
-
-/// Reads version 1, and moves it over to version 2.
-fn settle_first<S: Alter>(alloc: Global, conn: &mut Connection<S>) -> Result<Overview, Fault>
-    requires { conn.old.in_transaction ≡ false }
-    ensures idle { conn.new.in_transaction ≡ false }
-    ensures sound { Learns S.Store conn.old conn.new result (λ db f. IsSoundFirst db) }
-    ensures found { Relates S.Store conn.old conn.new result
-        (λ old new f. (a : Archive) → FindsFirst old a → IsKeyed a →
-        IsOverview f a × StoresArchive new a) }
-    ensures none { Rejects S.Store conn.old conn.new result (FindsNone FindsFirst) }
-    ensures err { FailsStillOn S.Store conn.old conn.new HasCommonTables result }
-    ensures crash { LeavesFound S.Store conn.old conn.new FindsFirst IsKeyed }
-{
-    let contents = read_first(alloc, conn)?;
-    move_over(conn, &contents.plan_rows, contents.overview.dues.as_slice())?;
-    Ok(contents.overview)
-}
 
 fn store_over<S: Alter>(alloc: Global, conn: Connection<S>, overview: Overview) -> Store<S>
     ensures conn { result.conn ≡ conn }

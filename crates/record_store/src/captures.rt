@@ -13,25 +13,19 @@ ghost use Rattle.record_archive.specs.Lines.{line_view};
 ghost use Rattle.record_archive.specs.Faults.{is_trouble};
 ghost use Rattle.record_store.specs.Stores.{StandsFor, Leaves, Falls, ChangesBy, LeavesChange};
 
+use crate::changes::Capture;
 use crate::fault::{BUSY, StoreFault, fault_of};
 use crate::store::Store;
-use crate::transactions::put_capture;
 use class_plan::{Date, day_number};
+use record_adoption::number_of;
 use record_archive::{ArchiveRefusal, Line};
 use record_tables::rows::DueRow;
+use record_tables::transact::transact;
 use sqlite::Alter;
 use std::alloc::{AllocError, Global};
 
 /// One above the greatest number of a record.
 const NUMBERS: u64 = 1 << 32;
-
-/// The number of a day of 1970 to 9999, in days since 1970-01-01.
-pub(crate) fn number_of(day: Date) -> u32
-    requires { IsBetween (pos 0) (pos 2932896) (epoch_day day) }
-    ensures { result ≡ number_of_day day }
-{
-    day_number(day) as u32
-}
 
 /// Adds the due day of a line, if it has one.
 fn push_due(dues: &mut Vec<DueRow>, line: &Line) -> Result<(), AllocError>
@@ -128,7 +122,14 @@ impl<S: Alter> Store<S> {
         let Ok(()) = self.others.add(first, further) else {
             return Err(StoreFault::NoMemory);
         };
-        match put_capture(&mut self.conn, first, body, day, paths, dues) {
+        let change = Capture {
+            first,
+            body,
+            day,
+            paths,
+            dues,
+        };
+        match transact(&mut self.conn, change) {
             Ok(()) => {
                 self.next += paths.len() as u64;
                 Ok(())

@@ -1,10 +1,9 @@
 //! Classes that are added to the plan.
 
-ghost use Rattle.std.specs.Prelude.{◌≡◌, false, Ok, Err, IfErr, OnOk, OnErr};
+ghost use Rattle.std.specs.Prelude.{◌≡◌, Ok, Err, IfErr, OnOk, OnErr};
 ghost use Rattle.std.specs.List.{All};
 ghost use Rattle.class_plan.specs.Changes.{addition};
 ghost use Rattle.class_plan.specs.Plans.{IsPlan};
-ghost use Rattle.record_tables.specs.Steps.{CommitsWhole, Makes, IsUndone, WasOpen};
 ghost use Rattle.record_archive.specs.Archive as archive;
 ghost use Rattle.record_archive.specs.Archive.{Archive};
 ghost use Rattle.record_store.specs.Revisions.{IsClassAdded, HasSameDue};
@@ -16,23 +15,25 @@ use crate::fault::{BUSY, StoreFault, fault_of};
 use crate::store::Store;
 use class_plan::{Plan, PlanFault};
 use record_archive::ArchiveRefusal;
+use record_tables::transact::{Change, transact};
 use record_tables::writes::insert_class;
-use sqlite::{Alter, Connection, Error};
+use sqlite::{Alter, Error, Transaction};
 
-/// Adds an open class in one transaction: all or nothing, even in a crash.
-fn put_class<S: Alter>(conn: &mut Connection<S>, path: &[u8]) -> Result<(), Error>
-    requires idle { conn.old.in_transaction ≡ false }
-    ensures idle { conn.new.in_transaction ≡ false }
-    ensures ok { Makes S.Store conn.old conn.new result (IsClassAdded path.now) }
-    ensures err { IsUndone S.Store conn.old conn.new result }
-    ensures was_open { WasOpen S.Store conn.old conn.new }
-    ensures crash { CommitsWhole S.Store conn.old conn.new (IsClassAdded path.now) }
-{
-    let _settled = conn.is_autocommit();
-    let mut tx = conn.transaction();
-    insert_class(&mut tx, path, true, None)?;
-    tx.commit()?;
-    Ok(())
+/// An open class is added, without a schedule of its own.
+#[derive(Drop)]
+struct Addition<'a> {
+    path: &'a [u8],
+}
+
+impl Change for Addition<'_> {
+    ghost may_be_made = { λ c db. Unit {0} };
+
+    ghost makes = { λ c. IsClassAdded c.path.now };
+
+    fn make<S: Alter>(self, tx: &mut Transaction<'_, S>) -> Result<(), Error> {
+        insert_class(tx, self.path, true, None)?;
+        Ok(())
+    }
 }
 
 /// Adds an open class to a plan; refused with 52, 53, 54 or 56.
@@ -74,7 +75,7 @@ impl<S: Alter> Store<S> {
             return Err(BUSY);
         }
         plan_class(&mut self.plan, path)?;
-        match put_class(&mut self.conn, path) {
+        match transact(&mut self.conn, Addition { path }) {
             Ok(()) => Ok(()),
             Err(error) => {
                 self.plan.remove(path);

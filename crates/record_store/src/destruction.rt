@@ -1,28 +1,28 @@
 //! Destruction: the number, the path and the day of a destroyed record stay.
 
 ghost use Rattle.std.specs.Prelude.{◌≡◌, ◌<◌, pos, true, false, Err, Some, None, IfErr, OnOk, OnErr, MatchOption};
-ghost use Rattle.jiff.specs.Words.{IsBetween, epoch_day};
-ghost use Rattle.class_plan.specs.Calendar.{number_of_day};
+ghost use Rattle.jiff.specs.Words.{epoch_day};
 ghost use Rattle.record_tables.specs.Changes.{Always};
-ghost use Rattle.record_tables.specs.Steps.{PutsIn, KeepsIn, CommitsNothing, CommitsWhole, Makes, IsUndone, WasOpen};
+ghost use Rattle.record_tables.specs.Steps.{PutsIn, KeepsIn, CommitsNothing};
 ghost use Rattle.record_tables.specs.CodeRows.{record_of};
 ghost use Rattle.record_archive.specs.Archive as archive;
 ghost use Rattle.record_archive.specs.Archive.{Archive};
-ghost use Rattle.record_store.specs.Counts.{count_at};
-ghost use Rattle.record_store.specs.Destruction.{IsFree, IsDestruction, against_destruction, with_destruction, without_body, IsDestroyable};
+ghost use Rattle.record_adoption.specs.Counts.{count_at};
+ghost use Rattle.record_store.specs.Destruction.{IsFree, IsDestruction, against_destruction, without_body, IsDestroyable};
 ghost use Rattle.record_archive.specs.Faults.{WhereRefused, is_trouble};
 ghost use Rattle.record_archive.specs.Calls.{Quietly};
 ghost use Rattle.record_store.specs.Stores.{StandsFor, ObeysRows, Tells, Leaves, LeavesAll, LeavesAllowed, Falls, ChangesWhere, IsOpenOnOk};
 
-use crate::captures::number_of;
+use crate::dues::number_from_1970;
 use crate::fault::{BUSY, LOST, StoreFault, fault_of};
-use crate::plan_days::{LAST_CAPTURE_DAY, due_day_of};
 use crate::store::Store;
 use class_plan::{Action, Date, Plan, Schedule};
+use record_adoption::{LAST_CAPTURE_DAY, due_day_of};
 use record_archive::ArchiveRefusal;
 use record_tables::rows::RecordRow;
+use record_tables::transact::{Change, transact};
 use record_tables::writes::{delete_due, delete_message, set_destroyed};
-use sqlite::{Alter, Connection, Error, Transaction};
+use sqlite::{Alter, Error, Transaction};
 
 /// Removes the message, if one is given.
 fn delete_body<S: Alter>(tx: &mut Transaction<'_, S>, last: Option<u32>) -> Result<(), Error>
@@ -38,42 +38,24 @@ fn delete_body<S: Alter>(tx: &mut Transaction<'_, S>, last: Option<u32>) -> Resu
     }
 }
 
-/// Marks a record as destroyed, and removes its due day and the message, if one is given.
-fn delete_record<S: Alter>(
-    tx: &mut Transaction<'_, S>,
+/// A record is marked as destroyed, and its due day is removed, with the message, if one is given.
+#[derive(Drop)]
+struct Destruction {
     number: u32,
     last: Option<u32>,
-) -> Result<(), Error>
-    ensures same_reference { tx.new.conn.ghost_name ≡ tx.old.conn.ghost_name }
-    ensures ok { OnOk result
-        (PutsIn S.Store tx.old.conn.now tx.new.conn.now Always (with_destruction number last)) }
-    ensures err { KeepsIn S.Store tx.old.conn.now tx.new.conn.now result }
-    ensures survives { CommitsNothing S.Store tx.old.conn.now tx.new.conn.now }
-{
-    delete_due(tx, number)?;
-    set_destroyed(tx, number)?;
-    delete_body(tx, last)?;
-    Ok(())
 }
 
-/// Destroys a record in one transaction: all or nothing, even in a crash.
-fn put_destruction<S: Alter>(
-    conn: &mut Connection<S>,
-    number: u32,
-    last: Option<u32>,
-) -> Result<(), Error>
-    requires idle { conn.old.in_transaction ≡ false }
-    ensures idle { conn.new.in_transaction ≡ false }
-    ensures ok { Makes S.Store conn.old conn.new result (IsDestruction number last) }
-    ensures err { IsUndone S.Store conn.old conn.new result }
-    ensures was_open { WasOpen S.Store conn.old conn.new }
-    ensures crash { CommitsWhole S.Store conn.old conn.new (IsDestruction number last) }
-{
-    let _settled = conn.is_autocommit();
-    let mut tx = conn.transaction();
-    delete_record(&mut tx, number, last)?;
-    tx.commit()?;
-    Ok(())
+impl Change for Destruction {
+    ghost may_be_made = { λ c db. Unit {0} };
+
+    ghost makes = { λ c. IsDestruction c.number c.last };
+
+    fn make<S: Alter>(self, tx: &mut Transaction<'_, S>) -> Result<(), Error> {
+        delete_due(tx, self.number)?;
+        set_destroyed(tx, self.number)?;
+        delete_body(tx, self.last)?;
+        Ok(())
+    }
 }
 
 /// Whether a schedule's action is to destroy.
@@ -89,21 +71,22 @@ fn destroys(schedule: Option<Schedule>) -> bool
     )
 }
 
-/// Whether there is a due day, and it is not after a day.
-fn is_by(day: u32, due: Option<u32>) -> bool
-    ensures { result ≡ archive.is_by day due }
+/// Whether there is a day and a due day, which is not after it.
+fn is_by(day: Option<u32>, due: Option<u32>) -> bool
+    ensures { result ≡ archive.is_by_any day due }
 {
-    match due {
-        Some(due) => due <= day,
-        None => false,
+    match (day, due) {
+        (Some(day), Some(due)) => due <= day,
+        _ => false,
     }
 }
 
 /// Whether the plan destroys a record by a day; refused with the first of 83 and 82, in this order.
-fn judge_plan(plan: &Plan, row: &RecordRow, day: u32) -> Result<(), StoreFault>
+fn judge_plan(plan: &Plan, row: &RecordRow, day: Option<u32>) -> Result<(), StoreFault>
     ensures ok { OnOk result (against_destruction plan.now day (record_of row.now) ≡ None) }
     ensures err { IfErr result (WhereRefused (λ r.
         against_destruction plan.now day (record_of row.now) ≡ Some r)) }
+    ensures lost { IfErr result (λ f. is_trouble f ≡ true → 84005 < row.now.day) }
 {
     let path = row.path.as_slice();
     if row.day > LAST_CAPTURE_DAY {
@@ -120,10 +103,10 @@ fn judge_plan(plan: &Plan, row: &RecordRow, day: u32) -> Result<(), StoreFault>
 
 impl<S: Alter> Store<S> {
     /// The record, if it may be destroyed by a day; refused with the first of 80, 84, 81, 83 and 82, in this order.
-    fn judge_destruction(&mut self, number: u32, day: u32) -> Result<RecordRow, StoreFault>
+    fn judge_destruction(&mut self, number: u32, day: Option<u32>) -> Result<RecordRow, StoreFault>
         ensures tells { Tells S.Store self.old self.new result
             (λ a r. IsDestroyable number day a (record_of r))
-            (λ a f. archive.destroy a number day ≡ Err f) }
+            (λ a f. archive.destroy_by a number day (archive.record_at a number) ≡ Err f) }
         ensures falls { Falls S.Store self.old self.new }
         ensures open { IsOpenOnOk S.Store self.new result }
         ensures crash { LeavesAll S.Store self.old self.new }
@@ -170,7 +153,7 @@ impl<S: Alter> Store<S> {
             return Err(BUSY);
         }
         let last = self.last_body(row.message);
-        match put_destruction(&mut self.conn, number, last) {
+        match transact(&mut self.conn, Destruction { number, last }) {
             Ok(()) => {
                 self.others.take(row.message, 1);
                 Ok(())
@@ -190,18 +173,15 @@ impl<S: Alter> Store<S> {
     /// - 83: its schedule's action is not to destroy;
     /// - 82: it is due after the day.
     ///
-    /// A refusal changes nothing.
-    ///
-    /// The caller gives a day of 1970 to 9999.
+    /// By a day before 1970 no record is due. A refusal changes nothing.
     pub fn destroy(&mut self, number: u32, day: Date) -> Result<(), StoreFault>
-        requires { IsBetween (pos 0) (pos 2932896) (epoch_day day) }
         ensures obeys { ObeysRows S.Store self.old self.new result
-            (λ a. archive.destroy a number (number_of_day day)) Quietly }
+            (λ a. archive.destroy_on a number (epoch_day day)) Quietly }
         ensures falls { Falls S.Store self.old self.new }
         ensures crash { Leaves S.Store self.old self.new
-            (λ a. archive.destroy a number (number_of_day day)) }
+            (λ a. archive.destroy_on a number (epoch_day day)) }
     {
-        let record = self.judge_destruction(number, number_of(day))?;
+        let record = self.judge_destruction(number, number_from_1970(day))?;
         self.remove_record(number, &record)?;
         Ok(())
     }

@@ -1,24 +1,34 @@
 //! Due lists.
 
-ghost use Rattle.std.specs.Prelude.{◌≡◌, map, pos, IfOk, IfErr, filter, true};
-ghost use Rattle.jiff.specs.Words.{IsBetween, epoch_day};
-ghost use Rattle.class_plan.specs.Calendar.{number_of_day};
-ghost use Rattle.record_tables.specs.DueRecords.{due_record_of};
-ghost use Rattle.record_archive.specs.Archive.{due_list};
+ghost use Rattle.std.specs.Prelude.{◌≡◌, map, IfOk, IfErr, filter, true};
+ghost use Rattle.jiff.specs.Words.{epoch_day};
+ghost use Rattle.record_reads.specs.DueRecords.{due_record_of};
+ghost use Rattle.record_archive.specs.Archive.{due_list_on, from_1970};
 ghost use Rattle.record_store.specs.Dues.{due_records, due_line, is_unheld};
 ghost use Rattle.record_archive.specs.Lines.{line_view};
 ghost use Rattle.record_archive.specs.Faults.{is_trouble};
 ghost use Rattle.record_store.specs.Stores.{Tells, LeavesAll, Falls};
 
-use crate::captures::number_of;
 use crate::fault::{LOST, StoreFault};
 use crate::store::Store;
-use class_plan::{Date, date_of};
+use class_plan::{Date, date_of, day_number};
+use record_adoption::number_of;
 use record_archive::Line;
-use record_tables::due_records::due_records_by;
+use record_reads::due_records::due_records_by;
 use record_tables::fault::Fault;
 use record_tables::rows::DueRecordRow;
 use sqlite::Alter;
+
+/// The number of a day, in days since 1970-01-01; `None` for a day before that.
+pub(crate) fn number_from_1970(day: Date) -> Option<u32>
+    ensures { result ≡ from_1970 (epoch_day day) }
+{
+    let number = day_number(day);
+    if number < 0 {
+        return None;
+    }
+    Some(number_of(day))
+}
 
 fn line_of(due: DueRecordRow) -> Result<Line, StoreFault>
     ensures line { IfOk result (λ l. line_view l ≡ due_line (due_record_of due)) }
@@ -67,17 +77,17 @@ impl<S: Alter> Store<S> {
 
     /// The due list of a day: the live records without a hold that are due by it, by due date and then by number.
     ///
-    /// The only refusals are 89 (`sqlite`) and 99 (no memory).
-    ///
-    /// The caller gives a day of 1970 to 9999.
+    /// Nothing is due by a day before 1970. The only refusals are 89 (`sqlite`) and 99 (no memory).
     pub fn due(&mut self, day: Date) -> Result<Vec<Line>, StoreFault>
-        requires { IsBetween (pos 0) (pos 2932896) (epoch_day day) }
         ensures tells { Tells S.Store self.old self.new result
-            (λ a lines. map line_view lines.items ≡ due_list a (number_of_day day)) (λ a f. ⊥) }
+            (λ a lines. map line_view lines.items ≡ due_list_on a (epoch_day day)) (λ a f. ⊥) }
         ensures falls { Falls S.Store self.old self.new }
         ensures crash { LeavesAll S.Store self.old self.new }
     {
-        let due = self.due_records(number_of(day))?;
+        let Some(day) = number_from_1970(day) else {
+            return Ok(Vec::new(self.alloc));
+        };
+        let due = self.due_records(day)?;
         let lines = self.unheld_lines(due)?;
         Ok(lines)
     }

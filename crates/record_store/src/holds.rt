@@ -7,10 +7,11 @@ ghost use Rattle.record_archive.specs.Faults.{is_trouble};
 ghost use Rattle.record_archive.specs.Calls.{Quietly};
 ghost use Rattle.record_store.specs.Stores.{StandsFor, ObeysRows, Leaves, LeavesAll, LeavesMade, Falls, ChangesByCommand, TellsOutcome, IsOpenOnOk};
 
+use crate::changes::{Holding, Release};
 use crate::fault::{BUSY, StoreFault, fault_of};
 use crate::store::Store;
-use crate::transactions::{end_hold, put_hold};
 use record_archive::ArchiveRefusal;
+use record_tables::transact::transact;
 use sqlite::Alter;
 
 impl<S: Alter> Store<S> {
@@ -49,7 +50,7 @@ impl<S: Alter> Store<S> {
         let Ok(()) = self.held.add(number, 1) else {
             return Err(StoreFault::NoMemory);
         };
-        match put_hold(&mut self.conn, name, number) {
+        match transact(&mut self.conn, Holding { name, number }) {
             Ok(()) => Ok(()),
             Err(error) => {
                 self.held.take(number, 1);
@@ -103,7 +104,7 @@ impl<S: Alter> Store<S> {
         if !self.conn.is_autocommit() {
             return Err(BUSY);
         }
-        match end_hold(&mut self.conn, name, number) {
+        match transact(&mut self.conn, Release { name, number }) {
             Ok(()) => {
                 self.held.take(number, 1);
                 Ok(())

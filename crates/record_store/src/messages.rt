@@ -10,7 +10,7 @@ ghost use Rattle.record_store.specs.Stores.{StandsFor, Tells, LeavesAll, Falls};
 use crate::fault::{LOST, StoreFault, fault_of};
 use crate::store::Store;
 use record_archive::ArchiveRefusal;
-use record_tables::lookup::message_body;
+use record_reads::lookup::message_body;
 use sqlite::Alter;
 
 impl<S: Alter> Store<S> {

@@ -4,13 +4,9 @@ pub mod WriteLemmas
 pub mod DeleteLemmas
 pub mod AnswerLemmas
 pub mod UpdateLemmas
+pub mod Described
 pub mod Statements
 pub mod Loops
 pub mod LayLemmas
 pub mod DropLemmas
 pub mod LayoutLemmas
-pub mod TypedLemmas
-pub mod ReadLemmas
-pub mod LookupLemmas
-pub mod DueRecords
-pub mod StoredDueLemmas

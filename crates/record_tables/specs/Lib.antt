@@ -8,6 +8,3 @@ pub mod Layouts
 pub mod Shapes
 pub mod Layout
 pub mod Faults
-pub mod Lookups
-pub mod DueRecords
-pub mod StoredDues

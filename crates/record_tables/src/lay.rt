@@ -12,6 +12,7 @@ ghost use Rattle.record_tables.specs.CodeRows.{due_of, class_entry_of, rule_of, 
 use crate::layout::has_dues;
 use crate::renew::{put_plan, put_version};
 use crate::rows::{ClassRow, DueRow, ScheduleRow};
+use crate::transact::{Change, transact};
 use sqlite::{Alter, Connection, Error, Transaction};
 use sqlite_schema::schema::Index;
 
@@ -121,21 +122,23 @@ fn fill<S: Alter>(
     Ok(())
 }
 
-fn lay_all<S: Alter>(
-    tx: &mut Transaction<'_, S>,
-    schedules: &[ScheduleRow],
-    classes: &[ClassRow],
-) -> Result<(), Error>
-    ensures same_reference { tx.new.conn.ghost_name ≡ tx.old.conn.ghost_name }
-    ensures ok { OnOk result (MakesIn S.Store tx.old.conn.now tx.new.conn.now
-        (IsLaid (map rule_of schedules.now) (map class_entry_of classes.now))) }
-    ensures goes_on { GoesOnIn S.Store tx.old.conn.now tx.new.conn.now result }
-    ensures err { KeepsIn S.Store tx.old.conn.now tx.new.conn.now result }
-    ensures survives { CommitsNothing S.Store tx.old.conn.now tx.new.conn.now }
-{
-    lay_tables(tx)?;
-    fill(tx, schedules, classes, &[])?;
-    Ok(())
+/// The tables of version 2, created with a plan in a database that has none.
+#[derive(Drop)]
+struct Laying<'a> {
+    schedules: &'a [ScheduleRow],
+    classes: &'a [ClassRow],
+}
+
+impl Change for Laying<'_> {
+    ghost may_be_made = { λ c db. Unit {0} };
+
+    ghost makes = { λ c. IsLaid (map rule_of c.schedules.now) (map class_entry_of c.classes.now) };
+
+    fn make<S: Alter>(self, tx: &mut Transaction<'_, S>) -> Result<(), Error> {
+        lay_tables(tx)?;
+        fill(tx, self.schedules, self.classes, &[])?;
+        Ok(())
+    }
 }
 
 /// Creates the tables of version 2, with a plan, in a database that has none: all or nothing, even in a crash.
@@ -156,10 +159,7 @@ pub fn lay<S: Alter>(
     ensures crash { CommitsWhole S.Store conn.old conn.new
         (IsLaid (map rule_of schedules.now) (map class_entry_of classes.now)) }
 {
-    let _settled = conn.is_autocommit();
-    let mut tx = conn.transaction();
-    lay_all(&mut tx, schedules, classes)?;
-    tx.commit()?;
+    transact(conn, Laying { schedules, classes })?;
     Ok(())
 }
 
@@ -209,25 +209,25 @@ fn lay_beside<S: Alter>(tx: &mut Transaction<'_, S>, has_dues: bool) -> Result<(
     }
 }
 
-fn move_all<S: Alter>(
-    tx: &mut Transaction<'_, S>,
+/// Version 1 moved over to version 2, with these rows of its plan and these due days.
+#[derive(Drop)]
+struct Moving<'a> {
     has_dues: bool,
-    schedules: &[ScheduleRow],
-    classes: &[ClassRow],
-    dues: &[DueRow],
-) -> Result<(), Error>
-    requires ascending { AreAscending (map due_of dues.now) }
-    requires dues { TellsDues (state S.Store tx.old.conn.now).now.schema has_dues }
-    ensures same_reference { tx.new.conn.ghost_name ≡ tx.old.conn.ghost_name }
-    ensures ok { OnOk result (MakesIn S.Store tx.old.conn.now tx.new.conn.now
-        (IsMovedTo schedules.now classes.now dues.now)) }
-    ensures goes_on { GoesOnIn S.Store tx.old.conn.now tx.new.conn.now result }
-    ensures err { KeepsIn S.Store tx.old.conn.now tx.new.conn.now result }
-    ensures survives { CommitsNothing S.Store tx.old.conn.now tx.new.conn.now }
-{
-    lay_beside(tx, has_dues)?;
-    fill(tx, schedules, classes, dues)?;
-    Ok(())
+    schedules: &'a [ScheduleRow],
+    classes: &'a [ClassRow],
+    dues: &'a [DueRow],
+}
+
+impl Change for Moving<'_> {
+    ghost may_be_made = { λ c db. TellsDues db.schema c.has_dues × AreAscending (map due_of c.dues.now) };
+
+    ghost makes = { λ c. IsMovedTo c.schedules.now c.classes.now c.dues.now };
+
+    fn make<S: Alter>(self, tx: &mut Transaction<'_, S>) -> Result<(), Error> {
+        lay_beside(tx, self.has_dues)?;
+        fill(tx, self.schedules, self.classes, self.dues)?;
+        Ok(())
+    }
 }
 
 /// Moves a database of version 1 over to version 2, with these rows of its plan and these due days: all or nothing,
@@ -251,10 +251,15 @@ pub fn move_first<S: Alter>(
     ensures crash { CommitsWhole S.Store conn.old conn.new
         (IsMovedTo schedules.now classes.now dues.now) }
 {
-    let dated = has_dues(conn.schema());
-    let _settled = conn.is_autocommit();
-    let mut tx = conn.transaction();
-    move_all(&mut tx, dated, schedules, classes, dues)?;
-    tx.commit()?;
+    let has_dues = has_dues(conn.schema());
+    transact(
+        conn,
+        Moving {
+            has_dues,
+            schedules,
+            classes,
+            dues,
+        },
+    )?;
     Ok(())
 }

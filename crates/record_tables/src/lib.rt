@@ -1,16 +1,11 @@
-//! The tables of an archive of messages and records, over SQL: their rows, and one function for each statement.
+//! The tables of an archive of messages and records, over SQL: their rows, one function for each statement that changes
+//! them, and one that makes a change in a transaction.
 #![tactic(auto)]
 
-mod cells;
-pub mod due_records;
 pub mod fault;
 pub mod lay;
 pub mod layout;
-pub mod lookup;
-mod query;
-pub mod read;
 pub mod renew;
 pub mod rows;
-pub mod stored_dues;
-mod typed;
+pub mod transact;
 pub mod writes;

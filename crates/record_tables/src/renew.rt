@@ -10,6 +10,7 @@ ghost use Rattle.record_tables.specs.Steps.{PutsIn, KeepsIn, CommitsNothing, Com
 use crate::lay::empty_dues;
 use crate::layout::is_alone;
 use crate::rows::{ClassRow, DueRow, ScheduleRow};
+use crate::transact::{Change, transact};
 use crate::writes::{
     clear_classes, clear_dues, clear_schedules, clear_settings, insert_class, insert_due,
     insert_schedule, insert_setting,
@@ -167,31 +168,31 @@ pub(crate) fn put_plan<S: Alter>(
     Ok(())
 }
 
-/// Replaces the rows of the plan and the due days. `is_alone` says that the database has no tables but those of
-/// version 2.
-fn renew_plan<S: Alter>(
-    tx: &mut Transaction<'_, S>,
+/// The rows of a plan, and the due days by it, in place of those that are there.
+#[derive(Drop)]
+struct Renewal<'a> {
+    /// The database has no tables but those of version 2.
     is_alone: bool,
-    schedules: &[ScheduleRow],
-    classes: &[ClassRow],
-    dues: &[DueRow],
-) -> Result<(), Error>
-    requires ascending { AreAscending (map due_of dues.now) }
-    requires alone { TellsAlone (state S.Store tx.old.conn.now).now.schema is_alone }
-    ensures same_reference { tx.new.conn.ghost_name ≡ tx.old.conn.ghost_name }
-    ensures ok { OnOk result
-        (PutsIn S.Store tx.old.conn.now tx.new.conn.now Always
-        (with_plan_rows schedules.now classes.now dues.now)) }
-    ensures err { KeepsIn S.Store tx.old.conn.now tx.new.conn.now result }
-    ensures survives { CommitsNothing S.Store tx.old.conn.now tx.new.conn.now }
-{
-    if is_alone {
-        empty_dues(tx)?;
-        put_plan(tx, schedules, classes, dues)?;
-        Ok(())
-    } else {
-        put_plan(tx, schedules, classes, dues)?;
-        Ok(())
+    schedules: &'a [ScheduleRow],
+    classes: &'a [ClassRow],
+    dues: &'a [DueRow],
+}
+
+impl Change for Renewal<'_> {
+    ghost may_be_made = { λ c db. TellsAlone db.schema c.is_alone × AreAscending (map due_of c.dues.now) };
+
+    ghost makes = { λ c. IsRevised (map rule_of c.schedules.now) (map class_entry_of c.classes.now)
+        (map due_of c.dues.now) };
+
+    fn make<S: Alter>(self, tx: &mut Transaction<'_, S>) -> Result<(), Error> {
+        if self.is_alone {
+            empty_dues(tx)?;
+            put_plan(tx, self.schedules, self.classes, self.dues)?;
+            Ok(())
+        } else {
+            put_plan(tx, self.schedules, self.classes, self.dues)?;
+            Ok(())
+        }
     }
 }
 
@@ -216,10 +217,15 @@ pub fn replace_plan<S: Alter>(
     ensures crash { CommitsWhole S.Store conn.old conn.new (IsRevised (map rule_of schedules.now)
         (map class_entry_of classes.now) (map due_of dues.now)) }
 {
-    let alone = is_alone(conn.schema());
-    let _settled = conn.is_autocommit();
-    let mut tx = conn.transaction();
-    renew_plan(&mut tx, alone, schedules, classes, dues)?;
-    tx.commit()?;
+    let is_alone = is_alone(conn.schema());
+    transact(
+        conn,
+        Renewal {
+            is_alone,
+            schedules,
+            classes,
+            dues,
+        },
+    )?;
     Ok(())
 }

@@ -1,5 +1,4 @@
 use Rattle.std.proofs.Common.{refl}
-use Rattle.filing_desk.proofs.DueLemmas.{number_is}
 use Rattle.filing_desk.proofs.RecordCommands.{destroys, number_refused, record_done, record_refused}
 use Rattle.filing_desk.proofs.StepLemmas.{done_fault}
 use Rattle.filing_desk.proofs.desk.Desk.destroy.Goals as goal
@@ -11,11 +10,9 @@ returns-in_err-number g c = λ n is within.
 
 pub returns-in_err-destroy : goal.returns-in_err-destroy
 returns-in_err-destroy g c = λ n is within.
-    let day = number_is c.day_from_1970.result n (c.day_from_1970.ensures.same n is within) in
     let result = c.from_residual-in_err-destroy.ensures in
-    record_refused g.A.Records.clean g.A.Records.stands _ _ (destroys n) c.args.self.now _ c.in_ok-number.number c.args.number c.in_err-destroy.field-0.0 _ c.in_ok-number.ensures (record { officers = refl; flights = refl; last = refl }) refl (rw day at c.in_err-destroy.ensures) (done_fault _ _ result.0 result.1)
+    record_refused g.A.Records.clean g.A.Records.stands _ _ (destroys n) c.args.self.now _ c.in_ok-number.number c.args.number c.in_err-destroy.field-0.0 _ c.in_ok-number.ensures (record { officers = refl; flights = refl; last = refl }) refl (rw is at c.in_err-destroy.ensures) (done_fault _ _ result.0 result.1)
 
 pub returns : goal.returns
 returns g c = λ n is within.
-    let day = number_is c.day_from_1970.result n (c.day_from_1970.ensures.same n is within) in
-    record_done g.A.Records.clean g.A.Records.stands _ _ (destroys n) c.args.self.now _ c.in_ok-number.number c.args.number c.in_ok-number.ensures (record { officers = refl; flights = refl; last = refl }) refl (rw day at c.in_ok-destroy.ensures)
+    record_done g.A.Records.clean g.A.Records.stands _ _ (destroys n) c.args.self.now _ c.in_ok-number.number c.args.number c.in_ok-number.ensures (record { officers = refl; flights = refl; last = refl }) refl (rw is at c.in_ok-destroy.ensures)

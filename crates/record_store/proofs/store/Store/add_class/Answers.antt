@@ -24,9 +24,9 @@ returns-in-Ok-clause-obeys g c = λ (a : Archive) s.
     let q = c.plan_class.new.plan in
     let path = c.args.path.now in
     let made = c.in_ok-plan_class.ensures.ok in
-    let falls : HasCleanDisk (state g.S.Store c.put_class.new.conn) → HasCleanDisk (state g.S.Store c.args.self.now.conn) = λ clean. omega (arith, c.put_class.ensures.crash.clean, clean) in (
+    let falls : HasCleanDisk (state g.S.Store c.transact.new.conn) → HasCleanDisk (state g.S.Store c.args.self.now.conn) = λ clean. omega (arith, c.transact.ensures.crash.clean, clean) in (
       subst (Becomes g.S.Store _) (sym (is_added a p q path s.plan made))
-          (stands_turned g.S.Store c.args.self.now _ a (with_plan a q) Always (with_class path true None) s (added_archive a p q path s.plan made s.archive c.in_ok-plan_class.ensures.plans.1) c.put_class.ensures.idle refl s.next s.held s.others falls c.put_class.ensures.was_open c.in-Ok.ensures.ok
+          (stands_turned g.S.Store c.args.self.now _ a (with_plan a q) Always (with_class path true None) s (added_archive a p q path s.plan made s.archive c.in_ok-plan_class.ensures.plans.1) c.transact.ensures.idle refl s.next s.held s.others falls c.transact.ensures.was_open c.in-Ok.ensures.ok
           (keeps_added a p q path s.plan made s.archive)),
       tt,
     )
@@ -40,9 +40,9 @@ returns-in-Ok-clause-crash g c =
     let q = c.plan_class.new.plan in
     let path = c.args.path.now in
     let made = c.in_ok-plan_class.ensures.ok in
-    leaves_added g.S.Store c.args.self.now (record c.args.self.now { conn = c.put_class.new.conn }) path q made
-    (λ (a : Archive) s. leaves_turned g.S.Store c.args.self.now c.put_class.new.conn a (with_plan a q) (◌≡◌ {A = Result Archive ArchiveRefusal} (Ok (with_plan a q)) (Ok (with_plan a q))) Always (with_class path true None) s
-    (λ was db kept legal turns. keeps_added a p q path s.plan made s.archive was db kept turns) c.put_class.ensures.crash)
+    leaves_added g.S.Store c.args.self.now (record c.args.self.now { conn = c.transact.new.conn }) path q made
+    (λ (a : Archive) s. leaves_turned g.S.Store c.args.self.now c.transact.new.conn a (with_plan a q) (◌≡◌ {A = Result Archive ArchiveRefusal} (Ok (with_plan a q)) (Ok (with_plan a q))) Always (with_class path true None) s
+    (λ was db kept legal turns. keeps_added a p q path s.plan made s.archive was db kept turns) c.transact.ensures.crash)
 
 pub returns-in-Err-clause-crash : goal.returns-in-Err-clause-crash
 returns-in-Err-clause-crash g c =
@@ -50,15 +50,15 @@ returns-in-Err-clause-crash g c =
     let q = c.plan_class.new.plan in
     let path = c.args.path.now in
     let made = c.in_ok-plan_class.ensures.ok in
-    leaves_added g.S.Store c.args.self.now (record c.args.self.now { conn = c.put_class.new.conn }) path q made
-    (λ (a : Archive) s. leaves_turned g.S.Store c.args.self.now c.put_class.new.conn a (with_plan a q) (◌≡◌ {A = Result Archive ArchiveRefusal} (Ok (with_plan a q)) (Ok (with_plan a q))) Always (with_class path true None) s
-    (λ was db kept legal turns. keeps_added a p q path s.plan made s.archive was db kept turns) c.put_class.ensures.crash)
+    leaves_added g.S.Store c.args.self.now (record c.args.self.now { conn = c.transact.new.conn }) path q made
+    (λ (a : Archive) s. leaves_turned g.S.Store c.args.self.now c.transact.new.conn a (with_plan a q) (◌≡◌ {A = Result Archive ArchiveRefusal} (Ok (with_plan a q)) (Ok (with_plan a q))) Always (with_class path true None) s
+    (λ was db kept legal turns. keeps_added a p q path s.plan made s.archive was db kept turns) c.transact.ensures.crash)
 
 pub returns-in-Err-clause-obeys : goal.returns-in-Err-clause-obeys
 returns-in-Err-clause-obeys g c = λ (a : Archive) s.
     let same = without-added c.args.self.now.plan c.plan_class.new.plan c.args.path.now c.in_ok-plan_class.ensures.ok in
-    let falls : HasCleanDisk (state g.S.Store c.put_class.new.conn) → HasCleanDisk (state g.S.Store c.args.self.now.conn) = λ clean. omega (arith, c.put_class.ensures.crash.clean, clean) in (
-      stands_refused g.S.Store c.args.self.now _ a s c.put_class.ensures.idle (c.remove.ensures ∙ same) refl (λ n. refl) (λ m. refl) falls c.put_class.ensures.was_open
+    let falls : HasCleanDisk (state g.S.Store c.transact.new.conn) → HasCleanDisk (state g.S.Store c.args.self.now.conn) = λ clean. omega (arith, c.transact.ensures.crash.clean, clean) in (
+      stands_refused g.S.Store c.args.self.now _ a s c.transact.ensures.idle (c.remove.ensures ∙ same) refl (λ n. refl) (λ m. refl) falls c.transact.ensures.was_open
           (λ clean is_open. (c.in-Err.ensures.err clean is_open).0),
       λ r is. absurd (true≢false (sym (is_trouble-fault_of c.in-Err.error) ∙ ap is_trouble (sym c.fault_of.ensures ∙ is))),
     )

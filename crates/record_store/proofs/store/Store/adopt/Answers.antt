@@ -2,9 +2,9 @@ use Rattle.std.proofs.Common.{◌≡◌, ◌∙◌}
 use Rattle.std.proofs.lemmas.Result.{IfOk-weaker, IfErr-weaker}
 use Rattle.sqlite.specs.Held.{state}
 use Rattle.record_archive.specs.Archive.{Archive}
-use Rattle.record_store.specs.Adoption.{Finds, FindsSecond, FindsFirst, FindsNothing, IsKeyed}
+use Rattle.record_adoption.specs.Adoption.{Finds, FindsSecond, FindsFirst, FindsNothing, IsKeyed}
 use Rattle.record_store.proofs.AdoptLayouts.{lays_at, rows_left, no_reads, second_reads, first_reads, no_rows, second_rows, first_rows, finds_nothing, finds_second, finds_first, first_none, first_laid}
-use Rattle.record_store.proofs.AdoptSettled.{keyed_of, leaves_weaker}
+use Rattle.record_adoption.proofs.AdoptSettled.{keyed_of, leaves_weaker}
 use Rattle.record_store.proofs.store.Store.adopt.Goals as goal
 
 pub returns-in-Empty-clause-found : goal.returns-in-Empty-clause-found

@@ -2,7 +2,7 @@ use Rattle.std.proofs.Common.{map, ap, refl, subst, rules, ◌∙◌}
 use Rattle.class_plan.specs.Plans.{first_plan, IsPlan}
 use Rattle.record_tables.specs.CodeRows.{class_entry_of, rule_of}
 use Rattle.record_rows.specs.Rules as rows
-use Rattle.record_store.proofs.AdoptSettled.{leaves_laid}
+use Rattle.record_adoption.proofs.AdoptSettled.{leaves_laid}
 use Rattle.record_store.proofs.StoreLemmas.{stands_laid}
 use Rattle.record_store.proofs.store.Store.create.Goals as goal
 

@@ -1,6 +1,6 @@
 use Rattle.std.proofs.Common.{◌≡◌, ◌==◌, arith, subst, Some, None, Err}
 use Rattle.record_tables.specs.CodeRows.{record_of}
-use Rattle.record_archive.specs.Archive.{Archive, destroy}
+use Rattle.record_archive.specs.Archive.{Archive, destroy_by, record_at}
 use Rattle.record_archive.specs.declared.fault.ArchiveRefusal.TheVariants.{Held}
 use Rattle.record_store.specs.Destruction.{against_destruction}
 use Rattle.record_store.proofs.DueLemmas.{held_if, free_if}
@@ -13,7 +13,7 @@ returns-then-count-gt0-clause-tells g c = λ (a : Archive) s.
       t.0,
       λ clean q is.
           let same : Held ≡ q = cc in
-          subst (λ k. destroy a c.args.number c.args.day ≡ Err k) same
+          subst (λ k. destroy_by a c.args.number c.args.day (record_at a c.args.number) ≡ Err k) same
           (refused_held a c.args.number c.args.day (record_of c.in_ok-record.record) (t.1 clean) c.if-record.false
           (held_if (λ h. h.number == c.args.number) a.holds (omega (arith, c.count.ensures, t.0.held c.args.number, c.if-count-gt0.true)))),
     )

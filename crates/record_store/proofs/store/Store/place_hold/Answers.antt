@@ -5,27 +5,27 @@ use Rattle.record_tables.specs.Changes as tables
 use Rattle.record_tables.specs.Changes.{Always}
 use Rattle.record_archive.specs.Archive as archive
 use Rattle.record_archive.specs.Archive.{Archive}
-use Rattle.record_store.specs.Counts.{only_at}
+use Rattle.record_adoption.specs.Counts.{only_at}
 use Rattle.record_store.proofs.CommandLemmas.{stands_turned, leaves_turned}
 use Rattle.record_store.proofs.HoldLemmas.{held_is_archive, stores_held, count_held}
 use Rattle.record_store.proofs.store.Store.place_hold.Goals as goal
 
-pub returns-in-Ok-put_hold-clause-ok : goal.returns-in-Ok-put_hold-clause-ok
-returns-in-Ok-put_hold-clause-ok g c = λ (a : Archive) s e.
+pub returns-in-Ok-transact-clause-ok : goal.returns-in-Ok-transact-clause-ok
+returns-in-Ok-transact-clause-ok g c = λ (a : Archive) s e.
     let name = c.args.name.now in
     let n = c.args.number in
-    let falls : HasCleanDisk (state g.S.Store c.put_hold.new.conn) → HasCleanDisk (state g.S.Store c.args.self.now.conn) = λ clean. omega (arith, c.put_hold.ensures.crash.clean, clean) in
-    stands_turned g.S.Store c.args.self.now _ a (archive.with_hold a name n) Always (tables.with_hold name n) s (held_is_archive a name n s.archive e) c.put_hold.ensures.idle s.plan s.next
-    (λ m. c.in-Ok.ensures.ok m ∙ ap (λ k. k + only_at n 1 m) (s.held m) ∙ sym (count_held a name n m)) s.others falls c.put_hold.ensures.was_open c.in-Ok-put_hold.ensures.ok (stores_held name n a)
+    let falls : HasCleanDisk (state g.S.Store c.transact.new.conn) → HasCleanDisk (state g.S.Store c.args.self.now.conn) = λ clean. omega (arith, c.transact.ensures.crash.clean, clean) in
+    stands_turned g.S.Store c.args.self.now _ a (archive.with_hold a name n) Always (tables.with_hold name n) s (held_is_archive a name n s.archive e) c.transact.ensures.idle s.plan s.next
+    (λ m. c.in-Ok.ensures.ok m ∙ ap (λ k. k + only_at n 1 m) (s.held m) ∙ sym (count_held a name n m)) s.others falls c.transact.ensures.was_open c.in-Ok-transact.ensures.ok (stores_held name n a)
 
-pub returns-in-Ok-put_hold-clause-crash : goal.returns-in-Ok-put_hold-clause-crash
-returns-in-Ok-put_hold-clause-crash g c = λ (a : Archive) s.
+pub returns-in-Ok-transact-clause-crash : goal.returns-in-Ok-transact-clause-crash
+returns-in-Ok-transact-clause-crash g c = λ (a : Archive) s.
     let name = c.args.name.now in
     let n = c.args.number in
-    leaves_turned g.S.Store c.args.self.now c.put_hold.new.conn a (archive.with_hold a name n) (archive.hold a name n ≡ Ok (archive.with_hold a name n)) Always (tables.with_hold name n) s (λ was db kept legal turns. stores_held name n a was db kept turns) c.put_hold.ensures.crash
+    leaves_turned g.S.Store c.args.self.now c.transact.new.conn a (archive.with_hold a name n) (archive.hold a name n ≡ Ok (archive.with_hold a name n)) Always (tables.with_hold name n) s (λ was db kept legal turns. stores_held name n a was db kept turns) c.transact.ensures.crash
 
 pub returns-in-Err-clause-crash : goal.returns-in-Err-clause-crash
 returns-in-Err-clause-crash g c = λ (a : Archive) s.
     let name = c.args.name.now in
     let n = c.args.number in
-    leaves_turned g.S.Store c.args.self.now c.put_hold.new.conn a (archive.with_hold a name n) (archive.hold a name n ≡ Ok (archive.with_hold a name n)) Always (tables.with_hold name n) s (λ was db kept legal turns. stores_held name n a was db kept turns) c.put_hold.ensures.crash
+    leaves_turned g.S.Store c.args.self.now c.transact.new.conn a (archive.with_hold a name n) (archive.hold a name n ≡ Ok (archive.with_hold a name n)) Always (tables.with_hold name n) s (λ was db kept legal turns. stores_held name n a was db kept turns) c.transact.ensures.crash

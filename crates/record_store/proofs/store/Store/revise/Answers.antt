@@ -2,7 +2,8 @@ use Rattle.std.proofs.Common.{◌∙◌, ap, map}
 use Rattle.record_tables.specs.CodeRows.{due_of, record_of}
 use Rattle.record_archive.specs.Archive as archive
 use Rattle.record_archive.specs.Archive.{Archive}
-use Rattle.record_store.specs.Revisions.{IsRevision, dues_in, with_plan}
+use Rattle.record_adoption.specs.Keeping.{dues_in}
+use Rattle.record_store.specs.Revisions.{IsRevision, with_plan}
 use Rattle.record_store.proofs.AllowedLemmas.{obeys_allowed, leaves_allowed}
 use Rattle.record_store.proofs.ReviseLemmas.{judged_revision}
 use Rattle.record_store.proofs.store.Store.revise.Goals as goal

@@ -1,7 +1,7 @@
 use Rattle.std.proofs.Common.{◌==◌, ◌++◌, ◌∙◌, map, sym, ap}
 use Rattle.std.proofs.lemmas.List.{append-nil}
-use Rattle.record_tables.specs.DueRecords.{DueRecord, due_record_of}
-use Rattle.record_store.specs.Counts.{count_at}
+use Rattle.record_reads.specs.DueRecords.{DueRecord, due_record_of}
+use Rattle.record_adoption.specs.Counts.{count_at}
 use Rattle.record_archive.specs.Lines.{line_view}
 use Rattle.record_store.proofs.DueLemmas.{lines_told, line_more, line_none, is_zero, is_not_zero, no_items}
 use Rattle.record_store.proofs.store.Store.unheld_lines.Goals as goal

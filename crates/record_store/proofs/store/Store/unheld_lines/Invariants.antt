@@ -1,6 +1,6 @@
 use Rattle.std.proofs.Common.{◌≡◌, ◌==◌, ◌++◌, map}
-use Rattle.record_tables.specs.DueRecords.{due_record_of}
-use Rattle.record_store.specs.Counts.{count_at}
+use Rattle.record_reads.specs.DueRecords.{due_record_of}
+use Rattle.record_adoption.specs.Counts.{count_at}
 use Rattle.record_archive.specs.Lines.{line_view}
 use Rattle.record_store.proofs.DueLemmas.{lines_told}
 use Rattle.record_store.proofs.store.Store.unheld_lines.Given as goal

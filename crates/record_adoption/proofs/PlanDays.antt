@@ -1,0 +1,84 @@
+-- The due days by a plan, one record after another.
+use Rattle.std.proofs.Common.{◌≡◌, ◌<◌, ◌+◌, ◌-◌, ℕ, zero, suc, slice_get, Bool, true, false, not, cond, ◌&&◌, is_some, unwrap_or, List, [], ◌∷◌, ◌++◌, map, filter, take, length, get_or, Option, Some, None, refl, sym, ap, subst, ◌∙◌, arith}
+use Rattle.std.specs.List.{AllByRecursion}
+use Rattle.std.proofs.lemmas.List.{take_more, map-append}
+use Rattle.sqlite_keyed.proofs.ListLemmas.{all_weaker, ascending-append}
+use Rattle.class_plan.specs.Calendar.{due_on}
+use Rattle.class_plan.specs.Plans.{Listing}
+use Rattle.record_archive.specs.Archive.{Record, Archive}
+use Rattle.record_tables.specs.Rows.{Due}
+use Rattle.record_tables.specs.Changes.{AreAscending}
+use Rattle.record_adoption.specs.Keeping.{has_due, due_row, dues_in}
+
+filter-append : {X : Type 0} (p : X → Bool) (xs ys : List X) → filter p (xs ++ ys) ≡ filter p xs ++ filter p ys
+filter-append p [] ys = refl
+filter-append p (x ∷ xs) ys = go (p x) (filter-append p xs ys)
+  where
+    go : (b : Bool) → filter p (xs ++ ys) ≡ filter p xs ++ filter p ys → cond b (x ∷ filter p (xs ++ ys)) (filter p (xs ++ ys)) ≡ cond b (x ∷ filter p xs) (filter p xs) ++ filter p ys
+    go true more = ap (λ l. x ∷ l) more
+    go false more = more
+
+abbrev alone : Listing → Archive
+alone p = record { plan = p; messages = []; records = []; holds = [] }
+
+pub dues_next : {V : Type 0} (p : Listing) (f : V → Record) (vs : List V) (v : V) (i : ℕ) → i < length vs → v ≡ get_or vs i v
+    → dues_in p (map f (take i vs)) ++ dues_in p (f v ∷ []) ≡ dues_in p (map f (take (i + 1) vs))
+dues_next p f vs v i low is =
+    let next : map f (take (i + 1) vs) ≡ map f (take i vs) ++ f v ∷ [] = ap (map f) (take_more vs i v low) ∙ map-append f (take i vs) _ ∙ ap (λ x. map f (take i vs) ++ f x ∷ []) (sym is) in
+    sym (ap (dues_in p) next ∙ ap (map (due_row (alone p))) (filter-append (has_due (alone p)) (map f (take i vs)) (f v ∷ [])) ∙ map-append (due_row (alone p)) (filter (has_due (alone p)) (map f (take i vs))) (filter (has_due (alone p)) (f v ∷ [])))
+
+-- ---- a due day after the last of those that ascend
+
+below_last : {V : Type 0} (f : V → Due) (vs : List V) (v : V) (n i : ℕ) → AreAscending (map f vs) → i + 1 ≡ length vs → Some v ≡ slice_get vs i → (f v).number < n → AllByRecursion (λ (d : Due). d.number < n) (map f vs)
+below_last f [] v n i up long at low = tt
+below_last f (x ∷ []) v n zero up long at low = let same : v ≡ x = cc in (subst (λ y. (f y).number < n) same low, tt)
+below_last f (x ∷ []) v n (suc i) up long at low = absurd (omega arith)
+below_last f (x ∷ y ∷ vs) v n zero up long at low = absurd (omega arith)
+below_last f (x ∷ y ∷ vs) v n (suc i) up long at low =
+    let more = below_last f (y ∷ vs) v n i up.1 (omega arith) at low in
+    let first = up.0.0 in
+    (omega (arith, first, more.0), more)
+
+pub after_last : {V : Type 0} (f : V → Due) (vs : List V) (v : V) (n : ℕ) → AreAscending (map f vs) → Some v ≡ slice_get vs (length vs - 1) → (f v).number < n → AllByRecursion (λ (d : Due). d.number < n) (map f vs)
+after_last f [] v n up at low = tt
+after_last f (x ∷ vs) v n up at low = below_last f (x ∷ vs) v n (length (x ∷ vs) - 1) up (omega arith) at low
+
+is_got : {V : Type 0} (vs : List V) (i : ℕ) → i < length vs → None ≡ slice_get vs i → ⊥
+is_got [] i low none = absurd (omega arith)
+is_got (x ∷ vs) zero low none = absurd cc
+is_got (x ∷ vs) (suc i) low none = is_got vs i (omega arith) none
+
+pub after_none : {V : Type 0} (f : V → Due) (vs : List V) (n : ℕ) → None ≡ slice_get vs (length vs - 1) → AllByRecursion (λ (d : Due). d.number < n) (map f vs)
+after_none f [] n none = tt
+after_none f (x ∷ vs) n none = absurd (is_got (x ∷ vs) (length (x ∷ vs) - 1) (omega arith) none)
+
+last_at : {V : Type 0} (f : V → Due) (vs : List V) (v : V) (n i : ℕ) → AllByRecursion (λ (d : Due). d.number < n) (map f vs) → Some v ≡ slice_get vs i → (f v).number < n
+last_at f [] v n zero all at = absurd cc
+last_at f [] v n (suc i) all at = absurd cc
+last_at f (x ∷ vs) v n zero all at = let same : v ≡ x = cc in subst (λ y. (f y).number < n) (sym same) all.0
+last_at f (x ∷ vs) v n (suc i) all at = last_at f vs v n i all.1 at
+
+pub last_below : {V : Type 0} (f : V → Due) (vs : List V) (v : V) (n : ℕ) → AllByRecursion (λ (d : Due). d.number < n) (map f vs) → Some v ≡ slice_get vs (length vs - 1) → (f v).number < n
+last_below f vs v n all at = last_at f vs v n (length vs - 1) all at
+
+pub rises_after : {V : Type 0} (f : V → Due) (vs : List V) (v : V) → AreAscending (map f vs) → AllByRecursion (λ (d : Due). d.number < (f v).number) (map f vs) → AreAscending (map f (vs ++ v ∷ []))
+rises_after f vs v up below =
+    subst AreAscending (sym (map-append f vs (v ∷ [])))
+    (ascending-append (λ (x y : Due). x.number < y.number) (map f vs) (f v ∷ []) up (tt, tt)
+    (all_weaker (λ (x : Due). x.number < (f v).number) (λ (x : Due). AllByRecursion (λ (y : Due). x.number < y.number) (f v ∷ [])) (λ x h. (h, tt)) (map f vs) below))
+
+-- what one record adds
+pub none_of_destroyed : (p : Listing) (r : Record) → r.destroyed ≡ true → dues_in p (r ∷ []) ≡ []
+none_of_destroyed p r h = rw h refl
+
+pub none_without_day : (p : Listing) (r : Record) → due_on p r.path r.day ≡ None → dues_in p (r ∷ []) ≡ []
+none_without_day p r h = ap (λ o. map (due_row (alone p)) (cond (not r.destroyed && is_some o) (r ∷ []) [])) h ∙ go r.destroyed
+  where
+    go : (d : Bool) → map (due_row (alone p)) (cond (not d && false) (r ∷ []) []) ≡ []
+    go true = refl
+    go false = refl
+
+pub one_with_day : (p : Listing) (r : Record) (day : ℕ) → r.destroyed ≡ false → due_on p r.path r.day ≡ Some day → dues_in p (r ∷ []) ≡ record { number = r.number; day = day } ∷ []
+one_with_day p r day live h =
+    ap (λ d. map (due_row (alone p)) (cond (not d && is_some (due_on p r.path r.day)) (r ∷ []) [])) live
+    ∙ ap (λ b. map (due_row (alone p)) (cond b (r ∷ []) [])) (ap is_some h) ∙ ap (λ (o : Option ℕ). record { number = r.number; day = unwrap_or o 0 } ∷ []) h

@@ -1,0 +1,222 @@
+-- What a database holds of an archive when a store is opened over it, and what is read from it.
+use Rattle.std.specs.Prelude.{◌<◌, ◌^◌, ◌≡◌, ◌≢◌, ◌⊎◌, ℕ, ◌-◌, false, List, [], ◌∷◌, map, codes, IsPermutation}
+use Rattle.std.specs.List.{AllByRecursion}
+use Rattle.sqlite.specs.Store.{Ghosts}
+use Rattle.sqlite.specs.Schema.{Schema}
+use Rattle.sqlite.specs.Tree.{Trees}
+use Rattle.sqlite.specs.Effect.{Database}
+use Rattle.sqlite.specs.State.{HasCleanDisk, Survives}
+use Rattle.sqlite.specs.Held.{Held, state}
+use Rattle.sqlite_keyed.specs.Lists.{sort_by}
+use Rattle.sqlite_trees.specs.Tree.{IsAscending}
+use Rattle.class_plan.specs.Plans.{Listing, IsPlan}
+use Rattle.class_plan.specs.Texts.{text_of}
+use Rattle.record_tables.specs.Tables.{IsArchiveSchema, no_schema, first_schema, first_schema_with_dues}
+use Rattle.record_archive.specs.Archive.{Message, Record, Archive, Hold, IsArchive, empty_archive, is_hold, next_number}
+use Rattle.record_tables.specs.Rows.{Tables, Due, Stores, StoresFirst, StoresCommon, AreKeyed}
+use Rattle.record_tables.specs.Changes.{ClassEntry, Rule}
+use Rattle.record_tables.specs.Reads.{HoldEntry, Pair, class_entry, pair, hold_cmp, ArePairs, AreClasses, AreRules}
+use Rattle.record_tables.specs.CodeRows.{record_of, hold_entry_of, class_entry_of, rule_of, due_of}
+use Rattle.record_tables.specs.Steps.{IsIdle, Falls, IsStill, CommitsNothingOf}
+use Rattle.record_rows.specs.SoundRows.{AreRows}
+use Rattle.record_rows.specs.Rules.{rules_of, classes_of}
+use Rattle.record_rows.specs.Texts.{text_row}
+use Rattle.record_adoption.specs.Counts.{count_at}
+use Rattle.record_adoption.specs.Keeping.{Keeps, StoresArchive, hold_of, hold_count, live_count, due_rows}
+use Rattle.record_adoption.specs.declared.overview.ArchiveRows.{ArchiveRows}
+use Rattle.record_adoption.specs.declared.overview.Overview.{Overview}
+use Rattle.record_adoption.specs.declared.plan_rows.PlanRows.{PlanRows}
+use Rattle.record_adoption.specs.declared.settle.Contents.{Contents}
+use Rattle.record_adoption.specs.declared.text_rows.TextRows.{TextRows}
+
+-- ---- the rows of a database
+
+-- the rows of version 2 are those of the archive, whatever the due days
+pub record FindsSecond (db : Database) (a : Archive) : Type 0 where
+  pub tables : Tables
+  pub stored : Stores db tables
+  pub keyed : AreKeyed tables
+  pub keeps : Keeps tables a
+
+-- the settings of version 1: the text of the root's schedule, and the version
+abbrev pub first_pairs : List ℕ → List Pair
+first_pairs root = record { key = codes "root"; value = root } ∷ record { key = codes "version"; value = codes "1" } ∷ []
+
+-- the rows of version 1, in which schedules are texts
+pub record KeepsFirst (t : Tables) (a : Archive) : Type 0 where
+  pub messages : t.messages ≡ a.messages
+  pub records : t.records ≡ a.records
+  pub holds : map hold_of t.holds ≡ a.holds
+  pub settings : IsPermutation (map pair t.settings) (first_pairs (text_of a.plan.root))
+  pub classes : IsPermutation (map class_entry t.classes) (map text_row a.plan.rows)
+
+-- the rows of version 1 are those of the archive, with any due days or without the table of them
+pub record FindsFirst (db : Database) (a : Archive) : Type 0 where
+  pub tables : Tables
+  pub stored : StoresFirst db tables
+  pub keyed : AreKeyed tables
+  pub keeps : KeepsFirst tables a
+
+-- the rows of either version are those of the archive
+abbrev pub FindsRows : Database → Archive → Type 0
+FindsRows db a = FindsSecond db a ⊎ FindsFirst db a
+
+-- each hold is there once
+abbrev pub AreOnce : List Hold → Type 0
+AreOnce hs = IsAscending (λ (x y : Hold). is_hold x.name x.number y ≡ false) hs
+
+-- the plan is valid, and each hold is there once, as the keys of the table ensure
+pub record IsKeyed (a : Archive) : Type 0 where
+  pub plan : IsPlan a.plan
+  pub once : AreOnce a.holds
+
+-- the messages, records and holds, which both versions keep alike
+pub record FindsCommon (db : Database) (a : Archive) : Type 0 where
+  pub tables : Tables
+  pub stored : StoresCommon db tables
+  pub keyed : AreKeyed tables
+  pub messages : tables.messages ≡ a.messages
+  pub records : tables.records ≡ a.records
+  pub holds : map hold_of tables.holds ≡ a.holds
+
+-- there is no table, as before the empty archive is created
+abbrev pub FindsNothing : Database → Archive → Type 0
+FindsNothing db a = (db.schema ≡ no_schema) × (a ≡ empty_archive)
+
+abbrev pub Finds : Database → Archive → Type 0
+Finds db a = (FindsRows db a × IsKeyed a) ⊎ FindsNothing db a
+
+-- no archive has these rows
+abbrev pub HasNoArchive : Database → Type 0
+HasNoArchive db = (db.schema ≢ no_schema) × ((a : Archive) → FindsRows db a → IsArchive a → ⊥)
+
+-- no archive is found in this way
+abbrev pub FindsNone : (Database → Archive → Type 0) → Database → Type 0
+FindsNone FindsIn db = (a : Archive) → FindsIn db a → IsArchive a → ⊥
+
+-- the rows are an archive's
+pub record HasArchive (db : Database) : Type 0 where
+  pub archive : Archive
+  pub rows : FindsRows db archive
+  pub is : IsArchive archive
+
+-- ---- rows of any kind
+
+-- rows of version 2, whatever they contain; each key is there once
+pub record ReadsSecond (db : Database) (t : Tables) (ps : List Pair) (rs : List Rule) (cs : List ClassEntry) : Type 0 where
+  pub stored : Stores db t
+  pub keyed : AreKeyed t
+  pub settings : ArePairs t ps
+  pub schedules : AreRules t rs
+  pub classes : AreClasses t cs
+  pub holds : AreOnce (map hold_of t.holds)
+
+-- rows of version 1, whatever they contain; each key is there once
+pub record ReadsFirst (db : Database) (t : Tables) (ps : List Pair) (cs : List ClassEntry) : Type 0 where
+  pub stored : StoresFirst db t
+  pub keyed : AreKeyed t
+  pub settings : ArePairs t ps
+  pub classes : AreClasses t cs
+  pub holds : AreOnce (map hold_of t.holds)
+
+-- this holds of the settings, the schedules and the classes, whatever rows of version 2 the database has
+abbrev pub ForSecond : Database → (List Pair → List Rule → List ClassEntry → Type 0) → Type 0
+ForSecond db Holds = (t : Tables) (ps : List Pair) (rs : List Rule) (cs : List ClassEntry) →
+    ReadsSecond db t ps rs cs → Holds ps rs cs
+
+-- this holds of the settings and the classes, whatever rows of version 1 the database has
+abbrev pub ForFirst : Database → (List Pair → List ClassEntry → Type 0) → Type 0
+ForFirst db Holds = (t : Tables) (ps : List Pair) (cs : List ClassEntry) → ReadsFirst db t ps cs → Holds ps cs
+
+-- rows of version 2 are an archive's
+abbrev pub IsSoundSecond : Database → Type 0
+IsSoundSecond db = ForSecond db (λ ps rs cs. HasArchive db)
+
+-- rows of version 1 are an archive's
+abbrev pub IsSoundFirst : Database → Type 0
+IsSoundFirst db = ForFirst db (λ ps cs. HasArchive db)
+
+-- the rows of either version
+abbrev pub HasRows : Database → Type 0
+HasRows db =
+    ((t : Tables) × (ps : List Pair) × (rs : List Rule) × (cs : List ClassEntry) × ReadsSecond db t ps rs cs)
+    ⊎ ((t : Tables) × (ps : List Pair) × (cs : List ClassEntry) × ReadsFirst db t ps cs)
+
+-- a schema as a store creates it, in version 1 or 2, or none yet
+abbrev pub IsLaidSchema : Schema → Type 0
+IsLaidSchema schema = (schema ≡ no_schema) ⊎ (schema ≡ first_schema) ⊎ (schema ≡ first_schema_with_dues) ⊎ IsArchiveSchema schema
+
+-- ---- what is read
+
+abbrev pub named_hold : Hold → HoldEntry
+named_hold h = record { name = h.name; number = h.number }
+
+-- the holds by record and then by name
+abbrev pub sorted_holds : Archive → List HoldEntry
+sorted_holds a = sort_by hold_cmp (map named_hold a.holds)
+
+pub record TellsRows (r : ArchiveRows) (a : Archive) : Type 0 where
+  pub records : map record_of r.records.items ≡ a.records
+  pub messages : r.messages.items ≡ map (λ (m : Message). m.number) a.messages
+  pub holds : map hold_entry_of r.holds.items ≡ sorted_holds a
+
+pub record TellsPlan (r : PlanRows) (p : Listing) : Type 0 where
+  pub rules : map rule_of r.rules.items ≡ rules_of p
+  pub classes : map class_entry_of r.classes.items ≡ classes_of p
+
+-- what is read from rows that may be no plan's
+pub record ShowsPlan (r : PlanRows) (ps : List Pair) (rs : List Rule) (cs : List ClassEntry) : Type 0 where
+  pub settings : ps ≡ record { key = codes "version"; value = codes "2" } ∷ []
+  pub rules : map rule_of r.rules.items ≡ rs
+  pub classes : map class_entry_of r.classes.items ≡ cs
+
+pub record ShowsTexts (r : TextRows) (ps : List Pair) (cs : List ClassEntry) : Type 0 where
+  pub settings : ps ≡ first_pairs r.root.items
+  pub classes : map class_entry_of r.classes.items ≡ cs
+
+-- the accepted rows are an archive's, and the numbers of the records fit in 32 bits
+pub record IsJudged (p : Listing) (r : ArchiveRows) : Type 0 where
+  pub rows : AreRows p (map record_of r.records.items) r.messages.items (map hold_entry_of r.holds.items)
+  pub small : AllByRecursion (λ (x : Record). x.number < 2 ^ 32) (map record_of r.records.items)
+
+pub record TellsTexts (r : TextRows) (p : Listing) : Type 0 where
+  pub root : r.root.items ≡ text_of p.root
+  pub classes : map class_entry_of r.classes.items ≡ map text_row p.rows
+
+-- what a store over the archive keeps beside the connection, and the due days
+pub record IsOverview (f : Overview) (a : Archive) : Type 0 where
+  pub plan : f.plan ≡ a.plan
+  pub next : f.next ≡ next_number a
+  pub held : (n : ℕ) → count_at f.held n ≡ hold_count a n
+  pub others : (m : ℕ) → count_at f.others m ≡ live_count a m - 1
+  pub dues : map due_of f.dues.items ≡ due_rows a
+  pub archive : IsArchive a
+
+-- ---- calls
+
+-- Reads outside a transaction, of tables that are there, change nothing; a crash leaves what it might have left
+-- before them.
+pub record Sees {S : Type 0} (g : Ghosts S) (Are : Schema → Type 0) (old new : Held S) : Type 0 where
+  pub idle : IsIdle g old new
+  pub falls : Falls g old new
+  pub still : IsStill g old new (Are (state g old).now.schema)
+  pub survives : CommitsNothingOf g old new (Are (state g old).now.schema)
+
+-- a crash leaves what it might have left before, or tables that keep each of these archives
+abbrev pub LeavesArchive : {S : Type 0} → Ghosts S → (old new : Held S) → (Archive → Type 0) → Type 0
+LeavesArchive g old new Is = Survives (state g old) (state g new) (λ (trees : Trees). (db : Database) ×
+    ((a : Archive) → Is a → StoresArchive db a) × (trees ≡ db.trees))
+
+-- the rows of the plan, and what a store keeps beside the connection, are the archive's
+abbrev pub TellsContents : Contents → Archive → Type 0
+TellsContents r a = TellsPlan r.plan_rows a.plan × IsOverview r.overview a
+
+-- the archive that is found in this way before is stored with its due days, if this is its plan and these are its due days
+abbrev pub IsSettled : (Database → Archive → Type 0) → PlanRows → List Due → (old new : Database) → Type 0
+IsSettled FindsIn plan dues old new = (a : Archive) → FindsIn old a → TellsPlan plan a.plan → dues ≡ due_rows a →
+    StoresArchive new a
+
+-- a crash leaves what it might have left before, or tables that keep each archive that is found in this way before
+abbrev pub LeavesFound : {S : Type 0} → Ghosts S → (old new : Held S) → (Database → Archive → Type 0) →
+    (Archive → Type 0) → Type 0
+LeavesFound g old new FindsIn Is = LeavesArchive g old new (λ a. FindsIn (state g old).now a × Is a)

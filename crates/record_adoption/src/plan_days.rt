@@ -1,0 +1,111 @@
+//! Due days by a plan.
+
+ghost use Rattle.std.specs.Prelude.{pos, ◌≡◌, ◌≤◌, ◌<◌, ◌++◌, [], ◌∷◌, map, true, false, IfOk, IfErr, OnOk};
+ghost use Rattle.jiff.specs.Words.{IsBetween, epoch_day};
+ghost use Rattle.class_plan.specs.Calendar.{due_on, number_of_day};
+ghost use Rattle.record_tables.specs.Changes.{AreAscending};
+ghost use Rattle.record_tables.specs.CodeRows.{record_of, due_of};
+ghost use Rattle.sqlite.specs.declared.error.ErrorCode.TheVariants.{OutOfMemory};
+ghost use Rattle.sqlite.specs.declared.error.Error.TheVariants.{SqliteFailure};
+ghost use Rattle.record_adoption.specs.Keeping.{AreBelow, dues_in};
+
+use class_plan::{Date, Plan, date_of, day_number};
+use record_tables::rows::{DueRow, RecordRow};
+use sqlite::{Error, ErrorCode};
+use std::alloc::Global;
+
+/// The number of the last day on which a record may be captured, 2199-12-31.
+pub const LAST_CAPTURE_DAY: u32 = 84_005;
+
+/// The refusal of records that no archive has.
+const CORRUPT: Error = Error::SqliteFailure(ErrorCode::DatabaseCorrupt);
+
+/// The number of a day of 1970 to 9999, in days since 1970-01-01.
+pub fn number_of(day: Date) -> u32
+    requires { IsBetween (pos 0) (pos 2932896) (epoch_day day) }
+    ensures { result ≡ number_of_day day }
+{
+    day_number(day) as u32
+}
+
+/// The due day of a record that was captured on a day in the class of a path, both in days since 1970-01-01. `None`
+/// where the class's schedule is permanent, and where the path is no class.
+///
+/// The caller gives a day of 1970 to 2199.
+pub fn due_day_of(plan: &Plan, path: &[u8], day: u32) -> Option<u32>
+    requires { day ≤ 84005 }
+    ensures { result ≡ due_on plan.now path.now day }
+{
+    let captured = date_of(i64::from(day))?;
+    let due = plan.due_of(path, captured)?;
+    Some(number_of(due))
+}
+
+/// Whether a record's number is above those of these due days.
+fn is_after(dues: &[DueRow], number: u32) -> bool
+    requires { AreAscending (map due_of dues.now) }
+    ensures below { result ≡ true → AreBelow number (map due_of dues.now) }
+    ensures otherwise { result ≡ false → AreBelow number (map due_of dues.now) → ⊥ }
+{
+    match dues.last() {
+        Some(last) => last.record < number,
+        None => true,
+    }
+}
+
+/// Adds a due day; refused where its record's number is not above those before it.
+fn push_in_order(dues: &mut Vec<DueRow>, due: DueRow) -> Result<(), Error>
+    requires { AreAscending (map due_of dues.old.items) }
+    ensures items { OnOk result (dues.new.items ≡ dues.old.items ++ due ∷ []) }
+    ensures ascending { OnOk result (AreAscending (map due_of dues.new.items)) }
+    ensures refused { IfErr result
+        (λ e. AreBelow due.record (map due_of dues.old.items) → e ≡ SqliteFailure OutOfMemory) }
+{
+    if is_after(dues.as_slice(), due.record) {
+        dues.push(due)?;
+        Ok(())
+    } else {
+        Err(CORRUPT)
+    }
+}
+
+/// Adds the due day of a record by a plan, if it is live and has one.
+fn push_due_row(dues: &mut Vec<DueRow>, plan: &Plan, row: &RecordRow) -> Result<(), Error>
+    requires { AreAscending (map due_of dues.old.items) }
+    ensures rows { OnOk result (map due_of dues.new.items ≡ map due_of dues.old.items ++
+        dues_in plan.now (record_of row.now ∷ [])) }
+    ensures ascending { OnOk result (AreAscending (map due_of dues.new.items)) }
+    ensures refused { IfErr result (λ e. row.now.day ≤ 84005 →
+        AreBelow row.now.number (map due_of dues.old.items) → e ≡ SqliteFailure OutOfMemory) }
+{
+    if row.destroyed {
+        return Ok(());
+    }
+    if row.day > LAST_CAPTURE_DAY {
+        return Err(CORRUPT);
+    }
+    match due_day_of(plan, row.path.as_slice(), row.day) {
+        Some(day) => push_in_order(
+            dues,
+            DueRow {
+                record: row.number,
+                day,
+            },
+        ),
+        None => Ok(()),
+    }
+}
+
+/// The due days of the live records by a plan, in the order of the records. No archive has records that are out of
+/// order or were captured after 2199, so they are refused as those of a corrupt database.
+pub fn due_rows_by(alloc: Global, plan: &Plan, records: &[RecordRow]) -> Result<Vec<DueRow>, Error>
+    ensures rows { IfOk result
+        (λ v. map due_of v.items ≡ dues_in plan.now (map record_of records.now)) }
+    ensures ascending { IfOk result (λ v. AreAscending (map due_of v.items)) }
+{
+    let mut dues = Vec::new(alloc);
+    for row in records {
+        push_due_row(&mut dues, plan, row)?;
+    }
+    Ok(dues)
+}

@@ -1,0 +1,22 @@
+use Rattle.std.proofs.Common.{◌∙◌, ap, slice_get}
+use Rattle.record_tables.specs.Rows.{Tables}
+use Rattle.record_reads.proofs.LookupLemmas.{select_body_is, shows_body, body_is, body_none}
+use Rattle.sqlite.specs.Held.{state}
+use Rattle.record_reads.proofs.lookup.message_body.Goals as goal
+
+pub look-requires : goal.look-requires
+look-requires g c = λ f. (select_body_is f).plain
+
+pub returns-in-Some-clause-body : goal.returns-in-Some-clause-body
+returns-in-Some-clause-body g c clean = λ (t : Tables) s keyed.
+    let rows = c.in_ok-rows.rows.items in
+    let shown = shows_body (state g.S.Store c.args.conn.now) (state g.S.Store c.look.new.conn) rows c.args.number t s keyed (rw c.to_sql.ensures at (c.in_ok-rows.ensures.shown clean)) in
+    let first = c.in-Some.ensures.value ∙ ap (λ l. slice_get l 0) c.deref.ensures.value in
+    body_is c.args.number t rows c.in-Some.row.now _ shown first c.in_ok-get-in-Some.ensures.ok.1
+
+pub returns-clause-body : goal.returns-clause-body
+returns-clause-body g c clean = λ (t : Tables) s keyed.
+    let rows = c.in_ok-rows.rows.items in
+    let shown = shows_body (state g.S.Store c.args.conn.now) (state g.S.Store c.look.new.conn) rows c.args.number t s keyed (rw c.to_sql.ensures at (c.in_ok-rows.ensures.shown clean)) in
+    let first = c.in-None.ensures.value ∙ ap (λ l. slice_get l 0) c.deref.ensures.value in
+    body_none c.args.number t rows shown first

@@ -1,0 +1,62 @@
+//! The records that are due, read in one query.
+
+ghost use Rattle.std.specs.Prelude.{◌≡◌, map};
+ghost use Rattle.sqlite.specs.Held.{state};
+ghost use Rattle.record_tables.specs.Tables.{IsArchiveSchema};
+ghost use Rattle.record_tables.specs.Rows.{Tables, Stores, AreKeyed};
+ghost use Rattle.record_reads.specs.DueRecords.{DueRecord, ReadsDueRecord, FitsDueRecord, due_records_by, due_record_of, FitsDueRecordsBy};
+ghost use Rattle.record_tables.specs.Steps.{CommitsNothingOf, IsStill, Falls, IsIdle, ReadsAlone, Learns, Rejects, WasOpenOnOk};
+
+use crate::cells::{number_at, text_at};
+use crate::query::rows_of;
+use crate::typed::{FromRow, rows_in};
+use record_tables::fault::Fault;
+use record_tables::rows::DueRecordRow;
+use sqlite::types::ToSql;
+use sqlite::{Alter, Connection, Row};
+use std::alloc::Global;
+
+impl FromRow for DueRecordRow {
+    ghost reads = { λ row d. ReadsDueRecord row (due_record_of d) };
+
+    ghost is_readable = { λ row. (d : DueRecord) × (FitsDueRecord d × ReadsDueRecord row d) };
+
+    fn from_row(alloc: Global, row: &Row) -> Result<DueRecordRow, Fault> {
+        let record = number_at(row, 0)?;
+        let day = number_at(row, 1)?;
+        let path = text_at(alloc, row, 2)?;
+        Ok(DueRecordRow { record, day, path })
+    }
+}
+
+/// The records with a due day not after a day, in days since 1970-01-01, by due day and then by number.
+///
+/// A column of another kind, or a number of 2^32 or more, is refused as no archive. The other refusals are no memory
+/// and the errors of `sqlite`.
+pub fn due_records_by<S: Alter>(
+    alloc: Global,
+    conn: &mut Connection<S>,
+    day: u32,
+) -> Result<Vec<DueRecordRow>, Fault>
+    ensures all { Learns S.Store conn.old conn.new result
+        (λ db all. (t : Tables) → Stores db t → AreKeyed t →
+        map due_record_of all.items ≡ due_records_by day t) }
+    ensures none { Rejects S.Store conn.old conn.new result
+        (λ db. (t : Tables) → Stores db t → AreKeyed t → FitsDueRecordsBy day t → ⊥) }
+    ensures same { ReadsAlone S.Store conn.old conn.new result
+        (IsArchiveSchema (state S.Store conn.old).now.schema) }
+    ensures still { IsStill S.Store conn.old conn.new
+        (IsArchiveSchema (state S.Store conn.old).now.schema) }
+    ensures was_open { WasOpenOnOk S.Store conn.old conn.new result }
+    ensures falls { Falls S.Store conn.old conn.new }
+    ensures idle { IsIdle S.Store conn.old conn.new }
+    ensures survives { CommitsNothingOf S.Store conn.old conn.new
+        (IsArchiveSchema (state S.Store conn.old).now.schema) }
+{
+    let rows = rows_of(
+        conn,
+        "SELECT due_day.record, due_day.day, record.path FROM due_day JOIN record ON record.number = due_day.record WHERE due_day.day <= ?1 ORDER BY due_day.day, due_day.record",
+        &[day.to_sql()],
+    )?;
+    rows_in(alloc, rows.as_slice())
+}

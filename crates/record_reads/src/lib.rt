@@ -1,0 +1,10 @@
+//! Reads of the tables of an archive, as typed rows.
+#![tactic(auto)]
+
+mod cells;
+pub mod due_records;
+pub mod lookup;
+mod query;
+pub mod read;
+pub mod stored_dues;
+mod typed;

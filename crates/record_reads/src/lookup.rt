@@ -1,0 +1,113 @@
+//! Rows that are looked up by their keys. A refusal is the error of `sqlite`. Outside a transaction nothing changes.
+
+ghost use Rattle.std.specs.Prelude.{◌≡◌, option_map, IfOk, OnOk, IsTrue};
+ghost use Rattle.sqlite.specs.State.{HasCleanDisk};
+ghost use Rattle.sqlite.specs.Held.{state};
+ghost use Rattle.sqlite.specs.Values.{bound};
+ghost use Rattle.sqlite.specs.Listing.{understood};
+ghost use Rattle.sqlite.proofs.Callers.{IsPlain};
+ghost use Rattle.record_tables.specs.Tables.{Foreign, archive_beside};
+ghost use Rattle.record_tables.specs.Rows.{Tables, Stores, AreKeyed};
+ghost use Rattle.record_reads.specs.Lookups.{Looks, record_with, body_with, has_hold_of, TellsRecord};
+ghost use Rattle.record_tables.specs.CodeRows.{record_of};
+ghost use Rattle.record_tables.specs.Steps.{Learns, ShowsOnOk};
+
+use record_tables::rows::RecordRow;
+use sqlite::types::{ToSql, ValueRef};
+use sqlite::{Alter, Connection, Error, Row};
+
+fn look<S: Alter>(
+    conn: &mut Connection<S>,
+    sql: &str,
+    params: &[ValueRef<'_>],
+) -> Result<Vec<Row>, Error>
+    requires { (f : Foreign) → IsPlain (understood (archive_beside f) sql.now) }
+    ensures shown { ShowsOnOk S.Store conn.old conn.new result sql.now (bound params.now) }
+    ensures open { HasCleanDisk (state S.Store conn.new) → OnOk result
+        (IsTrue (state S.Store conn.old).is_open × IsTrue (state S.Store conn.new).is_open) }
+    ensures looks { Looks S.Store conn.old conn.new }
+{
+    let _settled = conn.is_autocommit();
+    let rows = conn.query_all(sql, params)?;
+    Ok(rows)
+}
+
+fn record_in(row: &Row) -> Result<RecordRow, Error>
+    ensures { IfOk result (λ r. TellsRecord row.now (record_of r)) }
+{
+    let number = row.get::<u32>(0)?;
+    let message = row.get::<u32>(1)?;
+    let path = row.get::<String>(2)?;
+    let day = row.get::<u32>(3)?;
+    let destroyed = row.get::<bool>(4)?;
+    Ok(RecordRow {
+        number,
+        message,
+        path: path.into_bytes(),
+        day,
+        destroyed,
+    })
+}
+
+/// The record with a number, live or destroyed; `None` where there is none.
+pub fn record_by_number<S: Alter>(
+    conn: &mut Connection<S>,
+    number: u32,
+) -> Result<Option<RecordRow>, Error>
+    ensures record { Learns S.Store conn.old conn.new result
+        (λ db r. (t : Tables) → Stores db t → AreKeyed t →
+        option_map record_of r ≡ record_with number t) }
+    ensures open { HasCleanDisk (state S.Store conn.new) → OnOk result
+        (IsTrue (state S.Store conn.old).is_open × IsTrue (state S.Store conn.new).is_open) }
+    ensures looks { Looks S.Store conn.old conn.new }
+{
+    let rows = look(
+        conn,
+        "SELECT number, message, path, day, destroyed FROM record WHERE number = ?1",
+        &[number.to_sql()],
+    )?;
+    match rows.first() {
+        Some(row) => Ok(Some(record_in(row)?)),
+        None => Ok(None),
+    }
+}
+
+/// The octets of the message with a number; `None` where there is none.
+pub fn message_body<S: Alter>(
+    conn: &mut Connection<S>,
+    number: u32,
+) -> Result<Option<Vec<u8>>, Error>
+    ensures body { Learns S.Store conn.old conn.new result
+        (λ db b. (t : Tables) → Stores db t → AreKeyed t →
+        option_map (λ v. v.items) b ≡ body_with number t) }
+    ensures open { HasCleanDisk (state S.Store conn.new) → OnOk result
+        (IsTrue (state S.Store conn.old).is_open × IsTrue (state S.Store conn.new).is_open) }
+    ensures looks { Looks S.Store conn.old conn.new }
+{
+    let rows = look(
+        conn,
+        "SELECT body FROM message WHERE number = ?1",
+        &[number.to_sql()],
+    )?;
+    match rows.first() {
+        Some(row) => Ok(Some(row.get::<Vec<u8>>(0)?)),
+        None => Ok(None),
+    }
+}
+
+/// Whether there is a hold of that name on the record with a number.
+pub fn has_hold<S: Alter>(conn: &mut Connection<S>, name: &[u8], number: u32) -> Result<bool, Error>
+    ensures there { Learns S.Store conn.old conn.new result
+        (λ db b. (t : Tables) → Stores db t → AreKeyed t →
+        b ≡ has_hold_of name.now number t) }
+    ensures open { HasCleanDisk (state S.Store conn.new) → OnOk result
+        (IsTrue (state S.Store conn.old).is_open × IsTrue (state S.Store conn.new).is_open) }
+    ensures looks { Looks S.Store conn.old conn.new }
+{
+    let rows = look(
+        conn,
+        "SELECT record FROM hold WHERE name = ?1 AND record = ?2",
+        &[ValueRef::Text(name), number.to_sql()],
+    )?;
+    Ok(!rows.is_empty())
+}

@@ -1,0 +1,163 @@
+//! Reads of the tables, as typed rows.
+//!
+//! A column of another kind, or a number of 2^32 or more, is refused as no archive. The other refusals are no memory
+//! and the errors of `sqlite`.
+
+ghost use Rattle.std.specs.Prelude.{◌≡◌, map};
+ghost use Rattle.std.specs.List.{AllByRecursion};
+ghost use Rattle.sqlite.specs.Held.{state};
+ghost use Rattle.record_tables.specs.Tables.{HasCommonTables, IsArchiveSchema};
+ghost use Rattle.record_tables.specs.Rows.{Tables, Stores, StoresCommon, AreKeyed};
+ghost use Rattle.record_tables.specs.Reads.{FitsRecord, FitsNumber, FitsHold, FitsRule, AreHolds, ArePairs, AreClasses, AreRules, numbers_of, ForRows};
+ghost use Rattle.record_tables.specs.CodeRows.{record_of, hold_entry_of, pair_of, class_entry_of, rule_of};
+ghost use Rattle.record_tables.specs.Steps.{CommitsNothingOf, IsStill, Falls, IsIdle, ReadsAlone, Learns, Rejects, WasOpenOnOk};
+
+use crate::query::rows_of;
+use crate::typed::rows_in;
+use record_tables::fault::Fault;
+use record_tables::rows::{ClassRow, HoldRow, RecordRow, ScheduleRow, SettingRow};
+use sqlite::{Alter, Connection};
+use std::alloc::Global;
+
+/// All records, in the order of their numbers.
+pub fn records<S: Alter>(alloc: Global, conn: &mut Connection<S>) -> Result<Vec<RecordRow>, Fault>
+    ensures all { Learns S.Store conn.old conn.new result
+        (λ db all. (t : Tables) → StoresCommon db t → AreKeyed t →
+        map record_of all.items ≡ t.records) }
+    ensures none { Rejects S.Store conn.old conn.new result
+        (λ db. (t : Tables) → StoresCommon db t → AreKeyed t →
+        AllByRecursion FitsRecord t.records → ⊥) }
+    ensures same { ReadsAlone S.Store conn.old conn.new result
+        (HasCommonTables (state S.Store conn.old).now.schema) }
+    ensures still { IsStill S.Store conn.old conn.new
+        (HasCommonTables (state S.Store conn.old).now.schema) }
+    ensures was_open { WasOpenOnOk S.Store conn.old conn.new result }
+    ensures falls { Falls S.Store conn.old conn.new }
+    ensures idle { IsIdle S.Store conn.old conn.new }
+    ensures survives { CommitsNothingOf S.Store conn.old conn.new
+        (HasCommonTables (state S.Store conn.old).now.schema) }
+{
+    let rows = rows_of(
+        conn,
+        "SELECT number, message, path, day, destroyed FROM record ORDER BY number",
+        &[],
+    )?;
+    rows_in(alloc, rows.as_slice())
+}
+
+/// The numbers of all messages, in order.
+pub fn message_numbers<S: Alter>(alloc: Global, conn: &mut Connection<S>) -> Result<Vec<u32>, Fault>
+    ensures all { Learns S.Store conn.old conn.new result
+        (λ db all. (t : Tables) → StoresCommon db t → AreKeyed t →
+        all.items ≡ numbers_of t) }
+    ensures none { Rejects S.Store conn.old conn.new result
+        (λ db. (t : Tables) → StoresCommon db t → AreKeyed t →
+        AllByRecursion FitsNumber (numbers_of t) → ⊥) }
+    ensures same { ReadsAlone S.Store conn.old conn.new result
+        (HasCommonTables (state S.Store conn.old).now.schema) }
+    ensures still { IsStill S.Store conn.old conn.new
+        (HasCommonTables (state S.Store conn.old).now.schema) }
+    ensures was_open { WasOpenOnOk S.Store conn.old conn.new result }
+    ensures falls { Falls S.Store conn.old conn.new }
+    ensures idle { IsIdle S.Store conn.old conn.new }
+    ensures survives { CommitsNothingOf S.Store conn.old conn.new
+        (HasCommonTables (state S.Store conn.old).now.schema) }
+{
+    let rows = rows_of(conn, "SELECT number FROM message ORDER BY number", &[])?;
+    rows_in(alloc, rows.as_slice())
+}
+
+/// All holds, by record and then in byte order of their names.
+pub fn holds<S: Alter>(alloc: Global, conn: &mut Connection<S>) -> Result<Vec<HoldRow>, Fault>
+    ensures all { Learns S.Store conn.old conn.new result
+        (λ db all. ForRows StoresCommon AreHolds db (λ hs. map hold_entry_of all.items ≡ hs)) }
+    ensures none { Rejects S.Store conn.old conn.new result
+        (λ db. ForRows StoresCommon AreHolds db (λ hs. AllByRecursion FitsHold hs → ⊥)) }
+    ensures same { ReadsAlone S.Store conn.old conn.new result
+        (HasCommonTables (state S.Store conn.old).now.schema) }
+    ensures still { IsStill S.Store conn.old conn.new
+        (HasCommonTables (state S.Store conn.old).now.schema) }
+    ensures was_open { WasOpenOnOk S.Store conn.old conn.new result }
+    ensures falls { Falls S.Store conn.old conn.new }
+    ensures idle { IsIdle S.Store conn.old conn.new }
+    ensures survives { CommitsNothingOf S.Store conn.old conn.new
+        (HasCommonTables (state S.Store conn.old).now.schema) }
+{
+    let rows = rows_of(
+        conn,
+        "SELECT name, record FROM hold ORDER BY record, name",
+        &[],
+    )?;
+    rows_in(alloc, rows.as_slice())
+}
+
+/// All settings, in byte order of their keys.
+pub fn settings<S: Alter>(alloc: Global, conn: &mut Connection<S>) -> Result<Vec<SettingRow>, Fault>
+    ensures all { Learns S.Store conn.old conn.new result
+        (λ db all. ForRows StoresCommon ArePairs db (λ ps. map pair_of all.items ≡ ps)) }
+    ensures none { Rejects S.Store conn.old conn.new result
+        (λ db. ForRows StoresCommon ArePairs db (λ ps. ⊥)) }
+    ensures same { ReadsAlone S.Store conn.old conn.new result
+        (HasCommonTables (state S.Store conn.old).now.schema) }
+    ensures still { IsStill S.Store conn.old conn.new
+        (HasCommonTables (state S.Store conn.old).now.schema) }
+    ensures was_open { WasOpenOnOk S.Store conn.old conn.new result }
+    ensures falls { Falls S.Store conn.old conn.new }
+    ensures idle { IsIdle S.Store conn.old conn.new }
+    ensures survives { CommitsNothingOf S.Store conn.old conn.new
+        (HasCommonTables (state S.Store conn.old).now.schema) }
+{
+    let rows = rows_of(conn, "SELECT key, value FROM meta ORDER BY key", &[])?;
+    rows_in(alloc, rows.as_slice())
+}
+
+/// All classes, in byte order of their paths.
+pub fn classes<S: Alter>(alloc: Global, conn: &mut Connection<S>) -> Result<Vec<ClassRow>, Fault>
+    ensures all { Learns S.Store conn.old conn.new result
+        (λ db all. ForRows StoresCommon AreClasses db (λ cs. map class_entry_of all.items ≡ cs)) }
+    ensures none { Rejects S.Store conn.old conn.new result
+        (λ db. ForRows StoresCommon AreClasses db (λ cs. ⊥)) }
+    ensures same { ReadsAlone S.Store conn.old conn.new result
+        (HasCommonTables (state S.Store conn.old).now.schema) }
+    ensures still { IsStill S.Store conn.old conn.new
+        (HasCommonTables (state S.Store conn.old).now.schema) }
+    ensures was_open { WasOpenOnOk S.Store conn.old conn.new result }
+    ensures falls { Falls S.Store conn.old conn.new }
+    ensures idle { IsIdle S.Store conn.old conn.new }
+    ensures survives { CommitsNothingOf S.Store conn.old conn.new
+        (HasCommonTables (state S.Store conn.old).now.schema) }
+{
+    let rows = rows_of(
+        conn,
+        "SELECT path, is_open, schedule FROM class ORDER BY path",
+        &[],
+    )?;
+    rows_in(alloc, rows.as_slice())
+}
+
+/// All schedules, in byte order of their paths; that of the whole plan has the empty path.
+pub fn schedules<S: Alter>(
+    alloc: Global,
+    conn: &mut Connection<S>,
+) -> Result<Vec<ScheduleRow>, Fault>
+    ensures all { Learns S.Store conn.old conn.new result
+        (λ db all. ForRows Stores AreRules db (λ rs. map rule_of all.items ≡ rs)) }
+    ensures none { Rejects S.Store conn.old conn.new result
+        (λ db. ForRows Stores AreRules db (λ rs. AllByRecursion FitsRule rs → ⊥)) }
+    ensures same { ReadsAlone S.Store conn.old conn.new result
+        (IsArchiveSchema (state S.Store conn.old).now.schema) }
+    ensures still { IsStill S.Store conn.old conn.new
+        (IsArchiveSchema (state S.Store conn.old).now.schema) }
+    ensures was_open { WasOpenOnOk S.Store conn.old conn.new result }
+    ensures falls { Falls S.Store conn.old conn.new }
+    ensures idle { IsIdle S.Store conn.old conn.new }
+    ensures survives { CommitsNothingOf S.Store conn.old conn.new
+        (IsArchiveSchema (state S.Store conn.old).now.schema) }
+{
+    let rows = rows_of(
+        conn,
+        "SELECT path, count, unit, action, year_end FROM schedule ORDER BY path",
+        &[],
+    )?;
+    rows_in(alloc, rows.as_slice())
+}
