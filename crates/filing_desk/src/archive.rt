@@ -2,7 +2,7 @@
 
 ghost use Rattle.std.specs.Prelude.{◌≡◌, ℕ, ◌≤◌, ◌^◌, pos, MatchResult};
 ghost use Rattle.record_archive.specs.declared.fault.ArchiveRefusal.TheVariants.{NoRecord};
-ghost use Rattle.filing_commands.specs.Limits.{greatest_plan, last_day};
+ghost use Rattle.filing_commands.specs.Limits.{greatest_plan};
 ghost use Rattle.filing_commands.specs.Office as office;
 ghost use Rattle.filing_commands.specs.Standing as commands;
 ghost use Rattle.filing_commands.specs.CallAnswers.{answer_of_done, answer_of_lines};
