@@ -1,7 +1,7 @@
--- Due lists.
-use Rattle.std.proofs.Common.{◌≡◌, ℕ, map, pos, true, false, Bool, Ok, Err, None, Vec, inl, inr, refl, ap, sym, subst}
+-- Due lists, and days by their numbers.
+use Rattle.std.proofs.Common.{◌≡◌, ℕ, ℤ, map, pos, true, false, Bool, Ok, Err, None, Vec, inl, inr, refl, ap, sym, subst}
 use Rattle.std.specs.declared.alloc.Global.{Global}
-use Rattle.record_archive.specs.Archive.{Archive, due_list}
+use Rattle.record_archive.specs.Archive.{Archive, due_list_on}
 use Rattle.record_archive.specs.Lines.{line_view}
 use Rattle.record_archive.specs.declared.line.Line as code
 use Rattle.record_archive.specs.Calls.{CarriesOut, unchanged}
@@ -18,8 +18,8 @@ use Rattle.filing_desk.specs.declared.desk.Desk.{Desk}
 use Rattle.filing_desk.proofs.StepLemmas.{KeepsRest, plain_calls, still_stands}
 
 -- the answer to a due list
-abbrev IsDueList : (n : ℕ) → Archive → Vec code.Line Global → Type 0
-IsDueList n a v = map line_view v.items ≡ due_list a n
+abbrev IsDueList : (day : ℤ) → Archive → Vec code.Line Global → Type 0
+IsDueList day a v = map line_view v.items ≡ due_list_on a day
 
 -- the database or the memory refuses, and never the archive
 given_up : {E : Type 0} (s : Standing) (n : ℕ) (f : ArchiveFault E) → WhereRefused (λ r. unchanged s.office.archive ≡ Err r) f → OfficeStep s.office (due n) (refused_by (archive_fault f)) s.office
@@ -28,13 +28,13 @@ given_up s n (Database e) refuses = inr (89, inr refl, refl, refl)
 given_up s n NoMemory refuses = inr (99, inl refl, refl, refl)
 
 module _ {A : Type 0} (is_clean : A → Type 0) (stood : A → Archive → Type 0) where
-  pub due_told : {E : Type 0} (old new : Desk A) (n : ℕ) (lines : Vec code.Line Global) → KeepsRest is_clean stood old new → new.open_paths ≡ old.open_paths → CarriesOut {E = E} is_clean stood old.store new.store unchanged (IsDueList n) (Ok lines) → Calls (IsClean is_clean) (StandsFor stood) old (plain (due n)) (listed (map line_view lines.items)) new
+  pub due_told : {E : Type 0} (old new : Desk A) (n : ℕ) (lines : Vec code.Line Global) → KeepsRest is_clean stood old new → new.open_paths ≡ old.open_paths → CarriesOut {E = E} is_clean stood old.store new.store unchanged (IsDueList (pos n)) (Ok lines) → Calls (IsClean is_clean) (StandsFor stood) old (plain (due n)) (listed (map line_view lines.items)) new
   due_told old new n lines rest same call = plain_calls is_clean stood old new (due n) (listed (map line_view lines.items)) call.was_clean (λ clean s stands.
       let h = call.does clean s.office.archive stands.store in
       (s.office, inl (refl, h.1), still_stands is_clean stood old new s rest same stands h.0))
 
-  pub due_given_up : {E : Type 0} (old new : Desk A) (n m : ℕ) (f : ArchiveFault E) (a : Answer) → KeepsRest is_clean stood old new → new.open_paths ≡ old.open_paths → CarriesOut {X = Vec code.Line Global} {E = E} is_clean stood old.store new.store unchanged (IsDueList m) (Err f) → a ≡ refused_by (archive_fault f) → Calls (IsClean is_clean) (StandsFor stood) old (plain (due n)) a new
-  due_given_up old new n m f a rest same call is_told = plain_calls is_clean stood old new (due n) a call.was_clean (λ clean s stands.
+  pub due_given_up : {E : Type 0} (old new : Desk A) (n : ℕ) (day : ℤ) (f : ArchiveFault E) (a : Answer) → KeepsRest is_clean stood old new → new.open_paths ≡ old.open_paths → CarriesOut {X = Vec code.Line Global} {E = E} is_clean stood old.store new.store unchanged (IsDueList day) (Err f) → a ≡ refused_by (archive_fault f) → Calls (IsClean is_clean) (StandsFor stood) old (plain (due n)) a new
+  due_given_up old new n day f a rest same call is_told = plain_calls is_clean stood old new (due n) a call.was_clean (λ clean s stands.
       let h = call.does s.office.archive stands.store in
       let P : Answer → Type 0 = λ x. OfficeStep s.office (due n) x s.office in
       (s.office, subst P (sym is_told) (given_up s n f (h.1 clean)), still_stands is_clean stood old new s rest same stands h.0))

@@ -1,6 +1,6 @@
 //! The calls that reach the archive: classes, plans, holds, due lists and destruction.
 
-ghost use Rattle.std.specs.Prelude.{◌≡◌, ◌≤◌, ◌^◌, MatchResult};
+ghost use Rattle.std.specs.Prelude.{◌≡◌, ℕ, ◌≤◌, ◌^◌, pos, MatchResult};
 ghost use Rattle.record_archive.specs.declared.fault.ArchiveRefusal.TheVariants.{NoRecord};
 ghost use Rattle.filing_commands.specs.Limits.{greatest_plan};
 ghost use Rattle.filing_commands.specs.Office as office;

@@ -12,7 +12,7 @@ use std::alloc::Global;
 /// in flight. Contracts say which states it represents. Besides its own refusals, a call may be refused with 89 where
 /// the database refuses, and with 99 where there is no memory.
 #[derive(Drop)]
-pub struct Desk<A: Records> {
+pub struct Desk<A> {
     pub(crate) alloc: Global,
     pub(crate) store: A,
     pub(crate) officers: Officers,

@@ -1,5 +1,5 @@
 -- Days of words, and the texts of days.
-use Rattle.std.proofs.Common.{◌≡◌, ℕ, ◌<◌, ◌≤◌, ◌++◌, List, [], append_assoc, Bool, true, false, cond, Option, Some, None, take, drop, refl, sym, ap, ◌∙◌, arith, subst, FitsSigned, w8, w16, Result, Ok, Err, ℤ, pos, negsuc, ◌≤ℤ◌, ◌<ℤ◌, unsigned_abs, decimal, codes}
+use Rattle.std.proofs.Common.{◌≡◌, ℕ, ◌<◌, ◌≤◌, ◌++◌, List, [], append_assoc, Bool, true, false, Option, Some, None, take, drop, refl, sym, ap, ◌∙◌, arith, subst, FitsSigned, w8, w16, Result, Ok, Err, ℤ, pos, negsuc, ◌≤ℤ◌, ◌<ℤ◌, unsigned_abs, decimal, codes}
 use Rattle.std.specs.Prelude.{if◌then◌else◌, ◌&&◌, nat_le, IsOk, IfOk, ◌↔◌}
 use Rattle.std.proofs.lemmas.Bool.{false≢true}
 use Rattle.std.proofs.lemmas.Bool.Decides.{nat_tests}
@@ -14,9 +14,8 @@ use Rattle.jiff_core.proofs.CalendarLemmas.{days_from_civil-day_count, day_count
 use Rattle.class_plan.specs.Calendar.{Civil, number_of, number_of_day}
 use Rattle.class_plan.proofs.CalendarLemmas.{civil_is}
 use Rattle.class_plan.proofs.Due.{from_zero}
-use Rattle.filing_commands.specs.Limits.{last_day}
 use Rattle.filing_session.specs.Words.{number_in}
-use Rattle.filing_session.specs.Dates.{has_dashes, civil_from, is_real, real_day, day_of, two_digits, civil_octets, day_octets, due_octets}
+use Rattle.filing_session.specs.Dates.{has_dashes, civil_from, is_real, real_day, day_of, two_digits, civil_octets, day_octets}
 
 -- ---- days of words
 
@@ -124,21 +123,6 @@ before_zero d lt =
 
 year_from : (d : Date) → pos 0 ≤ℤ epoch_day d → pos 1970 ≤ℤ d.year
 year_from d low = by_lt_z d.year (pos 1970) (λ lt. absurd (let x = before_zero d lt in omega (arith, signed_arith))) (λ ge. ge)
-
--- a day of 1970 to 9999 is written as its date, and no other day is
-pub due_told : (z : ℤ) (d : Date) → IsBetween (pos 0) (pos 2932896) z → epoch_day d ≡ z → due_octets (Some z) ≡ day_octets (number_of_day d)
-due_told (pos n) d range e =
-    let low : nat_le n last_day ≡ true = let top = range.1 in grind (arith, signed_arith) in
-    ap (λ b. cond b (day_octets n) (codes "never")) low ∙ ap (λ z. day_octets (unsigned_abs z)) (sym e)
-due_told (negsuc n) d range e = absurd (let low = range.0 in omega (arith, signed_arith))
-
-pub never_told : (z : ℤ) → (IsBetween (pos 0) (pos 2932896) z → ⊥) → due_octets (Some z) ≡ codes "never"
-never_told (pos n) out = go (nat_le n last_day) refl
-  where
-    go : (b : Bool) → nat_le n last_day ≡ b → (if b then day_octets n else codes "never") ≡ codes "never"
-    go true e = absurd (out (omega (arith, signed_arith), let low : n ≤ 2932896 = grind (arith, e) in omega (arith, signed_arith)))
-    go false e = refl
-never_told (negsuc n) out = refl
 
 -- the text of a day is that of its date
 pub day_text : (d : Date) → IsBetween (pos 0) (pos 2932896) (epoch_day d) → day_octets (number_of_day d) ≡ decimal (unsigned_abs d.year) ++ codes "-" ++ two_digits d.month ++ codes "-" ++ two_digits d.day

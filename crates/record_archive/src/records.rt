@@ -79,8 +79,8 @@ pub trait Records {
         ensures { CarriesOut clean stands self.old self.new unchanged
             (λ a lines. map line_view lines.items ≡ due_list_on a (epoch_day day)) result };
 
-    /// Destroys a record that is due by a day. Refused with the first that holds of 80 (no such record), 84 (destroyed),
-    /// 81 (held), 83 (its schedule does not destroy) and 82 (due later).
+    /// Destroys a record that is due by a day. Refused with the first that holds of 80 (no such record), 84
+    /// (destroyed), 81 (held), 83 (its schedule does not destroy) and 82 (due later).
     fn destroy(&mut self, number: u32, day: Date) -> Result<(), ArchiveFault<Self::Cause>>
         ensures { CarriesOut clean stands self.old self.new
             (λ a. archive.destroy_on a number (epoch_day day)) Quietly result };

@@ -1,5 +1,7 @@
 -- A command that is judged first and then done.
-use Rattle.std.proofs.Common.{◌≡◌, ◌-◌, ℕ, false, true, refl, sym, subst, ◌∙◌, arith, IsTrue, Result, Ok}
+use Rattle.std.proofs.Common.{◌≡◌, ◌-◌, ℕ, false, true, refl, sym, subst, ◌∙◌, arith, IsTrue, Result, Ok, Err}
+use Rattle.std.specs.Result.{IsErr, IsErrAnd}
+use Rattle.std.proofs.lemmas.Bool.{false≢true}
 use Rattle.sqlite.specs.Store.{Ghosts}
 use Rattle.sqlite.specs.Tree.{Trees}
 use Rattle.sqlite.specs.Effect.{Database}
@@ -14,10 +16,11 @@ use Rattle.record_tables.specs.Changes.{Turns}
 use Rattle.record_reads.specs.Lookups.{Looks}
 use Rattle.record_archive.specs.Archive.{Archive, IsArchive, next_number}
 use Rattle.record_adoption.specs.Counts.{count_at}
-use Rattle.record_store.specs.Faults.{fault_of}
-use Rattle.record_archive.specs.Faults.{is_trouble}
+use Rattle.record_store.specs.Faults.{StoreFault, fault_of}
+use Rattle.record_archive.specs.Faults.{WhereRefused, is_trouble}
+use Rattle.class_plan.specs.Plans.{Listing}
 use Rattle.record_adoption.specs.Keeping.{StoresArchive, live_count, hold_count}
-use Rattle.record_store.specs.Stores.{StandsFor, Becomes, Leaves, LeavesAll, LeavesMade}
+use Rattle.record_store.specs.Stores.{StandsFor, Becomes, Obeys, Leaves, LeavesAll, LeavesMade}
 use Rattle.record_archive.specs.declared.fault.ArchiveRefusal.{ArchiveRefusal}
 use Rattle.record_store.specs.declared.store.Store.{Store}
 
@@ -28,6 +31,16 @@ is_trouble-fault_of e = refl
 
 becomes : {S : Type 0} (g : Ghosts S) (new : Store S) (r : Result Archive ArchiveRefusal) (b : Archive) → r ≡ Ok b → StandsFor g new b → Becomes g new r
 becomes g new r b e s = subst (Becomes g new) (sym e) s
+
+-- the archive, the database or the memory refuses
+pub obeys_refused : {S X : Type 0} (g : Ghosts S) (old new : Store S) (result : Result X StoreFault) (f : StoreFault) (command : Archive → Result Archive ArchiveRefusal) (Answers : Archive → X → Type 0)
+    → IsErr result → IsErrAnd result (λ x. x ≡ f) → ((a : Archive) → StandsFor g old a → StandsFor g new a × WhereRefused (λ r. command a ≡ Err r) f) → Obeys g old new result command Answers
+obeys_refused {X = X} g old new (Err e) f command Answers is same h = let P : StoreFault → Type 0 = λ x. Obeys {X = X} g old new (Err x) command Answers in subst P (sym same) h
+obeys_refused g old new (Ok x) f command Answers is same h = absurd (false≢true is)
+
+-- the same store with a plan that is equal
+pub stands_planned : {S : Type 0} (g : Ghosts S) (old : Store S) (p : Listing) (a : Archive) → p ≡ old.plan → StandsFor g old a → StandsFor g (record old { plan = p }) a
+stands_planned g old p a same s = record { idle = s.idle; plan = same ∙ s.plan; next = s.next; held = s.held; others = s.others; archive = s.archive; rows = s.rows }
 
 -- the command is carried out
 pub obeys_done : {S : Type 0} (g : Ghosts S) (old mid new : Store S) (command : Archive → Result Archive ArchiveRefusal) (change : Archive → Archive)

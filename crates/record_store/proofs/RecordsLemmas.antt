@@ -10,19 +10,19 @@ use Rattle.record_store.specs.Faults.{StoreFault}
 use Rattle.record_store.specs.Stores.{Becomes, Falls, Obeys, ObeysRows, StandsFor, Tells}
 use Rattle.record_store.specs.declared.store.Store.{Store}
 
-module _ {S X : Type 0} (g : Ghosts S) (old new : Store S) where
-  made : (r : Result Archive ArchiveRefusal) → Becomes g new r → Makes (StandsFor g new) r
-  made (Ok a) h = h
-  made (Err r) h = h
+made : {S : Type 0} (g : Ghosts S) (new : Store S) (r : Result Archive ArchiveRefusal) → Becomes g new r → Makes (StandsFor g new) r
+made g new (Ok a) h = h
+made g new (Err r) h = h
 
+module _ {S X : Type 0} (g : Ghosts S) (old new : Store S) where
   -- a call that relies on what it knows beside the tables
   pub carried_out : (command : Archive → Result Archive ArchiveRefusal) (Answers : Archive → X → Type 0) (result : Result X StoreFault) → Falls g old new → Obeys g old new result command Answers → CarriesOut (λ (s : Store S). HasCleanDisk (state g s.conn)) (StandsFor g) old new command Answers result
-  carried_out command Answers (Ok x) falls obeys = record { was_clean = falls; does = λ clean a s. let h = obeys a s in (made (command a) h.0, h.1) }
+  carried_out command Answers (Ok x) falls obeys = record { was_clean = falls; does = λ clean a s. let h = obeys a s in (made g new (command a) h.0, h.1) }
   carried_out command Answers (Err f) falls obeys = record { was_clean = falls; does = λ a s. let h = obeys a s in (h.0, λ clean. h.1) }
 
   -- a call that reads the tables first
   pub carried_out_rows : (command : Archive → Result Archive ArchiveRefusal) (Answers : Archive → X → Type 0) (result : Result X StoreFault) → Falls g old new → ObeysRows g old new result command Answers → CarriesOut (λ (s : Store S). HasCleanDisk (state g s.conn)) (StandsFor g) old new command Answers result
-  carried_out_rows command Answers (Ok x) falls obeys = record { was_clean = falls; does = λ clean a s. let h = obeys clean a s in (made (command a) h.0, h.1) }
+  carried_out_rows command Answers (Ok x) falls obeys = record { was_clean = falls; does = λ clean a s. let h = obeys clean a s in (made g new (command a) h.0, h.1) }
   carried_out_rows command Answers (Err f) falls obeys = record { was_clean = falls; does = obeys }
 
   -- a call that only reads, and is not refused by the archive

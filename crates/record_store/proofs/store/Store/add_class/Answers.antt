@@ -4,12 +4,13 @@ use Rattle.sqlite.specs.Held.{state}
 use Rattle.class_plan.specs.Plans.{IsPlan}
 use Rattle.class_plan.proofs.Removed.{without-added}
 use Rattle.record_tables.specs.Changes.{Always, with_class}
-use Rattle.record_archive.specs.Archive.{Archive}
+use Rattle.class_plan.specs.Changes.{addition}
+use Rattle.record_archive.specs.Archive.{Archive, plan_answer}
 use Rattle.record_store.specs.Revisions.{with_plan}
 use Rattle.record_archive.specs.Faults.{is_trouble}
 use Rattle.record_store.specs.Stores.{Becomes}
 use Rattle.record_archive.specs.declared.fault.ArchiveRefusal.{ArchiveRefusal}
-use Rattle.record_store.proofs.CommandLemmas.{is_trouble-fault_of, stands_turned, stands_refused, leaves_turned}
+use Rattle.record_store.proofs.CommandLemmas.{is_trouble-fault_of, obeys_refused, stands_planned, stands_turned, stands_refused, leaves_turned}
 use Rattle.record_store.proofs.ClassLemmas.{is_added, added_archive, keeps_added, same_dues, leaves_added}
 use Rattle.record_store.proofs.store.Store.add_class.Goals as goal
 
@@ -62,3 +63,13 @@ returns-in-Err-clause-obeys g c = λ (a : Archive) s.
           (λ clean is_open. (c.in-Err.ensures.err clean is_open).0),
       λ r is. absurd (true≢false (sym (is_trouble-fault_of c.in-Err.error) ∙ ap is_trouble (sym c.fault_of.ensures ∙ is))),
     )
+
+pub returns-in_err-plan_class-clause-obeys : goal.returns-in_err-plan_class-clause-obeys
+returns-in_err-plan_class-clause-obeys g c =
+    let path = c.args.path.now in
+    let refused = c.in_err-plan_class.ensures in
+    obeys_refused g.S.Store c.args.self.now _ _ c.in_err-plan_class.field-0.0 _ _ c.from_residual.ensures.0 c.from_residual.ensures.1
+    (λ (a : Archive) s. (
+      stands_planned g.S.Store c.args.self.now c.plan_class.new.plan a refused.unchanged s,
+      λ r is. ap (λ p. plan_answer a (addition p path)) (sym s.plan) ∙ refused.err r is a,
+    ))
