@@ -67,8 +67,41 @@ typed_session() {
         [[ $(< "$work/answer") == $'ok\nclass finance\nend' ]]
 }
 
+# Lines of commands with octets, good ones and wrong ones.
+lines_with_octets() {
+    local name word long
+    long=$(printf '%065d' 0)
+    for word in ann '' "${long:1}" "$long" $'\303\266' $'a\tb' '!~' $'ann\r'; do
+        printf '%s\n' "BEGIN $word 0 0" "IMAGE $word 0" "SCRIPT $word main 0" "SCRIPT ann $word 0" "GLOBAL $word 0"
+    done
+    for word in 0 1 00 01 '' -1 +1 x 0x0 4294967295 4294967296 18446744073709551615 18446744073709551616 "$long"; do
+        printf '%s\n' "BEGIN ann $word 0" "BEGIN ann 0 $word" "PLAN $word" "FILE $word 0" "FILE 0 $word" "TRY 0 $word"
+    done
+    for name in PLAN SCRIPT GLOBAL IMAGE FILE TRY BEGIN Begin BEGN '' ' BEGIN' DUE QUIT; do
+        printf '%s\n' "$name" "$name 0" "$name 0 0" "$name 0 0 0" "$name 0 0 0 0" "$name  0 0"
+    done
+    printf 'CLASS %0506d\nCLASS %0507d\nPLAN %0507d\nPLAN %0508d\n' 0 0 0 0
+}
+
+# Whether frame refuses exactly those lines with octets that a session refuses for their words, and unknown names.
+frame_agrees() {
+    local line reply status
+    while IFS= read -r line; do
+        reply=$(printf '%s\n' "$line" | ./mailfile | head -n 1)
+        status=0
+        printf '%s\n' "$line" | ./mailfile-tool frame > "$work/answer" 2> "$work/error" || status=$?
+        case $line:$reply in
+            *:'refused 70' | *:'refused 73') ((status == 2)) ;;
+            CLASS*:* | ACTIVE*:* | DUE*:* | QUIT*:*) ((status == 0)) ;;
+            *:'refused 71') ((status == 2)) ;;
+            *) ((status == 0)) ;;
+        esac || { printf 'a session says %s, and frame ends with %s: %q\n' "$reply" "$status" "$line"; return 1; }
+    done < <(lines_with_octets)
+}
+
 tools() {
     tool_cases
+    count "frame refuses what a session would misread" frame_agrees
     count "the numbers of the specification have texts, and no others" numbers_have_texts
     count "a reader that goes away" ends_with_its_reader
     count "a session without counted octets" typed_session
