@@ -121,8 +121,8 @@ scripts() {
 # Strings of 65,535 octets, which are accepted, and of 65,536. A line end in a string counts as two.
 strings() {
     {
-        file 65565 0 && printf 'require "fileinto";fileinto "' && times 65535 a && printf '";'
-        file 65566 0 && printf 'require "fileinto";fileinto "' && times 65536 a && printf '";'
+        file 65566 0 && printf 'require "fileinto";fileinto "' && times 65535 a && printf '";'
+        file 65567 0 && printf 'require "fileinto";fileinto "' && times 65536 a && printf '";'
         file 65537 0 && printf '"' && times 65535 a && printf '"'
         file 65538 0 && printf '"' && times 65536 a && printf '"'
         file 65537 0 && printf '"' && times 65536 a
@@ -140,7 +140,7 @@ strings() {
         'refused 20 at 0' 'refused 16 at 0' 'refused 20 at 0' 'refused 20 at 0' 'refused 20 at 0' 'refused 20 at 0' 'refused 16 at 2' \
         'refused 12 at 2' 'refused 16 at 2' 'refused 12 at 2' end
     {
-        echo 'FILE 90 10013' && printf 'if header :comparator "i;octet" :matches "subject" "*a*a*a*a*b" { discard; } else { keep; }'
+        echo 'FILE 91 10013' && printf 'if header :comparator "i;octet" :matches "subject" "*a*a*a*a*b" { discard; } else { keep; }'
         printf 'Subject: ' && times 10000 a && printf '\r\n\r\n'
     } | session a-pattern-over-a-long-value 'class unfiled' end
 }
