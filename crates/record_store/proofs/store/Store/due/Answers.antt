@@ -1,5 +1,6 @@
-use Rattle.std.proofs.Common.{◌≡◌, ◌==◌, ◌∙◌, ℕ, ℤ, pos, negsuc, List, [], Some, None, map, filter, refl, ap}
+use Rattle.std.proofs.Common.{◌≡◌, ◌==◌, ◌∙◌, ℕ, ℤ, pos, negsuc, List, [], Some, None, map, filter, refl, sym, ap, arith}
 use Rattle.record_archive.specs.Archive.{Archive, due_list, due_list_on, from_1970}
+use Rattle.std.proofs.lemmas.Grind.{common_steps}
 use Rattle.jiff.specs.Words.{epoch_day}
 use Rattle.record_adoption.specs.Counts.{count_at}
 use Rattle.record_store.specs.Dues.{due_records, due_line}
@@ -21,5 +22,10 @@ returns-clause-tells g c = λ (a : Archive) s.
       one.0,
       λ clean. c.in_ok-lines.ensures.lines ∙ ap (λ l. map due_line (filter (λ d. count_at c.due_records.new.self.held d.number == 0) l)) (one.1 clean)
           ∙ ap (map due_line) (unheld_are a (count_at c.due_records.new.self.held) one.0.held (due_records a c.in-Some.day))
-          ∙ due_list_is a s.archive c.in-Some.day ∙ listed a (epoch_day c.args.day) c.in-Some.day c.number_from_1970.ensures,
+          ∙ due_list_is a s.archive c.in-Some.day ∙ listed a (epoch_day c.args.day) c.in-Some.day (sym c.in-Some.is ∙ c.number_from_1970.ensures),
     )
+
+pub returns-in_default-clause-tells : goal.returns-in_default-clause-tells
+returns-in_default-clause-tells g c = λ (a : Archive) s.
+    let none : c.number_from_1970.result ≡ None = grind (arith, common_steps) in
+    (s, λ clean. none_listed a (epoch_day c.args.day) (sym none ∙ c.number_from_1970.ensures))
