@@ -1,5 +1,5 @@
 -- A worked session, by the definitions.
-use Rattle.std.proofs.Common.{◌≡◌, ℕ, [], ◌∷◌, Some, Ok, Err, codes, refl, true, false}
+use Rattle.std.proofs.Common.{◌≡◌, ℕ, [], ◌∷◌, Some, Ok, Err, codes, pos, refl, true, false}
 use Rattle.class_paths.specs.Path.{unfiled}
 use Rattle.class_plan.specs.declared.schedules.Unit.TheVariants.{Months, Years}
 use Rattle.class_plan.specs.declared.schedules.Action.TheVariants.{Destroy}
@@ -41,7 +41,7 @@ abbrev a4 : Archive.Archive
 a4 = record a3 { messages = []; records = record tax_record { destroyed = true } ∷ [] }
 
 abbrev tax_line : ℕ → Archive.Line
-tax_line due = record { number = 1; path = codes "tax"; due = Some due }
+tax_line due = record { number = 1; path = codes "tax"; due = Some (pos due) }
 
 captured_is : (Archive.capture a0 [] 19675 (codes "tax" ∷ []) ≡ Ok a1) × (Archive.capture_lines a0 19675 (codes "tax" ∷ []) ≡ tax_line 20041 ∷ [])
 unfolding days_from_civil day_count days_of_years days_of_months

@@ -16,14 +16,17 @@ some_from (negsuc m) n low is = absurd (omega (arith, signed_arith, low))
 pub number_of-requires : goal.number_of-requires
 number_of-requires c =
     let same = c.day_number-number.ensures.number in
-    (omega (arith, signed_arith, same, c.if-number-lt0.false), (epoch_day_range c.args.day).1)
+    let range = epoch_day_range c.args.day in
+    (omega (arith, signed_arith, same, range, c.if-number-lt0.false), range.1)
 
 pub returns-then-number-lt0 : goal.returns-then-number-lt0
 returns-then-number-lt0 c =
     let same = c.day_number-number.ensures.number in
-    none_early (epoch_day c.args.day) (omega (arith, signed_arith, same, c.if-number-lt0.true))
+    let range = epoch_day_range c.args.day in
+    none_early (epoch_day c.args.day) (omega (arith, signed_arith, same, range, c.if-number-lt0.true))
 
 pub returns : goal.returns
 returns c =
     let same = c.day_number-number.ensures.number in
-    some_from (epoch_day c.args.day) c.number_of.result (omega (arith, signed_arith, same, c.if-number-lt0.false)) c.number_of.ensures
+    let range = epoch_day_range c.args.day in
+    some_from (epoch_day c.args.day) c.number_of.result (omega (arith, signed_arith, same, range, c.if-number-lt0.false)) c.number_of.ensures

@@ -1,5 +1,6 @@
 use Rattle.std.proofs.Common.{◌≡◌, ◌==◌, ◌∙◌, ℕ, ℤ, pos, negsuc, List, [], Some, None, map, filter, refl, sym, ap, arith}
 use Rattle.record_archive.specs.Archive.{Archive, due_list, due_list_on, from_1970}
+use Rattle.record_archive.specs.Lines.{line_view}
 use Rattle.std.proofs.lemmas.Grind.{common_steps}
 use Rattle.jiff.specs.Words.{epoch_day}
 use Rattle.record_adoption.specs.Counts.{count_at}
@@ -28,4 +29,4 @@ returns-clause-tells g c = λ (a : Archive) s.
 pub returns-in_default-clause-tells : goal.returns-in_default-clause-tells
 returns-in_default-clause-tells g c = λ (a : Archive) s.
     let none : c.number_from_1970.result ≡ None = grind (arith, common_steps) in
-    (s, λ clean. none_listed a (epoch_day c.args.day) (sym none ∙ c.number_from_1970.ensures))
+    (s, λ clean. ap (map line_view) c.new.ensures.items ∙ none_listed a (epoch_day c.args.day) (sym none ∙ c.number_from_1970.ensures))
