@@ -64,7 +64,9 @@ fn fault_text(alloc: Global, line: &[u8], fault: LineFault) -> Result<String, Al
         LineFault::UnknownCommand => format!(in alloc; "there is no command \"{shown}\" (70)"),
         LineFault::WordCount(wanted) => {
             let count = words.count();
-            format!(in alloc; "the number of words after {shown} must be {wanted}, and not {count} (71)")
+            format!(in alloc;
+                "the number of words after {shown} must be {wanted}, and not {count} (71)"
+            )
         }
         LineFault::WrongWord(place) => {
             let word = words.nth(place).unwrap_or(b"").escape_ascii();
