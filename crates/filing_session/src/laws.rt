@@ -1,4 +1,4 @@
-//! The law of sessions over states, as the contract of a function without code.
+//! Laws of sessions and streams, each the contract of a function without code.
 
 ghost use Rattle.std.specs.Prelude.{ℕ, List};
 ghost use Rattle.filing_commands.specs.Answers.{Answer};
@@ -7,6 +7,9 @@ ghost use Rattle.filing_commands.specs.Standing.{Step};
 ghost use Rattle.filing_session.specs.Laws.{Refines};
 ghost use Rattle.filing_session.specs.Session.{Item, Session, Run, IsServed, IsAnswered, IsCutInAnswer, IsCutInEnding};
 
+use crate::input::Input;
+use crate::output::Output;
+use crate::stream::{Sink, Source};
 use filing_commands::Registry;
 
 /// What the contract of `serve` says about a registry holds for the states that the registry represents. Each state
@@ -27,4 +30,11 @@ pub fn sessions_refine_states<R: Registry>()
     ensures cut_in_ending { (session : Session) (old written : List ℕ) → Refines R.clean R.stands
         (λ desk. IsCutInEnding (Calls R.clean R.stands) session desk old written)
         (λ s. IsCutInEnding Step session s old written) }
+{}
+
+/// The program's streams tell their octets over memory: the source over a slice, and the sink over a vector. So what
+/// `serve` says where its streams tell, it says of the program's own buffers.
+pub fn streams_over_memory_tell()
+    ensures source { ⟦<Input<&'static [u8]> as Source>⟧.tells }
+    ensures sink { ⟦<Output<Vec<u8>> as Sink>⟧.tells }
 {}

@@ -11,7 +11,8 @@
 //! - `memory`: a source and a sink for tests;
 //! - `session`: `serve`, whose contract relates the octets written to the octets read and to what the registry has
 //!   done;
-//! - `laws`: the same in terms of the states that the registry represents.
+//! - `laws`: the same in terms of the states that the registry represents, and that the program's streams tell their
+//!   octets over memory.
 //!
 //! The module `Session` of `specs/` defines the commands of an input, the runs of a registry or of the states that it
 //! represents, and the octets of the answers.
@@ -39,7 +40,7 @@ mod trouble;
 mod words;
 
 pub use input::Input;
-pub use laws::sessions_refine_states;
+pub use laws::{sessions_refine_states, streams_over_memory_tell};
 pub use output::Output;
 pub use session::{COMMANDS, ServeFault, serve};
 pub use stream::{Sink, Source, Trouble};
