@@ -1,34 +1,14 @@
 # shellcheck shell=bash
-# How the scripts build and find a proved program. A script that sources this file sets `root`, the folder of the repository, and
-# `self`, the name in its messages. A status of 125 or more is the script's own, and not the program's: 125 where there is no
-# program, and 128 plus the number of the signal after a signal.
+# Proves and builds programs, their libraries side by side. A script that sources this file sets `root` and `self`, as for
+# scripts/programs.bash.
 
 : "${root:?}" "${self:?}"
 
+# shellcheck source=scripts/programs.bash
+declare -F find_program > /dev/null || . "$root/scripts/programs.bash" || exit 125
+
 # The least free memory for a prover, and the memory counted for each further one, in megabytes.
 readonly LEAST_MEMORY=1500 MEMORY_EACH=3000
-
-give_up() {
-    echo "$self: $1" >&2
-    exit 125
-}
-
-# The libraries of the repository below a crate, each after those that it uses, and then the crate.
-crates_below() {
-    awk -v top="$1" '
-        function visit(name, words, count, i) {
-            if (name in needs && !(name in seen)) {
-                seen[name] = 1
-                count = split(needs[name], words)
-                for (i = 1; i <= count; i++) visit(words[i])
-                print name
-            }
-        }
-        { sub(/#.*/, "") }
-        /:/ { needs[$1 ~ /:$/ ? substr($1, 1, length($1) - 1) : $1] = substr($0, index($0, ":") + 1) }
-        END { visit(top) }
-    ' "$root/crates.txt"
-}
 
 # The identity of the kit, or nothing if rt is not on the path.
 kit() {
@@ -36,34 +16,10 @@ kit() {
     rt=$(command -v rt) && rt=$(readlink -f -- "$rt") && cat -- "${rt%/*/*}/KIT-ID"
 } 2> /dev/null
 
-# A sum of the sources of a program, followed by the kit that it is built with.
-sources_of() {
-    local parts
-    parts=$(crates_below "$1" | sed 's:.*:crates/&/src crates/&/specs crates/&/proofs:')
-    (
-        cd -- "$root" || exit
-        # shellcheck disable=SC2086 # names of crates are words
-        find $parts -type f -print0 2> /dev/null | LC_ALL=C sort -z | xargs -0 sha256sum -- crates.txt | sha256sum
-        kit || true
-    )
-}
-
-program_of() {
-    echo "$root/crates/$1/out/$1"
-}
-
-# Whether a program is there and was built from these sources. Without a kit on the path, only the sources are compared.
-is_built_from() {
-    local program
-    program=$(program_of "$1")
-    [[ -x $program && -r $program.sources && $(< "$program.sources") == "$2"* ]]
-}
-
-# Notes which sources a program was built from.
-note_sources() {
-    local note
-    note=$(program_of "$1").sources
-    echo "$2" > "$note.new" && mv -f -- "$note.new" "$note"
+# Notes that a program was built, and the sum of its sources, so that starts take it.
+note_built() {
+    local file=$root/crates/$1/out/$1
+    printf '%s\n' "$2" "$(sha256_of "$file")" > "$file.new" && mv -f -- "$file.new" "$file.built" && rm -f -- "$root/out/$1.paths"
 }
 
 # The free memory in megabytes, also within the limit of the control group.
@@ -276,23 +232,24 @@ build_program() {
     wait "$!"
 }
 
-# Builds a program and the libraries below it. The sources that are noted are those from before the build.
+# Builds a program and the libraries below it, from the sources that are there when it begins.
 build() {
-    local name=$1 sources=$2 folder=$root/crates/$1 began=$SECONDS lock locks=() provers total
-    [[ -n $(kit) ]] || give_up "the program is not built, and there is no command rt of a Rattle kit to build it with"
+    local name=$1 folder=$root/crates/$1 began=$SECONDS lock locks=() sum provers total
+    [[ -n $(kit) ]] || give_up "${reason:-$1 is not built}, and there is no command rt of a Rattle kit to prove and build it with"
     if ! { mkdir -p -- "$folder/out" && : > "$folder/out/build.log"; } 2> /dev/null; then
         give_up "$folder/out cannot be written, so the program cannot be built"
     fi
     exec {lock}< "$root/crates"
     flock -n "$lock" || give_up "another start is building; start again when it is done"
+    sum=$(sum_of "$name") || give_up "the sources of $name cannot be read"
     provers=$(provers) || exit
     total=$(crates_below "$name" | wc -l)
     trap 'end_by 129' HUP
     trap 'end_by 130' INT
     trap 'end_by 143' TERM
     lock_crates "$name"
-    make_lanes "$name" || give_up "there is no folder to build in"
-    echo "$self: proving and building $total crates; from nothing this may take 40 minutes (provers at once: $provers)" >&2
+    make_lanes || give_up "there is no folder to build in"
+    echo "$self: ${reason:+$reason; }proving and building $total crates, which from nothing may take 40 minutes (provers at once: $provers)" >&2
     if ! { build_libraries "$name" "$provers" "$total" && unlock_crates && build_program "$name"; }; then
         tail -n 40 -- "$folder/out/build.log" >&2
         if grep -q killed "$folder/out/build.log"; then
@@ -301,15 +258,27 @@ build() {
         give_up "the program was not built"
     fi
     trap - HUP INT TERM
-    note_sources "$name" "$sources"
+    note_built "$name" "$sum"
     exec {lock}<&-
     echo "$self: proved $total of $total: $name" >&2
     echo "$self: built in $(((SECONDS - began) / 60)) minutes and $(((SECONDS - began) % 60)) seconds" >&2
 }
 
-# Makes sure that a program is there, and was built from the present sources.
+# The programs that were found.
+declare -A found=()
+
+# Makes sure that a program is there that was proved from the present sources.
 ensure_program() {
-    local sources
-    sources=$(sources_of "$1") || give_up "the sources of $1 cannot be read"
-    is_built_from "$1" "$sources" || build "$1" "$sources"
+    local program
+    if ! find_program "$1"; then
+        build "$1"
+        program=crates/$1/out/$1
+    fi
+    [[ $program == /* ]] || program=$root/$program
+    found[$1]=$program
+}
+
+# The path of a program that was found.
+program_of() {
+    echo "${found[$1]-$root/crates/$1/out/$1}"
 }

@@ -15,13 +15,42 @@ clear_up() {
     rm -rf -- "$work"
 }
 
-# Runs what the program of tests plays, with a line for each session and each trial.
+# The sessions that are also cut, by number.
+readonly CUT=('' a-first-class-and-a-first-message scripts-of-an-officer-that-include-each-other captures-with-images-turn-by-turn
+    a-record-that-is-held-revised-and-destroyed commands-that-are-refused)
+
+# The commands of such a session, as the programs beside the gate read them: a line `send TEXT` for each, in which each octet is `\xHH`,
+# and after it a line `want TEXT` for each line of its answers.
+commands_of() {
+    local octets said end lines from=0 shown=0
+    octets=$(od -A n -v -t x1 -- "sessions/$1.session" | tr -d ' \n' | sed 's/../\\x&/g')
+    mapfile -t said < "sessions/$1.expected"
+    while read -r end lines _; do
+        ((end > 0)) || continue
+        echo "send ${octets:from * 4:(end - from) * 4}"
+        for ((; shown < lines; shown++)); do
+            echo "want ${said[shown]}"
+        done
+        from=$end
+    done < "sessions/$1.cuts"
+}
+
+# All of these sessions, without their answers.
+cut_sessions() {
+    local name
+    for name in "${CUT[@]:1}"; do
+        echo "case $name" && commands_of "$name" | grep '^send '
+    done
+}
+
+# Lets streams and files fail, with a line for each session and each trial.
 streams() {
-    local said=$work/said
-    ensure_program test_calls
-    count "reads, writes and files that fail" "$(program_of test_calls)" failing < crates/test_calls/stdin > "$said"
-    cat -- "$said"
-    count "something was tried" test -s "$said"
+    local file=$work/said
+    ensure_beside trials
+    cut_sessions > "$work/cut"
+    count "reads, writes and files that fail" "$(beside_program trials)" failing < "$work/cut" > "$file"
+    cat -- "$file"
+    count "something was tried" test -s "$file"
     group streams
 }
 
@@ -329,7 +358,7 @@ files() {
 # Which allocation of a run is refused, counted from the start of the program and not of the session.
 readonly REFUSED=20000
 
-# For each session of the table that is also cut, in memory and in files: the first allocation of the session that is refused, and
+# For four of the sessions that are also cut, in memory and in files: the first allocation of the session that is refused, and
 # the last one. A later session opens its store by the same allocations as the first, so these are not refused again.
 readonly SWEEPS='1 memory 1 1500
 2 memory 1300 1700
@@ -343,21 +372,11 @@ readonly SWEEPS='1 memory 1 1500
 # One in this many allocations is refused over memory. Over files, where a run takes longer, it is one in ten times this many.
 step=7
 
-# The commands and answers of a session of the table that is also cut, given by its number.
-session_lines() {
-    awk -v wanted="$1" '
-        /^\[sessions\]$/ { inside = 1 }
-        inside && /^case / { is_cut = 0 }
-        inside && /^cut$/ { is_cut = 1; number++ }
-        is_cut && number == wanted && /^(send|want) /
-    ' crates/test_calls/stdin
-}
-
 # Writes a case for each allocation of a sweep.
 write_cases() {
     local session=$1 place=$2 request every=$step
     [[ $place == memory ]] || every=$((10 * step))
-    session_lines "$session" > "$work/lines"
+    commands_of "${CUT[session]}" > "$work/lines"
     for ((request = $4; request >= $3; request -= every)); do
         { echo "$place $((REFUSED - request))" && cat -- "$work/lines"; } > "$work/cases/$session-$place-$(printf '%05d' "$request")"
     done

@@ -1,6 +1,7 @@
 # shellcheck shell=bash
-# Plays docs/GUIDE.md: types what is there after each `$`, in one shell in an empty folder. The output must be what the page shows
-# below. A last line `...` means any further output. ./test sources this file; run by itself, it plays the page.
+# Plays docs/GUIDE.md: types what is there after each `$`, in one shell that begins at the top of the repository, with an empty home.
+# The output must be what the page shows below. A last line `...` means any further output. ./test sources this file; run by itself, it
+# plays the page.
 
 # Reads the page: `typed` has its commands, and `wanted` the output of each.
 read_page() {
@@ -35,9 +36,9 @@ is_wanted() {
 
 # Types the commands, and reports for each whether it wrote the wanted output.
 play_page() {
-    local index page_path=$root:$PATH
-    mkdir -p -- "$work/guide" && cd -- "$work/guide" || return
-    PATH=$page_path
+    local index
+    mkdir -p -- "$work/home" || return
+    export HOME=$work/home
     for index in "${!typed[@]}"; do
         eval "${typed[index]}" > "$work/written" 2>&1 < /dev/null
         if is_wanted "$work/written" "${wanted[index]}"; then

@@ -1,7 +1,6 @@
 # shellcheck shell=bash
-# shellcheck disable=SC2317 # count calls its checks by their names
-# Tests what ./mailfile, ./bench, ./hostile and ./failing do around the program, in a small tree with a substitute for rt. ./test
-# sources this file.
+# shellcheck disable=SC2317,SC2034 # count calls its checks by their names, and variables are for what is sourced
+# Tests what the scripts do around the programs, in a small tree with a substitute for rt. ./test sources this file.
 
 : "${work:?}"
 
@@ -9,19 +8,23 @@
 make_stage() {
     stage=$work/stage
     path=$stage/kit/bin:/usr/bin:/bin
-    mkdir -p -- "$stage"/kit/bin "$stage"/tree/{.git,docs,scripts} "$stage"/tree/crates/{low,beside,one,two,three,middle,mailfile}/src "$stage/tree/beside/measures/src"
-    cp -- mailfile bench hostile failing "$stage/tree/"
-    cp -- scripts/build.bash scripts/beside.bash "$stage/tree/scripts/"
+    mkdir -p -- "$stage"/kit/bin "$stage"/tree/{.git,docs,man,beside/measures/src}
+    mkdir -p -- "$stage"/tree/crates/{low,beside,one,two,three,middle,mailfile,mailfile_tool,apart}/src
+    cp -r -- mailfile bench hostile failing prove install scripts "$stage/tree/"
     printf '%s\n' '# crates' low: beside: one: two: three: 'middle: low thiserror' \
-        'mailfile: beside one two three middle clap' > "$stage/tree/crates.txt"
+        'mailfile: beside one two three middle clap' 'mailfile_tool: low' 'apart: low' > "$stage/tree/crates.txt"
     echo 'measures: low' > "$stage/tree/beside/measures/uses"
     echo low > "$stage/tree/crates/low/src/lib.rt"
+    echo tool > "$stage/tree/crates/mailfile_tool/src/main.rt"
     echo 'Command::new("mailfile").version("1.2.3").about(' > "$stage/tree/crates/mailfile/src/command_line.rt"
+    touch "$stage/tree/man/"{mailfile,mailfile-tool}.1
+    sed -i 's/^PROGRAMS=.*/PROGRAMS=(mailfile mailfile_tool)/' "$stage/tree/scripts/programs.bash"
     echo 'kit 1' > "$stage/kit/KIT-ID"
     cat > "$stage/kit/bin/rt" <<'RT'
 #!/usr/bin/env bash
-# Builds libraries, and programs that print their arguments and end with status 7, as the files of the stage ask.
-stage=$(dirname "$0")/../..
+# Builds libraries, and programs that print their arguments and end with status 7, as the files of the stage ask. A program answers
+# --version unless the file `foreign` is there.
+stage=$(cd "$(dirname "$0")/../.." && pwd)
 name=${PWD##*/}
 echo "$* $name" >> "$stage/calls"
 if [[ -f $stage/slow-$1 ]]; then
@@ -30,7 +33,8 @@ if [[ -f $stage/slow-$1 ]]; then
 fi
 if [[ $1 == run ]]; then
     [[ ! -f $stage/edits ]] || cp "$stage/edits" ../low/src/lib.rt
-    printf '#!/bin/sh\necho told "$@"\n[ "$1" != wait ] || exec sleep 60\nexit 7\n' > "out/$name"
+    printf '#!/bin/sh\n[ "$1" != --version ] || exec test ! -e %s\necho told "$@"\n[ "$1" != wait ] || exec sleep 60\nexit 7\n' \
+        "$stage/foreign" > "out/$name"
     chmod +x "out/$name"
     exit
 fi
@@ -107,8 +111,14 @@ builds_after_a_deletion() {
     builds && rm -- "$stage/tree/crates/low/src/more.rt" && builds && serves
 }
 
-builds_with_another_kit() {
+serves_with_another_kit() {
     echo 'kit 2' > "$stage/kit/KIT-ID"
+    serves
+}
+
+# A start sees a program that another one replaced.
+builds_after_another_program() {
+    echo other >> "$stage/tree/crates/mailfile/out/mailfile"
     builds && serves
 }
 
@@ -196,7 +206,7 @@ ends_the_program() {
 }
 
 gives_up_where_nothing_can_be_written() {
-    rm -r -- "$stage/tree/crates/mailfile/out" && touch "$stage/tree/crates/mailfile/out"
+    fresh && rm -r -- "$stage/tree/dist" && touch "$stage/tree/crates/mailfile/out"
     gives_up 125 "out cannot be written" mailfile
 }
 
@@ -204,6 +214,146 @@ leaves_the_page() {
     echo old > "$stage/tree/docs/PERFORMANCE.md"
     gives_up 125 "the program ended with a fault" bench --write &&
         [[ $(< "$stage/tree/docs/PERFORMANCE.md") == old ]]
+}
+
+# Makes the dist/ of the stage, by the programs that the substitute builds.
+makes_dist() {
+    rm -rf -- "$stage/tree/crates/"*/out
+    PATH=$path "$stage/tree/prove" --dist > "$work/answer" 2> "$work/error" && [[ -s $stage/tree/dist/mailfile-tool.gz ]] &&
+        grep -q -x 'kit kit 2' "$stage/tree/dist/MANIFEST" && [[ $(grep -c -E '^mailfile(_tool)? ' "$stage/tree/dist/MANIFEST") -eq 2 ]]
+}
+
+# What ./prove says of the programs that are built.
+compared() (
+    root=$stage/tree PROGRAMS=(mailfile mailfile_tool) group_passed=0 group_failed=0
+    PATH=$path compare_dist 2>&1
+)
+
+compares_with_dist() {
+    local program=$stage/tree/crates/mailfile/out/mailfile
+    compared | grep -q ': 2 passed, 0 failed$' && echo >> "$program" && compared | grep -q ': 1 passed, 1 failed$' &&
+        echo 'kit 3' > "$stage/kit/KIT-ID" && compared | grep -q ': 0 passed, 0 failed$' && echo 'kit 2' > "$stage/kit/KIT-ID"
+}
+
+# Starts as in a fresh clone without a kit: nothing is built, unpacked or noted.
+fresh() {
+    rm -rf -- "$stage/tree/crates/"*/out "$stage/tree/out"
+}
+
+serves_from_dist() {
+    fresh && serves a && mv -- "$stage/tree/dist" "$stage/dist" && serves b
+    local status=$?
+    mv -- "$stage/dist" "$stage/tree/dist"
+    return "$status"
+}
+
+# Four starts at the same time, of which each finds nothing unpacked.
+serves_at_once() {
+    local start starts=()
+    fresh
+    for start in {1..4}; do
+        PATH=$path "$stage/tree/mailfile" "$start" > "$work/answer.$start" 2>> "$work/error.all" < /dev/null &
+        starts+=("$!")
+    done
+    for start in {1..4}; do
+        wait "${starts[start - 1]}"
+        [[ $? -eq 7 && $(< "$work/answer.$start") == "told $start" ]] || return
+    done
+    [[ ! -s $work/error.all && $(find "$stage/tree/out" -type f | wc -l) -eq 3 ]]
+}
+
+serves_after_other_edits() {
+    echo edited > "$stage/tree/crates/apart/src/main.rt" && echo 'other: low' >> "$stage/tree/crates.txt" && serves c && fresh && serves d
+}
+
+# A file in dist/ that is cut off, or is another program: it is told, and neither run nor replaced by a build.
+refuses_a_damaged_file() {
+    local file=$stage/tree/dist/mailfile.gz status=0
+    cp -- "$file" "$stage/whole.gz"
+    truncate -s 50 "$file" && fresh && gives_up 125 "dist/mailfile.gz is damaged" mailfile a || status=1
+    printf '#!/bin/sh\necho another\n' | gzip > "$file" && fresh && gives_up 125 "dist/mailfile.gz is damaged" mailfile a || status=1
+    rm -- "$file" && fresh && gives_up 125 "dist/mailfile.gz is missing" mailfile a || status=1
+    mv -- "$stage/whole.gz" "$file"
+    return "$status"
+}
+
+refuses_a_damaged_list() {
+    local list=$stage/tree/dist/MANIFEST status=0
+    cp -- "$list" "$stage/whole"
+    sed -i 's/^mailfile ./mailfile x/' "$list" && fresh && gives_up 125 "dist/MANIFEST is missing or damaged" mailfile a || status=1
+    : > "$list" && fresh && gives_up 125 "dist/MANIFEST is missing or damaged" mailfile a || status=1
+    mv -- "$stage/whole" "$list"
+    return "$status"
+}
+
+# Where dist/ can't be used and there is no kit, the start says both.
+refuses_other_sources() {
+    echo more > "$stage/tree/crates/low/src/more.rt"
+    fresh && gives_up 125 "dist/ has mailfile from other sources, and there is no command rt" mailfile a && answers_unbuilt
+    local status=$?
+    rm -- "$stage/tree/crates/low/src/more.rt"
+    return "$status"
+}
+
+refuses_another_system() {
+    mkdir -p -- "$stage/other" && printf '#!/bin/sh\necho Plan9 mips\n' > "$stage/other/uname" && chmod +x "$stage/other/uname"
+    fresh && path=$stage/other:$path gives_up 125 "this is Plan9 mips.*no command rt" mailfile a
+}
+
+refuses_a_foreign_program() {
+    touch "$stage/foreign"
+    fresh && gives_up 125 "the program in dist/ does not start here.*no command rt" mailfile a
+    local status=$?
+    rm -- "$stage/foreign"
+    return "$status"
+}
+
+# A path without one of the system's commands.
+refuses_without() {
+    local without=$stage/without-$1
+    mkdir -- "$without" && cp -s -- /usr/bin/* /bin/* "$without" 2> "$work/said"
+    rm -f -- "$without/$1"
+    fresh && path=$without gives_up 125 "no $1 " mailfile a
+}
+
+# Starts in a checkout that cannot be written keep what they unpack in the user's folder, or for one start alone.
+serves_from_a_fixed_checkout() {
+    fresh && touch "$stage/tree/out" || return
+    XDG_CACHE_HOME=$stage/cache serves a && XDG_CACHE_HOME=$stage/cache serves b && [[ -x $(find "$stage/cache" -name mailfile -type f) ]] &&
+        mkdir -- "$stage/temporary" && XDG_CACHE_HOME=/dev/null TMPDIR=$stage/temporary serves c && rmdir -- "$stage/temporary"
+    local status=$?
+    rm -f -- "$stage/tree/out"
+    return "$status"
+}
+
+# What is installed works without the checkout, and replaces what was there.
+installs() {
+    fresh && start install "$stage/prefix" && start install "$stage/prefix" && [[ -f $stage/prefix/share/man/man1/mailfile-tool.1 ]] &&
+        grep -q "$stage/prefix/bin is not on the path" "$work/answer" && mv -- "$stage/tree" "$stage/moved" || return
+    [[ $("$stage/prefix/bin/mailfile" a) == "told a" ]]
+    local status=$?
+    mv -- "$stage/moved" "$stage/tree"
+    return "$status"
+}
+
+# What starts do with dist/, at first without a kit.
+starts_from_dist() {
+    count "dist/ is made" makes_dist
+    count "programs are compared with dist/" compares_with_dist
+    mv -- "$stage/kit" "$stage/away"
+    count "a first start from dist/" serves_from_dist
+    count "first starts at the same time" serves_at_once
+    count "an edit of a crate that is not below the program" serves_after_other_edits
+    count "a damaged file in dist/" refuses_a_damaged_file
+    count "a damaged list of dist/" refuses_a_damaged_list
+    count "a dist/ of other sources" refuses_other_sources
+    count "another system" refuses_another_system
+    count "a program that does not start here" refuses_a_foreign_program
+    count "a system without gzip" refuses_without gzip
+    count "a system without xargs" refuses_without xargs
+    count "a checkout that cannot be written" serves_from_a_fixed_checkout
+    count "what is installed" installs
+    mv -- "$stage/away" "$stage/kit"
 }
 
 scripts() {
@@ -214,7 +364,8 @@ scripts() {
     count "a start with little memory" builds_one_after_the_other
     count "a start after an edit" builds_after_an_edit
     count "a start after a deletion" builds_after_a_deletion
-    count "a start with another kit" builds_with_another_kit
+    count "a start with another kit" serves_with_another_kit
+    count "a start after the program was changed" builds_after_another_program
     count "an edit while the program is built" sees_an_edit_while_building
     count "a start from another folder, by a link" serves_from_anywhere
     count "a build that fails" goes_on_after_a_failure
@@ -225,13 +376,16 @@ scripts() {
     count "a start that is ended while the program is built" ends_what_it_started run
     count "a program that is ended by a signal" ends_the_program
     count "a start without a kit" serves_without_a_kit
-    count "a folder that cannot be written" gives_up_where_nothing_can_be_written
+    starts_from_dist
+    count "a build without a place for it" gives_up_where_nothing_can_be_written
     count "a page that is not measured" leaves_the_page
     count "an unknown word for ./bench" gives_up 2 "^usage:" bench --nothing
     count "a seed that is no number" gives_up 2 "^usage:" hostile one
     count "an unknown word for ./failing" gives_up 2 "^usage:" failing memory some
+    count "an unknown word for ./prove" gives_up 2 "^usage:" prove --nothing
+    count "an unknown word for ./install" gives_up 2 "^usage:" install --nothing
     if command -v shellcheck > "$work/said"; then
-        count "shellcheck" shellcheck -x test mailfile mailfile-tool bench hostile failing .ci/run scripts/*.bash
+        count "shellcheck" shellcheck -x mailfile* test prove install bench hostile failing .ci/run scripts/*.bash
     fi
     group scripts
 }

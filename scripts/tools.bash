@@ -67,8 +67,41 @@ typed_session() {
         [[ $(< "$work/answer") == $'ok\nclass finance\nend' ]]
 }
 
+# Lines of commands, good ones and wrong ones. No octets follow a good one, and each has one line as its reply.
+lines_of_commands() {
+    local name word long
+    long=$(printf '%065d' 0)
+    for word in ann '' "${long:1}" "$long" $'\303\266' $'ann\r'; do
+        printf '%s\n' "BEGIN $word 0 0" "IMAGE $word 0" "SCRIPT $word main 0" "SCRIPT ann $word 0" "GLOBAL $word 0"
+    done
+    for word in 0 00 01 '' -1 x 4294967296 18446744073709551616; do
+        printf '%s\n' "BEGIN ann $word 0" "BEGIN ann 0 $word" "PLAN $word" "FILE $word 0" "FILE 0 $word" "TRY 0 $word"
+    done
+    for name in PLAN SCRIPT GLOBAL IMAGE FILE TRY BEGIN Begin BEGN ''; do
+        printf '%s\n' "$name" "$name 0" "$name 0 0" "$name 0 0 0" "$name 0 0 0 0" "$name  0"
+    done
+    printf 'BEGIN ann 18446744073709551615 0\nPLAN 0%0506d\nCLASS %0507d\n' 0 0
+}
+
+# Whether frame refuses exactly those of these lines that a session refuses for their words.
+frame_agrees() {
+    local line reply status
+    lines_of_commands > "$work/lines"
+    ./mailfile < "$work/lines" > "$work/replies" || return
+    while IFS= read -r line && IFS= read -r reply <&3; do
+        status=0
+        printf '%s\n' "$line" | ./mailfile-tool frame > "$work/answer" 2> "$work/error" || status=$?
+        case $reply in
+            'refused 70' | 'refused 71' | 'refused 73') ((status == 2)) ;;
+            *) ((status == 0)) ;;
+        esac || { printf 'a session says %s, and frame ends with %s: %q\n' "$reply" "$status" "$line"; return 1; }
+    done < "$work/lines" 3< "$work/replies"
+    [[ $(wc -l < "$work/replies") == $(($(wc -l < "$work/lines") + 1)) ]]
+}
+
 tools() {
     tool_cases
+    count "frame refuses what a session would misread" frame_agrees
     count "the numbers of the specification have texts, and no others" numbers_have_texts
     count "a reader that goes away" ends_with_its_reader
     count "a session without counted octets" typed_session

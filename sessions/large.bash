@@ -121,8 +121,8 @@ scripts() {
 # Strings of 65,535 octets, which are accepted, and of 65,536. A line end in a string counts as two.
 strings() {
     {
-        file 65565 0 && printf 'require "fileinto";fileinto "' && times 65535 a && printf '";'
-        file 65566 0 && printf 'require "fileinto";fileinto "' && times 65536 a && printf '";'
+        file 65566 0 && printf 'require "fileinto";fileinto "' && times 65535 a && printf '";'
+        file 65567 0 && printf 'require "fileinto";fileinto "' && times 65536 a && printf '";'
         file 65537 0 && printf '"' && times 65535 a && printf '"'
         file 65538 0 && printf '"' && times 65536 a && printf '"'
         file 65537 0 && printf '"' && times 65536 a
@@ -140,7 +140,7 @@ strings() {
         'refused 20 at 0' 'refused 16 at 0' 'refused 20 at 0' 'refused 20 at 0' 'refused 20 at 0' 'refused 20 at 0' 'refused 16 at 2' \
         'refused 12 at 2' 'refused 16 at 2' 'refused 12 at 2' end
     {
-        echo 'FILE 90 10013' && printf 'if header :comparator "i;octet" :matches "subject" "*a*a*a*a*b" { discard; } else { keep; }'
+        echo 'FILE 91 10013' && printf 'if header :comparator "i;octet" :matches "subject" "*a*a*a*a*b" { discard; } else { keep; }'
         printf 'Subject: ' && times 10000 a && printf '\r\n\r\n'
     } | session a-pattern-over-a-long-value 'class unfiled' end
 }
@@ -193,25 +193,32 @@ change() {
     printf '%s\n' "${3//|/$'\n'}" >&4
 }
 
-# Sessions that try changes of images, from a file: a line `image NAME OCTETS MESSAGE` for each, then lines with a place, the first
-# and last value that another octet there has, and the answers.
+# Begins the session of an image, from its name, and from the octets of the image and of the message.
+begin_changes() {
+    local image text
+    read -r image text <<< "$2"
+    read -r -a octets <<< "$(escaped "$image" ' ')"
+    message=$(escaped "$text" '')
+    exec 3> "$folder/$1.session" 4> "$folder/$1.expected"
+    echo 'CLASS finance' >&3
+    echo ok >&4
+}
+
+# Sessions that try changes of images, as the file `changes` has them.
 changes() {
-    local word rest value last octets=() message=''
-    while read -r word rest; do
+    local word values rest part value octets=() message=''
+    while read -r word values rest; do
         if [[ $word == image ]]; then
             [[ ${#octets[@]} -eq 0 ]] || echo end >&4
-            exec 3> "$folder/${rest%% *}.session" 4> "$folder/${rest%% *}.expected"
-            read -r _ word message <<< "$rest"
-            read -r -a octets <<< "$(escaped "$word" ' ')"
-            message=$(escaped "$message" '')
+            begin_changes "$values" "$rest"
         else
-            value=${rest%% *}
-            last=${value#*-}
-            for ((value = ${value%-*}; value <= last; value++)); do
-                change "$word" "$value" "${rest#* }"
+            for part in ${values//,/ }; do
+                for ((value = ${part%-*}; value <= ${part#*-}; value++)); do
+                    change "$word" "$value" "$rest"
+                done
             done
         fi
-    done < <(grep -v '^#' "$1")
+    done < <(grep -v '^#' "$here/changes")
     echo end >&4
     exec 3>&- 4>&-
 }
@@ -246,7 +253,7 @@ scripts
 strings
 plans
 commands
-changes "$here/changes"
+changes
 for file in "$here"/*.cuts; do
     cuts "$(basename -- "$file" .cuts)"
 done

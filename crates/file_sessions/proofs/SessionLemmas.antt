@@ -1,10 +1,12 @@
 -- What a session at a desk leads to.
 use Rattle.std.proofs.Common.{ℕ, List, Result, Ok, Err, inl, inr, refl}
 use Rattle.std.specs.Prelude.{OnOk, IsErrOf}
+use Rattle.filing_commands.specs.Answers.{Answer}
 use Rattle.filing_commands.specs.Calls.{Calls, Leads}
 use Rattle.filing_commands.specs.Standing.{Standing, Step}
+use Rattle.filing_session.specs.Done.{HasDone}
 use Rattle.filing_session.specs.Laws.{Refines}
-use Rattle.filing_session.specs.Session.{Session, IsServed, IsAnswered, IsCut, IsCutInAnswer, IsCutInEnding}
+use Rattle.filing_session.specs.Session.{Item, Session, Run, IsServed, IsAnswered, IsCut, IsCutInAnswer, IsCutInEnding}
 use Rattle.filing_session.specs.declared.session.ServeFault.{ServeFault}
 use Rattle.filing_session.specs.declared.session.ServeFault.TheVariants.{Read, Write}
 use Rattle.file_sessions.specs.Sessions.{IsTold}
@@ -39,7 +41,7 @@ module _ {D : Type 0} (clean : D → Type 0) (stands : D → Standing → Type 0
       (λ s. IsCutInEnding Step session s old written))
       → (result : Result (Unit {0}) ServeFault) (session : Session) (old written : List ℕ) (desk new : D)
       → DeskTold result session desk old written new → clean new
-      → clean desk × ((s : Standing) → stands desk s → Leads stands new (IsTold result session s old written))
+      → clean desk × ((s : Standing) → stands desk s → Leads stands new (IsTold result session old written s))
   unfolding DeskTold
   told_refines served answered in_answer in_ending (Ok u) session old written desk new told ok = served session old written desk new told ok
   told_refines served answered in_answer in_ending (Err Read) session old written desk new told ok = answered session old written desk new told ok
@@ -49,3 +51,26 @@ module _ {D : Type 0} (clean : D → Type 0) (stands : D → Standing → Type 0
   told_refines served answered in_answer in_ending (Err Write) session old written desk new (inr told) ok =
       let led = in_ending session old written desk new told ok in
       (led.0, λ s there. let l = led.1 s there in record { to = l.to; is_one = inr l.is_one; there = l.there })
+
+  -- the same for what was done, whatever the streams tell
+  pub done_refines :
+      ((items : List Item) (answers : List Answer) → Refines clean stands (λ desk. Run (Calls clean stands) desk items answers)
+      (λ s. Run Step s items answers))
+      → (Heard : List Item → Type 0) (Said : List Answer → Type 0) (desk new : D)
+      → HasDone (Calls clean stands) Heard Said desk new → clean new
+      → clean desk × ((s : Standing) → stands desk s → Leads stands new (HasDone Step Heard Said s))
+  done_refines law Heard Said desk new it ok =
+      let led = law it.items it.answers desk new it.run ok in (
+        led.0,
+        λ s there.
+            let l = led.1 s there in
+            let reached : HasDone Step Heard Said s l.to = record {
+              items = it.items;
+              answers = it.answers;
+              run = l.is_one;
+              few = it.few;
+              heard = it.heard;
+              said = it.said;
+            } in
+            record { to = l.to; is_one = reached; there = l.there },
+      )

@@ -30,7 +30,8 @@ pub enum Closing {
 /// Copies what the log has into the database file.
 fn copy_log<D: Disk>(store: &mut FileStore<D>) -> Closing
     ensures quiet { IsQuietCall store.old store.new }
-    ensures open { IsClean (view store.new) → result ≢ Closing.Shut → IsTrue (view store.new).is_open }
+    ensures open { IsClean (view store.new) → result ≢ Closing.Shut
+        → IsTrue (view store.new).is_open }
     ensures same { IsTrue (view store.new).is_open → view store.new ≡ view store.old }
     ensures moved { result ≡ Closing.Copied → (HasSpilled store.old → ⊥)
         → log_frames store.new ≡ 0 }

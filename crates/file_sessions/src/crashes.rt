@@ -21,7 +21,8 @@ use sqlite_disk::Disk;
 /// before the first and after the last, whatever it leaves of the files recovers to the archive as it is then, while no
 /// fault has shut the store.
 pub fn crash<D: Disk + Drop>(desk: Desk<Store<FileStore<D>>>) -> Files<D>
-    ensures clean { AreClean D.Disk result.log result.db → HasCleanDisk (file_state desk.store.conn) }
+    ensures clean { AreClean D.Disk result.log result.db
+        → HasCleanDisk (file_state desk.store.conn) }
     ensures keeps { AreClean D.Disk result.log result.db
         → IsTrue (file_state desk.store.conn).is_open
         → (s : Standing) → StandsFor (stores.StandsFor over_files) desk s → (image : Image)

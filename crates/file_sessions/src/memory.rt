@@ -10,7 +10,7 @@ ghost use Rattle.sqlite.specs.Held.{state};
 ghost use Rattle.record_store.specs.declared.store.Store.{Store as Keeping};
 ghost use Rattle.filing_desk.specs.declared.desk.Desk.{Desk as OverStore};
 ghost use Rattle.sqlite_trees.specs.declared.memory.MemStore.{MemStore as InMemory};
-ghost use Rattle.file_sessions.specs.Sessions.{IsTold};
+ghost use Rattle.file_sessions.specs.Sessions.{IsDone, IsTold};
 
 use crate::opening::open_desk;
 use filing_desk::Desk;
@@ -22,7 +22,8 @@ use std::alloc::Global;
 /// A desk over a store in memory is always clean, since no disk is under it. So what is said of clean desks holds of
 /// each, with no premise.
 pub fn memory_is_clean()
-    ensures { (desk : OverStore (Keeping InMemory)) → HasCleanDisk (state over_memory desk.store.conn) }
+    ensures { (desk : OverStore (Keeping InMemory))
+        → HasCleanDisk (state over_memory desk.store.conn) }
 {}
 
 /// Serves a session over a new store in memory. None where there is no memory for it, or where the database refused.
@@ -31,9 +32,12 @@ pub fn serve_in_memory<In: Source, Out: Sink>(
     source: &mut In,
     sink: &mut Out,
 ) -> Option<Result<(), ServeFault>>
-    ensures { In.tells → Out.tells → IfSome result (λ ended. (to : Standing)
-        × IsTold ended (session_in (In.left source.old)) (opening empty_archive)
-        (Out.written sink.old) (Out.written sink.new) to) }
+    ensures served { In.tells → Out.tells → IfSome result (λ ended. (to : Standing)
+        × IsTold ended (session_in (In.left source.old)) (Out.written sink.old)
+        (Out.written sink.new) (opening empty_archive) to) }
+    ensures done { IfSome result (λ ended. (to : Standing) × IsDone In.tells Out.tells ended
+        (In.left source.old) (Out.written sink.old) (Out.written sink.new)
+        (opening empty_archive) to) }
 {
     sessions_refine_states::<Desk<Store<MemStore>>>();
     let conn = match Connection::open_in_memory(alloc) {

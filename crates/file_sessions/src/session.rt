@@ -15,7 +15,7 @@ ghost use Rattle.record_store.specs.Stores as stores;
 ghost use Rattle.filing_desk.specs.Standing.{StandsFor};
 ghost use Rattle.file_sessions.specs.Files.{FindsAt, KeepsAt, KeepsFiles, system_file};
 ghost use Rattle.file_sessions.specs.Refusals.{HasCause};
-ghost use Rattle.file_sessions.specs.Sessions.{LeadsTo};
+ghost use Rattle.file_sessions.specs.Sessions.{IsDone, IsTold, LeadsTo};
 
 use crate::closing::{Closing, close, leave};
 use crate::opening::open_desk;
@@ -48,9 +48,11 @@ pub enum NoSession<D: Disk> {
 
 /// Ends a desk, and closes the files under its store.
 fn close_desk<D: Disk + Drop>(desk: Desk<Store<FileStore<D>>>) -> (Files<D>, Closing)
-    ensures clean { AreClean D.Disk result.0.log result.0.db → HasCleanDisk (file_state desk.store.conn) }
+    ensures clean { AreClean D.Disk result.0.log result.0.db
+        → HasCleanDisk (file_state desk.store.conn) }
     ensures keeps { AreClean D.Disk result.0.log result.0.db → (s : Standing)
-        → StandsFor (stores.StandsFor over_files) desk s → KeepsFiles D.Disk result.1 result.0 s.office.archive }
+        → StandsFor (stores.StandsFor over_files) desk s
+        → KeepsFiles D.Disk result.1 result.0 s.office.archive }
 {
     close(desk.into_store().into_connection())
 }
@@ -68,8 +70,12 @@ pub fn serve_connection<D: Disk + Drop, In: Source, Out: Sink>(
     requires { conn.in_transaction ≡ false }
     ensures served { IfOk result (λ it. AreClean D.Disk it.files.log it.files.db
         → In.tells → Out.tells → HasCleanDisk (file_state conn) × ((a : Archive)
-        → Finds (file_state conn).now a → LeadsTo D.Disk it (session_in (In.left source.old)) a
-        (Out.written sink.old) (Out.written sink.new))) }
+        → Finds (file_state conn).now a → LeadsTo D.Disk it a (IsTold it.session
+        (session_in (In.left source.old)) (Out.written sink.old) (Out.written sink.new)))) }
+    ensures done { IfOk result (λ it. AreClean D.Disk it.files.log it.files.db
+        → HasCleanDisk (file_state conn) × ((a : Archive)
+        → Finds (file_state conn).now a → LeadsTo D.Disk it a (IsDone In.tells Out.tells it.session
+        (In.left source.old) (Out.written sink.old) (Out.written sink.new)))) }
     ensures refused { IfErr result (λ e. AreClean D.Disk e.1.log e.1.db
         → HasCleanDisk (file_state conn) × ((a : Archive)
         → Finds (file_state conn).now a → IsArchive a → is_trouble e.0 ≡ true)) }
@@ -93,8 +99,8 @@ pub fn serve_connection<D: Disk + Drop, In: Source, Out: Sink>(
 ///
 /// While the disk returns what was written to it, the session begins at the archive that the files held, what is
 /// written are the answers of the serial session over it, and the files keep the archive that it leads to, also over a
-/// crash. What the files held, and how a write that a crash cuts short is read, is what `S` says. No code knows it, so
-/// this holds whatever it is.
+/// crash. Of octets it says what the streams tell of theirs. What the files held, and how a write that a crash cuts
+/// short is read, is what `S` says. No code knows it, so this holds whatever it is.
 ///
 /// No session is served, and nothing is read, where the files cannot be opened, where they hold no archive (88), and
 /// where the database refuses (89) or there is no memory (99). Over files that hold an archive there is no other cause.
@@ -107,8 +113,12 @@ pub fn serve_file<S: Start, In: Source, Out: Sink>(
 ) -> Result<EndedSession<FileFrom<S>>, NoSession<FileFrom<S>>>
     ensures served { IfOk result (λ it. AreClean (system_file S.Start) it.files.log it.files.db
         → In.tells → Out.tells → (a : Archive) → FindsAt (image_at S.Start) a
-        → LeadsTo (system_file S.Start) it (session_in (In.left source.old)) a
-        (Out.written sink.old) (Out.written sink.new)) }
+        → LeadsTo (system_file S.Start) it a (IsTold it.session (session_in (In.left source.old))
+        (Out.written sink.old) (Out.written sink.new))) }
+    ensures done { IfOk result (λ it. AreClean (system_file S.Start) it.files.log it.files.db
+        → (a : Archive) → FindsAt (image_at S.Start) a
+        → LeadsTo (system_file S.Start) it a (IsDone In.tells Out.tells it.session
+        (In.left source.old) (Out.written sink.old) (Out.written sink.new))) }
     ensures refused { IfErr result (λ e. (a : Archive) → FindsAt (image_at S.Start) a → IsArchive a
         → HasCause e) }
 {

@@ -1,7 +1,7 @@
 -- The program of a script's code may run, and has the script's outcome in every case.
 use Rattle.std.proofs.Common.{◌≡◌, ℕ, ◌+◌, ◌<◌, ◌≤◌, ◌^◌, List, [], ◌∷◌, Option, Some, None, false, length, refl, sym, ap, ◌∙◌, subst, arith}
 use Rattle.std.proofs.lemmas.List.{length-replicate, get_or-replicate}
-use Rattle.filing_image.specs.Program.{Program}
+use Rattle.filing_image.specs.Program.{Program, version_of}
 use Rattle.filing_verify.specs.Well.{IsWell}
 use Rattle.filing_table.specs.Ends.{HasOutcome}
 use Rattle.filing_flow.specs.Structure.{Flow, action, size, End, without_procedures, IsSound}
@@ -111,6 +111,7 @@ module _ (lib : Library) (slot : Slots) (count : ℕ) (has : HasSlots lib slot c
   pub built : (o : Output) (p : Program) (b : ℕ) → IsCode o (main_flow lib slot known_as main) → IsImageOf b count None o p → IsWell p → b ≡ linked_weight lib known_as main → b ≤ 60000 → IsCompiled lib known_as main p
   built o p b is made good weight small =
       record {
+        version = (λ one. omega (arith, weight, small), λ light. ap version_of made.procedures_are);
         budget = made.budget_is ∙ weight ∙ sym (budget_by_weight lib known_as main (omega (arith, weight, small)));
         well = good;
         outcomes = has_outcome p (code_of o p (main_flow lib slot known_as main) b is made) made.slots;

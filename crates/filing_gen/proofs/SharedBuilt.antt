@@ -1,7 +1,8 @@
 -- What is known of a main script and its image, by its procedures.
 use Rattle.std.proofs.Common.{◌≡◌, ◌<◌, ◌≤◌, ℕ, List, Option, Some, true, false, length, map, sym, ap, ◌∙◌, subst, arith}
 use Rattle.std.proofs.lemmas.List.{length-map}
-use Rattle.filing_image.specs.Program.{Program}
+use Rattle.filing_image.specs.Program.{Program, version_of}
+use Rattle.filing_image.specs.declared.version.Version.TheVariants.{One, Two}
 use Rattle.sieve_meaning.specs.Program.{Commands}
 use Rattle.sieve_meaning.specs.Meaning.{Library, main_names}
 use Rattle.sieve_meaning.specs.Weight.{greatest_weight, linked_weight}
@@ -18,6 +19,9 @@ use Rattle.filing_gen.specs.Procedures.{procedure_flows, shared_flows}
 use Rattle.filing_gen.specs.SharedCode.{IsSharedCode}
 use Rattle.filing_gen.specs.declared.output.Output.{Output}
 use Rattle.filing_gen.proofs.SharedCompiled.{too_many, too_heavy, too_long, not_beyond, IsShared, shared_compiled}
+
+two_is_not_one : (firsts : Option (List ℕ)) → version_of firsts ≡ Two → version_of firsts ≡ One → ⊥
+two_is_not_one firsts two one = cc (two, one)
 
 module _ (l : Scripts) (known_as : Option (List ℕ)) (main : Commands) where
   abbrev lib : Library
@@ -54,4 +58,4 @@ module _ (l : Scripts) (known_as : Option (List ℕ)) (main : Commands) where
           (subst (λ (ns : List ℕ). IsImageOf budget count (Some ns) o p) code.places made) path.0 (omega (arith, few, as_many)) (omega (arith, path.0, path.1))
 
       pub compiled_image : greatest_weight < linked_weight lib known_as main → IsShared lib (slots_of l) count has known_as main p → IsCompiled lib known_as main p
-      compiled_image over s = record { budget = s.budget ∙ sym (budget_by_path lib known_as main over); well = s.well; outcomes = s.outcomes }
+      compiled_image over s = record { version = (λ one. absurd (two_is_not_one p.procedures s.shared one), λ light. absurd (omega (arith, over, light))); budget = s.budget ∙ sym (budget_by_path lib known_as main over); well = s.well; outcomes = s.outcomes }

@@ -2,7 +2,8 @@
 use Rattle.std.proofs.Common.{◌≡◌, ◌⊎◌, ℕ, ◌≤◌, ◌<◌, List, Bool, true, false, ◌||◌, Option, Some, length, inl, inr, refl, sym, ap, ◌∙◌, subst, arith}
 use Rattle.std.specs.Prelude.{nat_lt}
 use Rattle.std.proofs.lemmas.Bool.{lt-ltb, le-ltb}
-use Rattle.filing_image.specs.Program.{Program}
+use Rattle.filing_image.specs.Program.{Program, version_of}
+use Rattle.filing_image.specs.declared.version.Version.TheVariants.{Two}
 use Rattle.filing_image.specs.declared.instruction.Operation.{Operation}
 use Rattle.filing_verify.specs.Well.{IsWell}
 use Rattle.filing_table.specs.Ends.{HasOutcome}
@@ -70,9 +71,10 @@ module _ (lib : Library) (slot : Slots) (count : ℕ) (has : HasSlots lib slot c
   abbrev flows : List Flow
   flows = shared_flows lib slot known_as main
 
-  -- The program declares the path weight as its budget, and it may run. In every case its run ends with the outcome of what
-  -- the main script means.
+  -- The program has version 2, declares the path weight as its budget, and may run. In every case its run ends with the
+  -- outcome of what the main script means.
   pub record IsShared (p : Program) : Type 0 where
+    pub shared : version_of p.procedures ≡ Two
     pub budget : p.budget ≡ path_weight lib known_as main
     pub well : IsWell p
     pub outcomes : (c : Facts) → (n : ℕ) × HasOutcome p c n (outcome_of (meaning c lib known_as main))
@@ -84,6 +86,7 @@ module _ (lib : Library) (slot : Slots) (count : ℕ) (has : HasSlots lib slot c
       let sound : AreSound p.slots (length flows) 0 flows = subst (λ (k : ℕ). AreSound k (length flows) 0 flows) (sym made.slots) (shared_sound lib slot known_as main count has) in
       let as_many = flows_long lib slot (main_names known_as) 0 (procedures lib known_as main) in
       record {
+        shared = ap version_of made.procedures_are;
         budget = made.budget_is ∙ path;
         well =
             typed_procedures_are_well p flows are (shared_typed lib slot known_as main) sound (omega (arith, made.slots, has.few)) (shared_first lib slot known_as main) (omega (arith, as_many, few))

@@ -8,11 +8,13 @@ use Rattle.filing_session.specs.declared.items.Reaction.{Reaction}
 use Rattle.filing_session.specs.declared.stream.ReadFault.{ReadFault}
 use Rattle.filing_session.specs.declared.items.Reaction.TheVariants as reaction
 
--- an item is executed with this answer, and an ending changes nothing; each leaves the rest of the input
-abbrev pub Answers : {D : Type 0} → (D → Command → Answer → D → Type 0) → D → InputStart → Reaction → D → (left : List ℕ) →
-    Type 0
-Answers Does s h (reaction.Reply r) new left = (item : Item) × (h ≡ Got item left) × ItemStep Does s item (answer_of r) new
-Answers Does s h (reaction.End e) new left = (h ≡ Stop e left) × (new ≡ s)
+-- An item is executed with this answer, and an ending changes nothing. Where the source tells its octets, they begin
+-- with this item or ending, and it leaves the rest of them.
+abbrev pub Answers : {D : Type 0} (tells : Type 0) → (D → Command → Answer → D → Type 0) → D → InputStart → Reaction → D →
+    (left : List ℕ) → Type 0
+Answers tells Does s start (reaction.Reply r) new left =
+    (item : Item) × ItemStep Does s item (answer_of r) new × (tells → start ≡ Got item left)
+Answers tells Does s start (reaction.End e) new left = (new ≡ s) × (tells → start ≡ Stop e left)
 
 -- the result says that the input has ended
 abbrev pub SaysEnd : Result Reaction ReadFault → Type 0

@@ -10,6 +10,7 @@ pub mod Payloads
 pub mod Replies
 pub mod Session
 pub mod ItemAnswers
+pub mod Done
 pub mod Laws
 pub mod Memory
 pub mod Known

@@ -1,5 +1,6 @@
 -- What sources and sinks report about their octets and their troubles.
 use Rattle.std.specs.Prelude.{◌≡◌, ℕ, ◌+◌, ◌-◌, ◌^◌, ◌≤◌, ◌⊎◌, List, ◌++◌, take, Bool, true, false, not, ◌&&◌, ◌==◌, nat_lt, min, max, Result, Ok, Err, OnOk, OnErr}
+use Rattle.filing_session.specs.declared.tally.Tally.{Tally}
 use Rattle.filing_session.specs.declared.stream.Trouble.{Trouble}
 use Rattle.filing_session.specs.declared.stream.Trouble.TheVariants.{Interrupted, Failed}
 
@@ -37,34 +38,45 @@ transfer_length (Err e) = 0
 abbrev pub IsAfter : (old octets new : List ℕ) → Type 0
 IsAfter old octets new = (n : ℕ) × (new ≡ old ++ take n octets)
 
+-- a count rose by this number or more, or it is at its greatest value
+abbrev pub RisesBy : (number before now : ℕ) → Type 0
+RisesBy number before now = min (before + number) (2 ^ 64 - 1) ≤ now
+
 -- a count rose, or it is at its greatest value
 abbrev pub Rises : (before now : ℕ) → Type 0
-Rises before now = min (before + 1) (2 ^ 64 - 1) ≤ now
+Rises before now = RisesBy 1 before now
 
--- Some call failed, or 64 in a row were interrupted, by the counts of failures before and now and that of the last
--- interruptions in a row.
-abbrev pub GivesUp : (failures failures' interruptions' : ℕ) → Type 0
-GivesUp failures failures' interruptions' = Rises failures failures' ⊎ (64 ≤ interruptions')
+-- The last 64 calls or more were interrupted, and 64 interruptions or more came after the earlier counts. So none of
+-- these 64 is an earlier one.
+abbrev pub IsInterrupted64 : (before now : Tally) → Type 0
+IsInterrupted64 before now = (64 ≤ now.interruptions) × RisesBy 64 before.all_interruptions now.all_interruptions
 
--- What a result says about the troubles before it, by the counts of failures, of the last interruptions in a row, and
--- of the most in a row. After a fault some call failed or 64 in a row were interrupted, and never more were. Without a
--- fault no call failed, and fewer than 64 in a row were interrupted.
-abbrev pub TellsTroubles : {V T F : Type 0} → (failures interruptions most : V → ℕ) → Result T F → (old new : V) →
-    Type 0
-TellsTroubles failures interruptions most result old new = record {
-  fault : OnErr result (GivesUp (failures old) (failures new) (interruptions new));
-  within : most new ≤ max (most old) (interruptions old + 64);
-  outlasts : OnOk result (failures new ≡ failures old);
-  over : OnOk result (interruptions new ≤ interruptions old);
-  patient : OnOk result (most new ≤ max (most old) (interruptions old + 63));
+-- some call failed, or 64 in a row were interrupted, all after the earlier counts
+abbrev pub GivesUp : (before now : Tally) → Type 0
+GivesUp before now = Rises before.failures now.failures ⊎ IsInterrupted64 before now
+
+-- the most interruptions there ever were in a row, where there come no more than this number of others
+abbrev pub most_with : Tally → (more : ℕ) → ℕ
+most_with before more = max before.most_interruptions (before.interruptions + more)
+
+-- What a result says about the troubles between two counts. After a fault some call failed or 64 in a row were
+-- interrupted, and never more were. Without a fault no call failed, and fewer than 64 in a row were interrupted. No
+-- interruption is forgotten.
+abbrev pub TellsTroubles : {V T F : Type 0} → (troubles : V → Tally) → Result T F → (old new : V) → Type 0
+TellsTroubles troubles result old new = record {
+  fault : OnErr result (GivesUp (troubles old) (troubles new));
+  within : (troubles new).most_interruptions ≤ most_with (troubles old) 64;
+  outlasts : OnOk result ((troubles new).failures ≡ (troubles old).failures);
+  over : OnOk result ((troubles new).interruptions ≤ (troubles old).interruptions);
+  patient : OnOk result ((troubles new).most_interruptions ≤ most_with (troubles old) 63);
+  all : (troubles old).all_interruptions ≤ (troubles new).all_interruptions;
 }
 
--- No call is made again after 64 interruptions in a row, and where there is no fault there were fewer. The counts are
--- those in a row before, and the most in a row before and now.
-abbrev pub TriesOn : {T F : Type 0} → Result T F → (interruptions most most' : ℕ) → Type 0
-TriesOn result interruptions most most' = record {
-  within : most' ≤ max most (interruptions + 64);
-  patient : OnOk result (most' ≤ max most (interruptions + 63));
+-- no call is made again after 64 interruptions in a row, and where there is no fault there were fewer
+abbrev pub TriesOn : {T F : Type 0} → Result T F → (before now : Tally) → Type 0
+TriesOn result before now = record {
+  within : now.most_interruptions ≤ most_with before 64;
+  patient : OnOk result (now.most_interruptions ≤ most_with before 63);
 }
 
 -- where the result says that the input has ended, a read met its end, by the counts of such reads before and now; no

@@ -31,8 +31,7 @@ fn write_civil<K: Sink>(sink: &mut K, year: u16, month: u8, day: u8) -> Result<(
     ensures written { K.tells → Writes result (K.written sink.old)
         (civil_octets (record { year = year; month = month; day = day }) ++ codes "\n")
         (K.written sink.new) }
-    ensures troubles { TellsTroubles K.failures K.interruptions K.most_interruptions result
-        sink.old sink.new }
+    ensures troubles { TellsTroubles K.troubles result sink.old sink.new }
 {
     let mut year_text = Buffer::new();
     let year_text = year_text.format(year).as_bytes();
@@ -58,8 +57,7 @@ fn write_date<K: Sink>(sink: &mut K, date: Date) -> Result<(), WriteFault>
     requires { IsBetween (pos 0) (pos 2932896) (epoch_day date) }
     ensures written { K.tells → Writes result (K.written sink.old)
         (day_octets (number_of_day date) ++ codes "\n") (K.written sink.new) }
-    ensures troubles { TellsTroubles K.failures K.interruptions K.most_interruptions result
-        sink.old sink.new }
+    ensures troubles { TellsTroubles K.troubles result sink.old sink.new }
 {
     let year = date.year().unsigned_abs();
     let month = date.month().unsigned_abs();
@@ -73,8 +71,7 @@ pub fn write_due<K: Sink>(sink: &mut K, due: Option<Date>) -> Result<(), WriteFa
     ensures written { K.tells →
         Writes result (K.written sink.old) (due_octets (option_map epoch_day due) ++
         codes "\n") (K.written sink.new) }
-    ensures troubles { TellsTroubles K.failures K.interruptions K.most_interruptions result
-        sink.old sink.new }
+    ensures troubles { TellsTroubles K.troubles result sink.old sink.new }
 {
     let Some(date) = due else {
         return write_all(sink, b"never\n");

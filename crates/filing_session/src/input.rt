@@ -1,7 +1,7 @@
-//! A reader as a session's source. Nothing is claimed about the octets of a terminal, a file or a pipe. Where a reader
-//! knows what it has left, exactly that is read.
+//! A reader as a session's source. Nothing is claimed about the octets of a terminal, a file or a pipe. Where the
+//! readers of a type know what they have left, exactly that is read.
 
-ghost use Rattle.std.specs.Prelude.{◌<◌, ◌≤◌, ◌≡◌, length, IfOk};
+ghost use Rattle.std.specs.Prelude.{◌<◌, ◌≤◌, ◌≡◌, [], length, IfOk};
 ghost use Rattle.std.specs.Io.KnownBytes.{ReadConsumes};
 ghost use Rattle.filing_session.specs.Known.{octets_left};
 
@@ -20,9 +20,12 @@ pub struct Input<R> {
     ends: u64,
 }
 
-impl<R> Input<R> {
-    /// A source over a reader.
-    pub fn new(inner: R) -> Input<R> {
+impl<R: Read> Input<R> {
+    /// A source over a reader. What is left is what the reader has left.
+    pub fn new(inner: R) -> Input<R>
+        ensures inner { result.inner ≡ inner }
+        ensures ahead { result.ahead ≡ [] }
+    {
         Input {
             inner,
             ahead: Ahead::new(),
@@ -30,9 +33,7 @@ impl<R> Input<R> {
             ends: 0,
         }
     }
-}
 
-impl<R: Read> Input<R> {
     /// Reads octets into the front of `room`, first those that were read ahead, and answers how many. The answer is 0
     /// only at the end of the input.
     fn read_on(&mut self, room: &mut [u8]) -> io::Result<usize>
@@ -52,17 +53,14 @@ impl<R: Read> Input<R> {
 }
 
 impl<R: Read> Source for Input<R> {
-    ghost use Rattle.std.specs.Prelude.{ℕ, List, []};
+    ghost use Rattle.std.specs.Prelude.{IsSome};
+    ghost use Rattle.filing_session.specs.Known.{known};
 
-    ghost tells = { ⊥ };
+    ghost tells = { (r : R) → IsSome (R.remaining r) };
 
-    ghost left = { λ _. [] };
+    ghost left = { λ s. known (octets_left R.remaining s) };
 
-    ghost failures = { λ s. s.tally.failures };
-
-    ghost interruptions = { λ s. s.tally.interruptions };
-
-    ghost most_interruptions = { λ s. s.tally.most_interruptions };
+    ghost troubles = { λ s. s.tally };
 
     ghost ends = { λ s. s.ends };
 

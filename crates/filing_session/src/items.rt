@@ -49,13 +49,12 @@ fn answer_one<S: Source, R: Registry>(
     command: OnePayload<'_>,
     size: usize,
 ) -> Result<Reaction, ReadFault>
-    ensures reaction { S.tells
-        → IfOk result (λ a. Answers (Calls R.clean R.stands) registry.old (with_payload size
-        (one_command command.entry) (S.left source.old)) a registry.new (S.left source.new)) }
+    ensures reaction { IfOk result (λ a. Answers S.tells (Calls R.clean R.stands) registry.old
+        (with_payload size (one_command command.entry) (S.left source.old)) a
+        registry.new (S.left source.new)) }
     ensures same { OnErr result (registry.new ≡ registry.old) }
     ensures ends { TellsEnd (SaysEnd result) (S.ends source.old) (S.ends source.new) }
-    ensures troubles { TellsTroubles S.failures S.interruptions S.most_interruptions result
-        source.old source.new }
+    ensures troubles { TellsTroubles S.troubles result source.old source.new }
 {
     let Some(payload) = read_payload(alloc, source, size, limit_of_one(command))? else {
         return Ok(Reaction::End(SessionEnd::CutShort));
@@ -71,12 +70,11 @@ fn answer_two<S: Source, R: Registry>(
     command: TwoPayloads,
     sizes: (usize, usize),
 ) -> Result<Reaction, ReadFault>
-    ensures reaction { S.tells → IfOk result
-        (λ a. Answers (Calls R.clean R.stands) registry.now (with_payloads sizes.0 sizes.1
-        (two_command command) (S.left source.old)) a registry.now (S.left source.new)) }
+    ensures reaction { IfOk result (λ a. Answers S.tells (Calls R.clean R.stands) registry.now
+        (with_payloads sizes.0 sizes.1 (two_command command) (S.left source.old)) a
+        registry.now (S.left source.new)) }
     ensures ends { TellsEnd (SaysEnd result) (S.ends source.old) (S.ends source.new) }
-    ensures troubles { TellsTroubles S.failures S.interruptions S.most_interruptions result
-        source.old source.new }
+    ensures troubles { TellsTroubles S.troubles result source.old source.new }
 {
     let limits = limits_of_two(command);
     let Some((first, second)) = read_two(alloc, source, sizes, limits)? else {
@@ -92,13 +90,12 @@ fn answer<S: Source, R: Registry>(
     registry: &mut R,
     request: &Request<'_>,
 ) -> Result<Reaction, ReadFault>
-    ensures reaction { S.tells
-        → IfOk result (λ a. Answers (Calls R.clean R.stands) registry.old (start_by_request
-        (request_view request.now) (S.left source.old)) a registry.new (S.left source.new)) }
+    ensures reaction { IfOk result (λ a. Answers S.tells (Calls R.clean R.stands) registry.old
+        (start_by_request (request_view request.now) (S.left source.old)) a
+        registry.new (S.left source.new)) }
     ensures same { OnErr result (registry.new ≡ registry.old) }
     ensures ends { TellsEnd (SaysEnd result) (S.ends source.old) (S.ends source.new) }
-    ensures troubles { TellsTroubles S.failures S.interruptions S.most_interruptions result
-        source.old source.new }
+    ensures troubles { TellsTroubles S.troubles result source.old source.new }
 {
     match request {
         Request::Alone(command) => Ok(Reaction::Reply(do_alone(registry, command))),
@@ -120,12 +117,11 @@ pub fn next<S: Source, R: Registry>(
     registry: &mut R,
     line: &mut LineBuffer,
 ) -> Result<Reaction, ReadFault>
-    ensures reaction { S.tells → IfOk result (λ a. Answers (Calls R.clean R.stands) registry.old
+    ensures reaction { IfOk result (λ a. Answers S.tells (Calls R.clean R.stands) registry.old
         (start_of (S.left source.old)) a registry.new (S.left source.new)) }
     ensures same { OnErr result (registry.new ≡ registry.old) }
     ensures ends { TellsEnd (SaysEnd result) (S.ends source.old) (S.ends source.new) }
-    ensures troubles { TellsTroubles S.failures S.interruptions S.most_interruptions result
-        source.old source.new }
+    ensures troubles { TellsTroubles S.troubles result source.old source.new }
 {
     match read_line(source, line)? {
         LineEnd::Whole => answer(alloc, source, registry, &read_request(line.as_slice())),

@@ -1,16 +1,20 @@
 //! The law of sessions over states, as the contract of a function without code.
 
 ghost use Rattle.std.specs.Prelude.{ℕ, List};
+ghost use Rattle.filing_commands.specs.Answers.{Answer};
 ghost use Rattle.filing_commands.specs.Calls.{Calls};
 ghost use Rattle.filing_commands.specs.Standing.{Step};
 ghost use Rattle.filing_session.specs.Laws.{Refines};
-ghost use Rattle.filing_session.specs.Session.{Session, IsServed, IsAnswered, IsCutInAnswer, IsCutInEnding};
+ghost use Rattle.filing_session.specs.Session.{Item, Session, Run, IsServed, IsAnswered, IsCutInAnswer, IsCutInEnding};
 
 use filing_commands::Registry;
 
 /// What the contract of `serve` says about a registry holds for the states that the registry represents. Each state
 /// that it represents before the session leads, by the steps of the commands, to one that it represents after it.
 pub fn sessions_refine_states<R: Registry>()
+    ensures done { (items : List Item) (answers : List Answer) → Refines R.clean R.stands
+        (λ desk. Run (Calls R.clean R.stands) desk items answers)
+        (λ s. Run Step s items answers) }
     ensures served { (session : Session) (old written : List ℕ) → Refines R.clean R.stands
         (λ desk. IsServed (Calls R.clean R.stands) session desk old written)
         (λ s. IsServed Step session s old written) }

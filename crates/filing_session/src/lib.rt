@@ -6,7 +6,8 @@
 //! - `reply`, `due_dates`: what is written;
 //! - `commands`: what each command does at a registry, which is the desk of an office;
 //! - `items`: one line with its payloads, which is read and executed;
-//! - `input`, `output`: a source over a reader, which is read `ahead`, and a sink over a writer;
+//! - `input`, `output`: a source over a reader, which is read `ahead`, and a sink over a writer, for which the octets of
+//!   a line are `held` until it ends;
 //! - `memory`: a source and a sink for tests;
 //! - `session`: `serve`, whose contract relates the octets written to the octets read and to what the registry has
 //!   done;
@@ -21,6 +22,7 @@ mod commands;
 mod dates;
 mod day;
 mod due_dates;
+mod held;
 mod input;
 mod items;
 mod laws;

@@ -94,8 +94,7 @@ pub fn read_line<S: Source>(source: &mut S, line: &mut LineBuffer) -> Result<Lin
         → S.left source.new ≡ [] }
     ensures ends { TellsEnd ((result ≡ Ok LineEnd.Cut) ⊎
         (result ≡ Ok LineEnd.Nothing)) (S.ends source.old) (S.ends source.new) }
-    ensures troubles { TellsTroubles S.failures S.interruptions S.most_interruptions result
-        source.old source.new }
+    ensures troubles { TellsTroubles S.troubles result source.old source.new }
 {
     line.clear();
     for _ in 0..LINE_OCTETS {

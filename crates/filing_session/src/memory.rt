@@ -75,11 +75,7 @@ impl Source for MemorySource<'_> {
 
     ghost left = { left_of };
 
-    ghost failures = { λ s. s.tally.failures };
-
-    ghost interruptions = { λ s. s.tally.interruptions };
-
-    ghost most_interruptions = { λ s. s.tally.most_interruptions };
+    ghost troubles = { λ s. s.tally };
 
     ghost ends = { λ s. s.ends };
 
@@ -170,6 +166,8 @@ impl MemorySink {
             (is_interrupted result) self.old.tally.interruptions self.new.tally.interruptions }
         ensures most { self.new.tally.most_interruptions ≡
             max self.old.tally.most_interruptions self.new.tally.interruptions }
+        ensures all { Counts (is_interrupted result) self.old.tally.all_interruptions
+            self.new.tally.all_interruptions }
     {
         match hitch {
             Hitch::Interrupted => Err(self.tally.count(Trouble::Interrupted)),
@@ -190,18 +188,18 @@ impl MemorySink {
 }
 
 impl Sink for MemorySink {
-    ghost use Rattle.std.specs.Prelude.{ℕ, List};
+    ghost use Rattle.std.specs.Prelude.{ℕ, List, refl, []};
+    ghost use Rattle.std.proofs.Common.{sym};
+    ghost use Rattle.std.proofs.lemmas.List.{append-nil};
     ghost use Rattle.filing_session.specs.Memory.{written_of};
 
     ghost tells = { Unit {0} };
 
     ghost written = { written_of };
 
-    ghost failures = { λ s. s.tally.failures };
+    ghost sent = { written_of };
 
-    ghost interruptions = { λ s. s.tally.interruptions };
-
-    ghost most_interruptions = { λ s. s.tally.most_interruptions };
+    ghost troubles = { λ s. s.tally };
 
     fn write(&mut self, octets: &[u8]) -> Result<usize, Trouble> {
         let mut count = octets.len().min(self.piece.max(1));
@@ -218,4 +216,6 @@ impl Sink for MemorySink {
         }
         Ok(self.tally.count_moved(count))
     }
+
+    ghost lines_are_sent = { λ s. ([], sym (append-nil (written_of s)), refl) };
 }

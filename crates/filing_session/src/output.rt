@@ -1,70 +1,66 @@
-//! A writer as a session's sink. Nothing is claimed about the octets of a terminal, a file or a pipe.
+//! A writer as a session's sink. Nothing is claimed about the octets of a terminal, a file or a pipe. Where the writers
+//! of a type know what they have taken, exactly what is written is given to them.
 
-ghost use Rattle.std.specs.Prelude.{◌≡◌, ◌≤◌, length, IfOk};
+ghost use Rattle.std.specs.Prelude.{◌≡◌, ◌≤◌, ◌++◌, [], length, take, false, true, IfOk, Ok};
+ghost use Rattle.std.specs.Io.KnownBytes.{Keeps, WriteAppends, append_known};
+ghost use Rattle.filing_session.specs.Written.{has_line_end};
 
+use crate::held::Held;
 use crate::stream::{Sink, Trouble};
 use crate::tally::Tally;
 use crate::trouble::trouble_of;
 use std::io::{self, Write};
-
-/// The most octets that are held until their line ends.
-const HELD: usize = 1024;
 
 /// A writer that is given whole lines as soon as they end, where they are short enough. So whoever waits for a reply
 /// has it before more input is read.
 #[derive(Drop)]
 pub struct Output<W> {
     inner: W,
-    held: [u8; HELD],
-    start: usize,
-    end: usize,
+    held: Held,
     tally: Tally,
-}
-
-impl<W> Output<W> {
-    /// A sink over a writer.
-    pub fn new(inner: W) -> Output<W> {
-        Output {
-            inner,
-            held: [0; HELD],
-            start: 0,
-            end: 0,
-            tally: Tally::new(),
-        }
-    }
+    ghost no_line_held: { has_line_end held ≡ false },
 }
 
 impl<W: Write> Output<W> {
-    /// Holds octets as far as there is room, and answers how many.
-    fn hold(&mut self, octets: &[u8]) -> usize
-        ensures within { result ≤ length octets.now }
-        ensures tally { self.new.tally ≡ self.old.tally }
+    /// A sink over a writer, which holds nothing.
+    pub fn new(inner: W) -> Output<W>
+        ensures inner { result.inner ≡ inner }
+        ensures held { result.held ≡ [] }
     {
-        let Some(room) = self.held.get_mut(self.end..) else {
-            return 0;
-        };
-        let count = octets.len().min(room.len());
-        room[..count].copy_from_slice(&octets[..count]);
-        self.end = self.end.saturating_add(count);
-        count
+        Output {
+            inner,
+            held: Held::new(),
+            tally: Tally::new(),
+        }
     }
 
-    /// Writes what is held; false where a write took no octet.
-    fn send_held(&mut self) -> io::Result<bool>
+    /// Holds octets as far as there is room, and answers how many. None is held where one of them ends a line.
+    fn hold(&mut self, octets: &[u8]) -> usize
+        ensures within { result ≤ length octets.now }
+        ensures held { self.new.held ≡ self.old.held ++ take result octets.now }
+        ensures inner { self.new.inner ≡ self.old.inner }
         ensures tally { self.new.tally ≡ self.old.tally }
     {
-        while self.start < self.end {
-            let Some(held) = self.held.get(self.start..self.end) else {
-                break;
-            };
-            let count = self.inner.write(held)?;
+        if octets.contains(&b'\n') {
+            return 0;
+        }
+        self.held.hold(octets)
+    }
+
+    /// Writes what is held; false where a write took no octet. What was not written is held on.
+    fn send_held(&mut self) -> io::Result<bool>
+        ensures octets { Keeps (append_known (W.contents self.old.inner) self.old.held)
+            (append_known (W.contents self.new.inner) self.new.held) }
+        ensures sent { result ≡ Ok true → self.new.held ≡ [] }
+        ensures tally { self.new.tally ≡ self.old.tally }
+    {
+        while !self.held.is_empty() {
+            let count = self.inner.write(self.held.as_slice())?;
             if count == 0 {
                 return Ok(false);
             }
-            self.start = self.start.saturating_add(count);
+            self.held.release(count);
         }
-        self.start = 0;
-        self.end = 0;
         Ok(true)
     }
 
@@ -72,6 +68,8 @@ impl<W: Write> Output<W> {
     /// where a write of what is held took no octet.
     fn write_through(&mut self, octets: &[u8]) -> io::Result<usize>
         ensures within { IfOk result (λ n. n ≤ length octets.now) }
+        ensures octets { WriteAppends (append_known (W.contents self.old.inner) self.old.held)
+            (append_known (W.contents self.new.inner) self.new.held) result octets.now }
         ensures tally { self.new.tally ≡ self.old.tally }
     {
         if !self.send_held()? {
@@ -82,27 +80,24 @@ impl<W: Write> Output<W> {
 }
 
 impl<W: Write> Sink for Output<W> {
-    ghost use Rattle.std.specs.Prelude.{ℕ, List, []};
+    ghost use Rattle.std.specs.Prelude.{IsSome, refl};
+    ghost use Rattle.filing_session.specs.Known.{known};
 
-    ghost tells = { ⊥ };
+    ghost tells = { (w : W) → IsSome (W.contents w) };
 
-    ghost written = { λ _. [] };
+    ghost written = { λ s. known (W.contents s.inner) ++ s.held };
 
-    ghost failures = { λ s. s.tally.failures };
+    ghost sent = { λ s. known (W.contents s.inner) };
 
-    ghost interruptions = { λ s. s.tally.interruptions };
-
-    ghost most_interruptions = { λ s. s.tally.most_interruptions };
+    ghost troubles = { λ s. s.tally };
 
     fn write(&mut self, octets: &[u8]) -> Result<usize, Trouble> {
         if octets.is_empty() {
             return Ok(self.tally.count_moved(0));
         }
-        if !octets.contains(&b'\n') {
-            let count = self.hold(octets);
-            if count > 0 {
-                return Ok(self.tally.count_moved(count));
-            }
+        let count = self.hold(octets);
+        if count > 0 {
+            return Ok(self.tally.count_moved(count));
         }
         match self.write_through(octets) {
             Ok(0) => {
@@ -113,4 +108,6 @@ impl<W: Write> Sink for Output<W> {
             Err(error) => Err(self.tally.count(trouble_of(&error))),
         }
     }
+
+    ghost lines_are_sent = { λ s. (s.held, refl, s.no_line_held) };
 }

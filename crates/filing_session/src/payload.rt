@@ -19,8 +19,7 @@ fn skip<S: Source>(source: &mut S, size: usize) -> Result<bool, ReadFault>
     ensures cut { S.tells → result ≡ Ok false → (length (S.left source.old) < size)
         × (S.left source.new ≡ []) }
     ensures ends { TellsEnd (result ≡ Ok false) (S.ends source.old) (S.ends source.new) }
-    ensures troubles { TellsTroubles S.failures S.interruptions S.most_interruptions result
-        source.old source.new }
+    ensures troubles { TellsTroubles S.troubles result source.old source.new }
 {
     let mut room = [0u8; PIECE];
     let mut got = 0;
@@ -50,13 +49,12 @@ fn fill<S: Source>(source: &mut S, octets: &mut Vec<u8>, size: usize) -> Result<
     requires empty { vec_len octets.old ≡ 0 }
     requires room { size ≤ vec_capacity octets.old }
     ensures whole { S.tells → result ≡ Ok true
-        → (S.left source.old ≡ octets.new.items ++ S.left source.new)
-        × (length octets.new.items ≡ size) }
+        → S.left source.old ≡ octets.new.items ++ S.left source.new }
+    ensures size { result ≡ Ok true → length octets.new.items ≡ size }
     ensures cut { S.tells → result ≡ Ok false → (length (S.left source.old) < size)
         × (S.left source.new ≡ []) }
     ensures ends { TellsEnd (result ≡ Ok false) (S.ends source.old) (S.ends source.new) }
-    ensures troubles { TellsTroubles S.failures S.interruptions S.most_interruptions result
-        source.old source.new }
+    ensures troubles { TellsTroubles S.troubles result source.old source.new }
 {
     let mut room = [0u8; PIECE];
     while octets.len() < size {
@@ -71,7 +69,7 @@ fn fill<S: Source>(source: &mut S, octets: &mut Vec<u8>, size: usize) -> Result<
     Ok(true)
 }
 
-/// Reads a payload of `size` octets. It is kept where it is no longer than `limit` and there is memory for it, and is
+/// Reads a payload, which is of `size` octets. It is kept where it is no longer than `limit` and there is memory for it, and is
 /// `TooLong` or `NoMemory` otherwise. None where the input ends before.
 pub fn read_payload<S: Source>(
     alloc: Global,
@@ -79,11 +77,10 @@ pub fn read_payload<S: Source>(
     size: usize,
     limit: usize,
 ) -> Result<Option<Payload>, ReadFault>
-    ensures octets { S.tells
-        → IfOk result (λ p. IsRead size limit p (S.left source.old) (S.left source.new)) }
+    ensures octets { IfOk result
+        (λ p. IsRead S.tells size limit p (S.left source.old) (S.left source.new)) }
     ensures ends { TellsEnd (result ≡ Ok None) (S.ends source.old) (S.ends source.new) }
-    ensures troubles { TellsTroubles S.failures S.interruptions S.most_interruptions result
-        source.old source.new }
+    ensures troubles { TellsTroubles S.troubles result source.old source.new }
 {
     if size > limit {
         return Ok(skip(source, size)?.then_some(Payload::TooLong));
@@ -102,11 +99,10 @@ pub fn read_two<S: Source>(
     sizes: (usize, usize),
     limits: (usize, usize),
 ) -> Result<Option<(Payload, Payload)>, ReadFault>
-    ensures octets { S.tells
-        → IfOk result (λ p. AreRead sizes limits p (S.left source.old) (S.left source.new)) }
+    ensures octets { IfOk result
+        (λ p. AreRead S.tells sizes limits p (S.left source.old) (S.left source.new)) }
     ensures ends { TellsEnd (result ≡ Ok None) (S.ends source.old) (S.ends source.new) }
-    ensures troubles { TellsTroubles S.failures S.interruptions S.most_interruptions result
-        source.old source.new }
+    ensures troubles { TellsTroubles S.troubles result source.old source.new }
 {
     let Some(first) = read_payload(alloc, source, sizes.0, limits.0)? else {
         return Ok(None);

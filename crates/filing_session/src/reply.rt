@@ -37,8 +37,7 @@ pub enum Reply {
 fn write_class<K: Sink>(sink: &mut K, path: &[u8]) -> Result<(), WriteFault>
     ensures written { K.tells
         → Writes result (K.written sink.old) (class_octets path.now) (K.written sink.new) }
-    ensures troubles { TellsTroubles K.failures K.interruptions K.most_interruptions result
-        sink.old sink.new }
+    ensures troubles { TellsTroubles K.troubles result sink.old sink.new }
 {
     write_pieces(sink, &[b"class ".as_slice(), path, b"\n".as_slice()])
 }
@@ -47,8 +46,7 @@ fn write_class<K: Sink>(sink: &mut K, path: &[u8]) -> Result<(), WriteFault>
 fn write_classes<K: Sink>(sink: &mut K, paths: &[Text]) -> Result<(), WriteFault>
     ensures written { K.tells
         → Writes result (K.written sink.old) (classes_octets paths.now) (K.written sink.new) }
-    ensures troubles { TellsTroubles K.failures K.interruptions K.most_interruptions result
-        sink.old sink.new }
+    ensures troubles { TellsTroubles K.troubles result sink.old sink.new }
 {
     if paths.is_empty() {
         return write_all(sink, b"discarded\n");
@@ -63,8 +61,7 @@ fn write_classes<K: Sink>(sink: &mut K, paths: &[Text]) -> Result<(), WriteFault
 fn write_fault<K: Sink>(sink: &mut K, fault: RunFault) -> Result<(), WriteFault>
     ensures written { K.tells
         → Writes result (K.written sink.old) (fault_octets fault) (K.written sink.new) }
-    ensures troubles { TellsTroubles K.failures K.interruptions K.most_interruptions result
-        sink.old sink.new }
+    ensures troubles { TellsTroubles K.troubles result sink.old sink.new }
 {
     let mut number = Buffer::new();
     let number = number.format(fault.number()).as_bytes();
@@ -75,8 +72,7 @@ fn write_fault<K: Sink>(sink: &mut K, fault: RunFault) -> Result<(), WriteFault>
 fn write_faults<K: Sink>(sink: &mut K, fault: Option<RunFault>) -> Result<(), WriteFault>
     ensures written { K.tells
         → Writes result (K.written sink.old) (faults_octets fault) (K.written sink.new) }
-    ensures troubles { TellsTroubles K.failures K.interruptions K.most_interruptions result
-        sink.old sink.new }
+    ensures troubles { TellsTroubles K.troubles result sink.old sink.new }
 {
     match fault {
         Some(fault) => write_fault(sink, fault),
@@ -88,8 +84,7 @@ fn write_faults<K: Sink>(sink: &mut K, fault: Option<RunFault>) -> Result<(), Wr
 fn write_outcome<K: Sink>(sink: &mut K, outcome: &Outcome) -> Result<(), WriteFault>
     ensures written { K.tells
         → Writes result (K.written sink.old) (outcome_octets outcome.now) (K.written sink.new) }
-    ensures troubles { TellsTroubles K.failures K.interruptions K.most_interruptions result
-        sink.old sink.new }
+    ensures troubles { TellsTroubles K.troubles result sink.old sink.new }
 {
     write_faults(sink, outcome.fault)?;
     write_classes(sink, outcome.classes.as_slice())
@@ -99,8 +94,7 @@ fn write_outcome<K: Sink>(sink: &mut K, outcome: &Outcome) -> Result<(), WriteFa
 fn write_ticket<K: Sink>(sink: &mut K, ticket: u32, budget: u32) -> Result<(), WriteFault>
     ensures written { K.tells
         → Writes result (K.written sink.old) (ticket_octets ticket budget) (K.written sink.new) }
-    ensures troubles { TellsTroubles K.failures K.interruptions K.most_interruptions result
-        sink.old sink.new }
+    ensures troubles { TellsTroubles K.troubles result sink.old sink.new }
 {
     let mut number = Buffer::new();
     let number = number.format(ticket).as_bytes();
@@ -122,8 +116,7 @@ fn write_ticket<K: Sink>(sink: &mut K, ticket: u32, budget: u32) -> Result<(), W
 fn write_turn<K: Sink>(sink: &mut K, turn: Turn) -> Result<(), WriteFault>
     ensures written { K.tells → Writes result (K.written sink.old)
         (turn_octets turn.ended turn.steps) (K.written sink.new) }
-    ensures troubles { TellsTroubles K.failures K.interruptions K.most_interruptions result
-        sink.old sink.new }
+    ensures troubles { TellsTroubles K.troubles result sink.old sink.new }
 {
     let mut steps = Buffer::new();
     let steps = steps.format(turn.steps).as_bytes();
@@ -138,8 +131,7 @@ fn write_turn<K: Sink>(sink: &mut K, turn: Turn) -> Result<(), WriteFault>
 fn write_head<K: Sink>(sink: &mut K, number: u32, path: &[u8]) -> Result<(), WriteFault>
     ensures written { K.tells
         → Writes result (K.written sink.old) (head_octets number path.now) (K.written sink.new) }
-    ensures troubles { TellsTroubles K.failures K.interruptions K.most_interruptions result
-        sink.old sink.new }
+    ensures troubles { TellsTroubles K.troubles result sink.old sink.new }
 {
     let mut text = Buffer::new();
     let text = text.format(number).as_bytes();
@@ -159,8 +151,7 @@ fn write_head<K: Sink>(sink: &mut K, number: u32, path: &[u8]) -> Result<(), Wri
 fn write_record<K: Sink>(sink: &mut K, line: &Line) -> Result<(), WriteFault>
     ensures written { K.tells
         → Writes result (K.written sink.old) (line_octets line.now) (K.written sink.new) }
-    ensures troubles { TellsTroubles K.failures K.interruptions K.most_interruptions result
-        sink.old sink.new }
+    ensures troubles { TellsTroubles K.troubles result sink.old sink.new }
 {
     write_head(sink, line.number, line.path.as_slice())?;
     write_due(sink, line.due)
@@ -170,8 +161,7 @@ fn write_record<K: Sink>(sink: &mut K, line: &Line) -> Result<(), WriteFault>
 fn write_list<K: Sink>(sink: &mut K, lines: &[Line]) -> Result<(), WriteFault>
     ensures written { K.tells →
         Writes result (K.written sink.old) (flat_map line_octets lines.now) (K.written sink.new) }
-    ensures troubles { TellsTroubles K.failures K.interruptions K.most_interruptions result
-        sink.old sink.new }
+    ensures troubles { TellsTroubles K.troubles result sink.old sink.new }
 {
     for line in lines {
         write_record(sink, line)?;
@@ -183,8 +173,7 @@ fn write_list<K: Sink>(sink: &mut K, lines: &[Line]) -> Result<(), WriteFault>
 fn write_records<K: Sink>(sink: &mut K, lines: &[Line]) -> Result<(), WriteFault>
     ensures written { K.tells → Writes result (K.written sink.old)
         (records_octets (map line_view lines.now)) (K.written sink.new) }
-    ensures troubles { TellsTroubles K.failures K.interruptions K.most_interruptions result
-        sink.old sink.new }
+    ensures troubles { TellsTroubles K.troubles result sink.old sink.new }
 {
     if lines.is_empty() {
         return write_all(sink, b"discarded\n");
@@ -196,8 +185,7 @@ fn write_records<K: Sink>(sink: &mut K, lines: &[Line]) -> Result<(), WriteFault
 fn write_capture<K: Sink>(sink: &mut K, capture: &Capture) -> Result<(), WriteFault>
     ensures written { K.tells → Writes result (K.written sink.old) (capture_octets capture.now.fault
         (map line_view capture.now.lines.items)) (K.written sink.new) }
-    ensures troubles { TellsTroubles K.failures K.interruptions K.most_interruptions result
-        sink.old sink.new }
+    ensures troubles { TellsTroubles K.troubles result sink.old sink.new }
 {
     write_faults(sink, capture.fault)?;
     write_records(sink, capture.lines.as_slice())
@@ -208,8 +196,7 @@ fn write_due_list<K: Sink>(sink: &mut K, lines: &[Line]) -> Result<(), WriteFaul
     ensures written { K.tells →
         Writes result (K.written sink.old) (list_octets (map line_view lines.now) ++
         codes "ok\n") (K.written sink.new) }
-    ensures troubles { TellsTroubles K.failures K.interruptions K.most_interruptions result
-        sink.old sink.new }
+    ensures troubles { TellsTroubles K.troubles result sink.old sink.new }
 {
     write_list(sink, lines)?;
     write_all(sink, b"ok\n")
@@ -219,8 +206,7 @@ fn write_due_list<K: Sink>(sink: &mut K, lines: &[Line]) -> Result<(), WriteFaul
 fn write_refusal<K: Sink>(sink: &mut K, refusal: Refusal) -> Result<(), WriteFault>
     ensures written { K.tells → Writes result (K.written sink.old)
         (refused_octets refusal.number refusal.offset) (K.written sink.new) }
-    ensures troubles { TellsTroubles K.failures K.interruptions K.most_interruptions result
-        sink.old sink.new }
+    ensures troubles { TellsTroubles K.troubles result sink.old sink.new }
 {
     let mut number = Buffer::new();
     let number = number.format(refusal.number).as_bytes();
@@ -245,8 +231,7 @@ fn write_refusal<K: Sink>(sink: &mut K, refusal: Refusal) -> Result<(), WriteFau
 pub fn write_reply<K: Sink>(sink: &mut K, reply: &Reply) -> Result<(), WriteFault>
     ensures written { K.tells → Writes result (K.written sink.old)
         (reply_octets (answer_of reply.now)) (K.written sink.new) }
-    ensures troubles { TellsTroubles K.failures K.interruptions K.most_interruptions result
-        sink.old sink.new }
+    ensures troubles { TellsTroubles K.troubles result sink.old sink.new }
 {
     match reply {
         Reply::Done => write_all(sink, b"ok\n"),

@@ -2,6 +2,7 @@
 
 ghost use Rattle.std.specs.Prelude.{◌≡◌, ◌≢◌, OnOk, Ok, Err, IsErrOf};
 ghost use Rattle.filing_commands.specs.Calls.{Calls};
+ghost use Rattle.filing_session.specs.Done.{HasDone, Hears, Says};
 ghost use Rattle.filing_session.specs.Session.{session_in, ending_octets, left_by, IsServed, IsAnswered, IsCut, EndsByInput};
 ghost use Rattle.filing_session.specs.Streams.{Rises, GivesUp, TellsTroubles, TriesOn};
 ghost use Rattle.filing_session.specs.Written.{Writes};
@@ -44,8 +45,8 @@ fn write_ending<K: Sink>(sink: &mut K, ending: SessionEnd) -> Result<(), ServeFa
     ensures written { K.tells
         → Writes result (K.written sink.old) (ending_octets ending) (K.written sink.new) }
     ensures read { result ≢ Err ServeFault.Read }
-    ensures troubles { TellsTroubles K.failures K.interruptions K.most_interruptions result
-        sink.old sink.new }
+    ensures sent { K.tells → OnOk result (K.sent sink.new ≡ K.written sink.new) }
+    ensures troubles { TellsTroubles K.troubles result sink.old sink.new }
 {
     if write_all(sink, ending_text(ending).as_bytes()).is_err() {
         return Err(ServeFault::Write);
@@ -73,6 +74,10 @@ pub fn serve<S: Source, K: Sink, R: Registry>(
     sink: &mut K,
     registry: &mut R,
 ) -> Result<(), ServeFault>
+    ensures done { HasDone (Calls R.clean R.stands)
+        (λ items. S.tells → Hears result (session_in (S.left source.old)) items)
+        (λ answers. K.tells → Says result (K.written sink.old) answers (K.written sink.new))
+        registry.old registry.new }
     ensures ok { S.tells → K.tells
         → OnOk result (IsServed (Calls R.clean R.stands) (session_in (S.left source.old))
         registry.old (K.written sink.old) (K.written sink.new) registry.new) }
@@ -83,18 +88,18 @@ pub fn serve<S: Source, K: Sink, R: Registry>(
         IsCut (Calls R.clean R.stands) (session_in (S.left source.old))
         registry.old (K.written sink.old) (K.written sink.new) registry.new }
     ensures read { IsErrOf result ServeFault.Read →
-        GivesUp (S.failures source.old) (S.failures source.new) (S.interruptions source.new) }
+        GivesUp (S.troubles source.old) (S.troubles source.new) }
     ensures write { IsErrOf result ServeFault.Write →
-        GivesUp (K.failures sink.old) (K.failures sink.new) (K.interruptions sink.new) }
-    ensures outlasts { OnOk result ((S.failures source.new ≡ S.failures source.old) ×
-        (K.failures sink.new ≡ K.failures sink.old)) }
-    ensures reads { TriesOn result (S.interruptions source.old) (S.most_interruptions source.old)
-        (S.most_interruptions source.new) }
-    ensures writes { TriesOn result (K.interruptions sink.old) (K.most_interruptions sink.old)
-        (K.most_interruptions sink.new) }
+        GivesUp (K.troubles sink.old) (K.troubles sink.new) }
+    ensures outlasts { OnOk result (((S.troubles source.new).failures
+        ≡ (S.troubles source.old).failures)
+        × ((K.troubles sink.new).failures ≡ (K.troubles sink.old).failures)) }
+    ensures reads { TriesOn result (S.troubles source.old) (S.troubles source.new) }
+    ensures writes { TriesOn result (K.troubles sink.old) (K.troubles sink.new) }
     ensures ending { S.tells → K.tells
         → result ≡ Ok tt → EndsByInput (session_in (S.left source.old)).ending
         → Rises (S.ends source.old) (S.ends source.new) }
+    ensures sent { K.tells → OnOk result (K.sent sink.new ≡ K.written sink.new) }
     ensures unread { S.tells → K.tells → result ≡ Ok tt
         → S.left source.new ≡ left_by 1000000 (S.left source.old) }
 {

@@ -1,13 +1,13 @@
 //! Sources and sinks of a session's octets, and calls that try again after an interruption.
 //!
 //! Nothing is known of the octets of a terminal, a file or a pipe. So each type that implements a trait decides whether
-//! it claims to know its octets (`tells`). Every type can count failures, interruptions in a row, and reads that met
-//! the end of the input. The program reads from the `Input` of the module `input`, and writes to the `Output` of
-//! `output`.
+//! it claims to know its octets (`tells`). Every type can count failures, interruptions, and reads that met the end of
+//! the input. The program reads from the `Input` of the module `input`, and writes to the `Output` of `output`.
 
 ghost use Rattle.std.specs.Prelude.{◌≡◌, ℕ, List, ◌+◌, ◌<◌, ◌≤◌, ◌++◌, ◌∷◌, [], length, take, drop, IfOk, OnErr, IfSome, IfNone, true, Ok, None, max, flat_map};
-ghost use Rattle.filing_session.specs.Streams.{Counts, tells_end, fails_to_read, fails_to_write, is_interrupted, transfer_length, CountsInARow, TellsEnd, TellsTroubles};
-ghost use Rattle.filing_session.specs.Written.{Writes};
+ghost use Rattle.filing_session.specs.Streams.{Counts, CountsInARow, tells_end, fails_to_read, fails_to_write, is_interrupted, transfer_length, TellsEnd, TellsTroubles};
+ghost use Rattle.filing_session.specs.declared.tally.Tally.{Tally};
+ghost use Rattle.filing_session.specs.Written.{SendsLines, Writes};
 
 /// Why a call moved no octet.
 #[derive(Clone, Copy)]
@@ -20,21 +20,14 @@ pub enum Trouble {
 
 /// A source of octets.
 pub trait Source {
-    /// Whether the type knows its octets: `Unit {0}`, or `⊥` where nothing is claimed of them.
+    /// Holds where the type knows its octets. Where it does not hold, nothing is claimed of them.
     ghost tells: { Type 0 };
 
     /// The octets that are left.
     ghost left: { Self → List ℕ };
 
-    /// How many reads failed, and were not only interrupted. The count stays at its greatest value, 2^64 - 1.
-    ghost failures: { Self → ℕ };
-
-    /// How many of the last reads were interrupted, one directly after the other. The count stays at its greatest
-    /// value, 2^64 - 1.
-    ghost interruptions: { Self → ℕ };
-
-    /// The most interruptions there ever were in a row.
-    ghost most_interruptions: { Self → ℕ };
+    /// How many reads failed, and how many were interrupted.
+    ghost troubles: { Self → Tally };
 
     /// How many reads met the end of the input. The count stays at its greatest value, 2^64 - 1.
     ghost ends: { Self → ℕ };
@@ -47,45 +40,47 @@ pub trait Source {
             (λ n. (n ≤ length (left self.old)) × (take n room.new ≡ take n (left self.old))) }
         ensures left { tells → left self.new ≡ drop (transfer_length result) (left self.old) }
         ensures end { tells → tells_end (length room.old) result ≡ true → left self.old ≡ [] }
-        ensures failures { Counts (fails_to_read result) (failures self.old) (failures self.new) }
-        ensures interruptions { CountsInARow (is_interrupted result) (interruptions self.old)
-            (interruptions self.new) }
-        ensures most { most_interruptions self.new
-            ≡ max (most_interruptions self.old) (interruptions self.new) }
+        ensures failures { Counts (fails_to_read result) (troubles self.old).failures
+            (troubles self.new).failures }
+        ensures interruptions { CountsInARow (is_interrupted result)
+            (troubles self.old).interruptions (troubles self.new).interruptions }
+        ensures most { (troubles self.new).most_interruptions
+            ≡ max (troubles self.old).most_interruptions (troubles self.new).interruptions }
+        ensures all { Counts (is_interrupted result) (troubles self.old).all_interruptions
+            (troubles self.new).all_interruptions }
         ensures ends { Counts (tells_end (length room.old) result)
             (ends self.old) (ends self.new) };
 }
 
 /// A sink of octets.
 pub trait Sink {
-    /// Whether the type knows its octets: `Unit {0}`, or `⊥` where nothing is claimed of them.
+    /// Holds where the type knows its octets. Where it does not hold, nothing is claimed of them.
     ghost tells: { Type 0 };
 
     /// The octets that were taken.
     ghost written: { Self → List ℕ };
 
-    /// How many writes failed, and were not only interrupted; one that took no octet of one or more is among them. The
-    /// count stays at its greatest value, 2^64 - 1.
-    ghost failures: { Self → ℕ };
+    /// Those that were sent to where the sink leads to. A line that has ended is among them.
+    ghost sent: { Self → List ℕ };
 
-    /// How many of the last writes were interrupted, one directly after the other. The count stays at its greatest
-    /// value, 2^64 - 1.
-    ghost interruptions: { Self → ℕ };
-
-    /// The most interruptions there ever were in a row.
-    ghost most_interruptions: { Self → ℕ };
+    /// How many writes failed, and how many were interrupted. One that took no octet of one or more has failed.
+    ghost troubles: { Self → Tally };
 
     /// Takes octets from the front of `octets`, and answers how many.
     fn write(&mut self, octets: &[u8]) -> Result<usize, Trouble>
         ensures within { IfOk result (λ n. n ≤ length octets.now) }
         ensures written { tells
             → written self.new ≡ written self.old ++ take (transfer_length result) octets.now }
-        ensures failures { Counts (fails_to_write (length octets.now) result) (failures self.old)
-            (failures self.new) }
-        ensures interruptions { CountsInARow (is_interrupted result) (interruptions self.old)
-            (interruptions self.new) }
-        ensures most { most_interruptions self.new
-            ≡ max (most_interruptions self.old) (interruptions self.new) };
+        ensures failures { Counts (fails_to_write (length octets.now) result)
+            (troubles self.old).failures (troubles self.new).failures }
+        ensures interruptions { CountsInARow (is_interrupted result)
+            (troubles self.old).interruptions (troubles self.new).interruptions }
+        ensures most { (troubles self.new).most_interruptions
+            ≡ max (troubles self.old).most_interruptions (troubles self.new).interruptions }
+        ensures all { Counts (is_interrupted result) (troubles self.old).all_interruptions
+            (troubles self.new).all_interruptions };
+
+    ghost lines_are_sent: { (s : Self) → SendsLines (sent s) (written s) };
 }
 
 /// A read that met trouble.
@@ -108,8 +103,7 @@ pub fn read_some<S: Source>(source: &mut S, room: &mut [u8]) -> Result<usize, Re
     ensures end { S.tells → result ≡ Ok 0 → S.left source.old ≡ [] }
     ensures over { S.tells → result ≡ Ok 0 → S.left source.new ≡ [] }
     ensures ends { TellsEnd (result ≡ Ok 0) (S.ends source.old) (S.ends source.new) }
-    ensures troubles { TellsTroubles S.failures S.interruptions S.most_interruptions result
-        source.old source.new }
+    ensures troubles { TellsTroubles S.troubles result source.old source.new }
 {
     for _ in 0..PATIENCE {
         match source.read(room) {
@@ -128,8 +122,7 @@ pub fn read_one<S: Source>(source: &mut S) -> Result<Option<u8>, ReadFault>
     ensures none { S.tells
         → IfOk result (λ o. IfNone o ((S.left source.old ≡ []) × (S.left source.new ≡ []))) }
     ensures ends { TellsEnd (result ≡ Ok None) (S.ends source.old) (S.ends source.new) }
-    ensures troubles { TellsTroubles S.failures S.interruptions S.most_interruptions result
-        source.old source.new }
+    ensures troubles { TellsTroubles S.troubles result source.old source.new }
 {
     let mut room = [0u8; 1];
     match read_some(source, &mut room)? {
@@ -145,8 +138,7 @@ fn write_some<K: Sink>(sink: &mut K, octets: &[u8]) -> Result<usize, WriteFault>
     ensures written { K.tells
         → IfOk result (λ n. K.written sink.new ≡ K.written sink.old ++ take n octets.now) }
     ensures same { K.tells → OnErr result (K.written sink.new ≡ K.written sink.old) }
-    ensures troubles { TellsTroubles K.failures K.interruptions K.most_interruptions result
-        sink.old sink.new }
+    ensures troubles { TellsTroubles K.troubles result sink.old sink.new }
 {
     for _ in 0..PATIENCE {
         match sink.write(octets) {
@@ -162,8 +154,7 @@ fn write_some<K: Sink>(sink: &mut K, octets: &[u8]) -> Result<usize, WriteFault>
 /// Writes all octets. After a fault some prefix of them is written.
 pub fn write_all<K: Sink>(sink: &mut K, octets: &[u8]) -> Result<(), WriteFault>
     ensures written { K.tells → Writes result (K.written sink.old) octets.now (K.written sink.new) }
-    ensures troubles { TellsTroubles K.failures K.interruptions K.most_interruptions result
-        sink.old sink.new }
+    ensures troubles { TellsTroubles K.troubles result sink.old sink.new }
 {
     let mut at = 0;
     while at < octets.len() {
@@ -176,8 +167,7 @@ pub fn write_all<K: Sink>(sink: &mut K, octets: &[u8]) -> Result<(), WriteFault>
 pub fn write_pieces<K: Sink>(sink: &mut K, pieces: &[&[u8]]) -> Result<(), WriteFault>
     ensures written { K.tells →
         Writes result (K.written sink.old) (flat_map (λ p. p.now) pieces.now) (K.written sink.new) }
-    ensures troubles { TellsTroubles K.failures K.interruptions K.most_interruptions result
-        sink.old sink.new }
+    ensures troubles { TellsTroubles K.troubles result sink.old sink.new }
 {
     for piece in pieces {
         write_all(sink, *piece)?;

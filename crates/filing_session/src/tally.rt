@@ -5,8 +5,7 @@ ghost use Rattle.filing_session.specs.Streams.{Counts, CountsInARow, is_failed};
 
 use crate::stream::Trouble;
 
-/// How many calls of a stream failed, and how many in a row were interrupted. Each count stays at its greatest value,
-/// 2^64 - 1.
+/// How many calls of a stream failed, and how many were interrupted. Each count stays at its greatest value, 2^64 - 1.
 #[derive(Drop)]
 pub struct Tally {
     /// How many calls failed, and were not only interrupted.
@@ -15,17 +14,25 @@ pub struct Tally {
     pub interruptions: u64,
     /// The most interruptions there ever were in a row.
     pub most_interruptions: u64,
+    /// How many calls were interrupted in all.
+    pub all_interruptions: u64,
 }
 
 impl Tally {
     /// The counts before the first call, all 0.
     pub fn new() -> Tally
-        ensures { result ≡ record { failures = 0; interruptions = 0; most_interruptions = 0 } }
+        ensures { result ≡ record {
+          failures = 0;
+          interruptions = 0;
+          most_interruptions = 0;
+          all_interruptions = 0;
+        } }
     {
         Tally {
             failures: 0,
             interruptions: 0,
             most_interruptions: 0,
+            all_interruptions: 0,
         }
     }
 
@@ -37,11 +44,14 @@ impl Tally {
             (not (is_failed trouble)) self.old.interruptions self.new.interruptions }
         ensures most { self.new.most_interruptions
             ≡ max self.old.most_interruptions self.new.interruptions }
+        ensures all { Counts
+            (not (is_failed trouble)) self.old.all_interruptions self.new.all_interruptions }
     {
         match trouble {
             Trouble::Interrupted => {
                 self.interruptions = self.interruptions.saturating_add(1);
                 self.most_interruptions = self.most_interruptions.max(self.interruptions);
+                self.all_interruptions = self.all_interruptions.saturating_add(1);
             }
             Trouble::Failed => {
                 self.failures = self.failures.saturating_add(1);
@@ -58,6 +68,7 @@ impl Tally {
         ensures interruptions { self.new.interruptions ≡ 0 }
         ensures most { self.new.most_interruptions
             ≡ max self.old.most_interruptions self.new.interruptions }
+        ensures all { self.new.all_interruptions ≡ self.old.all_interruptions }
     {
         self.interruptions = 0;
         count

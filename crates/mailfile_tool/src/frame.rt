@@ -4,11 +4,11 @@ use crate::Verdict;
 use crate::failure::Failure;
 use crate::files::{copy, open, read_file, read_line, write};
 use clap::ArgMatches;
-use std::alloc::Global;
+use std::alloc::{AllocError, Global};
 use std::io::{BufRead, BufReader};
 use std::str;
 use std::time::{SystemTime, UNIX_EPOCH};
-use tool_texts::{Framed, LinePart, Payload, framed_line, parts, slots};
+use tool_texts::{Framed, LineFault, LinePart, Payload, framed_line, line_fault, parts, slots};
 
 /// The time of the clock, in seconds since 1970-01-01T00:00:00Z.
 pub fn now(rt: &HostRuntime) -> Result<u64, Failure> {
@@ -40,25 +40,58 @@ fn framed<'a>(rt: &HostRuntime, part: LinePart<'a>) -> Result<Framed<'a>, Failur
     }
 }
 
-/// Whether a line names a file, but has another number of words than its command takes. The session would not read the
-/// octets of that file as a payload.
-fn is_misshapen(parts: &[LinePart<'_>]) -> bool {
-    let Some(LinePart::Word(command)) = parts.first() else {
-        return false;
-    };
-    let names_file = parts
-        .iter()
-        .any(|part| matches!(part, LinePart::File(_, _)));
-    names_file && parts.len().saturating_sub(1) != slots(*command).len()
+/// The words of a command, with 0 in place of each moment and an empty file in place of each other one.
+fn outline<'a>(alloc: Global, parts: &[LinePart<'a>]) -> Result<Vec<Framed<'a>>, AllocError> {
+    let mut words = Vec::new(alloc);
+    for part in parts.iter() {
+        words.push(match *part {
+            LinePart::Word(word) => Framed::Word(word),
+            LinePart::Here(word, count) => Framed::Here(word, count),
+            LinePart::Moment => Framed::Moment(0),
+            LinePart::File(_, _) => Framed::File(Vec::new(alloc)),
+        })?;
+    }
+    Ok(words)
 }
 
-/// The words of a command, with its files read.
+/// What is wrong with a line, in words: a word of it by its place after the name, and the form that it must have.
+fn fault_text(alloc: Global, line: &[u8], fault: LineFault) -> Result<String, AllocError> {
+    let mut words = line.split(|octet| *octet == b' ');
+    let name = words.next().unwrap_or(b"");
+    let shown = name.escape_ascii();
+    match fault {
+        LineFault::TooLong => String::from_str(alloc, "the line has more than 512 octets (73)"),
+        LineFault::UnknownCommand => format!(in alloc; "there is no command \"{shown}\" (70)"),
+        LineFault::WordCount(wanted) => {
+            let count = words.count();
+            format!(in alloc;
+                "the number of words after {shown} must be {wanted}, and not {count} (71)"
+            )
+        }
+        LineFault::WrongWord(place) => {
+            let word = words.nth(place).unwrap_or(b"").escape_ascii();
+            let form = slots(name).get(place).map_or("", |slot| slot.text());
+            let number = place.saturating_add(1);
+            format!(in alloc; "word {number} of {shown} must be {form}, and not \"{word}\" (71)")
+        }
+    }
+}
+
+/// The line of these words. A line after which a session would not read as many octets as the line says is refused.
+fn sound_line(alloc: Global, words: &[Framed<'_>]) -> Result<Vec<u8>, Failure> {
+    let line = framed_line(alloc, words)?;
+    let command = line.strip_suffix(b"\n").unwrap_or(&line);
+    match line_fault(alloc, command)? {
+        Some(fault) => Err(Failure::Message(fault_text(alloc, command, fault)?)),
+        None => Ok(line),
+    }
+}
+
+/// The words of a command, with its files read. Nothing is read for a line that is refused.
 fn framed_words<'a>(rt: &HostRuntime, line: &'a [u8]) -> Result<Vec<Framed<'a>>, Failure> {
     let alloc = rt.alloc();
     let parts = parts(alloc, line)?;
-    if is_misshapen(&parts) {
-        return Err(Failure::told(alloc, "the command takes another number of words"));
-    }
+    let _line = sound_line(alloc, &outline(alloc, &parts)?)?;
     let mut words = Vec::new(alloc);
     for part in parts.iter() {
         words.push(framed(rt, *part)?)?;
@@ -66,10 +99,11 @@ fn framed_words<'a>(rt: &HostRuntime, line: &'a [u8]) -> Result<Vec<Framed<'a>>,
     Ok(words)
 }
 
-/// Writes a command: its line, and the octets that follow it. Nothing of it is written before all its files are read.
+/// Writes a command: its line, and the octets that follow it. Nothing of it is written before all its files are read and
+/// its line is judged.
 fn frame_line<R: BufRead>(rt: &HostRuntime, line: &[u8], reader: &mut R) -> Result<(), Failure> {
     let words = framed_words(rt, line)?;
-    write(rt, &framed_line(rt.alloc(), &words)?)?;
+    write(rt, &sound_line(rt.alloc(), &words)?)?;
     for word in words.iter() {
         match word {
             Framed::File(octets) => write(rt, octets)?,

@@ -87,6 +87,8 @@ module _ {D : Type 0} (clean : D → Type 0) (stands : D → Standing → Type 0
   equal_octets x y same = record {
     answers = x.served.0;
     replies = y.served.0;
+    first_run = x.served.1;
+    second_run = y.served.1;
     first = x.served.2;
     second = y.served.2;
     equal = equal_lines (served_lines x) (served_lines y) same;

@@ -12,4 +12,5 @@ pub mod InFlight
 pub mod RecordLemmas
 pub mod Unchanged
 pub mod KeptLines
+pub mod CommandLines
 pub mod ImageLemmas

@@ -2,10 +2,11 @@
 use Rattle.std.specs.Prelude.{◌≡◌, ◌++◌, ℕ, List, [], ◌∷◌, Bool, false, if◌then◌else◌}
 use Rattle.filing_commands.specs.Answers.{Answer}
 use Rattle.filing_commands.specs.Calls.{Calls}
-use Rattle.filing_commands.specs.Standing.{Standing}
+use Rattle.filing_commands.specs.Standing.{Command, Standing}
 use Rattle.filing_session.specs.Session as session
 use Rattle.filing_session.specs.Session.{Item, Call, UnknownCommand, WrongWord, answers_octets, ending_octets, session_in}
 use Rattle.promises.specs.Alike.{AllAlike}
+use Rattle.promises.specs.Runs.{SessionFrom}
 use Rattle.promises.specs.Serial.{is_struck, forget}
 
 -- a line that is no command is never struck
@@ -25,6 +26,29 @@ kept_replies (i ∷ items) (a ∷ answers) = if is_struck_item i a then kept_rep
     else a ∷ kept_replies items answers
 kept_replies [] answers = []
 kept_replies (i ∷ items) [] = []
+
+-- the commands among items
+abbrev pub commands_in : List Item → List Command
+commands_in [] = []
+commands_in (Call c ∷ items) = c ∷ commands_in items
+commands_in (UnknownCommand ∷ items) = commands_in items
+commands_in (WrongWord ∷ items) = commands_in items
+
+-- and the answers to them
+abbrev pub answers_in : List Item → List Answer → List Answer
+answers_in (Call c ∷ items) (a ∷ answers) = a ∷ answers_in items answers
+answers_in (UnknownCommand ∷ items) (a ∷ answers) = answers_in items answers
+answers_in (WrongWord ∷ items) (a ∷ answers) = answers_in items answers
+answers_in [] answers = []
+answers_in (i ∷ items) [] = []
+
+-- the session of the commands among items, with their answers, whose state the registry represents at its end
+pub record IsSession {D : Type 0} (stands : D → Standing → Type 0) (state : Standing) (items : List Item)
+    (answers : List Answer) (new : D) : Type 0 where
+  pub of_commands : SessionFrom state
+  pub commands : of_commands.commands ≡ commands_in items
+  pub answered : of_commands.answers ≡ answers_in items answers
+  pub at_end : stands new of_commands.new
 
 -- These definitions are over registries, by when they are clean and which states they represent.
 module _ {D : Type 0} (clean : D → Type 0) (stands : D → Standing → Type 0) where
@@ -72,12 +96,14 @@ pub record LeaveTheSame {D : Type 0} (stands : D → Standing → Type 0) (one o
   pub second_stands : stands other second
   pub same : forget first ≡ forget second
 
--- Two sessions have written answers, and how they ended. Where the sessions are equal after striking, what is left of
--- the answers is alike, and they leave the same.
+-- Two sessions have given answers to the lines that were read, and have written them, and how they ended. Where the
+-- sessions are equal after striking, what is left of the answers is alike, and they leave the same.
 pub record AreServedAlike {D : Type 0} {clean : D → Type 0} {stands : D → Standing → Type 0}
     (x y : ServedSession clean stands) : Type 0 where
   pub answers : List Answer
   pub replies : List Answer
+  pub first_run : session.Run (Calls clean stands) x.old (session_in x.input).items answers x.new
+  pub second_run : session.Run (Calls clean stands) y.old (session_in y.input).items replies y.new
   pub first : x.written ≡ x.before ++ answers_octets answers ++ ending_octets (session_in x.input).ending
   pub second : y.written ≡ y.before ++ answers_octets replies ++ ending_octets (session_in y.input).ending
   pub equal : kept_items (session_in x.input).items answers ≡ kept_items (session_in y.input).items replies

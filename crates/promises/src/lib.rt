@@ -8,7 +8,8 @@
 //! - `laws`: the turns of captures do not matter. What is refused changes nothing. What stood at the beginning of a
 //!   capture holds for it to its end.
 //! - `turns`: what a session answers about its captures in flight and their tickets.
-//! - `lines`: the law of turns over the lines and octets that a session reads and writes.
+//! - `lines`: the lines that a session reads are a session of commands; and the law of turns over lines, and over the
+//!   octets that are read and written.
 //!
 //! The laws of sessions are about states of an office and the steps that commands make between them (`Standing` and
 //! `Step` of `filing_commands`). While the disk returns what was written to it, each call of a desk makes such a step,
@@ -30,6 +31,6 @@ pub use images::{
 pub use laws::{
     captures_are_pinned, equal_after_striking, refusals_change_nothing, turns_do_not_matter,
 };
-pub use lines::equal_lines_after_striking;
+pub use lines::{equal_lines_after_striking, lines_are_sessions};
 pub use records::{dry_runs_store_nothing, due_lists_are_whole, finished_captures_are_whole};
 pub use turns::{beginnings_are_refused_exactly, tickets_are_looked_up_exactly, turns_add_up};

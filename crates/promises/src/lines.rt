@@ -1,6 +1,11 @@
-//! The law of turns over the lines that a session reads, as the contract of a function without code.
+//! What the laws of sessions say of the lines that `serve` reads, each the contract of a function without code.
 
-ghost use Rattle.promises.specs.Lines.{AreServedAlike, EqualLinesLeft, LeaveTheSame, LineSession, ReplyAlike, ServedSession};
+ghost use Rattle.std.specs.Prelude.{List};
+ghost use Rattle.filing_commands.specs.Answers.{Answer};
+ghost use Rattle.filing_commands.specs.Standing.{Standing, Step};
+ghost use Rattle.filing_session.specs.Session.{Item, Run};
+ghost use Rattle.promises.specs.Lines.{AreServedAlike, EqualLinesLeft, IsSession, LeaveTheSame, LineSession, ReplyAlike, ServedSession, answers_in, commands_in};
+ghost use Rattle.promises.specs.Runs.{Run as Steps};
 ghost use Rattle.promises.specs.Serial.{SameButTurns};
 
 use filing_commands::Registry;
@@ -14,4 +19,15 @@ pub fn equal_lines_after_striking<R: Registry>()
         → EqualLinesLeft x y → ReplyAlike x y × LeaveTheSame R.stands x.new y.new }
     ensures octets { (x y : ServedSession R.clean R.stands) → SameButTurns x.state y.state
         → AreServedAlike x y }
+{}
+
+/// The commands among the lines of a session, with their answers, are a session of commands. So each law of sessions
+/// speaks of what `serve` has done at a registry: its clause `done` says that lines were done with answers, and each
+/// state that the registry represented before them leads to one that it represents after them.
+pub fn lines_are_sessions<R: Registry>()
+    ensures steps { (s new : Standing) (items : List Item) (answers : List Answer)
+        → Run Step s items answers new
+        → Steps s (commands_in items) (answers_in items answers) new }
+    ensures registry { (x : LineSession R.clean R.stands)
+        → IsSession R.stands x.state x.items x.answers x.new }
 {}

@@ -219,7 +219,8 @@ struct Moving<'a> {
 }
 
 impl Change for Moving<'_> {
-    ghost may_be_made = { λ c db. TellsDues db.schema c.has_dues × AreAscending (map due_of c.dues.now) };
+    ghost may_be_made = { λ c db. TellsDues db.schema c.has_dues
+        × AreAscending (map due_of c.dues.now) };
 
     ghost makes = { λ c. IsMovedTo c.schedules.now c.classes.now c.dues.now };
 

@@ -179,7 +179,8 @@ struct Renewal<'a> {
 }
 
 impl Change for Renewal<'_> {
-    ghost may_be_made = { λ c db. TellsAlone db.schema c.is_alone × AreAscending (map due_of c.dues.now) };
+    ghost may_be_made = { λ c db. TellsAlone db.schema c.is_alone
+        × AreAscending (map due_of c.dues.now) };
 
     ghost makes = { λ c. IsRevised (map rule_of c.schedules.now) (map class_entry_of c.classes.now)
         (map due_of c.dues.now) };

@@ -1,9 +1,7 @@
 //! The calls of matching.
 
-use crate::call::Call;
-use crate::told::word;
 use anyhow::Result;
-use sieve_match::{Comparator, MatchType, contains, is, key_matches, matches, matches_counted};
+use sieve_match::{Comparator, matches, matches_counted};
 use std::alloc::Global;
 
 /// The comparator of a word: `octet`, or else without case.
@@ -20,26 +18,6 @@ pub fn counted(alloc: Global, value: &[u8], pattern: &[u8], comparator: &[u8]) -
     let (answer, count) = matches_counted(pattern, value, comparator_of(comparator));
     let count = u64::try_from(count).unwrap_or(u64::MAX);
     Ok(format!(in alloc; "{answer} {count}")?.into_bytes())
-}
-
-/// Whether a key matches a value, by the call and by its match type; the comparator is `octet` or `casemap`.
-pub fn matched(
-    alloc: Global,
-    call: Call,
-    value: &[u8],
-    key: &[u8],
-    comparator: &[u8],
-) -> Result<Vec<u8>> {
-    let comparator = comparator_of(comparator);
-    let (match_type, answer) = match call {
-        Call::Is => (MatchType::Is, is(key, value, comparator)),
-        Call::Contains => (MatchType::Contains, contains(key, value, comparator)),
-        _ => (MatchType::Matches, matches(key, value, comparator)),
-    };
-    if key_matches(match_type, key, value, comparator) != answer {
-        return word(alloc, "one thing by the call, another by its match type");
-    }
-    word(alloc, if answer { "true" } else { "false" })
 }
 
 /// The letters that the digits of a number represent, of `bits` bits each.

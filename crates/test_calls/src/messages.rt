@@ -2,9 +2,8 @@
 
 use crate::told::{size, word};
 use anyhow::{Result, bail};
-use filing_machine::{Case, PieceCase, WholeCase};
+use filing_case::{Case, PieceCase, WholeCase};
 use mail_head::{HeadFault, HeadReader, MAX_OCTETS, PieceHead, read_head};
-use mail_words::value_of;
 use std::alloc::Global;
 use std::collections::BTreeSet;
 
@@ -83,7 +82,8 @@ fn told_fault(alloc: Global, fault: HeadFault, is_for_good: bool) -> Result<Vec<
 pub fn reader(alloc: Global, message: &[u8]) -> Result<Vec<u8>> {
     let mut reader = HeadReader::new(alloc);
     if let Err(fault) = reader.feed(message) {
-        let is_for_good = reader.feed(b"") == Err(fault) && reader.finish().is_err();
+        let again = reader.feed(b"");
+        let is_for_good = matches!(&again, Err(HeadFault::TooLong)) && reader.finish().is_err();
         return told_fault(alloc, fault, is_for_good);
     }
     let head = reader.finish()?;
@@ -94,7 +94,8 @@ pub fn reader(alloc: Global, message: &[u8]) -> Result<Vec<u8>> {
 pub fn pieces(alloc: Global, message: &[u8]) -> Result<Vec<u8>> {
     let mut coming = PieceCase::new(alloc, BTreeSet::new(alloc));
     if let Err(fault) = coming.feed(message) {
-        let is_for_good = coming.feed(b"") == Err(fault) && coming.finish().is_err();
+        let again = coming.feed(b"");
+        let is_for_good = matches!(&again, Err(HeadFault::TooLong)) && coming.finish().is_err();
         return told_fault(alloc, fault, is_for_good);
     }
     let Ok(case) = coming.finish() else {
@@ -103,13 +104,8 @@ pub fn pieces(alloc: Global, message: &[u8]) -> Result<Vec<u8>> {
     size(alloc, case.size(), case.field_count())
 }
 
-/// The value of a body.
-pub fn value(alloc: Global, raw: &[u8]) -> Result<Vec<u8>> {
-    Ok(value_of(alloc, raw)?)
-}
-
 /// The paths that are open in each case.
-pub fn open_paths(alloc: Global) -> Result<BTreeSet<Vec<u8>>> {
+fn open_paths(alloc: Global) -> Result<BTreeSet<Vec<u8>>> {
     let mut paths = BTreeSet::new(alloc);
     for path in ["archive", "finance", "letters", "letters/kept", "work"] {
         paths.insert(Vec::from_slice(alloc, path.as_bytes())?)?;
@@ -118,7 +114,7 @@ pub fn open_paths(alloc: Global) -> Result<BTreeSet<Vec<u8>>> {
 }
 
 /// The case of a whole message.
-pub fn whole_case(alloc: Global, message: &[u8]) -> Result<WholeCase> {
+fn whole_case(alloc: Global, message: &[u8]) -> Result<WholeCase> {
     if message.len() as u64 > MAX_OCTETS {
         bail!("a message is too long");
     }
@@ -138,7 +134,7 @@ fn cut_case(alloc: Global, front: &[u8], back: &[u8]) -> Result<WholeCase> {
 }
 
 /// The case of a message that comes octet by octet.
-pub fn octet_case(alloc: Global, message: &[u8]) -> Result<WholeCase> {
+fn octet_case(alloc: Global, message: &[u8]) -> Result<WholeCase> {
     let mut coming = PieceCase::new(alloc, open_paths(alloc)?);
     for octet in message {
         coming.feed(&[*octet])?;

@@ -2,12 +2,8 @@
 //!
 //!     CALL FIRST|SECOND|THIRD => ANSWER
 //!
-//! A call that takes fewer texts leaves the others out, and an empty answer is `nothing`. Other lines prepare the rows
-//! that follow:
-//!
-//! - `more N TEXT` puts N times TEXT before the first text of the next row or script;
-//! - `personal NAME TEXT` and `global NAME TEXT` keep a script in a location, in the place of one of that name;
-//! - `forget` takes all scripts out.
+//! A call that takes fewer texts leaves the others out, and an empty answer is `nothing`. A line `more N TEXT` before a row
+//! puts N times TEXT before its first text.
 //!
 //! In texts and answers `\n`, `\r`, `\s` (a space) and `\xHH` are octets, and a backslash before another octet is left
 //! out (`row_text`). Empty lines and those that begin with `#` are ignored.
@@ -67,12 +63,6 @@ fn following(alloc: Global, front: &[u8], text: &str) -> Result<Vec<u8>, AllocEr
     let mut whole = Vec::from_slice(alloc, front)?;
     whole.extend_from_slice(octets_of(alloc, text)?.as_slice())?;
     Ok(whole)
-}
-
-/// The name and the text of a script, the text after the octets in `front`.
-pub fn read_script(alloc: Global, front: &[u8], line: &str) -> Result<(Vec<u8>, Vec<u8>)> {
-    let (name, text) = line.split_once(' ').unwrap_or((line, ""));
-    Ok((octets_of(alloc, name)?, following(alloc, front, text)?))
 }
 
 /// Reads a row, whose first text follows the octets in `front`.

@@ -1,7 +1,7 @@
 //! The calls of the scanner.
 
 use crate::told::{refused_at, word};
-use anyhow::{Result, bail};
+use anyhow::Result;
 use sieve_syntax::{Mark, Token, TokenKind};
 use sieve_text::{ScanFault, scan};
 use std::alloc::{AllocError, Global};
@@ -63,21 +63,4 @@ pub fn tokens(alloc: Global, script: &[u8]) -> Result<Vec<u8>> {
         Err(ScanFault::NoMemory) => word(alloc, "no memory"),
         Err(ScanFault::Refused(refusal, at)) => refused_at(alloc, refusal.number(), at),
     }
-}
-
-/// How many octets the first string of a script has, if it begins with one.
-fn first_length(tokens: &[Token]) -> Option<usize> {
-    match &tokens.first()?.kind {
-        TokenKind::StringValue(value) => Some(value.as_slice().len()),
-        _ => None,
-    }
-}
-
-/// How many tokens a script has, and how many octets the string that it begins with.
-pub fn lengths(alloc: Global, script: &[u8]) -> Result<Vec<u8>> {
-    let Ok(tokens) = scan(alloc, script) else {
-        bail!("a script has no tokens");
-    };
-    let (count, length) = (tokens.len(), first_length(tokens.as_slice()));
-    Ok(format!(in alloc; "{count} tokens, first string {length:?}")?.into_bytes())
 }

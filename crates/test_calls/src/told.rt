@@ -8,11 +8,6 @@ pub fn word(alloc: Global, text: &str) -> Result<Vec<u8>> {
     Ok(Vec::from_slice(alloc, text.as_bytes())?)
 }
 
-/// A refusal.
-pub fn refused(alloc: Global, number: u8) -> Result<Vec<u8>> {
-    Ok(format!(in alloc; "refused {number}")?.into_bytes())
-}
-
 /// A refusal of a text, with the offset at which it stands.
 pub fn refused_at(alloc: Global, number: u8, at: usize) -> Result<Vec<u8>> {
     Ok(format!(in alloc; "refused {number} at {at}")?.into_bytes())

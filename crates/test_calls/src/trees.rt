@@ -1,8 +1,7 @@
-//! The calls of the parser, and of the rules for its tree.
+//! The call of the parser.
 
-use crate::told::{refused, refused_at, word};
-use anyhow::{Result, bail};
-use sieve_check::check as check_tree;
+use crate::told::{refused_at, word};
+use anyhow::Result;
 use sieve_syntax::{Argument, Command, Ending, Script, StringList, Test, Tests};
 use sieve_text::{TextFault, parse};
 use std::alloc::{AllocError, Global};
@@ -93,17 +92,9 @@ fn write_command(alloc: Global, out: &mut Vec<u8>, command: &Command) -> Result<
     }
 }
 
-/// The most commands that are written out; of more only the number is written.
-const MAX_SHOWN: usize = 20;
-
-/// A tree as the functions above write it, or how many commands it has.
+/// A tree as the functions above write it.
 fn tree_text(alloc: Global, script: &Script) -> Result<Vec<u8>> {
     let mut text = Vec::new(alloc);
-    let count = script.commands.len();
-    if count > MAX_SHOWN {
-        text.extend_from_slice(format!(in alloc; "{count} commands")?.as_bytes())?;
-        return Ok(text);
-    }
     for command in &script.commands {
         write_command(alloc, &mut text, command)?;
     }
@@ -116,16 +107,5 @@ pub fn tree(alloc: Global, script: &[u8]) -> Result<Vec<u8>> {
         Ok(script) => tree_text(alloc, &script),
         Err(TextFault::NoMemory) => word(alloc, "no memory"),
         Err(TextFault::Refused(refusal, at)) => refused_at(alloc, refusal.number(), at),
-    }
-}
-
-/// Whether the tree of a script is well made, or its refusal.
-pub fn check(alloc: Global, script: &[u8]) -> Result<Vec<u8>> {
-    let Ok(script) = parse(alloc, script) else {
-        bail!("a script has no tree");
-    };
-    match check_tree(script) {
-        Ok(_) => word(alloc, "well made"),
-        Err(fault) => refused(alloc, fault.number()),
     }
 }

@@ -1,28 +1,6 @@
-//! Tests of the store and of its tables, over databases in memory and over files in memory.
-//!
-//! They cover what no clause says, tables of other names before and between ours, worked rows, and random commands
-//! that are also given to a plain model of the archive.
+//! Tests of the store over databases in memory: what no clause says, and no session over a file shows. These are databases
+//! of version 1 and of no archive, tables of other names before and between ours, and messages.
 #![tactic(auto)]
 
 #[cfg(test)]
 mod adoption;
-#[cfg(test)]
-mod calendar;
-#[cfg(test)]
-mod layouts;
-#[cfg(test)]
-mod lines;
-#[cfg(test)]
-mod media;
-#[cfg(test)]
-mod model;
-#[cfg(test)]
-mod plans;
-#[cfg(test)]
-mod random;
-#[cfg(test)]
-mod reads;
-#[cfg(test)]
-mod rows;
-#[cfg(test)]
-mod tables;

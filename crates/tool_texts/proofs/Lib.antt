@@ -1,2 +1,4 @@
 pub mod Choices
 pub mod Joins
+pub mod Lengths
+pub mod Zips

@@ -3,59 +3,10 @@
 ghost use Rattle.std.specs.Prelude.{◌≡◌, ◌++◌, map, IfOk, OnOk};
 ghost use Rattle.tool_texts.specs.Framing.{line_of, session_word, word_of, words_of};
 
+use crate::forms::{Payload, Slot, slots};
+use crate::words::read_length;
 use itoa::Buffer;
 use std::alloc::{AllocError, Global};
-use std::str;
-
-/// The kind of a payload of a command.
-#[derive(Clone, Copy)]
-pub enum Payload {
-    Script,
-    Message,
-    Image,
-    Plan,
-}
-
-impl Payload {
-    /// The greatest length of such a payload, in octets. A longer one is refused: a script with 15, a message with 95,
-    /// an image with 61, a plan with 58.
-    pub fn limit(self) -> u64 {
-        match self {
-            Payload::Script => 262_144,
-            Payload::Message => 8_388_608,
-            Payload::Image => 16_777_216,
-            Payload::Plan => 1_048_576,
-        }
-    }
-}
-
-/// The kind of a word after a command's name.
-#[derive(Clone, Copy)]
-pub enum Slot {
-    Plain,
-    /// A moment, in seconds since 1970-01-01T00:00:00Z.
-    Moment,
-    /// The length of a payload, in octets.
-    Length(Payload),
-}
-
-/// The kinds of the words after a command's name, up to the last one that is a moment or a length. A command with
-/// neither has none.
-pub fn slots(command: &[u8]) -> &'static [Slot] {
-    match command {
-        b"PLAN" => &[Slot::Length(Payload::Plan)],
-        b"SCRIPT" => &[Slot::Plain, Slot::Plain, Slot::Length(Payload::Script)],
-        b"GLOBAL" => &[Slot::Plain, Slot::Length(Payload::Script)],
-        b"IMAGE" => &[Slot::Plain, Slot::Length(Payload::Image)],
-        b"FILE" => &[
-            Slot::Length(Payload::Script),
-            Slot::Length(Payload::Message),
-        ],
-        b"TRY" => &[Slot::Length(Payload::Image), Slot::Length(Payload::Message)],
-        b"BEGIN" => &[Slot::Plain, Slot::Moment, Slot::Length(Payload::Message)],
-        _ => &[],
-    }
-}
 
 /// A word of a command, and what replaces it in a session.
 #[derive(Clone, Copy)]
@@ -70,14 +21,14 @@ pub enum LinePart<'a> {
     Here(&'a [u8], u32),
 }
 
-/// The part that a word of this kind is.
-fn read_word(slot: Slot, word: &[u8]) -> LinePart<'_>
+/// The part that a word of this slot is, or a word of none.
+fn read_word(slot: Option<Slot>, word: &[u8]) -> LinePart<'_>
     ensures { word_of result ≡ word.now }
 {
     match (slot, word) {
-        (Slot::Moment, b"@now") => LinePart::Moment,
-        (Slot::Length(payload), [b'@', path @ ..]) => LinePart::File(payload, path),
-        (Slot::Length(_), _) => match length(word) {
+        (Some(Slot::Moment), b"@now") => LinePart::Moment,
+        (Some(Slot::Length(payload)), [b'@', path @ ..]) => LinePart::File(payload, path),
+        (Some(Slot::Length(_)), _) => match read_length(word) {
             Some(count) => LinePart::Here(word, count),
             None => LinePart::Word(word),
         },
@@ -85,16 +36,8 @@ fn read_word(slot: Slot, word: &[u8]) -> LinePart<'_>
     }
 }
 
-/// The number of a word, if it is the length of a payload: decimal, without leading zeros, at most 4,294,967,295.
-fn length(word: &[u8]) -> Option<u32> {
-    if matches!(word, [b'0', _, ..] | [b'+', ..]) {
-        return None;
-    }
-    str::from_utf8(word).ok()?.parse().ok()
-}
-
 /// The words of a line without its line feed.
-fn words(alloc: Global, line: &[u8]) -> Result<Vec<&[u8]>, AllocError>
+pub(crate) fn words(alloc: Global, line: &[u8]) -> Result<Vec<&[u8]>, AllocError>
     ensures { IfOk result (λ v. map (λ w. w.now) v.items ≡ words_of line.now) }
 {
     line.split(|octet| *octet == b' ').collect(alloc)
@@ -109,8 +52,8 @@ pub fn parts(alloc: Global, line: &[u8]) -> Result<Vec<LinePart<'_>>, AllocError
     let mut parts = Vec::new(alloc);
     for (index, word) in words.iter().enumerate() {
         let slot = match index.checked_sub(1) {
-            Some(after) => slots.get(after).copied().unwrap_or(Slot::Plain),
-            None => Slot::Plain,
+            Some(after) => slots.get(after).copied(),
+            None => None,
         };
         parts.push(read_word(slot, *word))?;
     }

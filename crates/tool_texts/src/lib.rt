@@ -2,10 +2,14 @@
 //! commands as a person types them.
 #![tactic(auto)]
 
+mod forms;
 mod framing;
 mod numbers;
 mod places;
+mod words;
 
-pub use framing::{Framed, LinePart, Payload, Slot, framed_line, parts, slots};
+pub use forms::{LineFault, Payload, Slot, line_fault, slots};
+pub use framing::{Framed, LinePart, framed_line, parts};
 pub use numbers::{fault_text, refusal_text};
 pub use places::{Place, line_at, place_of};
+pub use words::is_name;

@@ -21,6 +21,7 @@ returns-clause-holds g c honest idle on image may =
     let sure = subst (λ p. AreClean g.D.Disk p.0 p.1) c.close.ensures honest in
     let none : IsClean (view back) = no_doubt _ (clean_is back.pool ∙ sure) in
     let made = c.into_store.ensures in
-    left_now c.args.conn on c.schema-live.ensures.live (c.is_autocommit-settled.ensures.settled (c.is_autocommit-settled.ensures.value ∙ ap not idle) on)
+    let settled = c.is_autocommit-settled.ensures.settled (c.is_autocommit-settled.ensures.value ∙ ap not idle) on in
+    left_now c.args.conn on c.schema-live.ensures.live settled
     g.met.D.Disk.seen_may_stay back (made.numbered none) (made.sound none) made.quiet.outcomes image
     (may_leave_is back.pool image sure (subst (λ p. outcomes g.D.Disk p.0 p.1 image) c.close.ensures may))

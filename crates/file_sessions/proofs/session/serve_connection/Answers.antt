@@ -6,7 +6,7 @@ use Rattle.record_store.specs.declared.store.Store.{Store}
 use Rattle.sqlite_store.specs.declared.store.FileStore.{FileStore}
 use Rattle.filing_desk.specs.declared.desk.Desk.{Desk}
 use Rattle.filing_desk.specs.Standing.{StandsFor}
-use Rattle.file_sessions.proofs.SessionLemmas.{told_refines, desk_told}
+use Rattle.file_sessions.proofs.SessionLemmas.{desk_told, done_refines, told_refines}
 use Rattle.file_sessions.proofs.session.serve_connection.Goals as goal
 
 pub returns-clause-served : goal.returns-clause-served
@@ -21,7 +21,19 @@ returns-clause-served g c honest heard said =
       c.in-Ok.ensures.clean led.0,
       λ a found.
           let l = led.1 (opening a) (c.in-Ok.ensures.stands led.0 a found) in
-          record { to = l.to; told = l.is_one; kept = c.close_desk-files.ensures.keeps honest l.to l.there },
+          record { to = l.to; reached = l.is_one; kept = c.close_desk-files.ensures.keeps honest l.to l.there },
+    )
+
+pub returns-clause-done : goal.returns-clause-done
+returns-clause-done g c honest =
+    let IsClean : Desk (Store (FileStore g.row.D.Denot g.D.Disk)) → Type 0 = λ desk. HasCleanDisk (file_state desk.store.conn) in
+    let serve = c.serve-session in
+    let led = done_refines IsClean (StandsFor (stores.StandsFor over_files)) c.sessions_refine_states.ensures.done _ _ _ _
+    serve.ensures.done (c.close_desk-files.ensures.clean honest) in (
+      c.in-Ok.ensures.clean led.0,
+      λ a found.
+          let l = led.1 (opening a) (c.in-Ok.ensures.stands led.0 a found) in
+          record { to = l.to; reached = l.is_one; kept = c.close_desk-files.ensures.keeps honest l.to l.there },
     )
 
 pub returns-in-Err-clause-refused : goal.returns-in-Err-clause-refused

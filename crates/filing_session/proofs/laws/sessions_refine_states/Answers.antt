@@ -1,8 +1,9 @@
-use Rattle.filing_session.proofs.Refinement.{served_refines, answered_refines, cut_in_answer_refines, cut_in_ending_refines}
+use Rattle.filing_session.proofs.Refinement.{run_refines, served_refines, answered_refines, cut_in_answer_refines, cut_in_ending_refines}
 use Rattle.filing_session.proofs.laws.sessions_refine_states.Goals as goal
 
 pub returns : goal.returns
 returns g c = record {
+  done = run_refines g.R.Registry.clean g.R.Registry.stands;
   served = served_refines g.R.Registry.clean g.R.Registry.stands;
   answered = answered_refines g.R.Registry.clean g.R.Registry.stands;
   cut_in_answer = cut_in_answer_refines g.R.Registry.clean g.R.Registry.stands;

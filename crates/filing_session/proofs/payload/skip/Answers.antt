@@ -21,4 +21,5 @@ loop-got-preserved g c =
       over = grind (arith, common_steps);
       patient = grind (arith, common_steps);
       failures = grind (arith, common_steps);
+      all = grind (arith, common_steps);
     }

@@ -1,4 +1,5 @@
-use Rattle.std.proofs.Common.{◌≡◌, ◌+◌, ◌-◌, ◌≤◌, length, drop, max}
+use Rattle.std.proofs.Common.{◌≡◌, ◌+◌, ◌-◌, ◌≤◌, length, drop}
+use Rattle.filing_session.specs.Streams.{most_with}
 use Rattle.filing_session.proofs.payload.skip.Given as goal
 
 abbrev pub invariant-loop-got : goal.invariant-loop-got
@@ -7,9 +8,10 @@ invariant-loop-got g l = record {
   enough : g.S.Source.tells → l.got ≤ length (g.S.Source.left l.fn.source);
   rest : g.S.Source.tells → g.S.Source.left l.source ≡ drop l.got (g.S.Source.left l.fn.source);
   ends : g.S.Source.ends l.fn.source ≤ g.S.Source.ends l.source;
-  over : g.S.Source.interruptions l.source ≤ g.S.Source.interruptions l.fn.source;
-  patient : g.S.Source.most_interruptions l.source ≤ max (g.S.Source.most_interruptions l.fn.source) (g.S.Source.interruptions l.fn.source + 63);
-  failures : g.S.Source.failures l.source ≡ g.S.Source.failures l.fn.source;
+  over : (g.S.Source.troubles l.source).interruptions ≤ (g.S.Source.troubles l.fn.source).interruptions;
+  patient : (g.S.Source.troubles l.source).most_interruptions ≤ most_with (g.S.Source.troubles l.fn.source) 63;
+  failures : (g.S.Source.troubles l.source).failures ≡ (g.S.Source.troubles l.fn.source).failures;
+  all : (g.S.Source.troubles l.fn.source).all_interruptions ≤ (g.S.Source.troubles l.source).all_interruptions;
 }
 
 abbrev pub decreases-loop-got : goal.decreases-loop-got

@@ -1,12 +1,14 @@
-use Rattle.std.proofs.Common.{◌≡◌, ◌+◌, ◌≤◌, ◌++◌, take, max}
+use Rattle.std.proofs.Common.{◌≡◌, ◌+◌, ◌≤◌, ◌++◌, take}
 use Rattle.std.specs.Prelude.{flat_map}
 use Rattle.filing_session.specs.Replies.{class_octets}
+use Rattle.filing_session.specs.Streams.{most_with}
 use Rattle.filing_session.proofs.reply.write_classes.Given as goal
 
 abbrev pub invariant-loop-path : goal.invariant-loop-path
 invariant-loop-path g l = record {
   written : g.K.Sink.tells → g.K.Sink.written l.sink ≡ g.K.Sink.written l.fn.sink ++ flat_map class_octets (take l.path-index l.paths);
-  over : g.K.Sink.interruptions l.sink ≤ g.K.Sink.interruptions l.fn.sink;
-  patient : g.K.Sink.most_interruptions l.sink ≤ max (g.K.Sink.most_interruptions l.fn.sink) (g.K.Sink.interruptions l.fn.sink + 63);
-  failures : g.K.Sink.failures l.sink ≡ g.K.Sink.failures l.fn.sink;
+  over : (g.K.Sink.troubles l.sink).interruptions ≤ (g.K.Sink.troubles l.fn.sink).interruptions;
+  patient : (g.K.Sink.troubles l.sink).most_interruptions ≤ most_with (g.K.Sink.troubles l.fn.sink) 63;
+  failures : (g.K.Sink.troubles l.sink).failures ≡ (g.K.Sink.troubles l.fn.sink).failures;
+  all : (g.K.Sink.troubles l.fn.sink).all_interruptions ≤ (g.K.Sink.troubles l.sink).all_interruptions;
 }

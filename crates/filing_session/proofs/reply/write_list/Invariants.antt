@@ -1,12 +1,14 @@
-use Rattle.std.proofs.Common.{◌≡◌, ◌+◌, ◌≤◌, ◌++◌, take, max}
+use Rattle.std.proofs.Common.{◌≡◌, ◌+◌, ◌≤◌, ◌++◌, take}
 use Rattle.std.specs.Prelude.{flat_map}
 use Rattle.filing_session.specs.Replies.{line_octets}
+use Rattle.filing_session.specs.Streams.{most_with}
 use Rattle.filing_session.proofs.reply.write_list.Given as goal
 
 abbrev pub invariant-loop-line : goal.invariant-loop-line
 invariant-loop-line g l = record {
   written : g.K.Sink.tells → g.K.Sink.written l.sink ≡ g.K.Sink.written l.fn.sink ++ flat_map line_octets (take l.line-index l.lines);
-  over : g.K.Sink.interruptions l.sink ≤ g.K.Sink.interruptions l.fn.sink;
-  patient : g.K.Sink.most_interruptions l.sink ≤ max (g.K.Sink.most_interruptions l.fn.sink) (g.K.Sink.interruptions l.fn.sink + 63);
-  failures : g.K.Sink.failures l.sink ≡ g.K.Sink.failures l.fn.sink;
+  over : (g.K.Sink.troubles l.sink).interruptions ≤ (g.K.Sink.troubles l.fn.sink).interruptions;
+  patient : (g.K.Sink.troubles l.sink).most_interruptions ≤ most_with (g.K.Sink.troubles l.fn.sink) 63;
+  failures : (g.K.Sink.troubles l.sink).failures ≡ (g.K.Sink.troubles l.fn.sink).failures;
+  all : (g.K.Sink.troubles l.fn.sink).all_interruptions ≤ (g.K.Sink.troubles l.sink).all_interruptions;
 }

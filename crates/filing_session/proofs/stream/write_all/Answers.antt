@@ -10,4 +10,5 @@ loop-at-preserved g c = record {
   over = grind (arith, common_steps);
   patient = grind (arith, common_steps);
   failures = grind (arith, common_steps);
+  all = grind (arith, common_steps);
 }

@@ -1,11 +1,14 @@
-use Rattle.std.proofs.Common.{◌≡◌, ◌+◌, ◌≤◌, ◌-◌, ◌^◌, min, max}
+use Rattle.std.proofs.Common.{◌≡◌, ◌+◌, ◌≤◌}
+use Rattle.filing_session.specs.Streams.{RisesBy, most_with}
 use Rattle.filing_session.proofs.stream.write_some.Given as goal
 
 abbrev pub invariant-loop : goal.invariant-loop
 invariant-loop g l = record {
   written : g.K.Sink.tells → g.K.Sink.written l.sink ≡ g.K.Sink.written l.initial.sink;
-  in_a_row : min (g.K.Sink.interruptions l.initial.sink + l.counter) (2 ^ 64 - 1) ≤ g.K.Sink.interruptions l.sink;
-  over : g.K.Sink.interruptions l.sink ≤ g.K.Sink.interruptions l.initial.sink + l.counter;
-  most : g.K.Sink.most_interruptions l.sink ≤ max (g.K.Sink.most_interruptions l.initial.sink) (g.K.Sink.interruptions l.initial.sink + l.counter);
-  failures : g.K.Sink.failures l.sink ≡ g.K.Sink.failures l.initial.sink;
+  in_a_row : RisesBy l.counter (g.K.Sink.troubles l.initial.sink).interruptions (g.K.Sink.troubles l.sink).interruptions;
+  over : (g.K.Sink.troubles l.sink).interruptions ≤ (g.K.Sink.troubles l.initial.sink).interruptions + l.counter;
+  most : (g.K.Sink.troubles l.sink).most_interruptions ≤ most_with (g.K.Sink.troubles l.initial.sink) l.counter;
+  failures : (g.K.Sink.troubles l.sink).failures ≡ (g.K.Sink.troubles l.initial.sink).failures;
+  all : (g.K.Sink.troubles l.initial.sink).all_interruptions ≤ (g.K.Sink.troubles l.sink).all_interruptions;
+  rises : RisesBy l.counter (g.K.Sink.troubles l.initial.sink).all_interruptions (g.K.Sink.troubles l.sink).all_interruptions;
 }

@@ -1,0 +1,33 @@
+-- The commands among the lines of a session.
+use Rattle.std.proofs.Common.{[], ◌∷◌, List, refl, subst}
+use Rattle.filing_commands.specs.Answers.{Answer}
+use Rattle.filing_commands.specs.Standing.{Standing, Step}
+use Rattle.filing_session.specs.Session.{Item, Call, UnknownCommand, WrongWord}
+use Rattle.filing_session.specs.Session as session
+use Rattle.filing_session.proofs.Refinement.{run_refines}
+use Rattle.promises.specs.Lines.{LineSession, IsSession, answers_in, commands_in}
+use Rattle.promises.specs.Runs.{Run}
+
+-- lines that are no commands change nothing
+pub commands_run : (s new : Standing) (items : List Item) (answers : List Answer) → session.Run Step s items answers new → Run s (commands_in items) (answers_in items answers) new
+commands_run s new [] [] h = h
+commands_run s new (Call c ∷ items) (a ∷ answers) h = (h.0, h.1, commands_run h.0 new items answers h.2)
+commands_run s new (UnknownCommand ∷ items) (a ∷ answers) h =
+    let P : Standing → Type 0 = λ x. Run x (commands_in items) (answers_in items answers) new in
+    subst P h.1.1 (commands_run h.0 new items answers h.2)
+commands_run s new (WrongWord ∷ items) (a ∷ answers) h =
+    let P : Standing → Type 0 = λ x. Run x (commands_in items) (answers_in items answers) new in
+    subst P h.1.1 (commands_run h.0 new items answers h.2)
+commands_run s new [] (a ∷ answers) h = absurd h
+commands_run s new (i ∷ items) [] h = absurd h
+
+module _ {D : Type 0} (clean : D → Type 0) (stands : D → Standing → Type 0) where
+  pub is_session : (x : LineSession clean stands) → IsSession stands x.state x.items x.answers x.new
+  is_session x =
+      let led = (run_refines clean stands x.items x.answers x.old x.new x.run x.is_clean).1 x.state x.at_begin in
+      record {
+        of_commands = record { commands = commands_in x.items; answers = answers_in x.items x.answers; new = led.to; run = commands_run x.state led.to x.items x.answers led.is_one };
+        commands = refl;
+        answered = refl;
+        at_end = led.there;
+      }

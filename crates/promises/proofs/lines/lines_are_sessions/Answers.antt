@@ -1,0 +1,8 @@
+use Rattle.promises.proofs.CommandLines.{commands_run, is_session}
+use Rattle.promises.proofs.lines.lines_are_sessions.Goals as goal
+
+pub returns-clause-steps : goal.returns-clause-steps
+returns-clause-steps g c = commands_run
+
+pub returns-clause-registry : goal.returns-clause-registry
+returns-clause-registry g c = is_session g.R.Registry.clean g.R.Registry.stands
