@@ -1,0 +1,76 @@
+-- What a session at a desk leads to.
+use Rattle.std.proofs.Common.{ℕ, List, Result, Ok, Err, inl, inr, refl}
+use Rattle.std.specs.Prelude.{OnOk, IsErrOf}
+use Rattle.filing_commands.specs.Answers.{Answer}
+use Rattle.filing_commands.specs.Calls.{Calls, Leads}
+use Rattle.filing_commands.specs.Standing.{Standing, Step}
+use Rattle.filing_session.specs.Done.{HasDone}
+use Rattle.filing_session.specs.Laws.{Refines}
+use Rattle.filing_session.specs.Session.{Item, Session, Run, IsServed, IsAnswered, IsCut, IsCutInAnswer, IsCutInEnding}
+use Rattle.filing_session.specs.declared.session.ServeFault.{ServeFault}
+use Rattle.filing_session.specs.declared.session.ServeFault.TheVariants.{Read, Write}
+use Rattle.file_sessions.specs.Sessions.{IsTold}
+
+module _ {D : Type 0} (clean : D → Type 0) (stands : D → Standing → Type 0) where
+  -- what a session at desks has written
+  pub DeskTold : Result (Unit {0}) ServeFault → Session → D → (old written : List ℕ) → D → Type 0
+  DeskTold (Ok u) session s old written new = IsServed (Calls clean stands) session s old written new
+  DeskTold (Err Read) session s old written new = IsAnswered (Calls clean stands) session s old written new
+  DeskTold (Err Write) session s old written new = IsCut (Calls clean stands) session s old written new
+
+  -- from the clauses of `serve`
+  pub desk_told : (result : Result (Unit {0}) ServeFault) (session : Session) (s : D) (old written : List ℕ) (new : D)
+      → OnOk result (IsServed (Calls clean stands) session s old written new)
+      → (IsErrOf result Read → IsAnswered (Calls clean stands) session s old written new)
+      → (IsErrOf result Write → IsCut (Calls clean stands) session s old written new)
+      → DeskTold result session s old written new
+  unfolding DeskTold
+  desk_told (Ok u) session s old written new ok unheard unsaid = ok
+  desk_told (Err Read) session s old written new ok unheard unsaid = unheard refl
+  desk_told (Err Write) session s old written new ok unheard unsaid = unsaid refl
+
+  -- by the law of sessions over the states that desks represent
+  pub told_refines :
+      ((session : Session) (old written : List ℕ) → Refines clean stands (λ desk. IsServed (Calls clean stands) session desk old written)
+      (λ s. IsServed Step session s old written))
+      → ((session : Session) (old written : List ℕ) → Refines clean stands (λ desk. IsAnswered (Calls clean stands) session desk old written)
+      (λ s. IsAnswered Step session s old written))
+      → ((session : Session) (old written : List ℕ) → Refines clean stands (λ desk. IsCutInAnswer (Calls clean stands) session desk old written)
+      (λ s. IsCutInAnswer Step session s old written))
+      → ((session : Session) (old written : List ℕ) → Refines clean stands (λ desk. IsCutInEnding (Calls clean stands) session desk old written)
+      (λ s. IsCutInEnding Step session s old written))
+      → (result : Result (Unit {0}) ServeFault) (session : Session) (old written : List ℕ) (desk new : D)
+      → DeskTold result session desk old written new → clean new
+      → clean desk × ((s : Standing) → stands desk s → Leads stands new (IsTold result session old written s))
+  unfolding DeskTold
+  told_refines served answered in_answer in_ending (Ok u) session old written desk new told ok = served session old written desk new told ok
+  told_refines served answered in_answer in_ending (Err Read) session old written desk new told ok = answered session old written desk new told ok
+  told_refines served answered in_answer in_ending (Err Write) session old written desk new (inl told) ok =
+      let led = in_answer session old written desk new told ok in
+      (led.0, λ s there. let l = led.1 s there in record { to = l.to; is_one = inl l.is_one; there = l.there })
+  told_refines served answered in_answer in_ending (Err Write) session old written desk new (inr told) ok =
+      let led = in_ending session old written desk new told ok in
+      (led.0, λ s there. let l = led.1 s there in record { to = l.to; is_one = inr l.is_one; there = l.there })
+
+  -- the same for what was done, whatever the streams tell
+  pub done_refines :
+      ((items : List Item) (answers : List Answer) → Refines clean stands (λ desk. Run (Calls clean stands) desk items answers)
+      (λ s. Run Step s items answers))
+      → (Heard : List Item → Type 0) (Said : List Answer → Type 0) (desk new : D)
+      → HasDone (Calls clean stands) Heard Said desk new → clean new
+      → clean desk × ((s : Standing) → stands desk s → Leads stands new (HasDone Step Heard Said s))
+  done_refines law Heard Said desk new it ok =
+      let led = law it.items it.answers desk new it.run ok in (
+        led.0,
+        λ s there.
+            let l = led.1 s there in
+            let reached : HasDone Step Heard Said s l.to = record {
+              items = it.items;
+              answers = it.answers;
+              run = l.is_one;
+              few = it.few;
+              heard = it.heard;
+              said = it.said;
+            } in
+            record { to = l.to; is_one = reached; there = l.there },
+      )

@@ -1,0 +1,25 @@
+use Rattle.std.proofs.Common.{IsTrue, sym, subst}
+use Rattle.sqlite.specs.State.{HasCleanDisk}
+use Rattle.sqlite.specs.Held.{Held}
+use Rattle.sqlite.specs.Files.{file_state}
+use Rattle.sqlite_store.specs.declared.store.FileStore.{FileStore}
+use Rattle.record_store.specs.declared.store.Store.{Store}
+use Rattle.file_sessions.proofs.ArchiveLemmas.{is_idle, keeps_now}
+use Rattle.file_sessions.proofs.crashes.crash.Goals as goal
+
+pub returns-clause-clean : goal.returns-clause-clean
+returns-clause-clean g c honest =
+    let CleanConn : Held (FileStore g.row.D.Denot g.D.Disk) → Type 0 = λ h. HasCleanDisk (file_state h) in
+    let CleanStore : Store (FileStore g.row.D.Denot g.D.Disk) → Type 0 = λ s. HasCleanDisk (file_state s.conn) in
+    subst CleanStore c.into_store.ensures.store (subst CleanConn c.into_connection.ensures (c.leave.ensures.clean honest))
+
+pub returns-clause-keeps : goal.returns-clause-keeps
+returns-clause-keeps g c honest on s there image may =
+    let OpenConn : Held (FileStore g.row.D.Denot g.D.Disk) → Type 0 = λ h. IsTrue (file_state h).is_open in
+    let OpenStore : Store (FileStore g.row.D.Denot g.D.Disk) → Type 0 = λ s. IsTrue (file_state s.conn).is_open in
+    let store = c.into_store.result in
+    let same = c.into_connection.ensures in
+    let stands = c.into_store.ensures.stands s there in
+    let still = subst OpenConn (sym same) (subst OpenStore (sym c.into_store.ensures.store) on) in
+    keeps_now store c.into_connection.result same s.office.archive stands (c.leave.ensures.clean honest) image
+    (c.leave.ensures.holds honest (is_idle store c.into_connection.result same s.office.archive stands) still image may)

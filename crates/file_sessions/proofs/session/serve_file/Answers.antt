@@ -1,0 +1,24 @@
+use Rattle.std.proofs.Common.{refl}
+use Rattle.sqlite.specs.WalFiles.{image_at}
+use Rattle.file_sessions.proofs.OpeningLemmas.{finds_opened}
+use Rattle.file_sessions.proofs.RefusalLemmas.{has_cause}
+use Rattle.file_sessions.proofs.session.serve_file.Goals as goal
+
+pub returns-in-Err-clause-refused : goal.returns-in-Err-clause-refused
+returns-in-Err-clause-refused g c a held is =
+    has_cause g.S.Start (λ host. refl) c.in-Err.error c.in-Err.left c.in-Err.ensures.unopened c.in-Err.ensures.cause a held
+
+pub returns-in-Ok-serve_connection-clause-served : goal.returns-in-Ok-serve_connection-clause-served
+returns-in-Ok-serve_connection-clause-served g c honest heard said a held =
+    let it = c.in-Ok-serve_connection.ensures.served honest heard said in
+    it.1 a (finds_opened c.in-Ok.conn (image_at g.S.Start) a (c.in-Ok.ensures.opened it.0) (c.in-Ok.ensures.found it.0) held)
+
+pub returns-in-Ok-serve_connection-clause-done : goal.returns-in-Ok-serve_connection-clause-done
+returns-in-Ok-serve_connection-clause-done g c honest a held =
+    let it = c.in-Ok-serve_connection.ensures.done honest in
+    it.1 a (finds_opened c.in-Ok.conn (image_at g.S.Start) a (c.in-Ok.ensures.opened it.0) (c.in-Ok.ensures.found it.0) held)
+
+pub returns-in-Err-serve_connection-clause-refused : goal.returns-in-Err-serve_connection-clause-refused
+returns-in-Err-serve_connection-clause-refused g c a held is honest =
+    let it = c.in-Err-serve_connection.ensures.refused honest in
+    it.1 a (finds_opened c.in-Ok.conn (image_at g.S.Start) a (c.in-Ok.ensures.opened it.0) (c.in-Ok.ensures.found it.0) held) is

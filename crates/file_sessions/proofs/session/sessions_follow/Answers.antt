@@ -1,0 +1,5 @@
+use Rattle.file_sessions.proofs.OpeningLemmas.{finds_kept}
+use Rattle.file_sessions.proofs.session.sessions_follow.Goals as goal
+
+pub returns : goal.returns
+returns c = finds_kept

@@ -1,0 +1,4 @@
+pub mod Closing
+pub mod Files
+pub mod Sessions
+pub mod Refusals

@@ -1,0 +1,45 @@
+//! The desk over a database.
+
+ghost use Rattle.std.specs.Prelude.{◌≡◌, false, true, IfErr, IfOk};
+ghost use Rattle.sqlite.specs.State.{HasCleanDisk};
+ghost use Rattle.sqlite.specs.Held.{state};
+ghost use Rattle.record_archive.specs.Archive.{Archive, IsArchive};
+ghost use Rattle.record_adoption.specs.Adoption.{Finds};
+ghost use Rattle.record_archive.specs.Faults.{is_trouble};
+ghost use Rattle.filing_commands.specs.Standing.{opening};
+ghost use Rattle.record_store.specs.Stores as stores;
+ghost use Rattle.filing_desk.specs.Standing.{StandsFor};
+
+use filing_desk::Desk;
+use record_store::{Store, StoreFault};
+use sqlite::{Alter, Connection};
+use std::alloc::Global;
+
+/// The desk over a database: its archive, with no script and no capture in flight. A database with no table gets the
+/// tables of an empty archive.
+///
+/// Refused with 88 where the tables or their rows are not an archive's, with 89 (`sqlite`) or with 99 (no memory). The
+/// connection is then handed back.
+pub(crate) fn open_desk<S: Alter + Drop>(
+    alloc: Global,
+    conn: Connection<S>,
+) -> Result<Desk<Store<S>>, (StoreFault, Connection<S>)>
+    requires { conn.in_transaction ≡ false }
+    ensures clean { IfOk result (λ d. HasCleanDisk (state S.Store d.store.conn)
+        → HasCleanDisk (state S.Store conn)) }
+    ensures stands { IfOk result (λ d. HasCleanDisk (state S.Store d.store.conn) → (a : Archive)
+        → Finds (state S.Store conn).now a → StandsFor (stores.StandsFor S.Store) d (opening a)) }
+    ensures still_clean { IfErr result
+        (λ e. HasCleanDisk (state S.Store e.1) → HasCleanDisk (state S.Store conn)) }
+    ensures refused { IfErr result (λ e. HasCleanDisk (state S.Store e.1) → (a : Archive)
+        → Finds (state S.Store conn).now a → IsArchive a → is_trouble e.0 ≡ true) }
+{
+    let store = match Store::adopt(alloc, conn) {
+        Ok(store) => store,
+        Err(refused) => return Err(refused),
+    };
+    match Desk::new(alloc, store) {
+        Ok(desk) => Ok(desk),
+        Err(store) => Err((StoreFault::NoMemory, store.into_connection())),
+    }
+}
