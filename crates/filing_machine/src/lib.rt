@@ -18,4 +18,5 @@ mod top;
 pub use filing_case::{Case, OpenPaths, PieceCase, WholeCase};
 pub use laws::every_run_ends;
 pub use machine::{EndedRun, Machine, run};
+pub use sieve_meaning::Outcome;
 pub use top::Top;

@@ -26,6 +26,7 @@ use Rattle.sieve_meaning.specs.declared.words.TestWord.{TestWord}
 use Rattle.sieve_meaning.specs.declared.words.TestWord.TheVariants as tests
 use Rattle.sieve_meaning.specs.Words.{command_word, test_word}
 use Rattle.meaning_laws.specs.ReadingLaw.{header_tags, size_tags, fileinto_tags, include_tags, HasArguments, HasString, TestReads, TestIsRead, InnerIsRead, RowIsRead, CommandReads, is_branch, Follows, CommandIsRead, EndingIsRead, CommandsAreRead, ReadLaw}
+use Rattle.meaning_laws.proofs.TagKinds.{AreKinds, are_once}
 use Rattle.meaning_laws.proofs.Arguments.{lower_is, AreRead, form_read, limit_there}
 
 -- WORDS
@@ -109,29 +110,52 @@ takes_lists (a ∷ b ∷ []) h = (h.0.0, h.1.0.0, both a b (arguments.Strings h.
 takes_lists (a ∷ b ∷ c ∷ more) h = absurd h.1.1
 
 -- the arguments of a form that has none, one string, one list, two lists, or a number
-module _ (names : List (List ℕ)) (form : WordForm) (args : List Argument) (inner : InnerTests) (all : AreRead names form.tags) (h : HasForm form args inner) where
+module _ (names : List (List (List ℕ))) (form : WordForm) (args : List Argument) (inner : InnerTests) (all : AreRead names form.tags) (each : AreKinds form names) (h : HasForm form args inner) where
   reads_none : form.positional ≡ [] → HasArguments names [] [] args
-  reads_none e = form_read names form args inner all h [] (takes_none (positional_arguments (pieces form.tags args)) (subst (λ (ps : List Positional). TakesEach ps (positional_arguments (pieces form.tags args))) e h.positional))
+  reads_none e = form_read names form args inner all each h [] (takes_none (positional_arguments (pieces form.tags args)) (subst (λ (ps : List Positional). TakesEach ps (positional_arguments (pieces form.tags args))) e h.positional))
 
   reads_string : form.positional ≡ places.OneString ∷ [] → HasString names args
   reads_string e =
       let t = takes_string (positional_arguments (pieces form.tags args)) (subst (λ (ps : List Positional). TakesEach ps (positional_arguments (pieces form.tags args))) e h.positional) in
-      (t.0, form_read names form args inner all h (arguments.Strings (string_list.One t.0) ∷ []) t.1)
+      (t.0, form_read names form args inner all each h (arguments.Strings (string_list.One t.0) ∷ []) t.1)
 
   reads_list : form.positional ≡ places.StringList ∷ [] → (l : StringList) × HasArguments names (l ∷ []) [] args
   reads_list e =
       let t = takes_list (positional_arguments (pieces form.tags args)) (subst (λ (ps : List Positional). TakesEach ps (positional_arguments (pieces form.tags args))) e h.positional) in
-      (t.0, form_read names form args inner all h (arguments.Strings t.0 ∷ []) t.1)
+      (t.0, form_read names form args inner all each h (arguments.Strings t.0 ∷ []) t.1)
 
   reads_number : form.positional ≡ places.OneNumber ∷ [] → (n : ℕ) × HasArguments names [] (n ∷ []) args
   reads_number e =
       let t = takes_number (positional_arguments (pieces form.tags args)) (subst (λ (ps : List Positional). TakesEach ps (positional_arguments (pieces form.tags args))) e h.positional) in
-      (t.0, form_read names form args inner all h (arguments.Number t.0 ∷ []) t.1)
+      (t.0, form_read names form args inner all each h (arguments.Number t.0 ∷ []) t.1)
 
   reads_lists : form.positional ≡ places.StringList ∷ places.StringList ∷ [] → (names' : StringList) × (keys : StringList) × HasArguments names (names' ∷ keys ∷ []) [] args
   reads_lists e =
       let t = takes_lists (positional_arguments (pieces form.tags args)) (subst (λ (ps : List Positional). TakesEach ps (positional_arguments (pieces form.tags args))) e h.positional) in
-      (t.0, t.1, form_read names form args inner all h (arguments.Strings t.0 ∷ arguments.Strings t.1 ∷ []) t.2)
+      (t.0, t.1, form_read names form args inner all each h (arguments.Strings t.0 ∷ arguments.Strings t.1 ∷ []) t.2)
+
+-- KINDS OF TAGS
+
+header_kinds : AreKinds tables.header_form header_tags
+header_kinds = (
+  record { kind = kinds.Comparator; names_are = (refl, (refl, (refl, (refl, tt)))); once = λ ps h. (are_once ps tables.header_form.tags h).0 },
+  (record { kind = kinds.MatchType; names_are = (refl, (refl, (refl, (refl, tt)))); once = λ ps h. (are_once ps tables.header_form.tags h).1.0 }, tt),
+)
+
+size_kinds : AreKinds size_form size_tags
+size_kinds = (record { kind = kinds.SizeLimit; names_are = (refl, (refl, tt)); once = λ ps h. (are_once ps size_form.tags h).0 }, tt)
+
+fileinto_kinds : AreKinds tables.fileinto_form fileinto_tags
+fileinto_kinds = (record { kind = kinds.Copy; names_are = (refl, tt); once = λ ps h. (are_once ps tables.fileinto_form.tags h).0 }, tt)
+
+include_kinds : AreKinds tables.include_form include_tags
+include_kinds = (
+  record { kind = kinds.Location; names_are = (refl, (refl, (refl, (refl, tt)))); once = λ ps h. (are_once ps tables.include_form.tags h).0 },
+  (
+    record { kind = kinds.Once; names_are = (refl, (refl, (refl, (refl, tt)))); once = λ ps h. (are_once ps tables.include_form.tags h).1.1.0 },
+    (record { kind = kinds.Optional; names_are = (refl, (refl, (refl, (refl, tt)))); once = λ ps h. (are_once ps tables.include_form.tags h).1.1.1.0 }, tt),
+  ),
+)
 
 -- TESTS
 
@@ -174,28 +198,28 @@ test_found : (name : List ℕ) (args : List Argument) (inner : InnerTests) (w : 
 unfolding Found same_name
 test_found name args inner w f (inl h) =
     let g = subst (λ (v : tables.TestWord). HasForm v.form args inner) (sym h.1) f in
-    test_is name (codes "header") tests.Header args inner h.0 header_is (reads_lists header_tags tables.header_form args inner ((refl, refl, (refl, refl, (refl, refl, (refl, refl, tt))))) g refl, g.tests)
+    test_is name (codes "header") tests.Header args inner h.0 header_is (reads_lists header_tags tables.header_form args inner (refl, refl, (refl, refl, (refl, refl, (refl, refl, tt)))) header_kinds g refl, g.tests)
 test_found name args inner w f (inr (inl h)) =
     let g = subst (λ (v : tables.TestWord). HasForm v.form args inner) (sym h.1) f in
-    test_is name (codes "exists") tests.Exists args inner h.0 exists_is (reads_list [] _ args inner tt g refl, g.tests)
+    test_is name (codes "exists") tests.Exists args inner h.0 exists_is (reads_list [] _ args inner tt tt g refl, g.tests)
 test_found name args inner w f (inr (inr (inl h))) =
     let g = subst (λ (v : tables.TestWord). HasForm v.form args inner) (sym h.1) f in
-    test_is name (codes "size") tests.Size args inner h.0 size_is (reads_number size_tags size_form args inner (refl, refl, (refl, refl, tt)) g refl, limit_there args (not-false (list_any (rules.has_kind kinds.SizeLimit) (pieces size_form.tags args)) g.needed), g.tests)
+    test_is name (codes "size") tests.Size args inner h.0 size_is (reads_number size_tags size_form args inner (refl, refl, (refl, refl, tt)) size_kinds g refl, limit_there args (not-false (list_any (rules.has_kind kinds.SizeLimit) (pieces size_form.tags args)) g.needed), g.tests)
 test_found name args inner w f (inr (inr (inr (inl h)))) =
     let g = subst (λ (v : tables.TestWord). HasForm v.form args inner) (sym h.1) f in
-    test_is name (codes "not") tests.Not args inner h.0 not_is (reads_none [] _ args inner tt g refl, g.tests)
+    test_is name (codes "not") tests.Not args inner h.0 not_is (reads_none [] _ args inner tt tt g refl, g.tests)
 test_found name args inner w f (inr (inr (inr (inr (inl h))))) =
     let g = subst (λ (v : tables.TestWord). HasForm v.form args inner) (sym h.1) f in
-    test_is name (codes "allof") tests.AllOf args inner h.0 allof_is (reads_none [] _ args inner tt g refl, g.tests)
+    test_is name (codes "allof") tests.AllOf args inner h.0 allof_is (reads_none [] _ args inner tt tt g refl, g.tests)
 test_found name args inner w f (inr (inr (inr (inr (inr (inl h)))))) =
     let g = subst (λ (v : tables.TestWord). HasForm v.form args inner) (sym h.1) f in
-    test_is name (codes "anyof") tests.AnyOf args inner h.0 anyof_is (reads_none [] _ args inner tt g refl, g.tests)
+    test_is name (codes "anyof") tests.AnyOf args inner h.0 anyof_is (reads_none [] _ args inner tt tt g refl, g.tests)
 test_found name args inner w f (inr (inr (inr (inr (inr (inr (inl h))))))) =
     let g = subst (λ (v : tables.TestWord). HasForm v.form args inner) (sym h.1) f in
-    test_is name (codes "true") tests.True args inner h.0 true_is (reads_none [] _ args inner tt g refl, g.tests)
+    test_is name (codes "true") tests.True args inner h.0 true_is (reads_none [] _ args inner tt tt g refl, g.tests)
 test_found name args inner w f (inr (inr (inr (inr (inr (inr (inr (inl h)))))))) =
     let g = subst (λ (v : tables.TestWord). HasForm v.form args inner) (sym h.1) f in
-    test_is name (codes "false") tests.False args inner h.0 false_is (reads_none [] _ args inner tt g refl, g.tests)
+    test_is name (codes "false") tests.False args inner h.0 false_is (reads_none [] _ args inner tt tt g refl, g.tests)
 test_found name args inner w f (inr (inr (inr (inr (inr (inr (inr (inr h)))))))) = absurd h
 
 mutual
@@ -274,52 +298,52 @@ command_found follows name args inner finish r (inl h) =
     let g = subst (λ (v : tables.CommandWord). HasForm v.form args inner) (sym h.1) r.form in
     let e = subst (λ (v : tables.CommandWord). HasEnding v.has_block finish) (sym h.1) r.ending in
     let b = subst (λ (v : tables.CommandWord). rules.lacks_branch v.role follows ≡ false) (sym h.1) r.branch in
-    command_is follows name (codes "require") args inner finish commands.Require _ h.0 require_is (reads_list [] _ args inner tt g refl, g.tests, e) (tt) (r.named ∙ ap (λ (v : tables.CommandWord). Some v) (sym h.1)) refl
+    command_is follows name (codes "require") args inner finish commands.Require _ h.0 require_is (reads_list [] _ args inner tt tt g refl, g.tests, e) (tt) (r.named ∙ ap (λ (v : tables.CommandWord). Some v) (sym h.1)) refl
 command_found follows name args inner finish r (inr (inl h)) =
     let g = subst (λ (v : tables.CommandWord). HasForm v.form args inner) (sym h.1) r.form in
     let e = subst (λ (v : tables.CommandWord). HasEnding v.has_block finish) (sym h.1) r.ending in
     let b = subst (λ (v : tables.CommandWord). rules.lacks_branch v.role follows ≡ false) (sym h.1) r.branch in
-    command_is follows name (codes "if") args inner finish commands.If _ h.0 if_is (reads_none [] _ args inner tt g refl, g.tests, e) (tt) (r.named ∙ ap (λ (v : tables.CommandWord). Some v) (sym h.1)) refl
+    command_is follows name (codes "if") args inner finish commands.If _ h.0 if_is (reads_none [] _ args inner tt tt g refl, g.tests, e) (tt) (r.named ∙ ap (λ (v : tables.CommandWord). Some v) (sym h.1)) refl
 command_found follows name args inner finish r (inr (inr (inl h))) =
     let g = subst (λ (v : tables.CommandWord). HasForm v.form args inner) (sym h.1) r.form in
     let e = subst (λ (v : tables.CommandWord). HasEnding v.has_block finish) (sym h.1) r.ending in
     let b = subst (λ (v : tables.CommandWord). rules.lacks_branch v.role follows ≡ false) (sym h.1) r.branch in
-    command_is follows name (codes "elsif") args inner finish commands.ElsIf _ h.0 elsif_is (reads_none [] _ args inner tt g refl, g.tests, e) (not-false follows b) (r.named ∙ ap (λ (v : tables.CommandWord). Some v) (sym h.1)) refl
+    command_is follows name (codes "elsif") args inner finish commands.ElsIf _ h.0 elsif_is (reads_none [] _ args inner tt tt g refl, g.tests, e) (not-false follows b) (r.named ∙ ap (λ (v : tables.CommandWord). Some v) (sym h.1)) refl
 command_found follows name args inner finish r (inr (inr (inr (inl h)))) =
     let g = subst (λ (v : tables.CommandWord). HasForm v.form args inner) (sym h.1) r.form in
     let e = subst (λ (v : tables.CommandWord). HasEnding v.has_block finish) (sym h.1) r.ending in
     let b = subst (λ (v : tables.CommandWord). rules.lacks_branch v.role follows ≡ false) (sym h.1) r.branch in
-    command_is follows name (codes "else") args inner finish commands.Else _ h.0 else_is (reads_none [] _ args inner tt g refl, g.tests, e) (not-false follows b) (r.named ∙ ap (λ (v : tables.CommandWord). Some v) (sym h.1)) refl
+    command_is follows name (codes "else") args inner finish commands.Else _ h.0 else_is (reads_none [] _ args inner tt tt g refl, g.tests, e) (not-false follows b) (r.named ∙ ap (λ (v : tables.CommandWord). Some v) (sym h.1)) refl
 command_found follows name args inner finish r (inr (inr (inr (inr (inl h))))) =
     let g = subst (λ (v : tables.CommandWord). HasForm v.form args inner) (sym h.1) r.form in
     let e = subst (λ (v : tables.CommandWord). HasEnding v.has_block finish) (sym h.1) r.ending in
     let b = subst (λ (v : tables.CommandWord). rules.lacks_branch v.role follows ≡ false) (sym h.1) r.branch in
-    command_is follows name (codes "stop") args inner finish commands.Stop _ h.0 stop_is (reads_none [] _ args inner tt g refl, g.tests, e) (tt) (r.named ∙ ap (λ (v : tables.CommandWord). Some v) (sym h.1)) refl
+    command_is follows name (codes "stop") args inner finish commands.Stop _ h.0 stop_is (reads_none [] _ args inner tt tt g refl, g.tests, e) (tt) (r.named ∙ ap (λ (v : tables.CommandWord). Some v) (sym h.1)) refl
 command_found follows name args inner finish r (inr (inr (inr (inr (inr (inl h)))))) =
     let g = subst (λ (v : tables.CommandWord). HasForm v.form args inner) (sym h.1) r.form in
     let e = subst (λ (v : tables.CommandWord). HasEnding v.has_block finish) (sym h.1) r.ending in
     let b = subst (λ (v : tables.CommandWord). rules.lacks_branch v.role follows ≡ false) (sym h.1) r.branch in
-    command_is follows name (codes "keep") args inner finish commands.Keep _ h.0 keep_is (reads_none [] _ args inner tt g refl, g.tests, e) (tt) (r.named ∙ ap (λ (v : tables.CommandWord). Some v) (sym h.1)) refl
+    command_is follows name (codes "keep") args inner finish commands.Keep _ h.0 keep_is (reads_none [] _ args inner tt tt g refl, g.tests, e) (tt) (r.named ∙ ap (λ (v : tables.CommandWord). Some v) (sym h.1)) refl
 command_found follows name args inner finish r (inr (inr (inr (inr (inr (inr (inl h))))))) =
     let g = subst (λ (v : tables.CommandWord). HasForm v.form args inner) (sym h.1) r.form in
     let e = subst (λ (v : tables.CommandWord). HasEnding v.has_block finish) (sym h.1) r.ending in
     let b = subst (λ (v : tables.CommandWord). rules.lacks_branch v.role follows ≡ false) (sym h.1) r.branch in
-    command_is follows name (codes "discard") args inner finish commands.Discard _ h.0 discard_is (reads_none [] _ args inner tt g refl, g.tests, e) (tt) (r.named ∙ ap (λ (v : tables.CommandWord). Some v) (sym h.1)) refl
+    command_is follows name (codes "discard") args inner finish commands.Discard _ h.0 discard_is (reads_none [] _ args inner tt tt g refl, g.tests, e) (tt) (r.named ∙ ap (λ (v : tables.CommandWord). Some v) (sym h.1)) refl
 command_found follows name args inner finish r (inr (inr (inr (inr (inr (inr (inr (inl h)))))))) =
     let g = subst (λ (v : tables.CommandWord). HasForm v.form args inner) (sym h.1) r.form in
     let e = subst (λ (v : tables.CommandWord). HasEnding v.has_block finish) (sym h.1) r.ending in
     let b = subst (λ (v : tables.CommandWord). rules.lacks_branch v.role follows ≡ false) (sym h.1) r.branch in
-    command_is follows name (codes "return") args inner finish commands.Return _ h.0 return_is (reads_none [] _ args inner tt g refl, g.tests, e) (tt) (r.named ∙ ap (λ (v : tables.CommandWord). Some v) (sym h.1)) refl
+    command_is follows name (codes "return") args inner finish commands.Return _ h.0 return_is (reads_none [] _ args inner tt tt g refl, g.tests, e) (tt) (r.named ∙ ap (λ (v : tables.CommandWord). Some v) (sym h.1)) refl
 command_found follows name args inner finish r (inr (inr (inr (inr (inr (inr (inr (inr (inl h))))))))) =
     let g = subst (λ (v : tables.CommandWord). HasForm v.form args inner) (sym h.1) r.form in
     let e = subst (λ (v : tables.CommandWord). HasEnding v.has_block finish) (sym h.1) r.ending in
     let b = subst (λ (v : tables.CommandWord). rules.lacks_branch v.role follows ≡ false) (sym h.1) r.branch in
-    command_is follows name (codes "fileinto") args inner finish commands.FileInto _ h.0 fileinto_is (reads_string fileinto_tags tables.fileinto_form args inner (refl, refl, tt) g refl, g.tests, e) (tt) (r.named ∙ ap (λ (v : tables.CommandWord). Some v) (sym h.1)) refl
+    command_is follows name (codes "fileinto") args inner finish commands.FileInto _ h.0 fileinto_is (reads_string fileinto_tags tables.fileinto_form args inner (refl, refl, tt) fileinto_kinds g refl, g.tests, e) (tt) (r.named ∙ ap (λ (v : tables.CommandWord). Some v) (sym h.1)) refl
 command_found follows name args inner finish r (inr (inr (inr (inr (inr (inr (inr (inr (inr (inl h)))))))))) =
     let g = subst (λ (v : tables.CommandWord). HasForm v.form args inner) (sym h.1) r.form in
     let e = subst (λ (v : tables.CommandWord). HasEnding v.has_block finish) (sym h.1) r.ending in
     let b = subst (λ (v : tables.CommandWord). rules.lacks_branch v.role follows ≡ false) (sym h.1) r.branch in
-    command_is follows name (codes "include") args inner finish commands.Include _ h.0 include_is (reads_string include_tags tables.include_form args inner (refl, refl, (refl, refl, (refl, refl, (refl, refl, tt)))) g refl, g.tests, e) (tt) (r.named ∙ ap (λ (v : tables.CommandWord). Some v) (sym h.1)) refl
+    command_is follows name (codes "include") args inner finish commands.Include _ h.0 include_is (reads_string include_tags tables.include_form args inner (refl, refl, (refl, refl, (refl, refl, (refl, refl, tt)))) include_kinds g refl, g.tests, e) (tt) (r.named ∙ ap (λ (v : tables.CommandWord). Some v) (sym h.1)) refl
 command_found follows name args inner finish r (inr (inr (inr (inr (inr (inr (inr (inr (inr (inr h)))))))))) = absurd h
 
 mutual

@@ -1,7 +1,7 @@
 -- What the meaning of a script reads. Each name is one that the meaning knows. It is followed by the tags, strings,
--- numbers, tests and block that are read for that name, and by no others (RFC 5228, sections 3 to 5; RFC 3894; RFC
--- 6609, section 3).
-use Rattle.std.specs.Prelude.{◌≡◌, ℕ, ◌||◌, Bool, true, false, List, [], ◌∷◌, None, codes}
+-- numbers, tests and block that are read for that name, and by no others, and no two of the tags are of one kind (RFC
+-- 5228, sections 2.6.2 and 3 to 5; RFC 3894; RFC 6609, section 3).
+use Rattle.std.specs.Prelude.{◌≡◌, ℕ, ◌≤◌, ◌||◌, Bool, true, false, List, [], ◌∷◌, None, All, count_by, codes}
 use Rattle.std.specs.List.{list_any, list_all}
 use Rattle.std.specs.Str.{bytes_eq}
 use Rattle.sieve_syntax.specs.Arguments.{first_of}
@@ -18,24 +18,30 @@ use Rattle.sieve_meaning.specs.declared.words.TestWord.TheVariants as tests
 use Rattle.sieve_meaning.specs.Reading.{has_tag, string_lists}
 use Rattle.sieve_meaning.specs.Words.{same_word, command_word, test_word}
 
--- the names of the tags that are read, of `header`, `size`, `fileinto` and `include`
-abbrev pub header_tags : List (List ℕ)
-header_tags = codes "comparator" ∷ codes "is" ∷ codes "contains" ∷ codes "matches" ∷ []
+-- the names of the tags that are read, kind by kind, of `header`, `size`, `fileinto` and `include`
+abbrev pub header_tags : List (List (List ℕ))
+header_tags = (codes "comparator" ∷ []) ∷ (codes "is" ∷ codes "contains" ∷ codes "matches" ∷ []) ∷ []
 
-abbrev pub size_tags : List (List ℕ)
-size_tags = codes "over" ∷ codes "under" ∷ []
+abbrev pub size_tags : List (List (List ℕ))
+size_tags = (codes "over" ∷ codes "under" ∷ []) ∷ []
 
-abbrev pub fileinto_tags : List (List ℕ)
-fileinto_tags = codes "copy" ∷ []
+abbrev pub fileinto_tags : List (List (List ℕ))
+fileinto_tags = (codes "copy" ∷ []) ∷ []
 
-abbrev pub include_tags : List (List ℕ)
-include_tags = codes "personal" ∷ codes "global" ∷ codes "once" ∷ codes "optional" ∷ []
+abbrev pub include_tags : List (List (List ℕ))
+include_tags = (codes "personal" ∷ codes "global" ∷ []) ∷ (codes "once" ∷ []) ∷ (codes "optional" ∷ []) ∷ []
 
--- whether an argument, if it is a tag, has one of these names
-abbrev pub is_tag_of : List (List ℕ) → Argument → Bool
-is_tag_of names (arguments.Tag t) = list_any (same_word t) names
-is_tag_of names (arguments.Number n) = true
-is_tag_of names (arguments.Strings l) = true
+-- whether an argument is a tag with one of these names
+abbrev pub is_named : List (List ℕ) → Argument → Bool
+is_named names (arguments.Tag t) = list_any (same_word t) names
+is_named names (arguments.Number n) = false
+is_named names (arguments.Strings l) = false
+
+-- whether an argument, if it is a tag, is of one of these kinds
+abbrev pub is_tag_of : List (List (List ℕ)) → Argument → Bool
+is_tag_of tags (arguments.Tag t) = list_any (λ names. list_any (same_word t) names) tags
+is_tag_of tags (arguments.Number n) = true
+is_tag_of tags (arguments.Strings l) = true
 
 abbrev pub numbers_in : List Argument → List ℕ
 numbers_in [] = []
@@ -55,10 +61,11 @@ comparators_in named (arguments.Tag t ∷ args) = comparators_in (same_word t (c
 abbrev pub is_comparator : StringList → Bool
 is_comparator l = bytes_eq (first_of l) (codes "i;octet") || bytes_eq (first_of l) (codes "i;ascii-casemap")
 
--- the arguments are tags of these names, these lists of strings, these numbers, and comparators
-pub record HasArguments (tags : List (List ℕ)) (lists : List StringList) (numbers : List ℕ)
+-- the arguments are tags of these kinds, at most one of each kind, these lists of strings, these numbers, and comparators
+pub record HasArguments (tags : List (List (List ℕ))) (lists : List StringList) (numbers : List ℕ)
     (args : List Argument) : Type 0 where
   pub tags_are : list_all (is_tag_of tags) args ≡ true
+  pub one_of_each : All (λ names. count_by (is_named names) args ≤ 1) tags
   pub lists_are : string_lists false args ≡ lists
   pub numbers_are : numbers_in args ≡ numbers
   pub comparators_are : list_all is_comparator (comparators_in false args) ≡ true
@@ -67,7 +74,7 @@ abbrev pub HasNone : List Argument → Type 0
 HasNone args = HasArguments [] [] [] args
 
 -- one string outside brackets, and tags
-abbrev pub HasString : List (List ℕ) → List Argument → Type 0
+abbrev pub HasString : List (List (List ℕ)) → List Argument → Type 0
 HasString tags args = (s : List ℕ) × HasArguments tags (One s ∷ []) [] args
 
 abbrev pub HasOneTest : InnerTests → Type 0
