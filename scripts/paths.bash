@@ -33,4 +33,5 @@ paths() {
     count "a path of 230 octets" keeps_at "$(name_of 230)"
     count "a path with letters outside ASCII" keeps_at 'Akten für März – 記録.db'
     count "a path with a quote, a question mark and a percent sign" keeps_at "a'b?c%20d.db"
+    group "paths of stores"
 }
