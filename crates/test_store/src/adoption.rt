@@ -132,8 +132,11 @@ fn shown(alloc: Global, lines: Result<Vec<Line>, StoreFault>) -> Result<String, 
     let mut text = String::new(alloc);
     for line in &lines {
         let number = line.number;
-        match line.due.map(day_number) {
-            Some(due) => write!(text, "{number} due {due}; ")?,
+        match line.due {
+            Some(day) => {
+                let due = day_number(day);
+                write!(text, "{number} due {due}; ")?
+            }
             None => write!(text, "{number} never; ")?,
         }
     }
