@@ -26,7 +26,7 @@ use Rattle.std.specs.Prelude.{slice_get}
 use Rattle.filing_image.specs.declared.instruction.Operation.{Operation}
 use Rattle.filing_flow.specs.Code.{places_in}
 use Rattle.filing_flow.proofs.Stands.{Named, stands_there}
-use Rattle.filing_gen.specs.Adds.{operands_of, IsCode, IsImageOf}
+use Rattle.filing_gen.specs.Adds.{operands_of, HasRoom, IsCode, IsImageOf}
 use Rattle.filing_gen.specs.Emission.{commands_long}
 use Rattle.filing_gen.specs.declared.output.Output.{Output}
 use Rattle.filing_flow.specs.Compiled.{IsCompiled}
@@ -103,6 +103,9 @@ module _ (lib : Library) (slot : Slots) (count : ℕ) (has : HasSlots lib slot c
         stands = stands_there (operands_of o) (places_in p.texts p.numbers) named o.code.items p.code 0 (λ i x low at. subst (λ (l : List Operation). slice_get l i ≡ Some x) (sym made.code) at) (whole a) [] 0 (omega arith) is.stands;
         long = ap length made.code ∙ is.long;
       }
+
+  pub few : (o : Output) → IsCode o (main_flow lib slot known_as main) → linked_weight lib known_as main ≤ 60000 → HasRoom o 0
+  few o is small = (omega (arith, is.long, script_small, small), omega (arith, is.texts, script_small, small), omega (arith, is.numbers, script_small, small))
 
   pub built_well : (o : Output) (p : Program) (b : ℕ) → IsCode o (main_flow lib slot known_as main) → IsImageOf b count None o p → b ≡ linked_weight lib known_as main → b ≤ 60000 → IsWell p
   built_well o p b is made weight small =

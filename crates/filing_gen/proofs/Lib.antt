@@ -31,3 +31,4 @@ mod ProceduresEmitted
 mod SharedTypes
 mod SharedCompiled
 mod SharedBuilt
+mod ImageParts

@@ -1,5 +1,5 @@
 -- Things that are added at the next place.
-use Rattle.std.proofs.Common.{◌≡◌, ◌⊎◌, ℕ, zero, suc, ◌+◌, ◌<◌, List, [], ◌∷◌, length, map, Some, None, set, Vec, Ordering, Less, Equal, Greater, nat_cmp, inl, inr, refl, sym, ap, ◌∙◌, subst, arith}
+use Rattle.std.proofs.Common.{◌≡◌, ◌⊎◌, ℕ, zero, suc, ◌+◌, ◌<◌, ◌^◌, List, [], ◌∷◌, length, map, get_or, All, Some, None, set, Vec, Ordering, Less, Equal, Greater, nat_cmp, inl, inr, refl, sym, ap, ◌∙◌, subst, arith}
 use Rattle.std.specs.Prelude.{slice_get}
 use Rattle.std.specs.declared.alloc.Global.{Global}
 use Rattle.std.specs.Map.{lookup}
@@ -13,7 +13,7 @@ use Rattle.std.proofs.lemmas.Option.{slice_get_within}
 use Rattle.std.proofs.lemmas.Map.Lookups.{exact_bytes, exact_unsigned}
 use Rattle.std.proofs.lemmas.Map.Text.{is_eq-slice_cmp}
 use Rattle.std.proofs.lemmas.Slice.Eq.{bytes_eq-Decides}
-use Rattle.filing_gen.specs.Pools.{IsAmong, IsNumbered, Admits, IsOnce, octets_of, texts_in}
+use Rattle.filing_gen.specs.Pools.{IsAmong, IsNumbered, AreTexts, Admits, IsOnce, octets_of, texts_in}
 
 -- LISTS
 
@@ -122,6 +122,7 @@ module _ {K A : Type 0} (view : K → A) (cmp : K → K → Ordering) (k : K) (e
     pub numbered : IsNumbered (seen view new)
     pub here : IsAmong (view k, length es) (seen view new)
     pub admits : Admits (seen view es) (seen view new)
+    pub only : (y : A) (b : ℕ) → IsAmong (y, b) (seen view new) → (◌≡◌ {A = A × ℕ} (view k, length es) (y, b)) ⊎ IsAmong (y, b) (seen view es)
 
   pub came_in : (es new : List (K × ℕ)) → lookup (is_at (cmp k)) es ≡ None → new ≡ insert_entry cmp es k (length es) → IsNumbered (seen view es) → CameIn es new
   came_in es new none is h =
@@ -133,7 +134,7 @@ module _ {K A : Type 0} (view : K → A) (cmp : K → K → Ordering) (k : K) (e
       let numbered : IsNumbered (seen view inserted) =
       numbered_more (seen view es) (seen view inserted) (view k) h (λ b at. missing_there view (cmp k) (view k) equal es b none at) grown (subst (λ m. IsAmong (view k, m) (seen view inserted)) (sym long) here)
       (λ y b at. insert_kept view cmp k n es none y b at) (λ y b at. subst (λ m. (◌≡◌ {A = A × ℕ} (view k, m) (y, b)) ⊎ IsAmong (y, b) (seen view es)) (sym long) (insert_only view cmp k n es none y b at)) in
-      subst (λ (l : List (K × ℕ)). CameIn es l) (sym is) (record { numbered = numbered; here = here; admits = record { kept = λ y b at. insert_kept view cmp k n es none y b at; few = omega (arith, grown) } })
+      subst (λ (l : List (K × ℕ)). CameIn es l) (sym is) (record { numbered = numbered; here = here; admits = record { kept = λ y b at. insert_kept view cmp k n es none y b at; few = omega (arith, grown) }; only = λ y b at. insert_only view cmp k n es none y b at })
 
 -- THE POOLS
 
@@ -149,9 +150,19 @@ equal_numbers n m e = sym (nat_cmp_is n m Equal (sym e))
 pub text_found : (text : List ℕ) (es : List (Vec ℕ Global × ℕ)) (b : ℕ) → lookup (is_at (λ (k : Vec ℕ Global). slice_cmp nat_cmp text k.items)) es ≡ Some b → IsAmong (text, b) (texts_in es)
 text_found text es b h = found_there (λ (k : Vec ℕ Global). k.items) (λ k. slice_cmp nat_cmp text k.items) text (λ k e. sym (exact_bytes text k.items e)) es b h
 
+pub text_missing : (text : List ℕ) (es : List (Vec ℕ Global × ℕ)) (b : ℕ) → lookup (is_at (λ (k : Vec ℕ Global). slice_cmp nat_cmp text k.items)) es ≡ None → IsAmong (text, b) (texts_in es) → ⊥
+text_missing text es b none at = missing_there (λ (k : Vec ℕ Global). k.items) (λ k. slice_cmp nat_cmp text k.items) text (λ k e. equal_octets text k.items e) es b none at
+
 pub text_came_in : (text : List ℕ) (key : Vec ℕ Global) (es new : List (Vec ℕ Global × ℕ)) → key.items ≡ text → lookup (is_at (λ (k : Vec ℕ Global). slice_cmp nat_cmp text k.items)) es ≡ None → new ≡ insert_entry cmp_texts es key (length es) → IsNumbered (texts_in es) → CameIn (λ (k : Vec ℕ Global). k.items) cmp_texts key (λ j e. equal_octets key.items j.items e) es new
 text_came_in text key es new same none is h =
     came_in (λ (k : Vec ℕ Global). k.items) cmp_texts key (λ j e. equal_octets key.items j.items e) es new (subst (λ (t : List ℕ). lookup (is_at (λ (k : Vec ℕ Global). slice_cmp nat_cmp t k.items)) es ≡ None) (sym same) none) is h
+
+-- one more text
+pub texts_more : (text : List ℕ) (key : Vec ℕ Global) (place : ℕ) (es new : List (Vec ℕ Global × ℕ)) → key.items ≡ text → length text < 2 ^ 16 → AreTexts (texts_in es) → IsNumbered (texts_in new)
+    → ((t : List ℕ) (b : ℕ) → IsAmong (t, b) (texts_in new) → (◌≡◌ {A = List ℕ × ℕ} (key.items, place) (t, b)) ⊎ IsAmong (t, b) (texts_in es)) → AreTexts (texts_in new)
+texts_more text key place es new same small h numbered only =
+    let IsSmall : List ℕ → Type 0 = λ t. length t < 2 ^ 16 in
+    record { numbered = numbered; short = λ t b at. elim (only t b at) [ inl e ↦ subst IsSmall (sym same ∙ ap (λ q. q.0) e) small | inr was ↦ h.short t b was ] }
 
 -- numbers are seen as they stand in the map
 numbers_are : (es : List (ℕ × ℕ)) → map (λ (e : ℕ × ℕ). (e.0, e.1)) es ≡ es
@@ -245,6 +256,17 @@ text_inside es rest xs k v n h = let inside = placed_inside (texts_in es) (texts
 pub number_placed : (es rest : List (ℕ × ℕ)) (xs : List ℕ) (k v : ℕ) → IsNumbered es → IsPlaced es ((k, v) ∷ rest) xs → IsPlaced es rest (set xs v k)
 number_placed es rest xs k v n h = placed_turn es rest xs k v n h (length-set xs v k)
 
+index_there : {A : Type 0} (xs : List A) (i : ℕ) (d x : A) → slice_get xs i ≡ Some x → get_or xs i d ≡ x
+index_there [] i d x at = absurd (cc at)
+index_there (y ∷ xs) zero d x at = cc at
+index_there (y ∷ xs) (suc i) d x at = index_there xs i d x at
+
 -- at the end of the loops
+pub all_short : (es : List (List ℕ × ℕ)) (xs : List (List ℕ)) → AreTexts es → IsPlaced es [] xs → All (λ t. length t < 2 ^ 16) xs
+all_short es xs h done i d lt =
+    let (y, at) = h.numbered.each i (omega (arith, lt, done.long)) in
+    let IsSmall : List ℕ → Type 0 = λ t. length t < 2 ^ 16 in
+    subst IsSmall (sym (index_there xs i d y (placed_last es xs done y i at))) (h.short y i at)
+
 pub once_in_all : {A : Type 0} (es : List (A × ℕ)) (xs : List A) → IsNumbered es → IsPlaced es [] xs → IsOnce xs
 once_in_all es xs n h i j x ati atj = placed_once es xs n h i j x (slice_get_within xs i x ati) (slice_get_within xs j x atj) ati atj

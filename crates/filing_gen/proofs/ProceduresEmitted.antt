@@ -87,4 +87,4 @@ module _ (lib : Library) (slot : Slots) (main : List ScriptName) (ps : List code
   all_written o places own past was =
       let long = flows_long lib slot main 0 (map procedure_of ps) in
       let has : HasProcedures o places flows = subst (HasProcedures o places) (all_taken flows own (omega (arith, past, long, length-map ps procedure_of))) was in
-      record { places = has.places; stand = has.stand; long = has.long }
+      record { places = has.places; stand = has.stand; long = has.long; texts = has.texts; numbers = has.numbers }

@@ -13,11 +13,12 @@ use Rattle.script_library.specs.Libraries.{Scripts, library_of}
 use Rattle.script_procedures.specs.Slots.{slots_of, HasSlots}
 use Rattle.script_procedures.specs.ProcedureCode.{procedure_of, AreProcedures}
 use Rattle.script_procedures.specs.declared.procedure.Procedure as code
-use Rattle.filing_gen.specs.Adds.{IsImageOf}
+use Rattle.filing_gen.specs.Adds.{HasRoom, IsImageOf}
 use Rattle.filing_flow.specs.Compiled.{IsCompiled}
 use Rattle.filing_gen.specs.Procedures.{procedure_flows, shared_flows}
 use Rattle.filing_gen.specs.SharedCode.{IsSharedCode}
 use Rattle.filing_gen.specs.declared.output.Output.{Output}
+use Rattle.filing_gen.proofs.ProcedureSizes.{procedures_small}
 use Rattle.filing_gen.proofs.SharedCompiled.{too_many, too_heavy, too_long, not_beyond, IsShared, shared_compiled}
 
 two_is_not_one : (firsts : Option (List ℕ)) → version_of firsts ≡ Two → version_of firsts ≡ One → ⊥
@@ -33,6 +34,11 @@ module _ (l : Scripts) (known_as : Option (List ℕ)) (main : Commands) where
 
     pub heavy_by_path : greatest_path < path_weight lib known_as main → is_too_heavy lib known_as main ≡ true
     heavy_by_path more = heavy_by_procedures lib known_as main over ∙ too_long (procedures lib known_as main) (path_weight lib known_as main) more
+
+  pub few_written : (ps : List code.Procedure) (o : Output) (places : List ℕ) → IsSharedCode o places (procedure_flows lib (slots_of l) (main_names known_as) 0 (map procedure_of ps)) → shared_weight (map procedure_of ps) ≤ greatest_weight → HasRoom o 0
+  few_written ps o places written light =
+      let small = procedures_small lib (slots_of l) (main_names known_as) 0 (map procedure_of ps) in
+      (omega (arith, written.long, small, light), omega (arith, written.texts, small, light), omega (arith, written.numbers, small, light))
 
   module _ (ps : List code.Procedure) (are : AreProcedures l known_as main ps) where
     as_many : length (procedures lib known_as main) ≡ length ps

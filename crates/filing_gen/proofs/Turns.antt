@@ -204,10 +204,12 @@ turn_long w word is_open xs i x is lt named =
     rw (turn xs i x is lt, command_of-fields x) (long_then w word is_open (out-Command x).name (out-Command x).arguments (inner_of (out-Command x).tests) (ending_of (out-Command x).ending) (commands_of (map command_of (drop (i + 1) xs))) named)
 
 -- a script and the end of the run, written from nothing
-pub code_of_empty : (x y : Output) (a : Flow) → x.code.items ≡ [] → Emits x y (whole a) [] → IsCode y a
-code_of_empty x y a none e =
+pub code_of_empty : (x y : Output) (a : Flow) → x.texts ≡ [] → x.numbers ≡ [] → x.code.items ≡ [] → Emits x y (whole a) [] → IsCode y a
+code_of_empty x y a no_texts no_numbers none e =
     let first : length x.code.items ≡ 0 = ap length none in
     record {
       stands = subst (λ (n : ℕ). Stands (operands_of y) y.code.items (whole a) [] n) first e.stands;
       long = omega (arith, first, (grows x y (whole a) [] e).code);
+      texts = omega (arith, ap length no_texts, e.keeps.texts);
+      numbers = omega (arith, ap length no_numbers, e.keeps.numbers);
     }

@@ -64,6 +64,8 @@ HasRoom o n = (length o.code.items + n < 2 ^ 16) × (length o.texts + n < 2 ^ 16
 pub record IsCode (o : Output) (a : Flow) : Type 0 where
   pub stands : Stands (operands_of o) o.code.items (whole a) [] 0
   pub long : length o.code.items ≡ size (whole a)
+  pub texts : length o.texts ≤ size (whole a)
+  pub numbers : length o.numbers ≤ size (whole a)
 
 -- The program is the output, with this budget, number of slots and first places of its procedures.
 pub record IsImageOf (budget count : ℕ) (first_places : Option (List ℕ)) (o : Output) (p : Program) : Type 0 where

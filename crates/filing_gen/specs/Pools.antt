@@ -1,5 +1,5 @@
 -- What operations name: each thing once, with its place in a list.
-use Rattle.std.specs.Prelude.{◌≡◌, ◌⊎◌, ℕ, ◌+◌, ◌<◌, ◌≤◌, List, [], ◌∷◌, length, map, Some, slice_get, Vec}
+use Rattle.std.specs.Prelude.{◌≡◌, ◌⊎◌, ℕ, ◌+◌, ◌<◌, ◌≤◌, ◌^◌, List, [], ◌∷◌, length, map, Some, slice_get, Vec}
 use Rattle.std.specs.declared.alloc.Global.{Global}
 
 abbrev pub IsAmong : {A : Type 0} → A → List A → Type 0
@@ -12,6 +12,11 @@ pub record IsNumbered {A : Type 0} (es : List (A × ℕ)) : Type 0 where
   pub each : (b : ℕ) → b < length es → (x : A) × IsAmong (x, b) es
   pub one_thing : (x y : A) (b : ℕ) → IsAmong (x, b) es → IsAmong (y, b) es → x ≡ y
   pub one_place : (x : A) (b c : ℕ) → IsAmong (x, b) es → IsAmong (x, c) es → b ≡ c
+
+-- Texts with their places: a text of an image has room for each.
+pub record AreTexts (es : List (List ℕ × ℕ)) : Type 0 where
+  pub numbered : IsNumbered es
+  pub short : (t : List ℕ) (b : ℕ) → IsAmong (t, b) es → length t < 2 ^ 16
 
 -- Each thing keeps its place, and at most one was added.
 pub record Admits {A : Type 0} (old new : List (A × ℕ)) : Type 0 where

@@ -1,5 +1,5 @@
 -- The code of procedures, as it is added to the output.
-use Rattle.std.specs.Prelude.{◌≡◌, ℕ, ◌+◌, List, [], ◌++◌, length, Some, slice_get}
+use Rattle.std.specs.Prelude.{◌≡◌, ℕ, ◌+◌, ◌≤◌, List, [], ◌++◌, length, Some, slice_get}
 use Rattle.filing_image.specs.declared.instruction.Operation.{Operation}
 use Rattle.filing_image.specs.declared.instruction.Operation.TheVariants.{Return}
 use Rattle.filing_flow.specs.Structure.{Flow, block, size}
@@ -22,3 +22,5 @@ pub record IsSharedCode (o : Output) (first_places : List ℕ) (procedures : Lis
   pub places : first_places ≡ places_from 0 procedures
   pub stand : ProceduresStand (operands_of o) o.code.items procedures 0
   pub long : length o.code.items ≡ whole_size procedures
+  pub texts : length o.texts ≤ whole_size procedures
+  pub numbers : length o.numbers ≤ whole_size procedures

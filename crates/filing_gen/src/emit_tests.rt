@@ -2,7 +2,7 @@
 //! test gets its target once the code that it skips is written. An operation names a text or a number by its place
 //! among those of the image.
 
-ghost use Rattle.std.specs.Prelude.{◌≡◌, ◌≤◌, ◌+◌, ◌<◌, ℕ, List, ◌∷◌, length, OnOk, true, false, not, codes};
+ghost use Rattle.std.specs.Prelude.{◌≡◌, ◌≤◌, ◌+◌, ◌<◌, ◌^◌, ℕ, List, ◌∷◌, length, OnOk, true, false, not, codes};
 ghost use Rattle.sieve_syntax.specs.Arguments.{strings_of, first_of, others_of};
 ghost use Rattle.sieve_syntax.specs.View.{test_of, inner_of};
 ghost use Rattle.sieve_meaning.specs.Reading.{test_in, only_in, tests_in, string_lists, exists_of, size_of, has_tag as has_tag_of, number_in};
@@ -21,7 +21,7 @@ use filing_image::Operation;
 use filing_table::comparison_number;
 use sieve_meaning::reading::{comparator, has_tag, match_type, next_string_list, number};
 use sieve_meaning::{TestWord, test_word};
-use sieve_syntax::{Argument, StringList, Test, Tests, Text};
+use sieve_syntax::{Argument, StringList, StringText, Test, Tests};
 use std::alloc::{AllocError, Global};
 
 /// Writes `JumpIf` or `JumpUnless`, to the end of the block around.
@@ -53,7 +53,8 @@ fn put_either(out: &mut Output, start: usize, stop: bool) -> Result<(), AllocErr
 
 /// Writes `Exists name` and `JumpUnless missing`.
 fn emit_name(out: &mut Output, name: &[u8]) -> Result<(), AllocError>
-    requires { HasRoom out.old 2 }
+    requires room { HasRoom out.old 2 }
+    requires short { length name.now < 2 ^ 16 }
     ensures { OnOk result
         (EmitsUnended out.old out.new (sequence (action (HasField name.now)) (leave_if false 0))) }
 {
@@ -67,7 +68,7 @@ fn emit_other_names(
     alloc: Global,
     out: &mut Output,
     first: &[u8],
-    others: &[Text],
+    others: &[StringText],
 ) -> Result<(), AllocError>
     requires { HasRoom out.old (size (names_flow (others_once first.now others.now))) }
     ensures { OnOk result
@@ -154,7 +155,8 @@ fn emit_size(out: &mut Output, arguments: &[Argument]) -> Result<(), AllocError>
 
 /// Writes `Values name`.
 fn emit_value(out: &mut Output, name: &[u8]) -> Result<(), AllocError>
-    requires { HasRoom out.old 1 }
+    requires room { HasRoom out.old 1 }
+    requires short { length name.now < 2 ^ 16 }
     ensures { OnOk result (EmitsAnywhere out.old out.new (action (ValuesOf name.now))) }
 {
     let place = text_operand(out, name)?;
@@ -166,7 +168,7 @@ fn emit_other_values(
     alloc: Global,
     out: &mut Output,
     first: &[u8],
-    others: &[Text],
+    others: &[StringText],
 ) -> Result<(), AllocError>
     requires { HasRoom out.old (size (values_flow (others_once first.now others.now))) }
     ensures { OnOk result
@@ -202,7 +204,8 @@ fn emit_values(alloc: Global, out: &mut Output, names: &StringList) -> Result<()
 
 /// Writes `Match how key` and `JumpIf found`.
 fn emit_key(out: &mut Output, how: u8, key: &[u8]) -> Result<(), AllocError>
-    requires { HasRoom out.old 2 }
+    requires room { HasRoom out.old 2 }
+    requires short { length key.now < 2 ^ 16 }
     ensures { OnOk result (EmitsUnended out.old out.new
         (sequence (action (MatchKey how key.now)) (leave_if true 0))) }
 {
@@ -212,7 +215,7 @@ fn emit_key(out: &mut Output, how: u8, key: &[u8]) -> Result<(), AllocError>
 }
 
 /// Writes `Match how key` and `JumpIf found` for each key but the first.
-fn emit_other_keys(out: &mut Output, how: u8, keys: &[Text]) -> Result<(), AllocError>
+fn emit_other_keys(out: &mut Output, how: u8, keys: &[StringText]) -> Result<(), AllocError>
     requires { HasRoom out.old (size (keys_flow how keys.now)) }
     ensures { OnOk result (EmitsUnended out.old out.new (keys_flow how keys.now)) }
 {

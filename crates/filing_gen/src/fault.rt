@@ -13,8 +13,7 @@ pub enum GenFault {
     /// 5: the script is too heavy, also where the scripts that it includes share their code. `compile` says the limits.
     #[error("the script is too heavy")]
     TooLarge,
-    /// 99: an allocation was refused, or a string of the script has more than 65,535 octets, for which an image has no
-    /// room. No script that was scanned has such a string.
+    /// 99: an allocation was refused.
     #[error("out of memory")]
     NoMemory,
 }

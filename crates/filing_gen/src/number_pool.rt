@@ -57,6 +57,7 @@ impl NumberPool {
         ensures places { IfOk result
             (λ v. (n b : ℕ) → IsAmong (n, b) self → slice_get v.items b ≡ Some n) }
         ensures once { IfOk result (λ v. IsOnce v.items) }
+        ensures count { IfOk result (λ v. length v.items ≡ length self) }
     {
         by_place(self.alloc, self.places)
     }
@@ -68,6 +69,7 @@ fn by_place(alloc: Global, places: BTreeMap<u64, u16>) -> Result<Vec<u64>, Alloc
     ensures places { IfOk result
         (λ v. (n b : ℕ) → IsAmong (n, b) places.entries → slice_get v.items b ≡ Some n) }
     ensures once { IfOk result (λ v. IsOnce v.items) }
+    ensures count { IfOk result (λ v. length v.items ≡ length places.entries) }
 {
     let mut numbers = vec![in alloc; 0; places.len()]?;
     for (number, place) in places {

@@ -38,7 +38,8 @@ impl Output {
 /// The operand that names a text: its place among the texts. The text is added where it is new. The only error is a
 /// refused allocation.
 pub fn text_operand(out: &mut Output, text: &[u8]) -> Result<u16, AllocError>
-    requires { length out.old.texts < 2 ^ 16 }
+    requires room { length out.old.texts < 2 ^ 16 }
+    requires short { length text.now < 2 ^ 16 }
     ensures there { IfOk result (λ b. IsAmong (text.now, b) out.new.texts) }
     ensures brings { OnOk result (Brings out.old out.new) }
 {

@@ -1,16 +1,17 @@
 //! From a checked script to an image that may run.
 
-ghost use Rattle.std.specs.Prelude.{◌≡◌, ◌≢◌, ◌↔◌, ◌+◌, ◌<◌, ◌≤◌, ◌^◌, [], ◌∷◌, Err, IfOk, IfErr, option_copied};
+ghost use Rattle.std.specs.Prelude.{◌≡◌, ◌≢◌, ◌↔◌, ◌+◌, ◌<◌, ◌≤◌, ◌^◌, [], ◌∷◌, Err, IfOk, option_copied};
 ghost use Rattle.sieve_meaning.specs.TooHeavy.{IsTooHeavy};
 ghost use Rattle.sieve_meaning.specs.Weight.{greatest_weight, linked_weight};
 ghost use Rattle.script_library.specs.Libraries.{library_of, program_in, listed_program};
-ghost use Rattle.filing_image.specs.Program.{list_in};
+ghost use Rattle.filing_image.specs.Program.{Program, list_in, program_from};
+ghost use Rattle.filing_verify.specs.Well.{IsWell};
 ghost use Rattle.filing_flow.specs.Structure.{size};
 ghost use Rattle.filing_flow.specs.Types.{HasType};
 ghost use Rattle.filing_gen.specs.BlockCode.{script_flow};
-ghost use Rattle.filing_gen.specs.Adds.{IsCode, IsImageOf};
+ghost use Rattle.filing_gen.specs.Adds.{HasRoom, IsCode, IsImageOf};
 ghost use Rattle.filing_gen.specs.Emission.{commands_long};
-ghost use Rattle.filing_gen.specs.Correct.{NamesOnce};
+ghost use Rattle.filing_gen.specs.Correct.{NamesOnce, FitsImage};
 ghost use Rattle.filing_flow.specs.Compiled.{IsCompiled};
 ghost use Rattle.filing_gen.specs.declared.fault.GenFault.TheVariants.{NoMemory, TooLarge};
 ghost use Rattle.script_library.specs.BorrowedShelves.{library_on};
@@ -59,25 +60,43 @@ fn emit_program<L: Linker>(
     Ok(out)
 }
 
-/// The image of what was written, with this budget, number of slots and first places of its procedures. `NoMemory` also
-/// where a string has more than 65,535 octets.
+/// The image of these parts, which its version can spell and which may run. It takes no memory.
+fn image_of_parts(
+    budget: u32,
+    texts: Vec<Vec<u8>>,
+    numbers: Vec<u64>,
+    slots: u16,
+    first_places: Option<Vec<u16>>,
+    code: Vec<Operation>,
+) -> Verified
+    requires { FitsImage
+        (program_from budget texts.items numbers.items slots (list_in first_places) code.items) }
+    ensures { result ≡
+        program_from budget texts.items numbers.items slots (list_in first_places) code.items }
+{
+    match Image::from_code(budget, texts, numbers, slots, first_places, code) {
+        Ok(image) => Verified::known(image),
+        Err(_) => unreachable!(),
+    }
+}
+
+/// The image of what was written, with this budget, number of slots and first places of its procedures. The only error
+/// is a refused allocation.
 pub fn image_of(
     budget: u32,
     slots: u16,
     mut out: Output,
     first_places: Option<Vec<u16>>,
-) -> Result<Image, GenFault>
-    ensures made { IfOk result (λ i. IsImageOf budget slots (list_in first_places) out i) }
-    ensures once { IfOk result (λ i. NamesOnce i) }
-    ensures refused { IfErr result (λ f. f ≡ NoMemory) }
+) -> Result<Verified, AllocError>
+    requires few { HasRoom out 0 }
+    requires well { (p : Program) → IsImageOf budget slots (list_in first_places) out p → IsWell p }
+    ensures made { IfOk result (λ v. IsImageOf budget slots (list_in first_places) out v) }
+    ensures once { IfOk result (λ v. NamesOnce v) }
 {
     let texts = out.texts.into_texts()?;
     let numbers = out.numbers.into_numbers()?;
     out.code.shrink_to_fit();
-    match Image::from_code(budget, texts, numbers, slots, first_places, out.code) {
-        Ok(image) => Ok(image),
-        Err(_) => Err(GenFault::NoMemory),
-    }
+    Ok(image_of_parts(budget, texts, numbers, slots, first_places, out.code))
 }
 
 /// The image of a script of this weight, which is at most 60,000.
@@ -86,14 +105,13 @@ fn build(
     script: &Script,
     scope: Scope<'_>,
     weight: u32,
-) -> Result<Verified, GenFault>
+) -> Result<Verified, AllocError>
     requires weight { weight
         ≡ linked_weight (library_on scope.shelves) (main_name scope.main) (program_in script.now) }
     requires small { weight ≤ greatest_weight }
     ensures compiled { IfOk result (IsCompiled (library_on scope.entry.shelves)
         (main_name scope.entry.main) (program_in script.now)) }
     ensures once { IfOk result (λ v. NamesOnce v) }
-    ensures refused { IfErr result (λ f. f ≡ NoMemory) }
 {
     let includes: Includes<'_, MainScript<'_>, Levels> = Includes {
         scope,
@@ -102,8 +120,7 @@ fn build(
     };
     let slots = slot_count(scope.shelves);
     let out = emit_program(alloc, &includes, &script.commands, weight)?;
-    let image = image_of(weight, slots, out, None)?;
-    Ok(Verified::known(image))
+    image_of(weight, slots, out, None)
 }
 
 /// The weight of a script and all that it includes; none where it is above 60,000.
@@ -125,8 +142,8 @@ fn weigh(script: &Script, scope: Scope<'_>) -> Option<u32>
 /// Otherwise it has version 2: each included script is a procedure, and the budget is the path weight.
 ///
 /// `TooLarge` (5) where the weight is above 60,000 and there are more than 256 procedures, their shared weight is above
-/// 60,000, or the path weight is above 1,000,000. `NoMemory` (99) where an allocation was refused, or a string has more
-/// than 65,535 octets.
+/// 60,000, or the path weight is above 1,000,000. `NoMemory` (99) where an allocation was refused. There is no other
+/// refusal: an image has room for each script that is not too heavy, and for each of its strings.
 ///
 /// However often a script is included, its strings are stored once. Memory is linear in the octets of the strings of
 /// the scripts, and in the weight of the code; the image takes 4 octets for each instruction. Time is that of one
@@ -169,6 +186,9 @@ pub fn compile_with(
     };
     match weigh(script, scope) {
         None => build_shared(alloc, script, scope),
-        Some(weight) => build(alloc, script, scope, weight),
+        Some(weight) => {
+            let image = build(alloc, script, scope, weight)?;
+            Ok(image)
+        }
     }
 }

@@ -52,7 +52,7 @@ fn build_procedures<'a>(
     let (out, first_places) = emit_procedures(alloc, &*reach, main, procedures.as_slice(), weight)?;
     let slots = slot_count(reach.shelves);
     let image = image_of(path, slots, out, Some(first_places))?;
-    Ok(Verified::known(image))
+    Ok(image)
 }
 
 /// The image of a script whose weight is above 60,000, by what each script that it can include reaches.

@@ -1,14 +1,15 @@
 //! The texts that operations name.
 
-ghost use Rattle.std.specs.Prelude.{◌≡◌, ◌+◌, ◌<◌, ◌≤◌, ◌^◌, ℕ, List, [], length, Some, IfOk, OnOk, slice_get};
-ghost use Rattle.filing_gen.specs.Pools.{IsAmong, IsNumbered, Admits, IsOnce, octets_of, texts_in};
+ghost use Rattle.std.specs.Prelude.{◌≡◌, ◌+◌, ◌<◌, ◌≤◌, ◌^◌, ℕ, List, [], length, All, Some, IfOk, IfErr, OnOk, slice_get};
+ghost use Rattle.filing_gen.specs.Pools.{IsAmong, AreTexts, Admits, IsOnce, octets_of, texts_in};
 
 use std::alloc::{AllocError, Global};
 use std::collections::BTreeMap;
 use std::marker::Model;
 
-/// Texts, each once, with places in the order in which they were added. Contracts see the texts, each with its place. A
-/// look-up takes time logarithmic in the number of texts, and the octets of each text are stored once.
+/// Texts of at most 65,535 octets, each once, with places in the order in which they were added. Contracts see the
+/// texts, each with its place. A look-up takes time logarithmic in the number of texts, and the octets of each text are
+/// stored once.
 #[derive(Drop)]
 pub struct TextPool {
     alloc: Global,
@@ -20,11 +21,11 @@ impl Model for TextPool {
 
     ghost Value = { List (List ℕ × ℕ) };
 
-    ghost use Rattle.filing_gen.specs.Pools.{texts_in, IsNumbered};
+    ghost use Rattle.filing_gen.specs.Pools.{texts_in, AreTexts};
 
     ghost view = { λ p. texts_in p.places.entries };
 
-    ghost invariant = { λ p. IsNumbered (texts_in p.places.entries) };
+    ghost invariant = { λ p. AreTexts (texts_in p.places.entries) };
 }
 
 impl TextPool {
@@ -38,11 +39,14 @@ impl TextPool {
         }
     }
 
-    /// The place of a text, which is added where it is new. The only error is a refused allocation.
+    /// The place of a text, which is added where it is new. The only error is a refused allocation; none is asked for
+    /// where the text is there.
     pub fn place(&mut self, text: &[u8]) -> Result<u16, AllocError>
-        requires { length self.old < 2 ^ 16 }
+        requires room { length self.old < 2 ^ 16 }
+        requires short { length text.now < 2 ^ 16 }
         ensures there { IfOk result (λ b. IsAmong (text.now, b) self.new) }
         ensures admits { OnOk result (Admits self.old self.new) }
+        ensures modest { IfErr result (λ _. (b : ℕ) → IsAmong (text.now, b) self.old → ⊥) }
     {
         if let Some(place) = self.places.get(text).copied() {
             return Ok(place);
@@ -58,6 +62,8 @@ impl TextPool {
         ensures places { IfOk result (λ v. (t : List ℕ) (b : ℕ) → IsAmong (t, b) self →
             slice_get (octets_of v.items) b ≡ Some t) }
         ensures once { IfOk result (λ v. IsOnce (octets_of v.items)) }
+        ensures count { IfOk result (λ v. length v.items ≡ length self) }
+        ensures short { IfOk result (λ v. All (λ t. length t < 2 ^ 16) (octets_of v.items)) }
     {
         by_place(self.alloc, self.places)
     }
@@ -65,10 +71,12 @@ impl TextPool {
 
 /// The texts of a map in the order of their places.
 fn by_place(alloc: Global, places: BTreeMap<Vec<u8>, u16>) -> Result<Vec<Vec<u8>>, AllocError>
-    requires { IsNumbered (texts_in places.entries) }
+    requires { AreTexts (texts_in places.entries) }
     ensures places { IfOk result (λ v. (t : List ℕ) (b : ℕ)
         → IsAmong (t, b) (texts_in places.entries) → slice_get (octets_of v.items) b ≡ Some t) }
     ensures once { IfOk result (λ v. IsOnce (octets_of v.items)) }
+    ensures count { IfOk result (λ v. length v.items ≡ length (texts_in places.entries)) }
+    ensures short { IfOk result (λ v. All (λ t. length t < 2 ^ 16) (octets_of v.items)) }
 {
     let mut texts = no_texts(alloc, places.len())?;
     for (text, place) in places {

@@ -7,7 +7,7 @@ ghost use Rattle.sieve_check.specs.Rules.{argument_strings, strings_in};
 
 use crate::lookup::find_capability;
 use crate::table::Capability;
-use sieve_syntax::{Argument, Arguments, Text};
+use sieve_syntax::{Argument, Arguments, StringText};
 
 /// Which capabilities are named so far.
 #[derive(Clone, Copy)]
@@ -62,7 +62,7 @@ impl CapabilitySet {
     }
 
     /// These, and the capability that the text names.
-    fn and(self, text: &Text) -> CapabilitySet
+    fn and(self, text: &StringText) -> CapabilitySet
         ensures { result ≡ set_and self (capability_named text.now) }
     {
         match find_capability(text.as_slice()) {
@@ -72,7 +72,7 @@ impl CapabilitySet {
     }
 
     /// These, and the capabilities that the texts name.
-    fn after_texts(self, texts: &[Text]) -> CapabilitySet
+    fn after_texts(self, texts: &[StringText]) -> CapabilitySet
         ensures { result ≡ set_after self texts.now }
     {
         let mut named = self;

@@ -9,7 +9,7 @@ ghost use Rattle.sieve_check.specs.Walk.{after_command, start};
 
 use crate::capability_set::CapabilitySet;
 use crate::lookup::find_capability;
-use sieve_syntax::{Argument, Arguments, Text};
+use sieve_syntax::{Argument, Arguments, StringText};
 
 /// What is known from the commands before a command.
 #[derive(Clone, Copy)]
@@ -50,14 +50,14 @@ impl Context {
 }
 
 /// Whether no capability has this name.
-fn is_unknown(text: &Text) -> bool
+fn is_unknown(text: &StringText) -> bool
     ensures { result ≡ is_none (capability_named text.now) }
 {
     find_capability(text.as_slice()).is_none()
 }
 
 /// Whether one of these names no capability.
-fn any_is_unknown(texts: &[Text]) -> bool
+fn any_is_unknown(texts: &[StringText]) -> bool
     ensures { result ≡ list_any (λ s. is_none (capability_named s)) texts.now }
 {
     texts.iter().any(|text| is_unknown(text))

@@ -1,6 +1,6 @@
 //! Reads the arguments of commands and tests in a checked script.
 
-ghost use Rattle.std.specs.Prelude.{◌≡◌, [], ◌∷◌, ◌<◌, codes, length, false, MatchOption};
+ghost use Rattle.std.specs.Prelude.{◌≡◌, [], ◌∷◌, ◌<◌, ◌^◌, codes, length, false, MatchOption};
 ghost use Rattle.sieve_meaning.specs.Reading.{is_tag, has_tag as has_tag_of, string_lists, first_string as first_string_of, comparator_named, comparator_from, match_type as match_type_of, number_in, include_of};
 ghost use Rattle.sieve_meaning.specs.Scripts.{include_view, is_global};
 
@@ -53,8 +53,10 @@ pub fn next_string_list(arguments: &[Argument]) -> Option<(&StringList, &[Argume
 }
 
 /// The first string of the first string list, skipping a list directly after `:comparator`; empty where there is none.
+/// It has at most 65,535 octets.
 pub fn first_string(arguments: &[Argument]) -> &[u8]
-    ensures { result.now ≡ first_string_of (string_lists false arguments.now) }
+    ensures value { result.now ≡ first_string_of (string_lists false arguments.now) }
+    ensures short { length result.now < 2 ^ 16 }
 {
     match next_string_list(arguments) {
         Some((list, _)) => list.first().as_slice(),

@@ -7,10 +7,12 @@
 //! texts and arguments hold, whatever their layout.
 #![tactic(auto)]
 
+mod string_text;
 mod text;
 mod token;
 mod tree;
 
-pub use text::{Text, Texts};
+pub use string_text::{StringText, StringTexts};
+pub use text::Text;
 pub use token::{Mark, Token, TokenKind};
 pub use tree::{Argument, Arguments, Command, Ending, Script, StringList, Test, TestList, Tests};

@@ -1,4 +1,4 @@
-//! Octets that a token or a tree owns, and lists of such texts.
+//! Octets that a token or a tree owns.
 
 ghost use Rattle.std.specs.Prelude.{◌≡◌, ◌≤◌, [], length, IfOk};
 
@@ -87,38 +87,5 @@ impl Text {
         ensures { IfOk result (λ t. t ≡ self.now) }
     {
         Text::from_slice(alloc, self.as_slice())
-    }
-}
-
-/// Texts in order. Contracts see a list of lists of octets.
-#[derive(Drop)]
-pub struct Texts {
-    items: Box<Vec<Text>>,
-}
-
-impl Model for Texts {
-    ghost use Rattle.std.specs.Prelude.{ℕ, List};
-
-    ghost Value = { List (List ℕ) };
-
-    ghost view = { λ t. t.items.value.items };
-}
-
-impl Texts {
-    /// These texts, in order, without spare capacity. Fails only if memory runs out.
-    pub fn from_vec(alloc: Global, mut items: Vec<Text>) -> Result<Texts, AllocError>
-        ensures { IfOk result (λ t. t ≡ items.items) }
-    {
-        items.shrink_to_fit();
-        Ok(Texts {
-            items: Box::new(alloc, items)?,
-        })
-    }
-
-    /// The texts, in order.
-    pub fn as_slice(&self) -> &[Text]
-        ensures { result.now ≡ self.now }
-    {
-        self.items.as_slice()
     }
 }

@@ -1,5 +1,6 @@
 //! Tokens (RFC 5228, section 8.1).
 
+use crate::string_text::StringText;
 use crate::text::Text;
 
 /// The marks of the grammar, each of one octet.
@@ -24,8 +25,8 @@ pub enum TokenKind {
     Tag(Text),
     /// A number with its factor multiplied in: at most 2^63 - 1 (RFC 5228, section 2.4.1).
     Number(u64),
-    /// The value of a quoted or multi-line string: at most 65,535 octets.
-    StringValue(Text),
+    /// The value of a quoted or multi-line string.
+    StringValue(StringText),
     /// One of the marks.
     Mark(Mark),
 }

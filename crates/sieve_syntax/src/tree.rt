@@ -4,7 +4,8 @@
 ghost use Rattle.std.specs.Prelude.{◌≡◌, [], IfOk};
 ghost use Rattle.sieve_syntax.specs.Arguments.{strings_of, others_of, first_of};
 
-use crate::text::{Text, Texts};
+use crate::string_text::{StringText, StringTexts};
+use crate::text::Text;
 use std::alloc::{AllocError, Global};
 use std::marker::Model;
 use std::slice;
@@ -12,13 +13,13 @@ use std::slice;
 /// One string, or a list in brackets, which has a first string and perhaps others.
 #[derive(Drop)]
 pub enum StringList {
-    One(Text),
-    Listed(Text, Texts),
+    One(StringText),
+    Listed(StringText, StringTexts),
 }
 
 impl StringList {
     /// The only string, or the first one of the list.
-    pub fn first(&self) -> &Text
+    pub fn first(&self) -> &StringText
         ensures { result.now ≡ first_of self.now }
     {
         match self {
@@ -27,7 +28,7 @@ impl StringList {
     }
 
     /// The strings after the first one.
-    pub fn others(&self) -> &[Text]
+    pub fn others(&self) -> &[StringText]
         ensures { result.now ≡ others_of self.now }
     {
         match self {

@@ -4,26 +4,19 @@ use Rattle.sieve_syntax.specs.declared.token.TokenKind.{TokenKind}
 use Rattle.sieve_syntax.specs.declared.token.TokenKind.TheVariants as kinds
 use Rattle.sieve_syntax.specs.declared.token.Token.{Token}
 use Rattle.sieve_text.specs.declared.fault.ScanRefusal.{ScanRefusal}
-use Rattle.sieve_text.specs.declared.lexeme.WrittenString.{WrittenString}
-use Rattle.sieve_text.specs.declared.lexeme.WrittenString.TheVariants.{Quoted, Lines}
 use Rattle.sieve_text.specs.declared.lexeme.Lexeme.{Lexeme}
 use Rattle.sieve_text.specs.declared.lexeme.Lexeme.TheVariants as lexemes
 use Rattle.sieve_text.specs.declared.lexeme.PlacedLexeme.{PlacedLexeme}
 use Rattle.sieve_text.specs.Gaps.{gap_len}
-use Rattle.sieve_text.specs.Strings.{quoted_value, lines_value}
+use Rattle.sieve_text.specs.WrittenStrings.{string_of}
 use Rattle.sieve_text.specs.Tokens.{kind_at}
-
--- the value of a string
-abbrev pub string_of : WrittenString → List ℕ
-string_of (Quoted body) = quoted_value body.now
-string_of (Lines lines) = lines_value lines.now
 
 -- the content of a token
 abbrev pub kind_of : Lexeme → TokenKind
 kind_of (lexemes.Identifier name) = kinds.Identifier name.now
 kind_of (lexemes.Tag name) = kinds.Tag name.now
 kind_of (lexemes.Number n) = kinds.Number n
-kind_of (lexemes.StringValue written) = kinds.StringValue (string_of written)
+kind_of (lexemes.StringValue string) = kinds.StringValue (string_of string.written)
 kind_of (lexemes.Mark mark) = kinds.Mark mark
 
 -- the content of a token, and its length in octets

@@ -1,5 +1,8 @@
 //! Tokens as written: slices of the script, which need no allocation.
 
+ghost use Rattle.std.specs.Prelude.{◌<◌, ◌^◌, length};
+ghost use Rattle.sieve_text.specs.WrittenStrings.{string_of};
+
 use sieve_syntax::Mark;
 
 /// A string as written.
@@ -11,6 +14,13 @@ pub enum WrittenString<'a> {
     Lines(&'a [u8]),
 }
 
+/// A string as written, whose value has at most 65,535 octets.
+#[derive(Clone, Copy)]
+pub struct ShortString<'a> {
+    pub written: WrittenString<'a>,
+    pub ghost short: { length (string_of written) < 2 ^ 16 },
+}
+
 /// A token as written.
 #[derive(Clone, Copy)]
 pub enum Lexeme<'a> {
@@ -20,8 +30,8 @@ pub enum Lexeme<'a> {
     Tag(&'a [u8]),
     /// A number with its factor multiplied in.
     Number(u64),
-    /// A quoted or multi-line string whose value is within the limit.
-    StringValue(WrittenString<'a>),
+    /// A quoted or multi-line string.
+    StringValue(ShortString<'a>),
     /// One of the marks.
     Mark(Mark),
 }

@@ -244,7 +244,7 @@ fn token(alloc: Global, placed: PlacedLexeme<'_>) -> Result<Token, AllocError>
         Lexeme::Identifier(name) => TokenKind::Identifier(Text::from_slice(alloc, name)?),
         Lexeme::Tag(name) => TokenKind::Tag(Text::from_slice(alloc, name)?),
         Lexeme::Number(number) => TokenKind::Number(number),
-        Lexeme::StringValue(written) => TokenKind::StringValue(string_text(alloc, written)?),
+        Lexeme::StringValue(string) => TokenKind::StringValue(string_text(alloc, string)?),
         Lexeme::Mark(mark) => TokenKind::Mark(mark),
     };
     Ok(Token {

@@ -8,23 +8,23 @@ use crate::lexeme::Lexeme;
 use crate::parser::lists;
 use crate::parser::stop::{Stop, syntax};
 use crate::scanner::{begins_with_name, first_mark, split_lexeme, string_text};
-use sieve_syntax::{Argument, Arguments, Mark, StringList, Text, Texts};
+use sieve_syntax::{Argument, Arguments, Mark, StringList, StringText, StringTexts, Text};
 use std::alloc::Global;
 
 /// A string, and the tokens after it.
-fn read_string(alloc: Global, text: &[u8]) -> Result<(Text, &[u8]), Stop>
+fn read_string(alloc: Global, text: &[u8]) -> Result<(StringText, &[u8]), Stop>
     ensures value { Gives (λ x. (x.0, kinds_in x.1.now)) result (string_at (kinds_in text.now)) }
     ensures fewer { IfOk result (λ x. length (kinds_in x.1.now) < length (kinds_in text.now)) }
     ensures left { IfOk result (λ x. left_in x.1.now ≡ left_in text.now) }
 {
     match split_lexeme(text) {
-        Some((Lexeme::StringValue(written), rest)) => Ok((string_text(alloc, written)?, rest)),
+        Some((Lexeme::StringValue(string), rest)) => Ok((string_text(alloc, string)?, rest)),
         _ => Err(syntax(text)),
     }
 }
 
 /// The next string of a list, where a comma follows.
-fn next_string(alloc: Global, text: &[u8]) -> Result<Option<(Text, &[u8])>, Stop>
+fn next_string(alloc: Global, text: &[u8]) -> Result<Option<(StringText, &[u8])>, Stop>
     ensures value { Gives (option_map (λ x. (x.0, kinds_in x.1.now))) result
         (next_with string_at (kinds_in text.now)) }
     ensures fewer { IfOk result
@@ -50,7 +50,7 @@ fn after_bracket(text: &[u8]) -> Result<&[u8], Stop>
 }
 
 /// The strings of a list after its first one.
-fn other_strings(alloc: Global, text: &[u8]) -> Result<(Texts, &[u8]), Stop>
+fn other_strings(alloc: Global, text: &[u8]) -> Result<(StringTexts, &[u8]), Stop>
     ensures value { Gives
         (λ x. (x.0, kinds_in x.1.now)) result (other_strings_at (kinds_in text.now)) }
     ensures fewer { IfOk result (λ x. length (kinds_in x.1.now) ≤ length (kinds_in text.now)) }
@@ -62,7 +62,7 @@ fn other_strings(alloc: Global, text: &[u8]) -> Result<(Texts, &[u8]), Stop>
         lists::push(&mut others, next, lists::SEVERAL)?;
         rest = after;
     }
-    Ok((Texts::from_vec(alloc, others)?, rest))
+    Ok((StringTexts::from_vec(alloc, others)?, rest))
 }
 
 /// A list of strings, after its opening bracket.
@@ -111,8 +111,8 @@ fn next_argument(alloc: Global, text: &[u8]) -> Result<Option<(Argument, &[u8])>
     match lexeme {
         Lexeme::Tag(name) => Ok(Some((Argument::Tag(Text::from_slice(alloc, name)?), rest))),
         Lexeme::Number(number) => Ok(Some((Argument::Number(number), rest))),
-        Lexeme::StringValue(written) => {
-            let one = StringList::One(string_text(alloc, written)?);
+        Lexeme::StringValue(string) => {
+            let one = StringList::One(string_text(alloc, string)?);
             Ok(Some((Argument::Strings(one), rest)))
         }
         Lexeme::Mark(Mark::OpenBracket) => {

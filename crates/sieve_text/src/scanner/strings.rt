@@ -2,13 +2,14 @@
 
 ghost use Rattle.std.specs.Prelude.{◌≡◌, length, IfOk, ℕ, IfErr, nat_lt};
 ghost use Rattle.sieve_text.specs.Strings.{quoted_value, lines_value};
-ghost use Rattle.sieve_text.specs.Lexemes.{string_of, read_of};
+ghost use Rattle.sieve_text.specs.WrittenStrings.{string_of};
+ghost use Rattle.sieve_text.specs.Lexemes.{read_of};
 ghost use Rattle.sieve_text.specs.Tokens.{string_kind, Gives, StandsAt, either_place};
 
 use crate::fault::{FaultyPlace, ScanRefusal};
-use crate::lexeme::{Lexeme, WrittenString};
+use crate::lexeme::{Lexeme, ShortString, WrittenString};
 use crate::scanner::{multi_line, octets, quoted};
-use sieve_syntax::Text;
+use sieve_syntax::{StringText, Text};
 use std::alloc::{AllocError, Global};
 
 /// The greatest length of a string's value in octets.
@@ -91,7 +92,7 @@ pub fn string(
     if is_too_long(written) {
         return Err(FaultyPlace::new(ScanRefusal::StringTooLong, at));
     }
-    Ok((Lexeme::StringValue(written), length))
+    Ok((Lexeme::StringValue(ShortString { written }), length))
 }
 
 /// The value of the octets between the quotation marks: the same octets, if there is no backslash and no LF among them.
@@ -104,12 +105,23 @@ fn quoted_text(alloc: Global, body: &[u8]) -> Result<Text, AllocError>
     Text::from_vec(alloc, quoted::value(alloc, body)?)
 }
 
-/// The value of a string. Fails only if memory runs out.
-pub fn string_text(alloc: Global, written: WrittenString<'_>) -> Result<Text, AllocError>
+/// The octets of a string's value.
+fn text_of(alloc: Global, written: WrittenString<'_>) -> Result<Text, AllocError>
     ensures { IfOk result (λ t. t ≡ string_of written.entry) }
 {
     match written {
         WrittenString::Quoted(body) => quoted_text(alloc, body),
         WrittenString::Lines(lines) => Text::from_vec(alloc, multi_line::value(alloc, lines)?),
+    }
+}
+
+/// The value of a string. Fails only if memory runs out.
+pub fn string_text(alloc: Global, string: ShortString<'_>) -> Result<StringText, AllocError>
+    ensures { IfOk result (λ t. t ≡ string_of string.entry.written) }
+{
+    let octets = text_of(alloc, string.written)?;
+    match StringText::new(octets) {
+        Some(text) => Ok(text),
+        None => unreachable!(),
     }
 }

@@ -18,6 +18,6 @@ emit_other_keys-requires c =
 pub returns : goal.returns
 returns c =
     on_ok_weaker c.emit_other_keys.result (λ h ends there.
-    subst (λ (a : Flow). Emits c.args.out.now c.emit_other_keys.new.out a ends) (same_keys c.args.how c.as_slice.result.now (first_of c.args.keys.now) c.others.result.now (others_of c.args.keys.now) (c.as_slice.ensures ∙ c.first.ensures) c.others.ensures)
+    subst (λ (a : Flow). Emits c.args.out.now c.emit_other_keys.new.out a ends) (same_keys c.args.how c.as_slice.result.now (first_of c.args.keys.now) c.others.result.now (others_of c.args.keys.now) (c.as_slice.ensures.value ∙ c.first.ensures) c.others.ensures)
     (keys_emitted c.args.out.now c.emit_key.new.out c.emit_other_keys.new.out c.args.how c.as_slice.result.now c.others.result.now c.in_ok-emit_key.ensures h ends there))
     c.emit_other_keys.ensures

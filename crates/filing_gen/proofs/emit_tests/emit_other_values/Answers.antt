@@ -12,19 +12,19 @@ loop-name-init c = asked_first c.args.out.now c.in_ok-asked.asked.lowercase.keys
 
 pub loop-name-preserved-then-not-is_new : goal.loop-name-preserved-then-not-is_new
 loop-name-preserved-then-not-is_new c =
-    asked_before c.args.out.now c.loop-name.out c.loop-name.asked.lowercase.keys c.insert.new.self.lowercase.keys c.args.others.now c.loop-name.name-index c.name-item.result c.loop-name-test.true c.name-item.is c.as_slice-name.result.now c.as_slice-name.ensures values_flow (values_flow (others_once c.args.first.now c.args.others.now)) Anywhere c.in_ok-is_new.ensures.names c.loop-name.invariant
+    asked_before c.args.out.now c.loop-name.out c.loop-name.asked.lowercase.keys c.insert.new.self.lowercase.keys c.args.others.now c.loop-name.name-index c.name-item.result c.loop-name-test.true c.name-item.is c.as_slice-name.result.now c.as_slice-name.ensures.value values_flow (values_flow (others_once c.args.first.now c.args.others.now)) Anywhere c.in_ok-is_new.ensures.names c.loop-name.invariant
     (was_there c.in_ok-is_new.is_new (has_name c.loop-name.asked.lowercase.keys c.as_slice-name.result.now) c.in_ok-is_new.ensures.added c.if-not-is_new.true)
 
-pub emit_value-requires : goal.emit_value-requires
-emit_value-requires c =
-    let room = asked_room c.args.out.now c.loop-name.out c.loop-name.asked.lowercase.keys c.insert.new.self.lowercase.keys c.args.others.now c.loop-name.name-index c.name-item.result c.loop-name-test.true c.name-item.is c.as_slice-name.result.now c.as_slice-name.ensures values_flow (values_flow (others_once c.args.first.now c.args.others.now)) Anywhere c.in_ok-is_new.ensures.names c.loop-name.invariant
+pub emit_value-requires-clause-room : goal.emit_value-requires-clause-room
+emit_value-requires-clause-room c =
+    let room = asked_room c.args.out.now c.loop-name.out c.loop-name.asked.lowercase.keys c.insert.new.self.lowercase.keys c.args.others.now c.loop-name.name-index c.name-item.result c.loop-name-test.true c.name-item.is c.as_slice-name.result.now c.as_slice-name.ensures.value values_flow (values_flow (others_once c.args.first.now c.args.others.now)) Anywhere c.in_ok-is_new.ensures.names c.loop-name.invariant
     (not_there c.in_ok-is_new.is_new (has_name c.loop-name.asked.lowercase.keys c.as_slice-name.result.now) c.in_ok-is_new.ensures.added c.if-not-is_new.false) c.requires in
     (omega (arith, room.0), omega (arith, room.1), omega (arith, room.2))
 
 pub loop-name-preserved : goal.loop-name-preserved
 loop-name-preserved c =
     let whole : Flow = values_flow (others_once c.args.first.now c.args.others.now) in
-    asked_now c.args.out.now c.loop-name.out c.loop-name.asked.lowercase.keys c.insert.new.self.lowercase.keys c.args.others.now c.loop-name.name-index c.name-item.result c.loop-name-test.true c.name-item.is c.as_slice-name.result.now c.as_slice-name.ensures values_flow (values_flow (others_once c.args.first.now c.args.others.now)) Anywhere c.in_ok-is_new.ensures.names c.loop-name.invariant
+    asked_now c.args.out.now c.loop-name.out c.loop-name.asked.lowercase.keys c.insert.new.self.lowercase.keys c.args.others.now c.loop-name.name-index c.name-item.result c.loop-name-test.true c.name-item.is c.as_slice-name.result.now c.as_slice-name.ensures.value values_flow (values_flow (others_once c.args.first.now c.args.others.now)) Anywhere c.in_ok-is_new.ensures.names c.loop-name.invariant
     (not_there c.in_ok-is_new.is_new (has_name c.loop-name.asked.lowercase.keys c.as_slice-name.result.now) c.in_ok-is_new.ensures.added c.if-not-is_new.false) c.put.new.out (value_leads c.args.out.now c.loop-name.out c.emit_value.new.out c.put.new.out c.as_slice-name.result.now _ whole c.in_ok-emit_value.ensures c.in_ok-put.ensures)
 
 pub returns : goal.returns

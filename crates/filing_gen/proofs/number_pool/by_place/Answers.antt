@@ -29,4 +29,4 @@ returns c =
     let es = c.args.places.entries in
     let none : c.loop-number.number-iterator ≡ [] = rest_all (λ (p : ℕ × ℕ). p) c.loop-number.number-iterator c.next.new.self c.next.result c.in-None.is c.next.ensures.steps in
     let done = subst (λ (l : List (ℕ × ℕ)). IsPlaced es l c.loop-number.numbers.items) none c.loop-number.invariant in
-    record { places = λ n b at. placed_last es c.loop-number.numbers.items done n b at; once = once_in_all es c.loop-number.numbers.items c.requires done }
+    record { places = λ n b at. placed_last es c.loop-number.numbers.items done n b at; once = once_in_all es c.loop-number.numbers.items c.requires done; count = done.long }
