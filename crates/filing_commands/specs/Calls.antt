@@ -1,12 +1,13 @@
 -- Calls of a desk, and the states that the desk represents before and after them. A desk is clean while the disk under
 -- it returns what was written to it.
-use Rattle.std.specs.Prelude.{◌≡◌, ◌≤◌, ℕ, pos, List}
+use Rattle.std.specs.Prelude.{◌≡◌, ◌≤◌, ℕ, pos, true, List}
 use Rattle.jiff.specs.Words.{epoch_day}
 use Rattle.jiff_core.specs.declared.civil.date.Date.{Date}
 use Rattle.filing_commands.specs.Answers.{Answer}
+use Rattle.filing_commands.specs.ArchiveAnswers.{is_of_archive}
 use Rattle.filing_commands.specs.Limits.{last_day}
 use Rattle.filing_commands.specs.Payloads.{IsOf}
-use Rattle.filing_commands.specs.Standing.{Standing, Command, Step}
+use Rattle.filing_commands.specs.Standing.{Standing, Command, Step, is_refusal}
 use Rattle.filing_commands.specs.declared.payload.Payload.{Payload}
 
 -- The desk represents one of these states.
@@ -15,12 +16,16 @@ pub record Leads {D : Type 0} (stands : D → Standing → Type 0) (desk : D) (S
   pub is_one : States to
   pub there : stands desk to
 
--- A command has this answer. Where the desk is clean afterwards, it was clean before, and each state that it
--- represented leads by the command to one that it represents.
+-- A command has this answer.
 pub record Calls {D : Type 0} (clean : D → Type 0) (stands : D → Standing → Type 0) (old : D) (c : Command)
     (a : Answer) (new : D) : Type 0 where
+  -- Where the desk is clean afterwards, it was clean before.
   pub was_clean : clean new → clean old
-  pub leads : clean new → (s : Standing) → stands old s → Leads stands new (Step s c a)
+  -- Each state that it represented leads by the command to one that it represents. This holds on any disk; only an
+  -- answer of the archive needs that the desk is clean afterwards.
+  pub leads : (is_of_archive c a ≡ true → clean new) → (s : Standing) → stands old s → Leads stands new (Step s c a)
+  -- On any disk, a refusal by the archive changes nothing.
+  pub unchanged : is_of_archive c a ≡ true → is_refusal a ≡ true → (s : Standing) → stands old s → stands new s
 
 -- The same for a command with a payload, for all octets that the payload may be of.
 abbrev pub CallsWith : {D : Type 0} (clean : D → Type 0) (stands : D → Standing → Type 0) → (old : D) → (limit : ℕ) →

@@ -7,5 +7,6 @@ pub mod Parts
 pub mod Pinning
 pub mod Office
 pub mod Standing
+pub mod ArchiveAnswers
 pub mod Calls
 pub mod CallAnswers

@@ -18,11 +18,12 @@ use sieve_meaning::Outcome;
 /// An office that captures messages as records: an archive, scripts and officers, and captures in flight.
 ///
 /// Each call is a command of `Standing` in `specs/`. It is answered as `Step` says there, and leads from a state that
-/// the office represents to one that it represents afterwards.
+/// the office represents to one that it represents afterwards. That holds on any disk, except for an answer that comes
+/// from the archive (`ArchiveAnswers` in `specs/`): it is right where the disk returns what was written to it.
 ///
 /// Besides the refusals of each call, all calls but `deactivate` may be refused with 99 (no memory). `add_class`,
-/// `set_plan`, `hold`, `release`, `due`, `destroy` and `finish` may also be refused with 89 (the database). A refusal
-/// changes nothing, except that a `turn` refused with 99 keeps the steps that were made before.
+/// `set_plan`, `hold`, `release`, `due`, `destroy` and `finish` may also be refused with 89 (the database). On any disk
+/// a refusal changes nothing, except that a `turn` refused with 99 keeps the steps that were made before.
 pub trait Registry {
     /// Holds while the disk returns what was written to it.
     ghost clean: { Self → Type 0 };

@@ -25,14 +25,14 @@ use Rattle.filing_commands.specs.declared.fault.DeskFault.TheVariants.{NoMemory}
 use Rattle.filing_flights.specs.Begun.{HoldsBegun}
 use Rattle.filing_flights.specs.Flights.{Adds, AreHeld}
 use Rattle.filing_flights.specs.FlightViews.{FlightView, Holds}
-use Rattle.filing_flights.proofs.BegunLemmas.{after_begin, allowed, begins, first_begun, first_flight, refused_count, refused_length, refused_ticket}
-use Rattle.filing_flights.proofs.FlightsLemmas.{as_many}
-use Rattle.filing_flights.proofs.PlanLemmas.{open_has}
+use Rattle.filing_flights.specs.Laws.{AreAsMany, OpenPathsAreClasses}
 use Rattle.filing_officers.specs.Register.{PinsFor, officer_at}
 use Rattle.filing_desk.specs.Beginning.{IsEntered, IsNumbered, KeepsAll, against_begin}
 use Rattle.filing_desk.specs.Standing.{AreOpenPaths, HasPathsOf, IsClean, StandsFor}
 use Rattle.filing_desk.specs.declared.desk.Desk.{Desk}
+use Rattle.filing_desk.proofs.FirstLemmas.{RunsEnd, after_begin, begins, first_begun, first_flight}
 use Rattle.filing_desk.proofs.FlightLemmas.{cleans, reflies}
+use Rattle.filing_desk.proofs.ReasonLemmas.{allowed, refused_count, refused_length, refused_ticket}
 
 -- the answer to a fault
 pub ticket_fault : (result : Result (ℕ × ℕ) DeskFault) (fault : DeskFault) → IsErr result → IsErrAnd result (λ f. f ≡ fault) → answer_of_ticket result ≡ refused_by fault
@@ -69,7 +69,7 @@ more_classes : (p : Listing) (fs : List Flight) (f : Flight) → AllByRecursion 
 more_classes p [] f all here = (here, tt)
 more_classes p (x ∷ fs) f all here = (all.0, more_classes p fs f all.1 here)
 
-module _ {A : Type 0} (is_clean : A → Type 0) (stood : A → Archive → Type 0) (plan_of : A → Listing) (plan_is : (x : A) (a : Archive) → stood x a → plan_of x ≡ a.plan) where
+module _ {A : Type 0} (is_clean : A → Type 0) (stood : A → Archive → Type 0) (plan_of : A → Listing) (plan_is : (x : A) (a : Archive) → stood x a → plan_of x ≡ a.plan) (as_many : AreAsMany) where
   -- what refuses a beginning at the desk refuses one in the state
   against : (desk : Desk A) (s : Standing) (moment size : ℕ) → StandsFor stood desk s → against_begin desk moment size ≡ begin_refusal (length s.flights) s.last moment size
   against desk s moment size stands = ap (λ n. begin_refusal n desk.last moment size) (as_many desk.flights s.flights stands.flights) ∙ ap (λ n. begin_refusal (length s.flights) n moment size) stands.last
@@ -79,10 +79,11 @@ module _ {A : Type 0} (is_clean : A → Type 0) (stood : A → Archive → Type 
   unfolding Step
   begin_refused desk officer moment message f a h is_told = record {
     was_clean = λ clean. clean;
-    leads = λ clean s stands.
+    leads = λ sure s stands.
         let P : Answer → Type 0 = λ x. BeginStep s officer moment message x s in
         let step : BeginStep s officer moment message (refused (refusal_of f).number None) s = (refl, refl, inl (sym (against desk s moment (length message) stands) ∙ h.0)) in
         record { to = s; is_one = subst P (sym (is_told ∙ numbered f _ h)) step; there = stands };
+    unchanged = λ from_archive. absurd (false≢true from_archive);
   }
 
   -- there is no memory
@@ -90,7 +91,7 @@ module _ {A : Type 0} (is_clean : A → Type 0) (stood : A → Archive → Type 
   unfolding Step
   begin_poor old new officer moment message f a permitted none told keeps paths = record {
     was_clean = cleans is_clean stood old new keeps.store;
-    leads = λ clean s stands.
+    leads = λ sure s stands.
         let P : Answer → Type 0 = λ x. BeginStep s officer moment message x s in
         let Q : List FlightView → Type 0 = λ xs. AreHeld xs s.flights in
         let step : BeginStep s officer moment message (refused 99 None) s = (refl, refl, inr (sym (against old s moment (length message) stands) ∙ permitted, refl)) in
@@ -99,6 +100,7 @@ module _ {A : Type 0} (is_clean : A → Type 0) (stood : A → Archive → Type 
           is_one = subst P (sym (told ∙ ap (λ x. refused_by x) none)) step;
           there = reflies is_clean stood old new s s.flights s.last keeps.store keeps.officers (keeps.last ∙ stands.last) (paths s.office.archive.plan (plan_is old.store s.office.archive stands.store) stands.open_paths) stands (subst Q (sym keeps.flights) stands.flights) stands.classes;
         };
+    unchanged = λ from_archive. absurd (false≢true from_archive);
   }
 
   -- what is pinned for an officer of the desk is what is pinned for what stands in the state
@@ -107,11 +109,11 @@ module _ {A : Type 0} (is_clean : A → Type 0) (stood : A → Archive → Type 
       let P : Office → Type 0 = λ o. PinsChoice (choice_by (o.officers officer).active (o.officers officer).scripts) (library (o.officers officer).scripts o.globals) p in
       subst P stands.officers pins
 
-  pub begin_done : (old mid new : Desk A) (officer : List ℕ) (moment : ℕ) (message : List ℕ) (day : Date) (x : FlightView) (a : Answer) → against_begin old moment (length message) ≡ None → epoch_day day ≡ pos (moment / 86400) → KeepsAll old mid → (AreOpenPaths old.open_paths (plan_of old.store) → AreOpenPaths mid.open_paths (plan_of old.store)) → (AreOpenPaths old.open_paths (plan_of old.store) → IsEntered (plan_of old.store) old officer (old.last + 1) message day x) → new.store ≡ mid.store → new.officers ≡ mid.officers → Adds mid.flights x new.flights → new.last ≡ old.last + 1 → new.open_paths ≡ mid.open_paths → a ≡ begun (old.last + 1) x.program.budget → Calls (IsClean is_clean) (StandsFor stood) old (begin officer moment message) a new
+  pub begin_done : (are_there : OpenPathsAreClasses) (ends : RunsEnd) (old mid new : Desk A) (officer : List ℕ) (moment : ℕ) (message : List ℕ) (day : Date) (x : FlightView) (a : Answer) → against_begin old moment (length message) ≡ None → epoch_day day ≡ pos (moment / 86400) → KeepsAll old mid → (AreOpenPaths old.open_paths (plan_of old.store) → AreOpenPaths mid.open_paths (plan_of old.store)) → (AreOpenPaths old.open_paths (plan_of old.store) → IsEntered (plan_of old.store) old officer (old.last + 1) message day x) → new.store ≡ mid.store → new.officers ≡ mid.officers → Adds mid.flights x new.flights → new.last ≡ old.last + 1 → new.open_paths ≡ mid.open_paths → a ≡ begun (old.last + 1) x.program.budget → Calls (IsClean is_clean) (StandsFor stood) old (begin officer moment message) a new
   unfolding Step
-  begin_done old mid new officer moment message day x a permitted on keeps paths entered es eo adds el ep told = record {
+  begin_done are_there ends old mid new officer moment message day x a permitted on keeps paths entered es eo adds el ep told = record {
     was_clean = cleans is_clean stood old new (es ∙ keeps.store);
-    leads = λ clean s stands.
+    leads = λ sure s stands.
         let plan = s.office.archive.plan in
         let P : Listing → Type 0 = λ p. AreOpenPaths old.open_paths p in
         let there = subst P (sym (plan_is old.store s.office.archive stands.store)) stands.open_paths in
@@ -119,13 +121,13 @@ module _ {A : Type 0} (is_clean : A → Type 0) (stood : A → Archive → Type 
         let next : old.last + 1 ≡ s.last + 1 = ap (λ n. n + 1) stands.last in
         let at_begin = begin_state s.office officer moment message in
         let pins = pins_stood old s officer moment message h.program stands h.pins in
-        let flight = first_flight (s.last + 1) at_begin h.program h.well in
+        let flight = first_flight ends (s.last + 1) at_begin h.program h.well in
         let opens : at_begin.is_open ≡ is_among h.paths = ap (λ p. is_open_in p) (sym (plan_is old.store s.office.archive stands.store)) ∙ sym h.open_paths in
-        let first = first_begun (s.last + 1) at_begin h.program h.well h.paths day pins opens on in
+        let first = first_begun ends (s.last + 1) at_begin h.program h.well h.paths day pins opens on in
         let H : ℕ → Type 0 = λ n. HoldsBegun n h.program message h.paths day x in
         let holds : Holds x flight = subst H next h.holds flight first in
         let was = sym (against old s moment (length message) stands) ∙ permitted in
-        let begins_so = begins s officer moment message h.program h.well was pins in
+        let begins_so = begins ends s officer moment message h.program h.well was pins in
         let to = after_begin s flight in
         let same : a ≡ begun (s.last + 1) h.program.budget = told ∙ ap (λ n. begun n x.program.budget) next ∙ ap (λ (q : Program). begun (s.last + 1) q.budget) holds.program in
         let B : Answer → Type 0 = λ y. BeginStep s officer moment message y to in
@@ -135,6 +137,7 @@ module _ {A : Type 0} (is_clean : A → Type 0) (stood : A → Archive → Type 
         record {
           to = to;
           is_one = subst B (sym same) begins_so;
-          there = reflies is_clean stood old new s (s.flights ++ flight ∷ []) (s.last + 1) (es ∙ keeps.store) (eo ∙ keeps.officers) (el ∙ next) (subst T (sym ep) (subst U (plan_is old.store s.office.archive stands.store) (paths there))) stands (adds s.flights flight (subst Q (sym keeps.flights) stands.flights) holds) (more_classes plan s.flights flight stands.classes (λ q there. open_has plan q there));
+          there = reflies is_clean stood old new s (s.flights ++ flight ∷ []) (s.last + 1) (es ∙ keeps.store) (eo ∙ keeps.officers) (el ∙ next) (subst T (sym ep) (subst U (plan_is old.store s.office.archive stands.store) (paths there))) stands (adds s.flights flight (subst Q (sym keeps.flights) stands.flights) holds) (more_classes plan s.flights flight stands.classes (λ q there. are_there plan q there));
         };
+    unchanged = λ from_archive. absurd (false≢true from_archive);
   }

@@ -1,14 +1,15 @@
 -- Commands of the archive drop no class of the plan.
-use Rattle.std.proofs.Common.{◌≡◌, ℕ, List, [], ◌∷◌, Bool, true, false, not, cond, ◌&&◌, Option, Some, None, is_some, Result, Ok, Err, if◌then◌else◌, refl, ap, sym, ◌∙◌, subst, rules}
+use Rattle.std.proofs.Common.{◌≡◌, ℕ, List, [], ◌∷◌, Bool, true, false, not, cond, ◌&&◌, Option, Some, None, is_some, Result, Ok, Err, if◌then◌else◌, Ordering, Less, Equal, Greater, nat_cmp, refl, ap, sym, ◌∙◌, subst, rules}
 use Rattle.std.specs.List.{list_all}
+use Rattle.std.specs.Ordering.{match_ordering}
+use Rattle.std.specs.Cmp.Lexicographic.{slice_cmp}
 use Rattle.std.specs.Str.{bytes_eq}
-use Rattle.class_plan.proofs.Keeping.{has-more}
-use Rattle.class_plan.specs.Changes.{addition, with_class}
-use Rattle.class_plan.specs.Plans.{Listing, Row, row_at, has, keeps, open_row, schedule_at}
+use Rattle.class_plan.specs.Changes.{addition, speaks_against, with_class}
+use Rattle.class_plan.specs.Faults.{answer, first_fault}
+use Rattle.class_plan.specs.Plans.{Listing, Row, row_at, has, keeps, open_row, schedule_at, with_row}
 use Rattle.class_plan.specs.declared.faults.PlanFault.{PlanFault}
 use Rattle.class_plan.specs.declared.faults.PlanFault.TheVariants.{PathDropped}
 use Rattle.record_archive.specs.Archive.{Record, Archive, add_class, capture, after_capture, has_room, destroy, destroy_one, destroys, due_of, hold, hold_one, is_by, is_held, is_held_by, plan_answer, record_at, release, release_one, revise, with_hold, without, without_hold}
-use Rattle.class_plan.proofs.Removed.{added-new}
 use Rattle.record_archive.specs.declared.fault.ArchiveRefusal.{ArchiveRefusal}
 use Rattle.record_archive.specs.declared.fault.ArchiveRefusal.TheVariants as fault
 
@@ -70,6 +71,32 @@ captured_plan a b body day classes e = go (has_room a classes) e
 pub same_keeps : (a b : Archive) (q : List ℕ) → b.plan ≡ a.plan → has a.plan.rows q ≡ true → has b.plan.rows q ≡ true
 same_keeps a b q same there = ap (λ (p : Listing). has p.rows q) same ∙ there
 
+found_after : (b : Bool) (r : Row) (rest : Option Row) → is_some rest ≡ true → is_some (cond b (Some r) rest) ≡ true
+found_after true r rest h = refl
+found_after false r rest h = h
+
+found_still : (b : Bool) (r s : Row) (rest more : Option Row) → (is_some rest ≡ true → is_some more ≡ true) → is_some (cond b (Some r) rest) ≡ true → is_some (cond b (Some s) more) ≡ true
+found_still true r s rest more on h = refl
+found_still false r s rest more on h = on h
+
+-- a row that is put in the place of another, with the path of that one
+abbrev changed : Row → Row → Row
+changed r x = record { path = x.path; is_open = r.is_open; schedule = r.schedule }
+
+-- a class that is there is there still after a row is put
+has_more : (r : Row) (rows : List Row) (q : List ℕ) → has rows q ≡ true → has (with_row r rows) q ≡ true
+has_more r [] q h = absurd cc
+has_more r (x ∷ xs) q h = go (slice_cmp nat_cmp r.path x.path) (has_more r xs q)
+  where
+    go : (o : Ordering) → (has xs q ≡ true → has (with_row r xs) q ≡ true) → has (match_ordering o (r ∷ x ∷ xs) (changed r x ∷ xs) (x ∷ with_row r xs)) q ≡ true
+    go Less more = found_after (bytes_eq q r.path) r (row_at q (x ∷ xs)) h
+    go Equal more = found_still (bytes_eq q x.path) x (changed r x) (row_at q xs) (row_at q xs) (λ there. there) h
+    go Greater more = found_still (bytes_eq q x.path) x x (row_at q xs) (row_at q (with_row r xs)) more h
+
+answered : (o : Option PlanFault) (a b : Listing) → answer o a ≡ Ok b → b ≡ a
+answered None a b e = cc
+answered (Some f) a b e = absurd cc
+
 pub added_keeps : (a b : Archive) (path q : List ℕ) → add_class a path ≡ Ok b → has a.plan.rows q ≡ true → has b.plan.rows q ≡ true
 added_keeps a b path q made there = go (addition a.plan path) refl made
   where
@@ -77,8 +104,8 @@ added_keeps a b path q made there = go (addition a.plan path) refl made
     go (Err f) is e = absurd cc
     go (Ok p) is e =
         let plan : b.plan ≡ p = ap (λ (x : Archive). x.plan) (sym (ok_is (record a { plan = p }) b e)) in
-        let new : p ≡ with_class a.plan path = (added-new a.plan p path is).0 in
-        ap (λ (x : Listing). has x.rows q) (plan ∙ new) ∙ has-more (open_row path) a.plan.rows q there
+        let new : p ≡ with_class a.plan path = answered (first_fault (speaks_against a.plan path)) (with_class a.plan path) p is in
+        ap (λ (x : Listing). has x.rows q) (plan ∙ new) ∙ has_more (open_row path) a.plan.rows q there
 
 same_path : (q r : List ℕ) → bytes_eq q r ≡ true → q ≡ r
 same_path q r h = search rules

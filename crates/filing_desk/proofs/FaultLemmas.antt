@@ -56,7 +56,7 @@ lacking s c limit payload f a told is short lacks =
 module _ {A : Type 0} (is_clean : A → Type 0) (stood : A → Archive → Type 0) where
   -- a call that leaves the desk as it was
   pub unchanged : (desk : Desk A) (c : PlainCommand) (a : Answer) → ((s : Standing) → StandsFor stood desk s → OfficeStep s.office c a s.office) → Calls (IsClean is_clean) (StandsFor stood) desk (plain c) a desk
-  unchanged desk c a step = plain_calls is_clean stood desk desk c a (λ clean. clean) (λ clean s stands. (s.office, step s stands, stands))
+  unchanged desk c a step = plain_calls is_clean stood desk desk c a (λ clean. clean) (λ sure s stands. (s.office, step s stands, stands)) (λ refused s stands. stands)
 
   -- the outcome of a script with the global scripts of a desk, in a message's case
   pub file_done : (desk : Desk A) (p : Listing) (lent : Scripts) (tree : CommandTrees) (script message : List ℕ) (facts : Facts) (o : Outcome) → ((s : Standing) → StandsFor stood desk s → p ≡ s.office.archive.plan) → lent ≡ record { personal = []; global = desk.officers.globals } → IsGood script tree → length message ≤ greatest_message → facts ≡ case_of message (is_open_in p) → o ≡ meaning.outcome facts (library_of lent) None (program_of tree) → Calls (IsClean is_clean) (StandsFor stood) desk (plain (file script message)) (dry_run o) desk

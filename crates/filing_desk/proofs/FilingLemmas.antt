@@ -1,6 +1,6 @@
 -- Outcomes that are filed, and captures that are shown.
 use Rattle.std.proofs.Common.{◌≡◌, ◌↔◌, ℕ, List, map, Bool, true, false, if◌then◌else◌, Option, Some, None, Result, Ok, Err, Vec, inl, inr, refl, ap, sym, ◌∙◌, subst}
-use Rattle.std.specs.Prelude.{IsTrue}
+use Rattle.std.specs.Prelude.{IfErr, IsTrue}
 use Rattle.std.specs.Result.{IsErr, IsErrAnd}
 use Rattle.std.specs.declared.alloc.Global.{Global}
 use Rattle.std.proofs.lemmas.Bool.{false≢true}
@@ -24,7 +24,7 @@ use Rattle.filing_commands.specs.declared.fault.DeskFault.TheVariants as faults
 use Rattle.filing_commands.specs.declared.results.Capture.{Capture}
 use Rattle.filing_flights.specs.Flights.{IsFound}
 use Rattle.filing_flights.specs.FlightViews.{FlightView, facts_in}
-use Rattle.filing_desk.specs.Filing.{Files, IsNotFiled}
+use Rattle.filing_desk.specs.Filing.{Files, IsArchiveFault, IsNotFiled}
 use Rattle.filing_desk.specs.Standing.{IsShownBy}
 use Rattle.filing_desk.proofs.FlightLemmas.{none_found}
 use Rattle.filing_desk.proofs.ArchiveLemmas.{told}
@@ -33,6 +33,11 @@ use Rattle.filing_desk.proofs.ArchiveLemmas.{told}
 pub capture_fault : (result : Result Capture DeskFault) (fault : DeskFault) → IsErr result → IsErrAnd result (λ f. f ≡ fault) → answer_of_capture result ≡ refused_by fault
 capture_fault (Err f) fault is same = ap refused_by same
 capture_fault (Ok c) fault is same = absurd (false≢true is)
+
+-- the fault of a filing that was refused
+pub fault_is : (result : Result (Vec Line Global) DeskFault) (f : DeskFault) → IsErr result → IsErrAnd result (λ x. x ≡ f) → IsArchiveFault f → IfErr result IsArchiveFault
+fault_is (Err e) f is same h = let P : DeskFault → Type 0 = IsArchiveFault in subst P (sym same) h
+fault_is (Ok v) f is same h = absurd (false≢true is)
 
 -- a capture is refused because the numbers are used up
 only_full : (a : Archive) (body : List ℕ) (day : ℕ) (classes : List (List ℕ)) (r : ArchiveRefusal) → capture a body day classes ≡ Err r → r ≡ Full

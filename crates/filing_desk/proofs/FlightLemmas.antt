@@ -1,6 +1,7 @@
 -- Captures in flight of a desk: their turns, and their ends.
 use Rattle.std.proofs.Common.{◌≡◌, ℕ, ◌+◌, ◌==◌, List, [], ◌∷◌, map, Bool, true, false, not, if◌then◌else◌, Option, Some, None, Result, Ok, Err, Vec, inl, inr, refl, ap, sym, ◌∙◌, subst}
 use Rattle.std.specs.Prelude.{nat_lt, unsigned_abs, All}
+use Rattle.std.proofs.lemmas.Bool.{false≢true}
 use Rattle.std.specs.List.{AllByRecursion}
 use Rattle.std.specs.declared.alloc.Global.{Global}
 use Rattle.class_paths.specs.Paths.{IsIncreasing}
@@ -16,6 +17,7 @@ use Rattle.record_archive.specs.declared.fault.ArchiveRefusal.{ArchiveRefusal}
 use Rattle.record_archive.specs.declared.fault.ArchiveRefusal.TheVariants.{Full}
 use Rattle.record_archive.specs.declared.line.Line.{Line}
 use Rattle.filing_commands.specs.Answers.{Answer, captured, refused}
+use Rattle.filing_commands.specs.ArchiveAnswers.{is_of_archive, is_refused_outside}
 use Rattle.filing_commands.specs.Calls.{Calls}
 use Rattle.filing_commands.specs.Faults.{refused_by}
 use Rattle.filing_commands.specs.Office.{with_archive}
@@ -23,9 +25,9 @@ use Rattle.filing_commands.specs.Standing.{Standing, Flight, Step, FinishStep, f
 use Rattle.filing_commands.specs.declared.fault.DeskFault.{DeskFault}
 use Rattle.filing_flights.specs.Flights.{AreHeld, Finds, IsFound, Removes, Turns}
 use Rattle.filing_flights.specs.FlightViews.{FlightView, Holds, IsClass, IsOutcome, TellsEnd}
-use Rattle.filing_flights.proofs.PlanLemmas.{HasOpen, are_classes}
+use Rattle.filing_flights.specs.Laws.{CapturesHaveClasses, HasOpen}
 use Rattle.filing_officers.specs.Register.{office_of}
-use Rattle.filing_desk.specs.Filing.{Files}
+use Rattle.filing_desk.specs.Filing.{Files, IsArchiveFault, IsNotFiled}
 use Rattle.filing_desk.specs.Standing.{AreOpenPaths, HasPathsOf, IsClean, StandsFor}
 use Rattle.filing_desk.specs.declared.desk.Desk.{Desk}
 use Rattle.filing_desk.proofs.ClassLemmas.{captured_plan}
@@ -106,7 +108,7 @@ module _ {A : Type 0} (is_clean : A → Type 0) (stood : A → Archive → Type 
   unfolding Step
   turned_by old new t k a es eo el ep turns = record {
     was_clean = cleans old new es;
-    leads = λ clean s stands.
+    leads = λ sure s stands.
         let h = turns s stands.flights in
         let P : Option (List (List ℕ)) → Type 0 = λ x. AreOpenPaths x s.office.archive.plan in
         record {
@@ -114,6 +116,7 @@ module _ {A : Type 0} (is_clean : A → Type 0) (stood : A → Archive → Type 
           is_one = h.step;
           there = reflies old new s (grant t h.made s.flights) s.last es eo (el ∙ stands.last) (subst P (sym ep) stands.open_paths) stands h.held (granted_classes s.office.archive.plan t h.made s.flights stands.classes);
         };
+    unchanged = λ from_archive. absurd (false≢true from_archive);
   }
 
   -- nothing is finished
@@ -121,7 +124,8 @@ module _ {A : Type 0} (is_clean : A → Type 0) (stood : A → Archive → Type 
   unfolding Step
   finish_same desk t a step = record {
     was_clean = λ clean. clean;
-    leads = λ clean s stands. record { to = s; is_one = step s stands; there = stands };
+    leads = λ sure s stands. record { to = s; is_one = step s stands; there = stands };
+    unchanged = λ from_archive refused s stands. stands;
   }
 
   -- no capture in flight has the ticket
@@ -148,39 +152,57 @@ module _ {A : Type 0} (is_clean : A → Type 0) (stood : A → Archive → Type 
   of_flight : (x : FlightView) (f : Flight) (s : Standing) → Holds x f → number_of_day x.day ≡ f.at_begin.day
   of_flight x f s holds = ap (λ z. unsigned_abs z) holds.day
 
+  -- after nothing was filed, the desk represents the same state
+  finish_stays : (are_classes : CapturesHaveClasses) → ((x : A) (a : Archive) → stood x a → IsArchive a) → (old new : Desk A) (t : ℕ) (x : FlightView) (o : Outcome) (f : DeskFault) → Finds old.flights t (Some x) → IsIncreasing o.classes → All (IsClass x) o.classes → Files is_clean stood old.store new.store x.message (number_of_day x.day) o.classes (Err f) → new.officers ≡ old.officers → new.flights ≡ old.flights → new.last ≡ old.last → new.open_paths ≡ old.open_paths → (s : Standing) → StandsFor stood old s → StandsFor stood new s × (is_clean new.store → IsNotFiled s.office.archive x.message (number_of_day x.day) o.classes f)
+  finish_stays are_classes is_archive old new t x o f finds up each files eo ef el ep s stands =
+      let here = some_found (flight_of t s.flights) x (finds s.flights stands.flights) in
+      let classes = are_classes x s.office.archive.plan o.classes (is_archive old.store s.office.archive stands.store).plan (has_open x here.0 s.office.archive.plan here.2 (found_classes s.office.archive.plan t s.flights here.0 stands.classes here.1)) each up in
+      let filed = files s.office.archive stands.store classes in
+      let P : Option (List (List ℕ)) → Type 0 = λ y. AreOpenPaths y s.office.archive.plan in
+      let Q : List FlightView → Type 0 = λ xs. AreHeld xs s.flights in
+      let there : StandsFor stood new s = record {
+        store = filed.0;
+        officers = ap (λ y. office_of s.office.archive y) eo ∙ stands.officers;
+        flights = subst Q (sym ef) stands.flights;
+        last = el ∙ stands.last;
+        open_paths = subst P (sym ep) stands.open_paths;
+        classes = stands.classes;
+      } in
+      (there, filed.1)
+
+  -- there is no memory, or the database refuses, or the numbers of records are used up
+  not_filed_step : (s : Standing) (t : ℕ) (x : FlightView) (f : Flight) (b : Bool) (o : Outcome) (fault : DeskFault) → flight_of t s.flights ≡ Some f → Holds x f → TellsEnd x b → b ≡ true → IsOutcome x o → IsArchiveFault fault → (is_refused_outside (refused_by fault) ≡ false → IsNotFiled s.office.archive x.message (number_of_day x.day) o.classes fault) → FinishStep s t (flight_of t s.flights) (refused_by fault) s
+  not_filed_step s t x f b o fault here holds tells e alone (inl trouble) reason =
+      let ended = ended_flag x f b tells holds e in
+      rw (here, ended) (inr (trouble.0, trouble.1, trouble.2, refl))
+  not_filed_step s t x f b o fault here holds tells e alone (inr inside) reason =
+      let ended = ended_flag x f b tells holds e in
+      let why = reason inside in
+      let number = why.number in
+      let step : FinishStep s t (Some f) (refused number None) s = rw ended (elim why.reason [
+        | inl trouble ↦ inr (number, trouble, refl, refl)
+        | inr full ↦
+            let C : List ℕ → Type 0 = λ m. capture s.office.archive m f.at_begin.day o.classes ≡ Err Full in
+            let D : ℕ → Type 0 = λ d. capture s.office.archive x.message d o.classes ≡ Err Full in
+            inl (s.office.archive, (full.0, refl, refl, (o, alone f holds, subst C holds.message (subst D (of_flight x f s holds) full.1))), refl)
+      ]) in
+      let R : Answer → Type 0 = λ y. FinishStep s t (flight_of t s.flights) y s in
+      let T : Option Flight → Type 0 = λ y. FinishStep s t y (refused number None) s in
+      subst R (sym why.told) (subst T (sym here) step)
+
   -- nothing is filed
-  pub finish_refused : ((x : A) (a : Archive) → stood x a → IsArchive a) → (old new : Desk A) (t : ℕ) (x : FlightView) (b : Bool) (o : Outcome) (f : DeskFault) (a : Answer) → Finds old.flights t (Some x) → TellsEnd x b → b ≡ true → IsOutcome x o → IsIncreasing o.classes → All (IsClass x) o.classes → Files is_clean stood old.store new.store x.message (number_of_day x.day) o.classes (Err f) → (is_clean new.store → is_clean old.store) → new.officers ≡ old.officers → new.flights ≡ old.flights → new.last ≡ old.last → new.open_paths ≡ old.open_paths → a ≡ refused_by f → Calls (IsClean is_clean) (StandsFor stood) old (finish t) a new
+  pub finish_refused : CapturesHaveClasses → ((x : A) (a : Archive) → stood x a → IsArchive a) → (old new : Desk A) (t : ℕ) (x : FlightView) (b : Bool) (o : Outcome) (f : DeskFault) (a : Answer) → Finds old.flights t (Some x) → TellsEnd x b → b ≡ true → IsOutcome x o → IsIncreasing o.classes → All (IsClass x) o.classes → Files is_clean stood old.store new.store x.message (number_of_day x.day) o.classes (Err f) → IsArchiveFault f → (is_clean new.store → is_clean old.store) → new.officers ≡ old.officers → new.flights ≡ old.flights → new.last ≡ old.last → new.open_paths ≡ old.open_paths → a ≡ refused_by f → Calls (IsClean is_clean) (StandsFor stood) old (finish t) a new
   unfolding Step
-  finish_refused is_archive old new t x b o f a finds tells e alone up each files falls eo ef el ep told = record {
+  finish_refused are_classes is_archive old new t x b o f a finds tells e alone up each files fault falls eo ef el ep told = record {
     was_clean = falls;
-    leads = λ clean s stands.
+    leads = λ sure s stands.
         let here = some_found (flight_of t s.flights) x (finds s.flights stands.flights) in
-        let flight = here.0 in
-        let ended = ended_flag x flight b tells here.2 e in
-        let classes = are_classes x s.office.archive.plan o.classes (is_archive old.store s.office.archive stands.store).plan (has_open x flight s.office.archive.plan here.2 (found_classes s.office.archive.plan t s.flights flight stands.classes here.1)) each up in
-        let filed = files s.office.archive stands.store classes in
-        let reason = filed.1 clean in
-        let P : Option (List (List ℕ)) → Type 0 = λ y. AreOpenPaths y s.office.archive.plan in
-        let Q : List FlightView → Type 0 = λ xs. AreHeld xs s.flights in
-        let there : StandsFor stood new s = record {
-          store = filed.0;
-          officers = ap (λ y. office_of s.office.archive y) eo ∙ stands.officers;
-          flights = subst Q (sym ef) stands.flights;
-          last = el ∙ stands.last;
-          open_paths = subst P (sym ep) stands.open_paths;
-          classes = stands.classes;
-        } in
-        let number = reason.number in
-        let step : FinishStep s t (Some flight) (refused number None) s = rw ended (elim reason.reason [
-          | inl trouble ↦ inr (number, trouble, refl, refl)
-          | inr full ↦
-              let C : List ℕ → Type 0 = λ m. capture s.office.archive m flight.at_begin.day o.classes ≡ Err Full in
-              let D : ℕ → Type 0 = λ d. capture s.office.archive x.message d o.classes ≡ Err Full in
-              inl (s.office.archive, (full.0, refl, refl, (o, alone flight here.2, subst C here.2.message (subst D (of_flight x flight s here.2) full.1))), refl)
-        ]) in
+        let stays = finish_stays are_classes is_archive old new t x o f finds up each files eo ef el ep s stands in
+        let from_archive : is_refused_outside (refused_by f) ≡ false → is_of_archive (finish t) a ≡ true = λ inside. ap (λ y. is_of_archive (finish t) y) told ∙ ap not inside in
         let R : Answer → Type 0 = λ y. FinishStep s t (flight_of t s.flights) y s in
-        let T : Option Flight → Type 0 = λ y. FinishStep s t y (refused number None) s in
-        record { to = s; is_one = subst R (sym (told ∙ reason.told)) (subst T (sym here.1) step); there = there };
+        let step = not_filed_step s t x here.0 b o f here.1 here.2 tells e alone fault (λ inside. stays.1 (sure (from_archive inside))) in
+        record { to = s; is_one = subst R (sym told) step; there = stays.0 };
+    unchanged = λ from_archive refused s stands. (finish_stays are_classes is_archive old new t x o f finds up each files eo ef el ep s stands).0;
   }
 
   becomes : (new : A) (r : Result Archive ArchiveRefusal) → Makes (stood new) r → (b : Archive) × (r ≡ Ok b) × stood new b
@@ -192,7 +214,8 @@ module _ {A : Type 0} (is_clean : A → Type 0) (stood : A → Archive → Type 
   unfolding Step
   finish_done old new t x b o lines finds tells e alone files falls eo removes el ep = record {
     was_clean = falls;
-    leads = λ clean s stands.
+    leads = λ sure s stands.
+        let clean : is_clean new.store = sure refl in
         let here = some_found (flight_of t s.flights) x (finds s.flights stands.flights) in
         let flight = here.0 in
         let ended = ended_flag x flight b tells here.2 e in
@@ -221,4 +244,5 @@ module _ {A : Type 0} (is_clean : A → Type 0) (stood : A → Archive → Type 
         let step : FinishStep s t (Some flight) answer to = rw ended (inl (now, (o, alone flight here.2, refl, made.1, dated.1), refl)) in
         let T : Option Flight → Type 0 = λ y. FinishStep s t y answer to in
         record { to = to; is_one = subst T (sym here.1) step; there = there };
+    unchanged = λ from_archive refused. absurd (false≢true refused);
   }

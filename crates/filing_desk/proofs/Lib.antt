@@ -10,6 +10,8 @@ pub mod DueLemmas
 pub mod PlanLemmas
 pub mod OfficerLemmas
 pub mod FlightLemmas
+pub mod ReasonLemmas
+pub mod FirstLemmas
 pub mod BeginLemmas
 pub mod FilingLemmas
 pub mod OutcomeLemmas

@@ -97,13 +97,15 @@ module _ {A : Type 0} (is_clean : A → Type 0) (stood : A → Archive → Type 
 
   -- something is set
   pub set_by : (old new : Desk A) (c : PlainCommand) (change : Office → Office) → KeepsOthers old new → ((s : Office) → (change s).archive ≡ s.archive) → ((a : Archive) → office_of a new.officers ≡ change (office_of a old.officers)) → ((s : Standing) → StandsFor stood old s → Settles s.office c (change s.office)) → Calls (IsClean is_clean) (StandsFor stood) old (plain c) done new
-  set_by old new c change rest keeps is settles = plain_calls is_clean stood old new c done (cleans old new rest.store) (λ clean s stands.
-      (change s.office, inl (settles s stands), resets old new s (change s.office) rest stands (keeps s.office) (is s.office.archive ∙ ap change stands.officers)))
+  set_by old new c change rest keeps is settles = plain_calls is_clean stood old new c done (cleans old new rest.store) (λ sure s stands.
+      (change s.office, inl (settles s stands), resets old new s (change s.office) rest stands (keeps s.office) (is s.office.archive ∙ ap change stands.officers))) (λ refused. absurd (false≢true refused))
 
   -- nothing is set
   pub not_set : (old new : Desk A) (c : PlainCommand) (a : Answer) → KeepsOthers old new → new.officers ≡ old.officers → ((s : Standing) → StandsFor stood old s → OfficeStep s.office c a s.office) → Calls (IsClean is_clean) (StandsFor stood) old (plain c) a new
-  not_set old new c a rest same step = plain_calls is_clean stood old new c a (cleans old new rest.store) (λ clean s stands.
-      (s.office, step s stands, resets old new s s.office rest stands refl (ap (λ x. office_of s.office.archive x) same ∙ stands.officers)))
+  not_set old new c a rest same step = plain_calls is_clean stood old new c a (cleans old new rest.store) (λ sure s stands. (s.office, step s stands, stays s stands)) (λ refused s stands. stays s stands)
+    where
+      stays : (s : Standing) → StandsFor stood old s → StandsFor stood new s
+      stays s stands = resets old new s s.office rest stands refl (ap (λ x. office_of s.office.archive x) same ∙ stands.officers)
 
   -- what the officers have, as the state does
   pub globals_are : (desk : Desk A) (s : Standing) → StandsFor stood desk s → (office_of s.office.archive desk.officers).globals ≡ s.office.globals

@@ -32,6 +32,7 @@ dropped a p n h = go (keeps a.plan p) refl h
 -- to take over the plan of a text is to revise the plan of the archive
 pub plan_command : (t : List ℕ) (p : Listing) → IsPlanOf t p → IsCommand (set_plan t) (λ a. revise a p)
 plan_command t p is = record {
+  for_archive = refl;
   settles = λ s new made. (p, is, made);
   refuses = λ s n h. let d = dropped s.archive p n h in inr (inr (record { plan = p; is_plan = is; drops = d.0; is_number = d.1 }));
   gives_up = λ s n trouble. (trouble, is.short);

@@ -1,5 +1,5 @@
 -- Calls of a desk about one record.
-use Rattle.std.proofs.Common.{◌≡◌, ◌≤◌, ◌^◌, ℕ, List, Option, Result, Ok, Err, ap, sym, ◌∙◌, subst}
+use Rattle.std.proofs.Common.{◌≡◌, ◌≤◌, ◌^◌, ℕ, List, Option, Result, Ok, Err, refl, ap, sym, ◌∙◌, subst}
 use Rattle.class_plan.specs.Plans.{Listing}
 use Rattle.record_archive.specs.Archive as archives
 use Rattle.record_archive.specs.Archive.{Archive, IsArchive}
@@ -27,21 +27,21 @@ pub record IsOfRecord (c : ℕ → PlainCommand) (command : ℕ → Archive → 
 
 pub holds : (name : List ℕ) → IsOfRecord (hold name) (λ n a. archives.hold a name n)
 holds name = record {
-  is = λ n. record { settles = λ s new h. h; refuses = λ s m h. h; gives_up = λ s m h. h; keeps = λ a b made q. same_keeps a b q (hold_stays a b name n made) };
+  is = λ n. record { for_archive = refl; settles = λ s new h. h; refuses = λ s m h. h; gives_up = λ s m h. h; keeps = λ a b made q. same_keeps a b q (hold_stays a b name n made) };
   stays = λ n a b made. hold_stays a b name n made;
   none = λ n a is large. no_hold a name n is large;
 }
 
 pub releases : (name : List ℕ) → IsOfRecord (release name) (λ n a. archives.release a name n)
 releases name = record {
-  is = λ n. record { settles = λ s new h. h; refuses = λ s m h. h; gives_up = λ s m h. h; keeps = λ a b made q. same_keeps a b q (release_stays a b name n made) };
+  is = λ n. record { for_archive = refl; settles = λ s new h. h; refuses = λ s m h. h; gives_up = λ s m h. h; keeps = λ a b made q. same_keeps a b q (release_stays a b name n made) };
   stays = λ n a b made. release_stays a b name n made;
   none = λ n a is large. no_release a name n is large;
 }
 
 pub destroys : (day : ℕ) → IsOfRecord (λ n. destroy n day) (λ n a. archives.destroy a n day)
 destroys day = record {
-  is = λ n. record { settles = λ s new h. h; refuses = λ s m h. h; gives_up = λ s m h. h; keeps = λ a b made q. same_keeps a b q (destroy_stays a b n day made) };
+  is = λ n. record { for_archive = refl; settles = λ s new h. h; refuses = λ s m h. h; gives_up = λ s m h. h; keeps = λ a b made q. same_keeps a b q (destroy_stays a b n day made) };
   stays = λ n a b made. destroy_stays a b n day made;
   none = λ n a is large. no_destruction a n day is large;
 }

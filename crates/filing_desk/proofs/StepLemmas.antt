@@ -1,5 +1,5 @@
 -- Calls of a desk that have nothing to do with captures in flight.
-use Rattle.std.proofs.Common.{◌≡◌, ℕ, List, [], ◌∷◌, Bool, true, false, Option, None, Result, Ok, Err, inl, inr, refl, ap, sym, ◌∙◌, subst}
+use Rattle.std.proofs.Common.{◌≡◌, ℕ, List, [], ◌∷◌, Bool, true, false, not, if◌then◌else◌, Option, None, Result, Ok, Err, inl, inr, refl, ap, sym, ◌∙◌, subst}
 use Rattle.std.specs.Result.{IsErr, IsErrAnd}
 use Rattle.std.proofs.lemmas.Bool.{false≢true}
 use Rattle.std.specs.List.{AllByRecursion}
@@ -11,21 +11,24 @@ use Rattle.record_archive.specs.declared.fault.ArchiveFault.{ArchiveFault}
 use Rattle.record_archive.specs.declared.fault.ArchiveFault.TheVariants.{Refused, Database, NoMemory}
 use Rattle.record_archive.specs.declared.fault.ArchiveRefusal.{ArchiveRefusal}
 use Rattle.filing_commands.specs.Answers.{Answer, done, refused}
+use Rattle.filing_commands.specs.ArchiveAnswers.{is_for_archive, is_of_archive, is_refused_outside}
 use Rattle.filing_commands.specs.Calls.{Calls}
 use Rattle.filing_commands.specs.Faults.{refused_by, refusal_fault, archive_fault}
 use Rattle.filing_commands.specs.Office.{Office, PlainCommand, OfficeStep, Settles, Refuses, GivesUp, IsMade, IsRefused, IsTrouble, with_archive}
-use Rattle.filing_commands.specs.Standing.{Standing, Flight, Step, plain}
+use Rattle.filing_commands.specs.Standing.{Standing, Flight, Step, plain, is_refusal}
 use Rattle.filing_commands.specs.CallAnswers.{answer_of_done}
 use Rattle.filing_commands.specs.declared.fault.DeskFault.{DeskFault}
 use Rattle.filing_flights.specs.Flights.{AreHeld}
 use Rattle.filing_flights.specs.FlightViews.{FlightView}
 use Rattle.filing_officers.specs.Register.{office_of}
+use Rattle.filing_desk.specs.Filing.{IsArchiveFault}
 use Rattle.filing_desk.specs.Standing.{AreOpenPaths, HasPathsOf, IsClean, StandsFor}
 use Rattle.filing_desk.specs.declared.desk.Desk.{Desk}
-use Rattle.filing_desk.proofs.ArchiveLemmas.{told, no_place}
+use Rattle.filing_desk.proofs.ArchiveLemmas.{fault_told, told, no_place}
 
 -- the command is this one of the archive
 pub record IsCommand (c : PlainCommand) (command : Archive → Result Archive ArchiveRefusal) : Type 0 where
+  pub for_archive : is_for_archive c ≡ true
   pub settles : (s new : Office) → IsMade s (command s.archive) new → Settles s c new
   pub refuses : (s : Office) (n : ℕ) → IsRefused (command s.archive) n → Refuses s c n
   pub gives_up : (s : Office) (n : ℕ) → IsTrouble n → GivesUp s c n
@@ -37,6 +40,15 @@ made s a r e = let P : Result Archive ArchiveRefusal → Type 0 = λ x. IsMade s
 
 refusal : (r : ArchiveRefusal) (result : Result Archive ArchiveRefusal) → result ≡ Err r → IsRefused result (number_of r)
 refusal r result e = let P : Result Archive ArchiveRefusal → Type 0 = λ x. IsRefused x (number_of r) in subst P (sym e) refl
+
+-- an answer to a command of the archive, other than for lack of memory or by the database, comes from the archive
+pub of_archive : (c : PlainCommand) (a : Answer) → is_for_archive c ≡ true → is_refused_outside a ≡ false → is_of_archive (plain c) a ≡ true
+of_archive c a for_archive inside = go (is_for_archive c) (is_refused_outside a) for_archive inside
+  where
+    go : (x y : Bool) → x ≡ true → y ≡ false → (if x then not y else false) ≡ true
+    go true false e f = refl
+    go true true e f = absurd cc
+    go false y e f = absurd cc
 
 -- the answer to a fault
 pub done_fault : (result : Result (Unit {0}) DeskFault) (fault : DeskFault) → IsErr result → IsErrAnd result (λ f. f ≡ fault) → answer_of_done result ≡ refused_by fault
@@ -55,6 +67,11 @@ refused_step s c command (Refused r) is refuses = refusal_step s c command r is 
 refused_step s c command (Database e) is refuses = inr (89, is.gives_up s 89 (inr refl), refl, refl)
 refused_step s c command NoMemory is refuses = inr (99, is.gives_up s 99 (inl refl), refl, refl)
 
+-- the same, where only a refusal of the archive itself is known to be right
+either_step : {E : Type 0} (s : Office) (c : PlainCommand) (command : Archive → Result Archive ArchiveRefusal) (f : ArchiveFault E) → IsCommand c command → IsArchiveFault (archive_fault f) → (is_refused_outside (refused_by (archive_fault f)) ≡ false → WhereRefused (λ r. command s.archive ≡ Err r) f) → OfficeStep s c (refused_by (archive_fault f)) s
+either_step s c command f is (inl trouble) refuses = inr (trouble.0, is.gives_up s trouble.0 trouble.1, trouble.2, refl)
+either_step s c command f is (inr inside) refuses = refused_step s c command f is (refuses inside)
+
 -- a plan that drops no class has the classes of flights
 still_classes : (p q : Listing) (fs : List Flight) → ((x : List ℕ) → has p.rows x ≡ true → has q.rows x ≡ true) → AllByRecursion (HasPathsOf p) fs → AllByRecursion (HasPathsOf q) fs
 still_classes p q [] keeps all = tt
@@ -67,13 +84,14 @@ module _ {A : Type 0} (is_clean : A → Type 0) (stood : A → Archive → Type 
     pub flights : new.flights ≡ old.flights
     pub last : new.last ≡ old.last
 
-  pub plain_calls : (old new : Desk A) (c : PlainCommand) (a : Answer) → (is_clean new.store → is_clean old.store) → (is_clean new.store → (s : Standing) → StandsFor stood old s → (b : Office) × OfficeStep s.office c a b × StandsFor stood new (record s { office = b })) → Calls (IsClean is_clean) (StandsFor stood) old (plain c) a new
+  pub plain_calls : (old new : Desk A) (c : PlainCommand) (a : Answer) → (is_clean new.store → is_clean old.store) → ((is_of_archive (plain c) a ≡ true → is_clean new.store) → (s : Standing) → StandsFor stood old s → (b : Office) × OfficeStep s.office c a b × StandsFor stood new (record s { office = b })) → (is_refusal a ≡ true → (s : Standing) → StandsFor stood old s → StandsFor stood new s) → Calls (IsClean is_clean) (StandsFor stood) old (plain c) a new
   unfolding Step
-  plain_calls old new c a falls leads = record {
+  plain_calls old new c a falls leads keeps = record {
     was_clean = falls;
-    leads = λ clean s stands.
-        let l = leads clean s stands in
+    leads = λ sure s stands.
+        let l = leads sure s stands in
         record { to = record s { office = l.0 }; is_one = (l.0, l.1, refl); there = l.2 };
+    unchanged = λ from_archive refused. keeps refused;
   }
 
   -- the desk represents the state with the archive that its store represents now
@@ -101,20 +119,22 @@ module _ {A : Type 0} (is_clean : A → Type 0) (stood : A → Archive → Type 
 
   -- the archive's command is done
   pub done_by : {E : Type 0} (old new : Desk A) (c : PlainCommand) (command : Archive → Result Archive ArchiveRefusal) → IsCommand c command → KeepsRest old new → ((a b : Archive) → command a ≡ Ok b → AreOpenPaths old.open_paths a.plan → AreOpenPaths new.open_paths b.plan) → CarriesOut {X = Unit {0}} {E = E} is_clean stood old.store new.store command Quietly (Ok tt) → Calls (IsClean is_clean) (StandsFor stood) old (plain c) done new
-  done_by old new c command is rest paths call = plain_calls old new c done call.was_clean (λ clean s stands.
+  done_by old new c command is rest paths call = plain_calls old new c done call.was_clean (λ sure s stands.
+      let clean : is_clean new.store = sure (of_archive c done is.for_archive refl) in
       let b = becomes new.store (command s.office.archive) (call.does clean s.office.archive stands.store).0 in
       let step : Settles s.office c (with_archive s.office b.0) = is.settles s.office (with_archive s.office b.0) (made s.office b.0 (command s.office.archive) b.1) in
-      (with_archive s.office b.0, inl step, restands old new s b.0 rest stands b.2 (paths s.office.archive b.0 b.1 stands.open_paths) (is.keeps s.office.archive b.0 b.1)))
+      (with_archive s.office b.0, inl step, restands old new s b.0 rest stands b.2 (paths s.office.archive b.0 b.1 stands.open_paths) (is.keeps s.office.archive b.0 b.1))) (λ refused. absurd (false≢true refused))
 
   -- the archive's command is refused, or given up
   pub refused_by_archive : {E : Type 0} (old new : Desk A) (c : PlainCommand) (command : Archive → Result Archive ArchiveRefusal) (f : ArchiveFault E) (a : Answer) → IsCommand c command → KeepsRest old new → new.open_paths ≡ old.open_paths → CarriesOut {X = Unit {0}} {E = E} is_clean stood old.store new.store command Quietly (Err f) → a ≡ refused_by (archive_fault f) → Calls (IsClean is_clean) (StandsFor stood) old (plain c) a new
-  refused_by_archive old new c command f a is rest same call is_told = plain_calls old new c a call.was_clean (λ clean s stands.
+  refused_by_archive old new c command f a is rest same call is_told = plain_calls old new c a call.was_clean (λ sure s stands.
       let h = call.does s.office.archive stands.store in
       let P : Answer → Type 0 = λ x. OfficeStep s.office c x s.office in
-      (s.office, subst P (sym is_told) (refused_step s.office c command f is (h.1 clean)), still_stands old new s rest same stands h.0))
+      let step : OfficeStep s.office c (refused_by (archive_fault f)) s.office = either_step s.office c command f is (fault_told f) (λ inside. h.1 (sure (of_archive c a is.for_archive (ap is_refused_outside is_told ∙ inside)))) in
+      (s.office, subst P (sym is_told) step, still_stands old new s rest same stands h.0)) (λ refused s stands. still_stands old new s rest same stands (call.does s.office.archive stands.store).0)
 
   -- no record has the number
   pub refused_by_number : ((x : A) (a : Archive) → stood x a → IsArchive a) → (desk : Desk A) (c : PlainCommand) (command : Archive → Result Archive ArchiveRefusal) (r : ArchiveRefusal) (a : Answer) → IsCommand c command → ((x : Archive) → IsArchive x → command x ≡ Err r) → a ≡ refused_by (refusal_fault r) → Calls (IsClean is_clean) (StandsFor stood) desk (plain c) a desk
-  refused_by_number is_archive desk c command r a is none is_told = plain_calls desk desk c a (λ clean. clean) (λ clean s stands.
+  refused_by_number is_archive desk c command r a is none is_told = plain_calls desk desk c a (λ clean. clean) (λ sure s stands.
       let P : Answer → Type 0 = λ x. OfficeStep s.office c x s.office in
-      (s.office, subst P (sym is_told) (refusal_step s.office c command r is (none s.office.archive (is_archive desk.store s.office.archive stands.store))), stands))
+      (s.office, subst P (sym is_told) (refusal_step s.office c command r is (none s.office.archive (is_archive desk.store s.office.archive stands.store))), stands)) (λ refused s stands. stands)

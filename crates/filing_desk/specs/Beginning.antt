@@ -1,6 +1,5 @@
 -- Why one more capture of a desk is refused, and how one begins.
-use Rattle.std.specs.Prelude.{◌≡◌, ℕ, ◌≤◌, List, length, flat_map, Option, Some, None}
-use denote.Ref.{Bor}
+use Rattle.std.specs.Prelude.{◌≡◌, ℕ, List, length, Option, Some, None}
 use Rattle.jiff_core.specs.declared.civil.date.Date.{Date}
 use Rattle.class_plan.specs.Plans.{Listing, is_open_in}
 use Rattle.filing_case.specs.Message.{is_among}
@@ -10,8 +9,6 @@ use Rattle.filing_commands.specs.Faults.{refusal_of}
 use Rattle.filing_commands.specs.Scripts.{meanings_of}
 use Rattle.filing_commands.specs.Standing.{begin_refusal}
 use Rattle.filing_commands.specs.declared.fault.DeskFault.{DeskFault}
-use Rattle.filing_commands.specs.declared.payload.Payload.{Payload}
-use Rattle.filing_commands.specs.declared.payload.Payload.TheVariants as payload
 use Rattle.filing_flights.specs.Begun.{HoldsBegun}
 use Rattle.filing_flights.specs.FlightViews.{FlightView}
 use Rattle.filing_officers.specs.Register.{PinsFor, officer_at}
@@ -24,16 +21,6 @@ against_begin desk moment size = begin_refusal (length desk.flights) desk.last m
 -- the fault is that number, and is shown without an offset
 abbrev pub IsNumbered : DeskFault → Option ℕ → Type 0
 IsNumbered f n = (n ≡ Some (refusal_of f).number) × ((refusal_of f).offset ≡ None)
-
--- a payload is not too long: its octets are within the limit, or there was no memory for them
-abbrev pub IsShort : (limit : ℕ) → Payload → Type 0
-IsShort limit (payload.Whole v) = length v.items ≤ limit
-IsShort limit payload.TooLong = ⊥
-IsShort limit payload.NoMemory = Unit {0}
-
--- a message that comes in pieces
-abbrev pub whole_message : (pieces : List (Bor (List ℕ))) → List ℕ
-whole_message pieces = flat_map (λ p. p.now) pieces
 
 -- all of a desk is as it was, except that open paths may be kept
 pub record KeepsAll {A : Type 0} (old new : Desk A) : Type 0 where

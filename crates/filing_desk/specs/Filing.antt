@@ -1,5 +1,5 @@
 -- What the filing of an outcome makes of an archive.
-use Rattle.std.specs.Prelude.{◌≡◌, ◌⊎◌, ℕ, List, map, None, Result, Ok, Err, Vec}
+use Rattle.std.specs.Prelude.{◌≡◌, ◌⊎◌, ℕ, List, map, false, None, Result, Ok, Err, Vec}
 use Rattle.std.specs.declared.alloc.Global.{Global}
 use Rattle.record_archive.specs.Archive.{Archive, capture, capture_lines, AreClasses}
 use Rattle.record_archive.specs.Lines.{line_view}
@@ -7,9 +7,15 @@ use Rattle.record_archive.specs.Calls.{Makes}
 use Rattle.record_archive.specs.declared.fault.ArchiveRefusal.TheVariants.{Full}
 use Rattle.record_archive.specs.declared.line.Line.{Line}
 use Rattle.filing_commands.specs.Answers.{refused}
+use Rattle.filing_commands.specs.ArchiveAnswers.{is_refused_outside}
 use Rattle.filing_commands.specs.Faults.{refused_by}
 use Rattle.filing_commands.specs.Office.{IsTrouble}
 use Rattle.filing_commands.specs.declared.fault.DeskFault.{DeskFault}
+
+-- there is no memory (99) or the database refuses (89), or else the archive itself refuses
+abbrev pub IsArchiveFault : DeskFault → Type 0
+IsArchiveFault f = ((n : ℕ) × IsTrouble n × (refused_by f ≡ refused n None))
+    ⊎ (is_refused_outside (refused_by f) ≡ false)
 
 -- nothing is filed: there is no memory (99), the database refuses (89), or the numbers of records are used up (87)
 pub record IsNotFiled (a : Archive) (body : List ℕ) (on : ℕ) (classes : List (List ℕ)) (f : DeskFault) : Type 0 where

@@ -1,57 +1,30 @@
 //! Captures in flight.
 
-ghost use Rattle.std.specs.Prelude.{◌≡◌, ℕ, List, ◌≤◌, ◌<◌, ◌/◌, ◌⊎◌, pos, true, false, length, nat_lt, Some, None, IfOk, IfErr, OnOk, MatchOption, MatchResult};
+ghost use Rattle.std.specs.Prelude.{◌≡◌, ℕ, List, ◌≤◌, ◌<◌, ◌/◌, pos, length, IfOk, IfErr, OnOk, MatchOption};
 ghost use Rattle.jiff.specs.Words.{epoch_day};
 ghost use Rattle.class_plan.specs.Calendar.{number_of_day};
 ghost use Rattle.class_plan.specs.Dates.{IsCaptureDay};
 ghost use Rattle.class_plan.specs.Plans.{is_open_in};
 ghost use Rattle.filing_case.specs.Message.{is_among};
 ghost use Rattle.filing_commands.specs.Limits.{greatest_message};
-ghost use Rattle.filing_commands.specs.Payloads.{IsOf};
 ghost use Rattle.filing_commands.specs.Standing as commands;
 ghost use Rattle.filing_commands.specs.Standing.{Standing, flight_of};
 ghost use Rattle.filing_commands.specs.CallAnswers.{answer_of_capture, answer_of_ticket, answer_of_turn};
-ghost use Rattle.filing_commands.specs.declared.fault.DeskFault.TheVariants.{NoMemory};
-ghost use Rattle.filing_desk.specs.Beginning.{IsEntered, IsNumbered, IsShort, KeepsAll, against_begin};
-ghost use Rattle.filing_desk.specs.Filing.{Files};
+ghost use Rattle.filing_desk.specs.Beginning.{IsEntered, IsNumbered, KeepsAll, against_begin};
+ghost use Rattle.filing_desk.specs.Filing.{Files, IsArchiveFault};
+ghost use Rattle.filing_desk.specs.Messages.{IsMessageOf, IsShort, whole_message};
 ghost use Rattle.filing_desk.specs.Standing.{AreOpenPaths, IsShownBy};
 
 use crate::desk::Desk;
+use crate::messages::Message;
 use class_paths::Paths;
 use class_plan::{Date, day_of};
-use filing_commands::{Capture, DeskFault, MAX_MESSAGE_OCTETS, Payload, Turn};
-use filing_flights::{Flight, PinnedPaths, path_vectors};
-use filing_machine::Machine;
+use filing_commands::{Capture, DeskFault, Payload, Turn};
+use filing_flights::{Flight, PinnedPaths, captures_hold_flights, path_vectors};
+use filing_machine::{Machine, every_run_ends};
 use filing_verify::Verified;
 use record_archive::{ArchiveRefusal, Line, Records, are_classes};
 use std::alloc::{AllocError, Global};
-
-/// Whether a payload has more octets than a message may have.
-fn is_too_long(message: &Payload) -> bool
-    ensures told { (m : List ℕ) → IsOf greatest_message message.now m
-        → result ≡ nat_lt greatest_message (length m) }
-    ensures short { result ≡ false → IsShort greatest_message message.now }
-{
-    match message {
-        Payload::Whole(octets) => octets.len() > MAX_MESSAGE_OCTETS,
-        Payload::TooLong => true,
-        Payload::NoMemory => false,
-    }
-}
-
-/// The octets of a message, which the caller has found not too long; 99 where there was no memory for them.
-fn octets_of(message: Payload) -> Result<Vec<u8>, DeskFault>
-    requires { IsShort greatest_message message }
-    ensures octets { (m : List ℕ) → IsOf greatest_message message m
-        → IfOk result (λ v. v.items ≡ m) }
-    ensures within { IfOk result (λ v. length v.items ≤ greatest_message) }
-    ensures refused { IfErr result (λ f. f ≡ NoMemory) }
-{
-    match message {
-        Payload::Whole(octets) => Ok(octets),
-        Payload::TooLong | Payload::NoMemory => Err(DeskFault::NoMemory),
-    }
-}
 
 /// Makes the records of a capture in an archive, all or none. Refused with 87 (numbers used up), 89 or 99. A path that is
 /// no class of the plan gives 88; no capture of a desk that represents a state files into such a path.
@@ -63,6 +36,7 @@ fn file_outcome<A: Records>(
 ) -> Result<Vec<Line>, DeskFault>
     ensures files { Files A.clean A.stands store.old store.new flight.now.message
         (number_of_day flight.now.day) classes.now result }
+    ensures fault { IfErr result IsArchiveFault }
     ensures was_clean { A.clean store.new → A.clean store.old }
 {
     let classes = path_vectors(alloc, classes)?;
@@ -78,19 +52,19 @@ impl<A: Records> Desk<A> {
     ghost use Rattle.filing_desk.specs.Standing.{IsClean, StandsFor};
 
     /// The day of a moment, where one more capture may begin. Else 94, 95, 90 or 97, judged in this order.
-    fn judge_begin(&self, moment: u64, message: &Payload) -> Result<Date, DeskFault>
+    fn judge_begin(&self, moment: u64, message: &Message<'_>) -> Result<Date, DeskFault>
         ensures day { IfOk result (λ d. IsCaptureDay d × (epoch_day d ≡ pos (moment / 86400))) }
-        ensures short { OnOk result (IsShort greatest_message message.now) }
+        ensures short { OnOk result (IsShort message.now) }
         ensures few { OnOk result ((length self.now.flights < 64) × (self.now.last < 4294967295)) }
-        ensures allowed { (m : List ℕ) → IsOf greatest_message message.now m →
+        ensures allowed { (m : List ℕ) → IsMessageOf message.now m →
             OnOk result (against_begin self.now moment (length m) ≡ None) }
-        ensures refused { (m : List ℕ) → IsOf greatest_message message.now m
+        ensures refused { (m : List ℕ) → IsMessageOf message.now m
             → IfErr result (λ f. IsNumbered f (against_begin self.now moment (length m))) }
     {
         let Some(day) = day_of(moment) else {
             return Err(DeskFault::BadMoment);
         };
-        if is_too_long(message) {
+        if message.is_too_long() {
             return Err(DeskFault::MessageTooLong);
         }
         if self.flights.is_full() {
@@ -142,6 +116,29 @@ impl<A: Records> Desk<A> {
         Ok(flight)
     }
 
+    /// Begins a capture as `begin` says. Nothing is allocated, and no pieces are joined, before the call is judged.
+    fn begin_message(
+        &mut self,
+        officer: &[u8],
+        moment: u64,
+        message: Message<'_>,
+    ) -> Result<(u32, u32), DeskFault>
+        ensures { (m : List ℕ) → IsMessageOf message.entry m
+            → Calls (IsClean A.clean) (StandsFor A.stands) self.old
+            (commands.begin officer.now moment m) (answer_of_ticket result) self.new }
+    {
+        captures_hold_flights();
+        every_run_ends();
+        let day = self.judge_begin(moment, &message)?;
+        let octets = message.octets(self.alloc)?;
+        let ticket = self.last + 1;
+        let flight = self.enter(ticket, officer, octets, day)?;
+        let budget = flight.program().budget();
+        self.flights.push(flight)?;
+        self.last = ticket;
+        Ok((ticket, budget))
+    }
+
     /// Begins a capture of a message by an officer's program at a moment in seconds since 1970-01-01T00:00:00Z, as
     /// `Registry` says. It answers the ticket and the budget in steps. Refused with 94 (after 2199), 95 (more than
     /// 8,388,608 octets), 90 (sixty-four captures in flight) or 97 (tickets used up), in this order.
@@ -155,14 +152,23 @@ impl<A: Records> Desk<A> {
             (λ m. commands.begin officer.now moment m)
             (answer_of_ticket result) self.new }
     {
-        let day = self.judge_begin(moment, &message)?;
-        let octets = octets_of(message)?;
-        let ticket = self.last + 1;
-        let flight = self.enter(ticket, officer, octets, day)?;
-        let budget = flight.program().budget();
-        self.flights.push(flight)?;
-        self.last = ticket;
-        Ok((ticket, budget))
+        self.begin_message(officer, moment, Message::Whole(message))
+    }
+
+    /// Begins a capture of a message that comes in pieces, of which each may be empty. It is answered as `begin` is for
+    /// the pieces one after the other: 94 before the pieces are looked at, 95 by their lengths, and 90 or 97, before
+    /// they are joined. The capture keeps the octets once, and none of the pieces.
+    pub fn begin_pieces(
+        &mut self,
+        officer: &[u8],
+        moment: u64,
+        pieces: &[&[u8]],
+    ) -> Result<(u32, u32), DeskFault>
+        ensures { Calls (IsClean A.clean) (StandsFor A.stands) self.old
+            (commands.begin officer.now moment (whole_message pieces.now))
+            (answer_of_ticket result) self.new }
+    {
+        self.begin_message(officer, moment, Message::Pieces(pieces))
     }
 
     /// Lets the capture of a ticket make `count` more steps, at most, as `Registry` says. Refused with 91 (no such
@@ -180,6 +186,7 @@ impl<A: Records> Desk<A> {
         ensures { Calls (IsClean A.clean) (StandsFor A.stands) self.old (commands.finish ticket)
             (answer_of_capture result) self.new }
     {
+        captures_hold_flights();
         let Some(flight) = self.flights.get(ticket) else {
             return Err(DeskFault::NoTicket);
         };

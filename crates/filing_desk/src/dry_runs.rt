@@ -19,6 +19,7 @@ use crate::payloads::{judge_image, judge_message, judge_script};
 use filing_commands::{DeskFault, Payload};
 use filing_gen::{GenFault, compile_with};
 use filing_machine::{Case, run};
+use filing_table::a_run_ends_once;
 use filing_verify::Verified;
 use record_archive::Records;
 use script_library::{Shelf, Shelves};
@@ -46,6 +47,7 @@ fn outcome_of<C: Case>(
         (program_of (tree_of script.now.script))) }
     ensures refused { IfErr result (λ f. f ≡ NoMemory) }
 {
+    a_run_ends_once();
     match compile_with(alloc, script, None, shelves) {
         Ok(program) => {
             let outcome = run_image(alloc, &program, case)?;

@@ -5,7 +5,7 @@
 //! - `archive`: the calls that reach its archive;
 //! - `officers`: the scripts that are kept, and what officers set;
 //! - `captures`: captures in flight;
-//! - `pieces`: messages that come in pieces;
+//! - `messages`: messages that are to be captured, as payloads or in pieces;
 //! - `dry_runs`: runs that store nothing;
 //! - `payloads`: payloads as scripts, images and cases of messages;
 //! - `registry`: the desk as a `Registry`.
@@ -19,9 +19,9 @@ mod captures;
 mod classes;
 mod desk;
 mod dry_runs;
+mod messages;
 mod officers;
 mod payloads;
-mod pieces;
 mod registry;
 
 pub use desk::Desk;

@@ -11,6 +11,7 @@ use Rattle.record_archive.specs.Archive.{AreClasses}
 use Rattle.filing_case.specs.Message.{is_among}
 use Rattle.filing_commands.specs.Standing.{Flight}
 use Rattle.filing_flights.specs.FlightViews.{FlightView, Holds, IsClass}
+use Rattle.filing_flights.specs.Laws.{HasOpen}
 
 open_is_there : (o : Option Row) → unwrap_or (option_map (λ r. r.is_open) o) false ≡ true → is_some o ≡ true
 open_is_there None e = absurd cc
@@ -19,10 +20,6 @@ open_is_there (Some r) e = refl
 -- an open path is a class
 pub open_has : (p : Listing) (q : List ℕ) → is_open_in p q ≡ true → has p.rows q ≡ true
 open_has p q e = open_is_there (row_at q p.rows) e
-
--- the plan has each path that was open at the beginning of a capture
-abbrev pub HasOpen : FlightView → Listing → Type 0
-HasOpen x p = (q : List ℕ) → is_among x.case.paths q ≡ true → has p.rows q ≡ true
 
 are_there : (x : FlightView) (p : Listing) (cs : List (List ℕ)) → has p.rows unfiled ≡ true → HasOpen x p → AllByRecursion (IsClass x) cs → AllByRecursion (λ q. has p.rows q ≡ true) cs
 are_there x p [] d opens all = tt

@@ -2,3 +2,4 @@ pub mod Machines
 pub mod FlightViews
 pub mod Begun
 pub mod Flights
+pub mod Laws

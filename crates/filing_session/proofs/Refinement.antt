@@ -1,14 +1,22 @@
 -- Runs of desks, as runs of the states that they represent.
-use Rattle.std.proofs.Common.{◌++◌, ◌∷◌, [], ℕ, List, take, refl, sym, subst}
+use Rattle.std.proofs.Common.{◌≡◌, ◌++◌, ◌∷◌, [], ℕ, List, Bool, true, false, if◌then◌else◌, take, refl, sym, subst}
 use Rattle.filing_commands.specs.Answers.{Answer}
-use Rattle.filing_commands.specs.Calls.{Calls}
+use Rattle.filing_commands.specs.Calls.{Calls, Leads}
 use Rattle.filing_commands.specs.Standing.{Standing, Step}
-use Rattle.filing_session.specs.Laws.{Refines}
+use Rattle.filing_session.specs.Laws.{Refines, SureCalls, is_item_of_archive, some_of_archive}
 use Rattle.filing_session.specs.Session.{Item, Call, UnknownCommand, WrongWord, Session, ItemStep, Run, IsServed, IsAnswered, IsCutInAnswer, IsCutInEnding}
+
+first_holds : (x y : Bool) → x ≡ true → (if x then true else y) ≡ true
+first_holds true y e = refl
+first_holds false y e = absurd cc
+
+later_holds : (x y : Bool) → y ≡ true → (if x then true else y) ≡ true
+later_holds true y e = refl
+later_holds false y e = e
 
 module _ {D : Type 0} (clean : D → Type 0) (stands : D → Standing → Type 0) where
   item_refines : (i : Item) (a : Answer) → Refines clean stands (λ old. ItemStep (Calls clean stands) old i a) (λ s. ItemStep Step s i a)
-  item_refines (Call c) a old new step ok = (step.was_clean ok, step.leads ok)
+  item_refines (Call c) a old new step ok = (step.was_clean ok, step.leads (λ from_archive. ok))
   item_refines UnknownCommand a old new step ok =
       (subst clean step.1 ok, λ s there. let P : D → Type 0 = λ d. stands d s in record { to = s; is_one = (step.0, refl); there = subst P (sym step.1) there })
   item_refines WrongWord a old new step ok =
@@ -27,6 +35,37 @@ module _ {D : Type 0} (clean : D → Type 0) (stands : D → Standing → Type 0
       )
   run_refines [] (a ∷ answers) old new run ok = absurd run
   run_refines (i ∷ items) [] old new run ok = absurd run
+
+  item_sure : (i : Item) (a : Answer) (old new : D) → ItemStep (Calls clean stands) old i a new → (is_item_of_archive i a ≡ true → clean new) → ItemStep (SureCalls clean stands) old i a new
+  item_sure (Call c) a old new step sure = (step, sure)
+  item_sure UnknownCommand a old new step sure = step
+  item_sure WrongWord a old new step sure = step
+
+  pub run_sure : (items : List Item) (answers : List Answer) (old new : D) → Run (Calls clean stands) old items answers new → (some_of_archive items answers ≡ true → clean new) → Run (SureCalls clean stands) old items answers new
+  run_sure [] [] old new run sure = run
+  run_sure (i ∷ items) (a ∷ answers) old new run sure =
+      let here = is_item_of_archive i a in
+      let after = some_of_archive items answers in (
+        run.0,
+        item_sure i a old run.0 run.1 (λ first. (run_refines items answers run.0 new run.2 (sure (first_holds here after first))).0),
+        run_sure items answers run.0 new run.2 (λ later. sure (later_holds here after later)),
+      )
+  run_sure [] (a ∷ answers) old new run sure = absurd run
+  run_sure (i ∷ items) [] old new run sure = absurd run
+
+  item_leads : (i : Item) (a : Answer) (old new : D) → ItemStep (SureCalls clean stands) old i a new → (s : Standing) → stands old s → Leads stands new (λ to. ItemStep Step s i a to)
+  item_leads (Call c) a old new step s there = step.0.leads step.1 s there
+  item_leads UnknownCommand a old new step s there = let P : D → Type 0 = λ d. stands d s in record { to = s; is_one = (step.0, refl); there = subst P (sym step.1) there }
+  item_leads WrongWord a old new step s there = let P : D → Type 0 = λ d. stands d s in record { to = s; is_one = (step.0, refl); there = subst P (sym step.1) there }
+
+  pub run_leads : (items : List Item) (answers : List Answer) (old new : D) → Run (SureCalls clean stands) old items answers new → (s : Standing) → stands old s → Leads stands new (λ to. Run Step s items answers to)
+  run_leads [] [] old new run s there = let P : D → Type 0 = λ d. stands d s in record { to = s; is_one = refl; there = subst P (sym run) there }
+  run_leads (i ∷ items) (a ∷ answers) old new run s there =
+      let mid = item_leads i a old run.0 run.1 s there in
+      let end = run_leads items answers run.0 new run.2 mid.to mid.there in
+      record { to = end.to; is_one = (mid.to, mid.is_one, end.is_one); there = end.there }
+  run_leads [] (a ∷ answers) old new run s there = absurd run
+  run_leads (i ∷ items) [] old new run s there = absurd run
 
   pub served_refines : (session : Session) (old written : List ℕ) → Refines clean stands (λ desk. IsServed (Calls clean stands) session desk old written) (λ s. IsServed Step session s old written)
   served_refines session old written desk new (answers, run, wrote) ok =

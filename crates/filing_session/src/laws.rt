@@ -4,7 +4,7 @@ ghost use Rattle.std.specs.Prelude.{ℕ, List};
 ghost use Rattle.filing_commands.specs.Answers.{Answer};
 ghost use Rattle.filing_commands.specs.Calls.{Calls};
 ghost use Rattle.filing_commands.specs.Standing.{Step};
-ghost use Rattle.filing_session.specs.Laws.{Refines};
+ghost use Rattle.filing_session.specs.Laws.{Refines, RunsAreSure, RunsLead};
 ghost use Rattle.filing_session.specs.Session.{Item, Session, Run, IsServed, IsAnswered, IsCutInAnswer, IsCutInEnding};
 
 use crate::input::Input;
@@ -13,8 +13,12 @@ use crate::stream::{Sink, Source};
 use filing_commands::Registry;
 
 /// What the contract of `serve` says about a registry holds for the states that the registry represents. Each state
-/// that it represents before the session leads, by the steps of the commands, to one that it represents after it.
+/// that it represents before the session leads, by the steps of the commands, to one that it represents after it. Only
+/// an answer that comes from the archive needs a clean registry: whatever becomes of the disk afterwards, turns,
+/// refusals of tickets and the like are right (`leads`).
 pub fn sessions_refine_states<R: Registry>()
+    ensures sure { RunsAreSure R.clean R.stands }
+    ensures leads { RunsLead R.clean R.stands }
     ensures done { (items : List Item) (answers : List Answer) → Refines R.clean R.stands
         (λ desk. Run (Calls R.clean R.stands) desk items answers)
         (λ s. Run Step s items answers) }

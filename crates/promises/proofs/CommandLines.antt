@@ -4,7 +4,7 @@ use Rattle.filing_commands.specs.Answers.{Answer}
 use Rattle.filing_commands.specs.Standing.{Standing, Step}
 use Rattle.filing_session.specs.Session.{Item, Call, UnknownCommand, WrongWord}
 use Rattle.filing_session.specs.Session as session
-use Rattle.filing_session.proofs.Refinement.{run_refines}
+use Rattle.filing_session.specs.Laws.{RunsLead}
 use Rattle.promises.specs.Lines.{LineSession, IsSession, answers_in, commands_in}
 use Rattle.promises.specs.Runs.{Run}
 
@@ -21,10 +21,10 @@ commands_run s new (WrongWord ∷ items) (a ∷ answers) h =
 commands_run s new [] (a ∷ answers) h = absurd h
 commands_run s new (i ∷ items) [] h = absurd h
 
-module _ {D : Type 0} (clean : D → Type 0) (stands : D → Standing → Type 0) where
+module _ {D : Type 0} (clean : D → Type 0) (stands : D → Standing → Type 0) (leads : RunsLead clean stands) where
   pub is_session : (x : LineSession clean stands) → IsSession stands x.state x.items x.answers x.new
   is_session x =
-      let led = (run_refines clean stands x.items x.answers x.old x.new x.run x.is_clean).1 x.state x.at_begin in
+      let led = leads x.items x.answers x.old x.new x.run x.state x.at_begin in
       record {
         of_commands = record { commands = commands_in x.items; answers = answers_in x.items x.answers; new = led.to; run = commands_run x.state led.to x.items x.answers led.is_one };
         commands = refl;

@@ -12,6 +12,7 @@ use Rattle.promises.specs.Beginnings.{tickets_given, AreNumbersUpTo}
 use Rattle.promises.specs.Runs.{IsReached, Run}
 use Rattle.promises.specs.Turns.{HasEnded}
 use Rattle.promises.proofs.Changes.{Change, step_change}
+use Rattle.promises.proofs.CitedLaws.{LengthsAreOne, RunsEnd}
 use Rattle.promises.proofs.Pinned.{within_budget}
 use Rattle.promises.proofs.Refusals.{allowed_room}
 use Rattle.promises.proofs.TicketLemmas.{granted_more, length-grant, length-without}
@@ -100,9 +101,9 @@ pinned_of t (g ∷ fs) f h e = go (g.ticket == t) refl (pinned_of t fs f h.1)
     go false is rest = rest (rw is at e)
 
 -- a capture that was granted as many turns as its budget has come to its end
-pub enough_turns : (s : Standing) (t : ℕ) (f : Flight) → IsReached s → flight_of t s.flights ≡ Some f → f.pinned.budget ≤ f.granted → HasEnded f
-enough_turns s t f h e enough =
-    let within = (within_budget f (pinned_of t s.flights f (reached_within s h).pinned e)).0 in
+pub enough_turns : RunsEnd → LengthsAreOne → (s : Standing) (t : ℕ) (f : Flight) → IsReached s → flight_of t s.flights ≡ Some f → f.pinned.budget ≤ f.granted → HasEnded f
+enough_turns ends_within one_step s t f h e enough =
+    let within = (within_budget ends_within one_step f (pinned_of t s.flights f (reached_within s h).pinned e)).0 in
     omega (arith, within, enough)
 
 -- ---- the tickets given

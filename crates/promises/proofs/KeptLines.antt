@@ -4,10 +4,11 @@ use Rattle.filing_commands.specs.Answers.{Answer, refused}
 use Rattle.filing_commands.specs.Standing.{Standing, Step}
 use Rattle.promises.specs.Alike.{AreAlike, AllAlike}
 use Rattle.promises.specs.Serial.{Serial, SerialStep, SameButTurns, forget, is_struck}
+use Rattle.promises.proofs.CitedLaws.{OutcomesAreOne, ProgramsAreOne, TextsAreOne}
 use Rattle.promises.proofs.SerialOnce.{step_once}
 use Rattle.promises.proofs.Sessions.{Follows, step_follows}
 use Rattle.filing_session.specs.Session.{Item, Call, UnknownCommand, WrongWord, ItemStep, Run, session_in}
-use Rattle.filing_session.proofs.Refinement.{run_refines}
+use Rattle.filing_session.specs.Laws.{RunsLead}
 use Rattle.promises.specs.Lines.{is_struck_item, kept_items, kept_replies, LineSession, ServedSession, EqualLinesLeft, ReplyAlike, LeaveTheSame, AreServedAlike}
 
 -- items with their answers, one after the other, none of them struck
@@ -34,11 +35,6 @@ item_follows s WrongWord a new h = (h.0, ap forget h.1)
 refused_alike : (a b : Answer) (n : ℕ) → a ≡ refused n None → b ≡ refused n None → AreAlike a b
 refused_alike a b n h k = rw (h, k) (inl refl)
 
-item_once : (s : Serial) (i : Item) (a b : Answer) (x y : Serial) → is_struck_item i a ≡ false → is_struck_item i b ≡ false → ItemStep SerialStep s i a x → ItemStep SerialStep s i b y → AreAlike a b × (x ≡ y)
-item_once s (Call c) a b x y d e h k = step_once s c a b x y d e h k
-item_once s UnknownCommand a b x y d e h k = (refused_alike a b 70 h.0 k.0, h.1 ∙ sym k.1)
-item_once s WrongWord a b x y d e h k = (refused_alike a b 71 h.0 k.0, h.1 ∙ sym k.1)
-
 joined : (struck : Bool) (s mid new : Serial) (i : Item) (a : Answer) (items : List Item) (answers : List Answer) → is_struck_item i a ≡ struck → ItemFollows struck s i a mid → SerialItems mid (kept_items items answers) (kept_replies items answers) new → SerialItems s (kept_items (i ∷ items) (a ∷ answers)) (kept_replies (i ∷ items) (a ∷ answers)) new
 joined true s mid new i a items answers e f rest =
     let P : Serial → Type 0 = λ x. SerialItems x (kept_items items answers) (kept_replies items answers) new in
@@ -52,35 +48,41 @@ lines s (i ∷ items) (a ∷ answers) new h =
 lines s [] (a ∷ answers) new h = absurd h
 lines s (i ∷ items) [] new h = absurd h
 
-lines_once : (s : Serial) (items : List Item) (answers others : List Answer) (x y : Serial) → SerialItems s items answers x → SerialItems s items others y → AllAlike answers others × (x ≡ y)
-lines_once s [] [] [] x y h k = (tt, h ∙ sym k)
-lines_once s (i ∷ items) (a ∷ answers) (b ∷ others) x y h k =
-    let first = item_once s i a b h.0 k.0 h.1 k.1 h.2 k.2 in
-    let P : Serial → Type 0 = λ z. SerialItems z items answers x in
-    let rest = lines_once k.0 items answers others x y (subst P first.1 h.3) k.3 in
-    ((first.0, rest.0), rest.1)
-lines_once s [] (a ∷ answers) others x y h k = absurd h
-lines_once s [] [] (b ∷ others) x y h k = absurd k
-lines_once s (i ∷ items) [] others x y h k = absurd h
-lines_once s (i ∷ items) (a ∷ answers) [] x y h k = absurd k
+module _ (texts : TextsAreOne) (one_start : ProgramsAreOne) (one_outcome : OutcomesAreOne) where
+  item_once : (s : Serial) (i : Item) (a b : Answer) (x y : Serial) → is_struck_item i a ≡ false → is_struck_item i b ≡ false → ItemStep SerialStep s i a x → ItemStep SerialStep s i b y → AreAlike a b × (x ≡ y)
+  item_once s (Call c) a b x y d e h k = step_once texts one_start one_outcome s c a b x y d e h k
+  item_once s UnknownCommand a b x y d e h k = (refused_alike a b 70 h.0 k.0, h.1 ∙ sym k.1)
+  item_once s WrongWord a b x y d e h k = (refused_alike a b 71 h.0 k.0, h.1 ∙ sym k.1)
 
-equal_states : (s t : Standing) (items others : List Item) (answers replies : List Answer) (x y : Standing) → forget s ≡ forget t → Run Step s items answers x → Run Step t others replies y → kept_items items answers ≡ kept_items others replies → AllAlike (kept_replies items answers) (kept_replies others replies) × (forget x ≡ forget y)
-equal_states s t items others answers replies x y same h k e =
-    let P : Serial → Type 0 = λ z. SerialItems z (kept_items items answers) (kept_replies items answers) (forget x) in
-    let Q : List Item → Type 0 = λ z. SerialItems (forget t) z (kept_replies items answers) (forget x) in
-    lines_once (forget t) (kept_items others replies) (kept_replies items answers) (kept_replies others replies) (forget x) (forget y) (subst Q e (subst P same (lines s items answers x h))) (lines t others replies y k)
+  lines_once : (s : Serial) (items : List Item) (answers others : List Answer) (x y : Serial) → SerialItems s items answers x → SerialItems s items others y → AllAlike answers others × (x ≡ y)
+  lines_once s [] [] [] x y h k = (tt, h ∙ sym k)
+  lines_once s (i ∷ items) (a ∷ answers) (b ∷ others) x y h k =
+      let first = item_once s i a b h.0 k.0 h.1 k.1 h.2 k.2 in
+      let P : Serial → Type 0 = λ z. SerialItems z items answers x in
+      let rest = lines_once k.0 items answers others x y (subst P first.1 h.3) k.3 in
+      ((first.0, rest.0), rest.1)
+  lines_once s [] (a ∷ answers) others x y h k = absurd h
+  lines_once s [] [] (b ∷ others) x y h k = absurd k
+  lines_once s (i ∷ items) [] others x y h k = absurd h
+  lines_once s (i ∷ items) (a ∷ answers) [] x y h k = absurd k
 
-module _ {D : Type 0} (clean : D → Type 0) (stands : D → Standing → Type 0) where
+  equal_states : (s t : Standing) (items others : List Item) (answers replies : List Answer) (x y : Standing) → forget s ≡ forget t → Run Step s items answers x → Run Step t others replies y → kept_items items answers ≡ kept_items others replies → AllAlike (kept_replies items answers) (kept_replies others replies) × (forget x ≡ forget y)
+  equal_states s t items others answers replies x y same h k e =
+      let P : Serial → Type 0 = λ z. SerialItems z (kept_items items answers) (kept_replies items answers) (forget x) in
+      let Q : List Item → Type 0 = λ z. SerialItems (forget t) z (kept_replies items answers) (forget x) in
+      lines_once (forget t) (kept_items others replies) (kept_replies items answers) (kept_replies others replies) (forget x) (forget y) (subst Q e (subst P same (lines s items answers x h))) (lines t others replies y k)
+
+module _ {D : Type 0} (clean : D → Type 0) (stands : D → Standing → Type 0) (leads : RunsLead clean stands) (texts : TextsAreOne) (one_start : ProgramsAreOne) (one_outcome : OutcomesAreOne) where
   pub equal_lines : (x y : LineSession clean stands) → SameButTurns x.state y.state → EqualLinesLeft x y → ReplyAlike x y × LeaveTheSame stands x.new y.new
   equal_lines x y same e =
-      let one = (run_refines clean stands x.items x.answers x.old x.new x.run x.is_clean).1 x.state x.at_begin in
-      let two = (run_refines clean stands y.items y.answers y.old y.new y.run y.is_clean).1 y.state y.at_begin in
-      let equal = equal_states x.state y.state x.items y.items x.answers y.answers one.to two.to same one.is_one two.is_one e in
+      let one = leads x.items x.answers x.old x.new x.run x.state x.at_begin in
+      let two = leads y.items y.answers y.old y.new y.run y.state y.at_begin in
+      let equal = equal_states texts one_start one_outcome x.state y.state x.items y.items x.answers y.answers one.to two.to same one.is_one two.is_one e in
       (equal.0, record { first = one.to; second = two.to; first_stands = one.there; second_stands = two.there; same = equal.1 })
 
   -- the lines of a session that was served
   served_lines : (x : ServedSession clean stands) → LineSession clean stands
-  served_lines x = record { state = x.state; old = x.old; items = (session_in x.input).items; answers = x.served.0; new = x.new; at_begin = x.at_begin; run = x.served.1; is_clean = x.is_clean }
+  served_lines x = record { state = x.state; old = x.old; items = (session_in x.input).items; answers = x.served.0; new = x.new; at_begin = x.at_begin; run = x.served.1 }
 
   pub equal_octets : (x y : ServedSession clean stands) → SameButTurns x.state y.state → AreServedAlike x y
   unfolding served_lines

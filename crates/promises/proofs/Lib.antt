@@ -1,4 +1,5 @@
 mod Rows
+pub mod CitedLaws
 pub mod Verdicts
 pub mod OfficeOnce
 pub mod Sessions
@@ -11,6 +12,7 @@ pub mod Sources
 pub mod InFlight
 pub mod RecordLemmas
 pub mod Unchanged
+pub mod RefusedAnywhere
 pub mod KeptLines
 pub mod CommandLines
 pub mod ImageLemmas

@@ -29,6 +29,7 @@ use Rattle.filing_commands.specs.Parts.{IsGoodImage}
 use Rattle.filing_commands.specs.Pinning.{BeginState, Choice, nothing, script, image_of, GivesOutcome, IsAlone, case_in}
 use Rattle.filing_commands.specs.Standing.{plain, finish, Flight, Standing, Step, FinishWhole, Files, flight_of}
 use Rattle.promises.specs.Records.{EndsWithinBudget, FilesAlone, IsDueBy, IsDueLine, IsFaultAlone, IsLineOf, IsMadeWhole}
+use Rattle.promises.proofs.CitedLaws.{LengthsAreOne, RunsEnd}
 use Rattle.promises.proofs.Pinned.{budget_holds}
 use Rattle.promises.proofs.Refusals.{finish_of}
 
@@ -74,14 +75,14 @@ file_says s script_text message o new (b, inl h, e) =
     (h.1, subst IsFaultAlone (sym h.1.outcome) (meaning_fault_alone _ _ None _), e ∙ ap (λ x. record s { office = x }) h.0)
 file_says s script_text message o new (b, inr h, e) = absurd (let other : answers.dry_run o ≡ refused h.0 None = h.2 in cc)
 
-tried_within : (s : Office) (octets message : List ℕ) (o : Outcome) → IsTried s octets message o → (p : Program) × IsGoodImage octets p × EndsWithinBudget p (case_of message (is_open_in s.archive.plan)) o
-tried_within s octets message o h = (h.program, h.good, budget_holds h.program (case_of message (is_open_in s.archive.plan)) h.steps o h.good.well h.outcome)
+tried_within : RunsEnd → LengthsAreOne → (s : Office) (octets message : List ℕ) (o : Outcome) → IsTried s octets message o → (p : Program) × IsGoodImage octets p × EndsWithinBudget p (case_of message (is_open_in s.archive.plan)) o
+tried_within ends_within one_step s octets message o h = (h.program, h.good, budget_holds ends_within one_step h.program (case_of message (is_open_in s.archive.plan)) h.steps o h.good.well h.outcome)
 
-pub try_says : (s : Standing) (octets message : List ℕ) (o : Outcome) (new : Standing) → Step s (plain (try_image octets message)) (answers.dry_run o) new → ((p : Program) × IsGoodImage octets p × EndsWithinBudget p (case_of message (is_open_in s.office.archive.plan)) o) × IsFaultAlone o × (new ≡ s)
+pub try_says : RunsEnd → LengthsAreOne → (s : Standing) (octets message : List ℕ) (o : Outcome) (new : Standing) → Step s (plain (try_image octets message)) (answers.dry_run o) new → ((p : Program) × IsGoodImage octets p × EndsWithinBudget p (case_of message (is_open_in s.office.archive.plan)) o) × IsFaultAlone o × (new ≡ s)
 unfolding Step
-try_says s octets message o new (b, inl h, e) =
-    (tried_within s.office octets message o h.1, run_fault_alone h.1.program _ h.1.steps o h.1.outcome, e ∙ ap (λ x. record s { office = x }) h.0)
-try_says s octets message o new (b, inr h, e) = absurd (let other : answers.dry_run o ≡ refused h.0 None = h.2 in cc)
+try_says ends_within one_step s octets message o new (b, inl h, e) =
+    (tried_within ends_within one_step s.office octets message o h.1, run_fault_alone h.1.program _ h.1.steps o h.1.outcome, e ∙ ap (λ x. record s { office = x }) h.0)
+try_says ends_within one_step s octets message o new (b, inr h, e) = absurd (let other : answers.dry_run o ≡ refused h.0 None = h.2 in cc)
 
 -- ---- records of a capture
 

@@ -7,29 +7,16 @@ use Rattle.sieve_text.specs.declared.fault.TextRefusal.TheVariants.{Scan, Syntax
 use Rattle.sieve_text.specs.declared.fault.TextFault.TheVariants.{Refused}
 use Rattle.sieve_text.specs.Tokens.{scan_number}
 use Rattle.sieve_text.specs.Grammar.{IsScript, Explains, text_number, kinds}
-use Rattle.sieve_text.proofs.ScanLemmas.{one_scan, no_both, one_fault}
-use Rattle.sieve_text.proofs.TreeLaws.{at_most_one}
 use Rattle.sieve_check.specs.Rules as rules
 use Rattle.filing_image.specs.Program.{Program}
-use Rattle.filing_image.proofs.OneProgram.{one_start}
 use Rattle.filing_verify.specs.declared.fault.VerifyFault.{VerifyFault}
 use Rattle.filing_verify.specs.declared.fault.VerifyFault.TheVariants.{NoMemory, Operand, Backward, Stack, RunsOff, Budget}
 use Rattle.filing_verify.specs.Well.{IsWell, Fails, verify_number}
 use Rattle.filing_commands.specs.Parts.{IsGood, IsGoodImage, IsImageOf, RefusesImage, RefusesScript}
 use Rattle.promises.specs.Alike.{AreSameNumber}
+use Rattle.promises.proofs.CitedLaws.{ProgramsAreOne, TextsAreOne}
 
 -- ---- scripts
-
-pub one_tree : (text : List ℕ) (t u : CommandTrees) → IsScript text t → IsScript text u → t ≡ u
-one_tree text t u h k = at_most_one t u (sym h.0.2 ∙ ap kinds (one_scan text h.0.0 k.0.0 h.0.1 k.0.1) ∙ k.0.2)
-
-pub one_script : (text : List ℕ) (t u : CommandTrees) → IsGood text t → IsGood text u → t ≡ u
-one_script text t u h k = one_tree text t u h.is_script k.is_script
-
-unexplained : (text : List ℕ) (t : CommandTrees) (r : TextRefusal) → IsScript text t → Explains text (Refused r 0) → ⊥
-unexplained text t (Scan r) h e = no_both text h.0.0 r h.0.1 e
-unexplained text t Syntax h e = e.1 t h.0
-unexplained text t Nesting h e = e.1 t h
 
 some_none : {A : Type 0} (x : A) → Some x ≡ None → ⊥
 some_none x e = cc
@@ -37,31 +24,40 @@ some_none x e = cc
 pub some_is : {A : Type 0} (x y : A) → Some x ≡ Some y → x ≡ y
 some_is x y e = cc
 
-pub script_or : (text : List ℕ) (t : CommandTrees) (n : ℕ) → IsGood text t → RefusesScript text n → ⊥
-script_or text t n h (inl k) = unexplained text t k.refusal h.is_script k.explains
-script_or text t n h (inr k) = some_none n (sym k.rule ∙ ap rules.refusal_of (one_tree text k.tree t k.is_script h.is_script) ∙ h.well_made)
+module _ (texts : TextsAreOne) where
+  pub one_tree : (text : List ℕ) (t u : CommandTrees) → IsScript text t → IsScript text u → t ≡ u
+  one_tree text t u h k = texts.at_most_one t u (sym h.0.2 ∙ ap kinds (texts.one_scan text h.0.0 k.0.0 h.0.1 k.0.1) ∙ k.0.2)
 
-one_reason : (text : List ℕ) (r q : TextRefusal) → Explains text (Refused r 0) → Explains text (Refused q 0) → AreSameNumber (text_number r) (text_number q)
-one_reason text (Scan r) (Scan q) h k = inl (ap scan_number (one_fault text r q h k))
-one_reason text (Scan r) Syntax h k = absurd (no_both text k.0.0 r k.0.1 h)
-one_reason text (Scan r) Nesting h k = absurd (no_both text k.0.0 r k.0.1 h)
-one_reason text Syntax (Scan q) h k = absurd (no_both text h.0.0 q h.0.1 k)
-one_reason text Nesting (Scan q) h k = absurd (no_both text h.0.0 q h.0.1 k)
-one_reason text Syntax Syntax h k = inl refl
-one_reason text Syntax Nesting h k = inr (inl refl, inr refl)
-one_reason text Nesting Syntax h k = inr (inr refl, inl refl)
-one_reason text Nesting Nesting h k = inl refl
+  pub one_script : (text : List ℕ) (t u : CommandTrees) → IsGood text t → IsGood text u → t ≡ u
+  one_script text t u h k = one_tree text t u h.is_script k.is_script
 
-pub one_refusal : (text : List ℕ) (m n : ℕ) → RefusesScript text m → RefusesScript text n → AreSameNumber m n
-one_refusal text m n (inl h) (inl k) = rw (h.is_number, k.is_number) (one_reason text h.refusal k.refusal h.explains k.explains)
-one_refusal text m n (inl h) (inr k) = absurd (unexplained text k.tree h.refusal k.is_script h.explains)
-one_refusal text m n (inr h) (inl k) = absurd (unexplained text h.tree k.refusal h.is_script k.explains)
-one_refusal text m n (inr h) (inr k) = inl (some_is m n (sym h.rule ∙ ap rules.refusal_of (one_tree text h.tree k.tree h.is_script k.is_script) ∙ k.rule))
+  unexplained : (text : List ℕ) (t : CommandTrees) (r : TextRefusal) → IsScript text t → Explains text (Refused r 0) → ⊥
+  unexplained text t (Scan r) h e = texts.no_both text h.0.0 r h.0.1 e
+  unexplained text t Syntax h e = e.1 t h.0
+  unexplained text t Nesting h e = e.1 t h
+
+  pub script_or : (text : List ℕ) (t : CommandTrees) (n : ℕ) → IsGood text t → RefusesScript text n → ⊥
+  script_or text t n h (inl k) = unexplained text t k.refusal h.is_script k.explains
+  script_or text t n h (inr k) = some_none n (sym k.rule ∙ ap rules.refusal_of (one_tree text k.tree t k.is_script h.is_script) ∙ h.well_made)
+
+  one_reason : (text : List ℕ) (r q : TextRefusal) → Explains text (Refused r 0) → Explains text (Refused q 0) → AreSameNumber (text_number r) (text_number q)
+  one_reason text (Scan r) (Scan q) h k = inl (ap scan_number (texts.one_fault text r q h k))
+  one_reason text (Scan r) Syntax h k = absurd (texts.no_both text k.0.0 r k.0.1 h)
+  one_reason text (Scan r) Nesting h k = absurd (texts.no_both text k.0.0 r k.0.1 h)
+  one_reason text Syntax (Scan q) h k = absurd (texts.no_both text h.0.0 q h.0.1 k)
+  one_reason text Nesting (Scan q) h k = absurd (texts.no_both text h.0.0 q h.0.1 k)
+  one_reason text Syntax Syntax h k = inl refl
+  one_reason text Syntax Nesting h k = inr (inl refl, inr refl)
+  one_reason text Nesting Syntax h k = inr (inr refl, inl refl)
+  one_reason text Nesting Nesting h k = inl refl
+
+  pub one_refusal : (text : List ℕ) (m n : ℕ) → RefusesScript text m → RefusesScript text n → AreSameNumber m n
+  one_refusal text m n (inl h) (inl k) = rw (h.is_number, k.is_number) (one_reason text h.refusal k.refusal h.explains k.explains)
+  one_refusal text m n (inl h) (inr k) = absurd (unexplained text k.tree h.refusal k.is_script h.explains)
+  one_refusal text m n (inr h) (inl k) = absurd (unexplained text h.tree k.refusal h.is_script k.explains)
+  one_refusal text m n (inr h) (inr k) = inl (some_is m n (sym h.rule ∙ ap rules.refusal_of (one_tree text h.tree k.tree h.is_script k.is_script) ∙ k.rule))
 
 -- ---- images
-
-pub one_image : (octets : List ℕ) (p q : Program) → IsImageOf octets p → IsImageOf octets q → p ≡ q
-one_image octets p q h k = (one_start p q [] [] h.fits k.fits (append-nil _ ∙ sym h.spells ∙ k.spells ∙ sym (append-nil _))).0
 
 well_fails : (p : Program) (f : VerifyFault) → IsWell p → Fails f p → verify_number f ≢ 99 → ⊥
 well_fails p NoMemory w h e = e refl
@@ -108,20 +104,24 @@ fails_once p Budget Budget h k e d = refl
 number_not : (a b : ℕ) → a ≡ b → a ≢ 99 → b ≢ 99
 number_not a b e h x = h (e ∙ x)
 
-pub image_or : (octets : List ℕ) (p : Program) (n : ℕ) → IsGoodImage octets p → RefusesImage octets n → n ≢ 99 → ⊥
-image_or octets p n h (inl k) e = omega (arith, h.is_image.short, k.long)
-image_or octets p n h (inr (inl k)) e = k.no_image p h.is_image.fits h.is_image.spells
-image_or octets p n h (inr (inr k)) e = well_fails k.program k.fault (subst IsWell (one_image octets p k.program h.is_image k.is_image) h.well) k.fails (number_not n _ k.is_number e)
+module _ (one_start : ProgramsAreOne) where
+  pub one_image : (octets : List ℕ) (p q : Program) → IsImageOf octets p → IsImageOf octets q → p ≡ q
+  one_image octets p q h k = (one_start p q [] [] h.fits k.fits (append-nil _ ∙ sym h.spells ∙ k.spells ∙ sym (append-nil _))).0
 
-pub one_image_refusal : (octets : List ℕ) (m n : ℕ) → RefusesImage octets m → RefusesImage octets n → m ≢ 99 → n ≢ 99 → m ≡ n
-one_image_refusal octets m n (inl h) (inl k) d e = h.is_number ∙ sym k.is_number
-one_image_refusal octets m n (inl h) (inr (inl k)) d e = absurd (omega (arith, h.long, k.short))
-one_image_refusal octets m n (inl h) (inr (inr k)) d e = absurd (omega (arith, h.long, k.is_image.short))
-one_image_refusal octets m n (inr (inl h)) (inl k) d e = absurd (omega (arith, k.long, h.short))
-one_image_refusal octets m n (inr (inr h)) (inl k) d e = absurd (omega (arith, k.long, h.is_image.short))
-one_image_refusal octets m n (inr (inl h)) (inr (inl k)) d e = h.is_number ∙ sym k.is_number
-one_image_refusal octets m n (inr (inl h)) (inr (inr k)) d e = absurd (h.no_image k.program k.is_image.fits k.is_image.spells)
-one_image_refusal octets m n (inr (inr h)) (inr (inl k)) d e = absurd (k.no_image h.program h.is_image.fits h.is_image.spells)
-one_image_refusal octets m n (inr (inr h)) (inr (inr k)) d e =
-    let F : Program → Type 0 = Fails h.fault in
-    h.is_number ∙ fails_once k.program h.fault k.fault (subst F (one_image octets h.program k.program h.is_image k.is_image) h.fails) k.fails (number_not m _ h.is_number d) (number_not n _ k.is_number e) ∙ sym k.is_number
+  pub image_or : (octets : List ℕ) (p : Program) (n : ℕ) → IsGoodImage octets p → RefusesImage octets n → n ≢ 99 → ⊥
+  image_or octets p n h (inl k) e = omega (arith, h.is_image.short, k.long)
+  image_or octets p n h (inr (inl k)) e = k.no_image p h.is_image.fits h.is_image.spells
+  image_or octets p n h (inr (inr k)) e = well_fails k.program k.fault (subst IsWell (one_image octets p k.program h.is_image k.is_image) h.well) k.fails (number_not n _ k.is_number e)
+
+  pub one_image_refusal : (octets : List ℕ) (m n : ℕ) → RefusesImage octets m → RefusesImage octets n → m ≢ 99 → n ≢ 99 → m ≡ n
+  one_image_refusal octets m n (inl h) (inl k) d e = h.is_number ∙ sym k.is_number
+  one_image_refusal octets m n (inl h) (inr (inl k)) d e = absurd (omega (arith, h.long, k.short))
+  one_image_refusal octets m n (inl h) (inr (inr k)) d e = absurd (omega (arith, h.long, k.is_image.short))
+  one_image_refusal octets m n (inr (inl h)) (inl k) d e = absurd (omega (arith, k.long, h.short))
+  one_image_refusal octets m n (inr (inr h)) (inl k) d e = absurd (omega (arith, k.long, h.is_image.short))
+  one_image_refusal octets m n (inr (inl h)) (inr (inl k)) d e = h.is_number ∙ sym k.is_number
+  one_image_refusal octets m n (inr (inl h)) (inr (inr k)) d e = absurd (h.no_image k.program k.is_image.fits k.is_image.spells)
+  one_image_refusal octets m n (inr (inr h)) (inr (inl k)) d e = absurd (k.no_image h.program h.is_image.fits h.is_image.spells)
+  one_image_refusal octets m n (inr (inr h)) (inr (inr k)) d e =
+      let F : Program → Type 0 = Fails h.fault in
+      h.is_number ∙ fails_once k.program h.fault k.fault (subst F (one_image octets h.program k.program h.is_image k.is_image) h.fails) k.fails (number_not m _ h.is_number d) (number_not n _ k.is_number e) ∙ sym k.is_number

@@ -7,3 +7,4 @@ pub mod Images
 pub mod Turns
 pub mod Records
 pub mod Lines
+pub mod RefusedCalls

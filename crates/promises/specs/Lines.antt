@@ -1,8 +1,8 @@
 -- Sessions of lines, what is struck of them, and what is left.
 use Rattle.std.specs.Prelude.{◌≡◌, ◌++◌, ℕ, List, [], ◌∷◌, Bool, false, if◌then◌else◌}
 use Rattle.filing_commands.specs.Answers.{Answer}
-use Rattle.filing_commands.specs.Calls.{Calls}
 use Rattle.filing_commands.specs.Standing.{Command, Standing}
+use Rattle.filing_session.specs.Laws.{SureCalls}
 use Rattle.filing_session.specs.Session as session
 use Rattle.filing_session.specs.Session.{Item, Call, UnknownCommand, WrongWord, answers_octets, ending_octets, session_in}
 use Rattle.promises.specs.Alike.{AllAlike}
@@ -52,7 +52,8 @@ pub record IsSession {D : Type 0} (stands : D → Standing → Type 0) (state : 
 
 -- These definitions are over registries, by when they are clean and which states they represent.
 module _ {D : Type 0} (clean : D → Type 0) (stands : D → Standing → Type 0) where
-  -- a registry that represents a state gives answers to lines, and is clean afterwards
+  -- A registry that represents a state gives answers to lines. After each that comes from the archive it is clean, and
+  -- nothing is supposed of the disk besides.
   pub record LineSession : Type 0 where
     pub state : Standing
     pub old : D
@@ -60,11 +61,10 @@ module _ {D : Type 0} (clean : D → Type 0) (stands : D → Standing → Type 0
     pub answers : List Answer
     pub new : D
     pub at_begin : stands old state
-    pub run : session.Run (Calls clean stands) old items answers new
-    pub is_clean : clean new
+    pub run : session.Run (SureCalls clean stands) old items answers new
 
-  -- A registry that represents a state serves the session of an input, and is clean afterwards. `before` is what was
-  -- written before the session, and `written` what is written after it.
+  -- The same for a registry that serves the session of an input. `before` is what was written before the session, and
+  -- `written` what is written after it.
   pub record ServedSession : Type 0 where
     pub state : Standing
     pub old : D
@@ -73,8 +73,7 @@ module _ {D : Type 0} (clean : D → Type 0) (stands : D → Standing → Type 0
     pub written : List ℕ
     pub new : D
     pub at_begin : stands old state
-    pub served : session.IsServed (Calls clean stands) (session_in input) old before written new
-    pub is_clean : clean new
+    pub served : session.IsServed (SureCalls clean stands) (session_in input) old before written new
 
 -- the lines of two sessions are equal after striking
 abbrev pub EqualLinesLeft : {D : Type 0} {clean : D → Type 0} {stands : D → Standing → Type 0} →
@@ -102,8 +101,8 @@ pub record AreServedAlike {D : Type 0} {clean : D → Type 0} {stands : D → St
     (x y : ServedSession clean stands) : Type 0 where
   pub answers : List Answer
   pub replies : List Answer
-  pub first_run : session.Run (Calls clean stands) x.old (session_in x.input).items answers x.new
-  pub second_run : session.Run (Calls clean stands) y.old (session_in y.input).items replies y.new
+  pub first_run : session.Run (SureCalls clean stands) x.old (session_in x.input).items answers x.new
+  pub second_run : session.Run (SureCalls clean stands) y.old (session_in y.input).items replies y.new
   pub first : x.written ≡ x.before ++ answers_octets answers ++ ending_octets (session_in x.input).ending
   pub second : y.written ≡ y.before ++ answers_octets replies ++ ending_octets (session_in y.input).ending
   pub equal : kept_items (session_in x.input).items answers ≡ kept_items (session_in y.input).items replies

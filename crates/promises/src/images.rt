@@ -1,4 +1,4 @@
-//! Promises about images and the scripts that are compiled to them, each the contract of a function without code.
+//! Promises about images and the scripts that are compiled to them, each the contract of a function without effect.
 
 ghost use Rattle.std.specs.Prelude.{◌≡◌, ◌≢◌, ℕ, List, Some};
 ghost use Rattle.sieve_syntax.specs.Tree.{CommandTrees};
@@ -13,6 +13,12 @@ ghost use Rattle.filing_commands.specs.Parts.{IsGood, IsGoodImage, RefusesImage}
 ghost use Rattle.promises.specs.Records.{EndsWithinBudget, IsFaultAlone};
 ghost use Rattle.promises.specs.Images.{Compiles};
 
+use filing_commands::pinned_runs_end_alone;
+use filing_image::one_spelling;
+use filing_machine::every_run_ends;
+use filing_table::a_run_ends_once;
+use sieve_text::{one_scan, one_tree, one_verdict};
+
 /// Any octets are the image of at most one program. Where that program may run:
 /// - no run of it traps, whatever the message is and whichever classes are open;
 /// - each run ends within the image's budget of steps, and with one outcome.
@@ -25,7 +31,11 @@ pub fn accepted_images_run_to_their_end()
         → (o : Outcome) × EndsWithinBudget p c o }
     ensures once { (p : Program) (c : Facts) (o x : Outcome) → EndsWithinBudget p c o
         → EndsWithinBudget p c x → o ≡ x }
-{}
+{
+    one_spelling();
+    every_run_ends();
+    a_run_ends_once();
+}
 
 /// Octets that may run are refused by no number, and others by at most one, apart from 99 (no memory).
 pub fn images_are_refused_by_one_number()
@@ -33,7 +43,9 @@ pub fn images_are_refused_by_one_number()
         → RefusesImage octets n → n ≡ 99 }
     ensures refused { (octets : List ℕ) (m n : ℕ) → RefusesImage octets m → RefusesImage octets n
         → m ≢ 99 → n ≢ 99 → m ≡ n }
-{}
+{
+    one_spelling();
+}
 
 /// The program that a script is compiled to ends in every case within its budget. Its outcome is the one that the
 /// script means together with all that it includes. A text is at most one script. An outcome with a fault is the
@@ -44,4 +56,11 @@ pub fn scripts_capture_what_they_mean()
         → Compiles lib n s p → EndsWithinBudget p c (outcome c lib (Some n) s) }
     ensures fault { (lib : Library) (name : List ℕ) (script : Commands) (c : Facts) →
         IsFaultAlone (outcome c lib (Some name) script) }
-{}
+{
+    one_scan();
+    one_verdict();
+    one_tree();
+    every_run_ends();
+    a_run_ends_once();
+    pinned_runs_end_alone();
+}

@@ -1,4 +1,4 @@
-//! Laws of whole sessions, each the contract of a function without code.
+//! Laws of whole sessions, each the contract of a function without effect.
 
 ghost use Rattle.std.specs.Prelude.{◌≡◌, ◌≢◌, ◌≤◌, ℕ, Option, All};
 ghost use Rattle.sieve_meaning.specs.declared.outcome.Outcome.{Outcome};
@@ -10,8 +10,15 @@ ghost use Rattle.filing_commands.specs.Standing.{Command, Flight, Standing, IsPi
 ghost use Rattle.promises.specs.Alike.{AnswerAlike};
 ghost use Rattle.promises.specs.Beginnings.{HasBegun};
 ghost use Rattle.promises.specs.Flights.{IsInFlight};
+ghost use Rattle.promises.specs.RefusedCalls.{HasTurnsMore, RefusedCall};
 ghost use Rattle.promises.specs.Runs.{IsReached, SessionFrom};
 ghost use Rattle.promises.specs.Serial.{EqualAfterStriking, SameButTurns, SerialRun, forget, kept_answers, kept_commands};
+
+use filing_commands::{Registry, pinned_runs_end_alone};
+use filing_image::one_spelling;
+use filing_machine::every_run_ends;
+use filing_table::a_run_ends_once;
+use sieve_text::{one_scan, one_tree, one_verdict};
 
 /// Whatever TURNs are in it, a session is the serial one. The commands that are struck do nothing, and the others are
 /// answered as if each capture were made whole at its finish.
@@ -26,15 +33,24 @@ pub fn turns_do_not_matter()
 pub fn equal_after_striking()
     ensures { (s t : Standing) (x : SessionFrom s) (y : SessionFrom t) → SameButTurns s t
         → EqualAfterStriking x y → AnswerAlike x y × SameButTurns x.new y.new }
-{}
+{
+    one_scan();
+    one_verdict();
+    one_tree();
+    one_spelling();
+    a_run_ends_once();
+}
 
 /// A refusal changes nothing, with one exception: a TURN that is refused with 99 (no memory) keeps the steps that were
-/// made before.
-pub fn refusals_change_nothing()
+/// made before. Of the calls of a registry this holds on any disk (`registry`, `registry_no_memory`).
+pub fn refusals_change_nothing<R: Registry>()
     ensures unchanged { (s : Standing) (c : Command) (n : ℕ) (at : Option ℕ) (new : Standing) →
         Step s c (refused n at) new → n ≢ 99 → new ≡ s }
     ensures no_memory { (s : Standing) (c : Command) (at : Option ℕ) (new : Standing)
         → Step s c (refused 99 at) new → SameButTurns new s }
+    ensures registry { (x : RefusedCall R.clean R.stands) → x.number ≢ 99 → R.stands x.new x.state }
+    ensures registry_no_memory { (x : RefusedCall R.clean R.stands) → x.number ≡ 99
+        → HasTurnsMore R.stands x.state x.new }
 {}
 
 /// In a session that begins with an archive:
@@ -51,4 +67,8 @@ pub fn captures_are_pinned()
         (f.pinned.budget ≡ budget_of f.at_begin) }
     ensures alone { (f : Flight) (n : ℕ) (o : Outcome) → IsPinned f
         → HasOutcome f.pinned (case_in f.at_begin) n o → IsAlone f.at_begin o × (n ≡ f.run_length) }
-{}
+{
+    every_run_ends();
+    a_run_ends_once();
+    pinned_runs_end_alone();
+}

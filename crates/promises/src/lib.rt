@@ -1,5 +1,6 @@
-//! What Mailfile promises. Each promise is the contract of a function without code. To know what is promised, read this
-//! crate and the definitions that its contracts cite.
+//! What Mailfile promises. Each promise is the contract of a function without effect, which only calls the laws of
+//! other crates that its proof takes. To know what is promised, read this crate and the definitions that its contracts
+//! cite.
 //!
 //! - `images`: an image that is accepted runs to its end without a trap and within its budget, and a compiled script
 //!   captures what the script means.
@@ -12,10 +13,11 @@
 //!   octets that are read and written.
 //!
 //! The laws of sessions are about states of an office and the steps that commands make between them (`Standing` and
-//! `Step` of `filing_commands`). While the disk returns what was written to it, each call of a desk makes such a step,
-//! by its contract (`Calls`). What a session reads and writes is then a run of such steps (`serve` and
-//! `sessions_refine_states` of `filing_session`). `specs/Runs` says what a session is, `specs/Flights` which captures
-//! are in flight, `specs/Serial` what is struck of a session, and `specs/Alike` which answers say the same.
+//! `Step` of `filing_commands`). Each call of a desk makes such a step, by its contract (`Calls`): on any disk, or
+//! where its answer comes from the archive, on a disk that returns what was written to it. What a session reads and
+//! writes is then a run of such steps (`serve` and `sessions_refine_states` of `filing_session`). `specs/Runs` says
+//! what a session is, `specs/Flights` which captures are in flight, `specs/Serial` what is struck of a session,
+//! `specs/Alike` which answers say the same, and `specs/RefusedCalls` what a refusal by a registry leaves.
 #![tactic(auto)]
 
 mod images;

@@ -1,4 +1,4 @@
-//! Laws of what the commands answer about captures and records, each the contract of a function without code.
+//! Laws of what the commands answer about captures and records, each the contract of a function without effect.
 
 ghost use Rattle.std.specs.Prelude.{◌≡◌, ℕ, List};
 ghost use Rattle.sieve_meaning.specs.declared.outcome.Outcome.{Outcome};
@@ -8,6 +8,9 @@ ghost use Rattle.filing_commands.specs.Office.{IsFiled, due, file, try_image};
 ghost use Rattle.filing_commands.specs.Standing.{Flight, Standing, Step, plain};
 ghost use Rattle.promises.specs.Flights.{FinishOf, IsInFlight};
 ghost use Rattle.promises.specs.Records.{FilesAlone, ImageEnds, IsDryRun, IsDueList, IsFaultAlone};
+
+use filing_machine::every_run_ends;
+use filing_table::a_run_ends_once;
 
 /// FILE answers the outcome of the script in the message's case, with the global scripts to include and the open
 /// classes of the plan. TRY answers the outcome of the image's run, which ends within its budget. An outcome with a
@@ -21,7 +24,10 @@ pub fn dry_runs_store_nothing()
         → IsDryRun s (try_image octets message) o new → ImageEnds s.office octets message o }
     ensures tried_alone { (s new : Standing) (octets message : List ℕ) (o : Outcome)
         → IsDryRun s (try_image octets message) o new → IsFaultAlone o × (new ≡ s) }
-{}
+{
+    every_run_ends();
+    a_run_ends_once();
+}
 
 /// FINISH makes one record for each class of the outcome of the capture alone, with the day of the moment of its BEGIN.
 /// A capture that ended in a fault is in the default class alone. Each line that is answered gives one of the records

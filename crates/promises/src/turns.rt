@@ -1,4 +1,4 @@
-//! Laws of turns and tickets, each the contract of a function without code.
+//! Laws of turns and tickets, each the contract of a function without effect.
 
 ghost use Rattle.std.specs.Prelude.{◌≡◌, ◌≤◌, ◌↔◌, ℕ, None};
 ghost use Rattle.record_archive.specs.Archive.{Archive};
@@ -8,6 +8,9 @@ ghost use Rattle.promises.specs.Beginnings.{tickets_given, AreNumbersUpTo, Begin
 ghost use Rattle.promises.specs.Flights.{FinishOf, IsInFlight, NoneInFlight};
 ghost use Rattle.promises.specs.Runs.{IsReached, SessionFrom};
 ghost use Rattle.promises.specs.Turns.{AllGrant, HasEnded, IsRunning, TellsTurns};
+
+use filing_machine::every_run_ends;
+use filing_table::a_run_ends_once;
 
 /// In a session that begins with an archive:
 /// - the steps granted to a capture in flight are the sum of those that the TURNs of its ticket granted; one that was
@@ -25,7 +28,10 @@ pub fn turns_add_up()
         → Step s (finish t) a new → IsInFlight s t f → (a ≡ refused 92 None) ↔ IsRunning f }
     ensures enough { (s : Standing) (t : ℕ) (f : Flight) → IsReached s → IsInFlight s t f
         → f.pinned.budget ≤ f.granted → HasEnded f }
-{}
+{
+    every_run_ends();
+    a_run_ends_once();
+}
 
 /// A TURN or a FINISH is refused with 91 exactly where its ticket is not in flight. A FINISH that makes the records of
 /// a capture gives the ticket up: it is not in flight any more.

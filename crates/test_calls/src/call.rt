@@ -11,10 +11,11 @@ pub enum Call {
     Reader,
     Pieces,
     Case,
+    InFlight,
 }
 
 /// Each call's word.
-const WORDS: [(&str, Call); 8] = [
+const WORDS: [(&str, Call); 9] = [
     ("tokens", Call::Tokens),
     ("tree", Call::Tree),
     ("counted", Call::Counted),
@@ -23,6 +24,7 @@ const WORDS: [(&str, Call); 8] = [
     ("reader", Call::Reader),
     ("pieces", Call::Pieces),
     ("case", Call::Case),
+    ("in_flight", Call::InFlight),
 ];
 
 impl Call {

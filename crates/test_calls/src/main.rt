@@ -3,6 +3,7 @@
 #![tactic(auto)]
 
 mod call;
+mod flights;
 mod matching;
 mod messages;
 mod row;
@@ -29,6 +30,7 @@ fn answer(alloc: Global, row: &Row) -> Result<Vec<u8>> {
         Call::Reader => messages::reader(alloc, first),
         Call::Pieces => messages::pieces(alloc, first),
         Call::Case => messages::case(alloc, first, second, third),
+        Call::InFlight => flights::in_flight(alloc, first, second),
     }
 }
 

@@ -1,8 +1,10 @@
-use Rattle.std.proofs.Common.{◌≡◌, arith, ℕ, List, map, false, ap, ◌∙◌, Vec}
+use Rattle.std.proofs.Common.{◌≡◌, arith, ℕ, List, map, false, inl, inr, refl, ap, ◌∙◌, Vec}
 use Rattle.std.proofs.lemmas.Grind.{common_steps}
 use Rattle.std.specs.declared.alloc.Global.{Global}
 use Rattle.class_plan.specs.Calendar.{number_of_day}
-use Rattle.filing_desk.proofs.FilingLemmas.{file_done, file_poor, file_refused, files_fault, no_classes}
+use Rattle.filing_commands.specs.declared.fault.DeskFault.TheVariants.{NoMemory}
+use Rattle.filing_desk.proofs.ArchiveLemmas.{fault_told}
+use Rattle.filing_desk.proofs.FilingLemmas.{fault_is, file_done, file_poor, file_refused, files_fault, no_classes}
 use Rattle.filing_desk.proofs.captures.file_outcome.Goals as goal
 
 same_items : (xs ys : List (Vec ℕ Global)) (classes : List (List ℕ)) → xs ≡ ys → map (λ v. v.items) ys ≡ classes → map (λ v. v.items) xs ≡ classes
@@ -25,3 +27,16 @@ returns-in_err-lines-clause-files g c =
 
 pub returns-clause-files : goal.returns-clause-files
 returns-clause-files g c = file_done g.A.Records.clean g.A.Records.stands c.args.store.now c.capture.new.self c.args.flight.now.message c.message.result.now (number_of_day c.args.flight.now.day) (number_of_day c.day.result) c.args.classes.now _ c.in_ok-lines.lines c.message.ensures (ap number_of_day c.day.ensures.value) (same_items _ _ c.args.classes.now c.as_slice-2.ensures.value c.in_ok-classes.ensures) c.in_ok-lines.ensures
+
+pub returns-in_err-classes-clause-fault : goal.returns-in_err-classes-clause-fault
+returns-in_err-classes-clause-fault g c =
+    let result = c.from_residual.ensures in
+    fault_is _ NoMemory result.0 result.1 (inl (99, inl refl, refl))
+
+pub returns-then-not-are_classes-clause-fault : goal.returns-then-not-are_classes-clause-fault
+returns-then-not-are_classes-clause-fault g c = inr refl
+
+pub returns-in_err-lines-clause-fault : goal.returns-in_err-lines-clause-fault
+returns-in_err-lines-clause-fault g c =
+    let result = c.from_residual-in_err-lines.ensures in
+    fault_is _ _ result.0 result.1 (fault_told c.in_err-lines.field-0.0)

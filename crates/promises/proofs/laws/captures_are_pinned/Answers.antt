@@ -10,7 +10,7 @@ pub returns-clause-pinned : goal.returns-clause-pinned
 returns-clause-pinned c = all_pinned
 
 pub returns-clause-budget : goal.returns-clause-budget
-returns-clause-budget c = within_budget
+returns-clause-budget c = within_budget c.every_run_ends.ensures.ends c.a_run_ends_once.ensures.steps
 
 pub returns-clause-alone : goal.returns-clause-alone
-returns-clause-alone c = alone
+returns-clause-alone c = alone c.pinned_runs_end_alone.ensures.alone c.a_run_ends_once.ensures.steps

@@ -13,4 +13,4 @@ pub returns-clause-finish : goal.returns-clause-finish
 returns-clause-finish c = λ s new t a f. too_early s t a new f
 
 pub returns-clause-enough : goal.returns-clause-enough
-returns-clause-enough c = enough_turns
+returns-clause-enough c = enough_turns c.every_run_ends.ensures.ends c.a_run_ends_once.ensures.steps

@@ -1,7 +1,7 @@
 use Rattle.std.proofs.Common.{◌≡◌, arith, false, true, length, refl}
 use Rattle.std.proofs.lemmas.Grind.{common_steps}
-use Rattle.filing_flights.proofs.BegunLemmas.{refused_moment}
 use Rattle.filing_desk.proofs.BeginLemmas.{judged_allowed, judged_count, judged_length, judged_ticket}
+use Rattle.filing_desk.proofs.ReasonLemmas.{refused_moment}
 use Rattle.filing_desk.proofs.desk.Desk.judge_begin.Goals as goal
 
 pub returns-in_default-clause-refused : goal.returns-in_default-clause-refused

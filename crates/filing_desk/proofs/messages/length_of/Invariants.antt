@@ -1,7 +1,7 @@
 use Rattle.std.proofs.Common.{◌≡◌, ◌≤◌, length, take}
 use Rattle.filing_commands.specs.Limits.{greatest_message}
-use Rattle.filing_desk.specs.Beginning.{whole_message}
-use Rattle.filing_desk.proofs.pieces.length_of.Given as goal
+use Rattle.filing_desk.specs.Messages.{whole_message}
+use Rattle.filing_desk.proofs.messages.length_of.Given as goal
 
 abbrev pub invariant-loop-piece : goal.invariant-loop-piece
 invariant-loop-piece l = (l.octets ≡ length (whole_message (take l.piece-index l.pieces))) × (l.octets ≤ greatest_message)

@@ -1,6 +1,6 @@
 use Rattle.std.proofs.Common.{arith, []}
 use Rattle.std.proofs.lemmas.List.Folds.{length-flat_map-take}
-use Rattle.filing_desk.proofs.pieces.length_of.Goals as goal
+use Rattle.filing_desk.proofs.messages.length_of.Goals as goal
 
 pub returns-then-piece-octets : goal.returns-then-piece-octets
 returns-then-piece-octets c =

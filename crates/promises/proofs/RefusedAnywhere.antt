@@ -1,0 +1,40 @@
+-- Refusals by a registry, on any disk.
+use Rattle.std.proofs.Common.{◌≡◌, ◌≢◌, ℕ, Bool, true, false, refl, subst}
+use Rattle.filing_commands.specs.Answers.{refused}
+use Rattle.filing_commands.specs.ArchiveAnswers.{is_of_archive}
+use Rattle.filing_commands.specs.Calls.{Leads}
+use Rattle.filing_commands.specs.Standing.{Standing, Step}
+use Rattle.promises.specs.RefusedCalls.{HasTurnsMore, RefusedCall}
+use Rattle.promises.proofs.Unchanged.{refused_unchanged, turns_alone}
+
+not_both : (b : Bool) → b ≡ false → b ≡ true → ⊥
+not_both true off on = cc
+not_both false off on = cc
+
+module _ {D : Type 0} (clean : D → Type 0) (stands : D → Standing → Type 0) where
+  abbrev comes_from_archive : RefusedCall clean stands → Bool
+  comes_from_archive x = is_of_archive x.command (refused x.number x.offset)
+
+  -- the state after a refusal that does not come from the archive
+  led : (x : RefusedCall clean stands) → comes_from_archive x ≡ false → Leads stands x.new (Step x.state x.command (refused x.number x.offset))
+  led x own = x.call.leads (λ from_archive. absurd (not_both (comes_from_archive x) own from_archive)) x.state x.at_begin
+
+  pub unchanged_at_registry : (x : RefusedCall clean stands) → x.number ≢ 99 → stands x.new x.state
+  unchanged_at_registry x other = go (comes_from_archive x) refl
+    where
+      go : (b : Bool) → comes_from_archive x ≡ b → stands x.new x.state
+      go true from_archive = x.call.unchanged from_archive refl x.state x.at_begin
+      go false own =
+          let l = led x own in
+          let P : Standing → Type 0 = λ s. stands x.new s in
+          subst P (refused_unchanged x.state x.command x.number x.offset l.to l.is_one other) l.there
+
+  pub no_memory_at_registry : (x : RefusedCall clean stands) → x.number ≡ 99 → HasTurnsMore stands x.state x.new
+  no_memory_at_registry x poor = go (comes_from_archive x) refl
+    where
+      go : (b : Bool) → comes_from_archive x ≡ b → HasTurnsMore stands x.state x.new
+      go true from_archive = record { to = x.state; there = x.call.unchanged from_archive refl x.state x.at_begin; same = refl }
+      go false own =
+          let l = led x own in
+          let P : ℕ → Type 0 = λ n. Step x.state x.command (refused n x.offset) l.to in
+          record { to = l.to; there = l.there; same = turns_alone x.state x.command x.offset l.to (subst P poor l.is_one) }
