@@ -25,10 +25,10 @@ use Rattle.record_adoption.proofs.Sorting.{rises-sort}
 
 -- ---- holds
 
-named_total : IsTotalOrder row_cmp
+pub named_total : IsTotalOrder row_cmp
 named_total = then_total (on_total (λ (h : HoldEntry). pos h.number) int_cmp_total) (on_total (λ (h : HoldEntry). h.name) nat_list_cmp_total)
 
-cmp_is : (m n : ℕ) → int_cmp (pos m) (pos n) ≡ nat_cmp m n
+pub cmp_is : (m n : ℕ) → int_cmp (pos m) (pos n) ≡ nat_cmp m n
 cmp_is m n = grind (arith, ints)
 
 eq_is : (m n : ℕ) → is_eq (nat_cmp m n) ≡ (m == n)
@@ -60,10 +60,13 @@ apart x y h =
     ∙ (λ i. (ap is_eq (cmp_is x.number y.number) ∙ eq_is x.number y.number ∙ number_eq-sym x.number y.number) i && (is_eq-slice_cmp x.name y.name ∙ bytes_eq-sym x.name y.name) i)
     ∙ and-swap (y.number == x.number) (bytes_eq y.name x.name) ∙ h
 
-holds_rise : (a : Archive) → IsAscending (λ (x y : Hold). is_hold x.name x.number y ≡ false) a.holds → IsAscending (λ x y. row_cmp x y ≡ Less) (sorted_holds a)
-holds_rise a once =
-    rises-sort row_cmp named_total (map named_hold a.holds)
-    (ascending-map (λ x y. is_eq (row_cmp x y) ≡ false) named_hold a.holds (ascending_weaker _ (λ (x y : Hold). is_eq (row_cmp (named_hold x) (named_hold y)) ≡ false) apart a.holds once))
+-- no two holds are the same by record and name
+pub holds_apart : (a : Archive) → IsAscending (λ (x y : Hold). is_hold x.name x.number y ≡ false) a.holds → IsAscending (λ x y. is_eq (row_cmp x y) ≡ false) (map named_hold a.holds)
+holds_apart a once =
+    ascending-map (λ x y. is_eq (row_cmp x y) ≡ false) named_hold a.holds (ascending_weaker _ (λ (x y : Hold). is_eq (row_cmp (named_hold x) (named_hold y)) ≡ false) apart a.holds once)
+
+pub holds_rise : (a : Archive) → IsAscending (λ (x y : Hold). is_hold x.name x.number y ≡ false) a.holds → IsAscending (λ x y. row_cmp x y ≡ Less) (sorted_holds a)
+holds_rise a once = rises-sort row_cmp named_total (map named_hold a.holds) (holds_apart a once)
 
 pub holds_permuted : (a : Archive) → IsPermutation (sorted_holds a) (map named_hold a.holds)
 holds_permuted a = IsPermutation-sort_by row_cmp named_total (map named_hold a.holds)

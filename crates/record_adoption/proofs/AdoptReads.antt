@@ -32,11 +32,9 @@ pub sees_then : {S : Type 0} (g : Ghosts S) (Are : Schema → Type 0) (old mid n
 sees_then g Are old mid new one kept two = record {
   idle = λ idle. two.idle (one.idle idle);
   falls = λ clean. one.falls (two.falls clean);
-  still = λ idle has clean is_open.
-      let opened : IsTrue (state g mid).is_open → Are (state g mid).now.schema =
-      λ mid_open. let it = one.still idle has (two.falls clean) mid_open in subst (λ (db : Database). Are db.schema) (sym it.1) (has it.0) in
-      let last = two.still (one.idle idle) opened clean is_open in
-      let first = one.still idle has (two.falls clean) last.0 in
+  quiet = λ idle clean is_open.
+      let last = two.quiet (one.idle idle) clean is_open in
+      let first = one.quiet idle (two.falls clean) last.0 in
       (first.0, last.1 ∙ first.1);
   survives =
       survives_then (state g old) (state g mid) (state g new) _ _ _ (λ _ db none. none)
@@ -48,7 +46,7 @@ pub sees_as : {S : Type 0} (g : Ghosts S) (Are More : Schema → Type 0) (old ne
 sees_as g Are More old new to one = record {
   idle = one.idle;
   falls = one.falls;
-  still = λ idle has. one.still idle (λ is_open. to (state g old).now.schema (has is_open));
+  quiet = one.quiet;
   survives = survives_weaker (state g old) (state g new) _ _ (λ _ db none more. none (to (state g old).now.schema more)) one.survives;
 }
 

@@ -1,6 +1,6 @@
 -- What transactions make of the rows that were found, and the store over them.
-use Rattle.std.proofs.Common.{◌≡◌, ◌-◌, ◌+◌, ◌≤◌, ℕ, List, [], ◌∷◌, pos, inl, refl, sym, ap, subst, ◌∙◌, arith, false, IsErrAnd, Result, Err}
-use Rattle.std.proofs.lemmas.Result.{err_from_is_err_and}
+use Rattle.std.proofs.Common.{◌≡◌, ◌-◌, ◌+◌, ◌≤◌, ℕ, List, [], ◌∷◌, pos, inl, refl, sym, ap, subst, ◌∙◌, arith, false}
+pub use Rattle.record_reads.proofs.TypedLemmas.{handed_on}
 use Rattle.sqlite.specs.Store.{Ghosts}
 use Rattle.sqlite.specs.Schema.{Schema}
 use Rattle.sqlite.specs.Tree.{Trees}
@@ -9,8 +9,6 @@ use Rattle.sqlite.specs.State.{HasCleanDisk, IsUnchanged, Survives}
 use Rattle.sqlite.specs.Held.{Held, state}
 use Rattle.sqlite.proofs.StateLemmas.{survives_then, survives_weaker}
 use Rattle.class_plan.specs.Plans.{first_plan}
-use Rattle.record_tables.specs.declared.fault.Fault.{Fault}
-use Rattle.record_tables.specs.declared.fault.Fault.TheVariants.{NoArchive}
 use Rattle.record_tables.specs.Rows.{Due}
 use Rattle.record_tables.specs.Changes.{ClassEntry, Rule, with_plan, with_version, IsRevised}
 use Rattle.record_tables.specs.Layouts.{IsLaid, IsMoved}
@@ -23,13 +21,6 @@ use Rattle.record_adoption.specs.Counts.{count_at}
 use Rattle.record_adoption.specs.Keeping.{StoresArchive, due_rows}
 use Rattle.record_adoption.specs.declared.overview.Overview.{Overview}
 use Rattle.record_adoption.proofs.LaidLemmas.{listed-numbered, rules-numbered, same_list, stores_laid}
-
--- a refusal is passed on unchanged
-pub handed_on : {T : Type 0} (r : Result T Fault) (f : Fault) → IsErrAnd r (λ e. e ≡ f) → r ≡ Err NoArchive → f ≡ NoArchive
-handed_on r f h is =
-    let p = err_from_is_err_and r h in
-    let same : p.0 ≡ NoArchive = let a = p.1 in cc in
-    sym p.2 ∙ same
 
 first_value : List Pair → List ℕ
 first_value [] = []

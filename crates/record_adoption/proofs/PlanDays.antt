@@ -1,14 +1,17 @@
 -- The due days by a plan, one record after another.
-use Rattle.std.proofs.Common.{◌≡◌, ◌<◌, ◌+◌, ◌-◌, ℕ, zero, suc, slice_get, Bool, true, false, not, cond, ◌&&◌, is_some, unwrap_or, List, [], ◌∷◌, ◌++◌, map, filter, take, length, get_or, Option, Some, None, refl, sym, ap, subst, ◌∙◌, arith}
+use Rattle.std.proofs.Common.{◌≡◌, ◌<◌, ◌≤◌, ◌+◌, ◌-◌, ℕ, zero, suc, slice_get, Bool, true, false, not, cond, ◌&&◌, is_some, unwrap_or, List, [], ◌∷◌, ◌++◌, map, filter, take, length, get_or, Option, Some, None, refl, sym, ap, subst, ◌∙◌, arith}
 use Rattle.std.specs.List.{AllByRecursion}
 use Rattle.std.proofs.lemmas.List.{take_more, map-append}
+use Rattle.std.proofs.lemmas.List.Elements.{recursion_from_All}
+use Rattle.sqlite_trees.specs.Tree.{IsAscending}
 use Rattle.sqlite_keyed.proofs.ListLemmas.{all_weaker, ascending-append}
 use Rattle.class_plan.specs.Calendar.{due_on}
 use Rattle.class_plan.specs.Plans.{Listing}
-use Rattle.record_archive.specs.Archive.{Record, Archive}
+use Rattle.record_archive.specs.Archive.{Record, Archive, IsArchive, IsRecord}
 use Rattle.record_tables.specs.Rows.{Due}
 use Rattle.record_tables.specs.Changes.{AreAscending}
 use Rattle.record_adoption.specs.Keeping.{has_due, due_row, dues_in}
+use Rattle.record_adoption.specs.Faults.{AreInOrder}
 
 filter-append : {X : Type 0} (p : X → Bool) (xs ys : List X) → filter p (xs ++ ys) ≡ filter p xs ++ filter p ys
 filter-append p [] ys = refl
@@ -82,3 +85,37 @@ pub one_with_day : (p : Listing) (r : Record) (day : ℕ) → r.destroyed ≡ fa
 one_with_day p r day live h =
     ap (λ d. map (due_row (alone p)) (cond (not d && is_some (due_on p r.path r.day)) (r ∷ []) [])) live
     ∙ ap (λ b. map (due_row (alone p)) (cond b (r ∷ []) [])) (ap is_some h) ∙ ap (λ (o : Option ℕ). record { number = r.number; day = unwrap_or o 0 } ∷ []) h
+
+-- ---- records in the order of their numbers
+
+at_mapped : {V : Type 0} (f : V → Record) (P : Record → Type 0) (vs : List V) (v : V) (i : ℕ) → i < length vs → v ≡ get_or vs i v → AllByRecursion P (map f vs) → P (f v)
+at_mapped f P [] v i low is all = absurd (omega arith)
+at_mapped f P (x ∷ vs) v zero low is all = subst (λ y. P (f y)) (sym is) all.0
+at_mapped f P (x ∷ vs) v (suc i) low is all = at_mapped f P vs v i (omega arith) is all.1
+
+-- the records before a place have numbers below that of the one there
+before_place : {V : Type 0} (f : V → Record) (vs : List V) (v : V) (i : ℕ) → i < length vs → v ≡ get_or vs i v → IsAscending (λ (x y : Record). x.number < y.number) (map f vs)
+    → AllByRecursion (λ (r : Record). r.number < (f v).number) (map f (take i vs))
+before_place f [] v i low is up = absurd (omega arith)
+before_place f (x ∷ vs) v zero low is up = tt
+before_place f (x ∷ vs) v (suc i) low is up = (at_mapped f (λ (r : Record). (f x).number < r.number) vs v i (omega arith) is up.0, before_place f vs v i (omega arith) is up.1)
+
+dues_below : (p : Listing) (n : ℕ) (rs : List Record) → AllByRecursion (λ (r : Record). r.number < n) rs → AllByRecursion (λ (d : Due). d.number < n) (dues_in p rs)
+dues_below p n [] h = tt
+dues_below p n (r ∷ rs) h = go (has_due (alone p) r) (dues_below p n rs h.1)
+  where
+    go : (b : Bool) → AllByRecursion (λ (d : Due). d.number < n) (dues_in p rs)
+        → AllByRecursion (λ (d : Due). d.number < n) (map (due_row (alone p)) (cond b (r ∷ filter (has_due (alone p)) rs) (filter (has_due (alone p)) rs)))
+    go true more = (h.0, more)
+    go false more = more
+
+-- the due days of the records before a place have numbers below that of the record there
+pub dues_before : {V : Type 0} (p : Listing) (f : V → Record) (vs : List V) (v : V) (i : ℕ) → i < length vs → v ≡ get_or vs i v → AreInOrder (map f vs) → AllByRecursion (λ (d : Due). d.number < (f v).number) (dues_in p (map f (take i vs)))
+dues_before p f vs v i low is order = dues_below p (f v).number (map f (take i vs)) (before_place f vs v i low is order.numbers)
+
+pub day_at : {V : Type 0} (f : V → Record) (vs : List V) (v : V) (i : ℕ) → i < length vs → v ≡ get_or vs i v → AreInOrder (map f vs) → (f v).day ≤ 84005
+day_at f vs v i low is order = at_mapped f (λ (r : Record). r.day ≤ 84005) vs v i low is order.days
+
+-- the records of an archive
+pub archive_in_order : (a : Archive) → IsArchive a → AreInOrder a.records
+archive_in_order a is = record { numbers = is.in_order; days = all_weaker (IsRecord a) (λ (r : Record). r.day ≤ 84005) (λ r h. h.day) a.records (recursion_from_All (IsRecord a) a.records is.records) }

@@ -11,13 +11,15 @@ use Rattle.sqlite_keyed.specs.Lists.{sort_by}
 use Rattle.sqlite_trees.specs.Tree.{IsAscending}
 use Rattle.class_plan.specs.Plans.{Listing, IsPlan}
 use Rattle.class_plan.specs.Texts.{text_of}
-use Rattle.record_tables.specs.Tables.{IsArchiveSchema, no_schema, first_schema, first_schema_with_dues}
+use Rattle.record_tables.specs.Tables.{no_schema, first_schema, first_schema_with_dues, IsArchiveSchema}
 use Rattle.record_archive.specs.Archive.{Message, Record, Archive, Hold, IsArchive, empty_archive, is_hold, next_number}
 use Rattle.record_tables.specs.Rows.{Tables, Due, Stores, StoresFirst, StoresCommon, AreKeyed}
 use Rattle.record_tables.specs.Changes.{ClassEntry, Rule}
 use Rattle.record_tables.specs.Reads.{HoldEntry, Pair, class_entry, pair, hold_cmp, ArePairs, AreClasses, AreRules}
 use Rattle.record_tables.specs.CodeRows.{record_of, hold_entry_of, class_entry_of, rule_of, due_of}
-use Rattle.record_tables.specs.Steps.{IsIdle, Falls, IsStill, CommitsNothingOf}
+use Rattle.record_tables.specs.Steps.{IsIdle, Falls, CommitsNothingOf}
+use Rattle.record_reads.specs.Quiet.{IsQuiet}
+use Rattle.record_reads.specs.RawRows.{AreTypedMessages, AreTypedRecords, AreTypedHolds, AreTypedClasses, AreTypedSchedules}
 use Rattle.record_rows.specs.SoundRows.{AreRows}
 use Rattle.record_rows.specs.Rules.{rules_of, classes_of}
 use Rattle.record_rows.specs.Texts.{text_row}
@@ -142,9 +144,29 @@ HasRows db =
     ((t : Tables) × (ps : List Pair) × (rs : List Rule) × (cs : List ClassEntry) × ReadsSecond db t ps rs cs)
     ⊎ ((t : Tables) × (ps : List Pair) × (cs : List ClassEntry) × ReadsFirst db t ps cs)
 
--- a schema as a store creates it, in version 1 or 2, or none yet
-abbrev pub IsLaidSchema : Schema → Type 0
-IsLaidSchema schema = (schema ≡ no_schema) ⊎ (schema ≡ first_schema) ⊎ (schema ≡ first_schema_with_dues) ⊎ IsArchiveSchema schema
+-- ---- rows whose numbers and flags may be any integers
+
+-- messages, records and holds are typed rows, whatever integers they have
+pub record AreTypedRows (db : Database) : Type 0 where
+  pub messages : AreTypedMessages db
+  pub records : AreTypedRecords db
+  pub holds : AreTypedHolds db
+
+-- the same of all tables of version 2 but that of due days
+pub record AreTypedSecond (db : Database) : Type 0 where
+  pub rows : AreTypedRows db
+  pub classes : AreTypedClasses db
+  pub schedules : AreTypedSchedules db
+
+-- the same of version 1
+pub record AreTypedFirst (db : Database) : Type 0 where
+  pub rows : AreTypedRows db
+  pub classes : AreTypedClasses db
+
+-- the tables of either version, if they are there, have typed rows
+pub record HasTypedRows (db : Database) : Type 0 where
+  pub second : IsArchiveSchema db.schema → AreTypedSecond db
+  pub first : (db.schema ≡ first_schema) ⊎ (db.schema ≡ first_schema_with_dues) → AreTypedFirst db
 
 -- ---- what is read
 
@@ -194,12 +216,12 @@ pub record IsOverview (f : Overview) (a : Archive) : Type 0 where
 
 -- ---- calls
 
--- Reads outside a transaction, of tables that are there, change nothing; a crash leaves what it might have left
+-- Reads outside a transaction change nothing; where these tables are there, a crash leaves what it might have left
 -- before them.
 pub record Sees {S : Type 0} (g : Ghosts S) (Are : Schema → Type 0) (old new : Held S) : Type 0 where
   pub idle : IsIdle g old new
   pub falls : Falls g old new
-  pub still : IsStill g old new (Are (state g old).now.schema)
+  pub quiet : IsQuiet g old new
   pub survives : CommitsNothingOf g old new (Are (state g old).now.schema)
 
 -- a crash leaves what it might have left before, or tables that keep each of these archives

@@ -1,13 +1,14 @@
 //! The rows of messages, records and holds, and what a store keeps of them beside the connection.
 
-ghost use Rattle.std.specs.Prelude.{◌≡◌, map, Err, IfOk};
+ghost use Rattle.std.specs.Prelude.{◌≡◌, map, Err, IfOk, IfErr};
 ghost use Rattle.sqlite.specs.Held.{state};
 ghost use Rattle.record_tables.specs.Tables.{HasCommonTables};
 ghost use Rattle.record_tables.specs.Changes.{AreAscending};
 ghost use Rattle.record_tables.specs.Steps.{ReadsAlone, Learns, Rejects};
 ghost use Rattle.record_tables.specs.CodeRows.{due_of};
 ghost use Rattle.record_archive.specs.Archive.{Archive, IsArchive};
-ghost use Rattle.record_adoption.specs.Adoption.{FindsCommon, AreOnce, IsKeyed, TellsRows, IsOverview, IsJudged, Sees, FindsNone};
+ghost use Rattle.record_adoption.specs.Faults.{IsOfRows};
+ghost use Rattle.record_adoption.specs.Adoption.{FindsCommon, AreOnce, IsKeyed, TellsRows, IsOverview, IsJudged, Sees, FindsNone, AreTypedRows};
 
 use crate::counts::Counts;
 use crate::plan_days::due_rows_by;
@@ -47,6 +48,8 @@ pub(crate) fn archive_rows<S: Alter>(
     ensures tells { Learns S.Store conn.old conn.new result
         (λ db r. (a : Archive) → FindsCommon db a → AreOnce a.holds → TellsRows r a) }
     ensures none { Rejects S.Store conn.old conn.new result (FindsNone FindsCommon) }
+    ensures typed { Learns S.Store conn.old conn.new result
+        (λ db r. HasCommonTables db.schema → AreTypedRows db) }
     ensures same { ReadsAlone S.Store conn.old conn.new result
         (HasCommonTables (state S.Store conn.old).now.schema) }
     ensures sees { Sees S.Store HasCommonTables conn.old conn.new }
@@ -69,6 +72,7 @@ pub(crate) fn gather(alloc: Global, plan: Plan, rows: &ArchiveRows) -> Result<Ov
     ensures ascending { IfOk result (λ f. AreAscending (map due_of f.dues.items)) }
     ensures none { result ≡ Err Fault.NoArchive → (a : Archive) → plan ≡ a.plan
         → TellsRows rows.now a → IsArchive a → ⊥ }
+    ensures cause { IfErr result IsOfRows }
 {
     let records = rows.records.as_slice();
     let messages = rows.messages.as_slice();

@@ -7,6 +7,7 @@ ghost use Rattle.record_tables.specs.Tables.{IsArchiveSchema};
 ghost use Rattle.record_tables.specs.Steps.{ReadsAlone, Learns, Rejects};
 ghost use Rattle.record_tables.specs.CodeRows.{pair_of};
 ghost use Rattle.record_archive.specs.Archive.{Archive};
+ghost use Rattle.record_reads.specs.RawRows.{AreTypedClasses, AreTypedSchedules};
 ghost use Rattle.record_adoption.specs.Adoption.{FindsSecond, IsKeyed, TellsPlan, ShowsPlan, Sees, ForSecond};
 
 use class_plan::Plan;
@@ -52,6 +53,8 @@ pub(crate) fn plan_rows<S: Alter>(
         (λ db r. ForSecond db (λ ps rs cs. ShowsPlan r ps rs cs)) }
     ensures none { Rejects S.Store conn.old conn.new result
         (λ db. (a : Archive) → FindsSecond db a → IsKeyed a → ⊥) }
+    ensures typed { Learns S.Store conn.old conn.new result (λ db r.
+        IsArchiveSchema db.schema → AreTypedClasses db × AreTypedSchedules db) }
     ensures same { ReadsAlone S.Store conn.old conn.new result
         (IsArchiveSchema (state S.Store conn.old).now.schema) }
     ensures sees { Sees S.Store IsArchiveSchema conn.old conn.new }

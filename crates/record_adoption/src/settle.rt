@@ -5,11 +5,11 @@ ghost use Rattle.sqlite.specs.State.{HasCleanDisk};
 ghost use Rattle.sqlite.specs.Held.{state};
 ghost use Rattle.record_tables.specs.Tables.{HasCommonTables, IsArchiveSchema};
 ghost use Rattle.record_tables.specs.Changes.{AreAscending};
-ghost use Rattle.record_tables.specs.Steps.{ReadsAlone, Learns, Rejects, Relates, FailsStill, FailsStillOn, Makes};
+ghost use Rattle.record_tables.specs.Steps.{ReadsAlone, Learns, Rejects, Relates, FailsStill, Makes};
 ghost use Rattle.record_tables.specs.CodeRows.{due_of};
 ghost use Rattle.record_archive.specs.Archive.{Archive};
 ghost use Rattle.record_adoption.specs.Keeping.{StoresArchive, due_rows};
-ghost use Rattle.record_adoption.specs.Adoption.{FindsSecond, FindsFirst, IsKeyed, TellsPlan, IsOverview, Sees, LeavesArchive, IsSoundSecond, IsSoundFirst, FindsNone, IsSettled, TellsContents, LeavesFound};
+ghost use Rattle.record_adoption.specs.Adoption.{FindsSecond, FindsFirst, IsKeyed, TellsPlan, IsOverview, Sees, LeavesArchive, IsSoundSecond, IsSoundFirst, FindsNone, IsSettled, TellsContents, LeavesFound, AreTypedSecond, AreTypedFirst};
 
 use crate::overview::{Overview, archive_rows, gather};
 use crate::plan_rows::{PlanRows, plan_in, plan_rows, rows_of_plan};
@@ -41,7 +41,7 @@ fn settle_dues<S: Alter>(
     ensures idle { conn.new.in_transaction ≡ false }
     ensures ok { Makes S.Store conn.old conn.new result
         (IsSettled FindsSecond plan.now (map due_of dues.now)) }
-    ensures err { FailsStillOn S.Store conn.old conn.new IsArchiveSchema result }
+    ensures err { FailsStill S.Store conn.old conn.new result }
     ensures falls { HasCleanDisk (state S.Store conn.new) → HasCleanDisk (state S.Store conn.old) }
     ensures crash { LeavesArchive S.Store conn.old conn.new
         (λ a. FindsSecond (state S.Store conn.old).now a
@@ -79,6 +79,8 @@ fn move_over<S: Alter>(
 /// Reads version 2: the rows of its plan, and what a store keeps beside the connection.
 fn read_second<S: Alter>(alloc: Global, conn: &mut Connection<S>) -> Result<Contents, Fault>
     ensures sound { Learns S.Store conn.old conn.new result (λ db r. IsSoundSecond db) }
+    ensures typed { Learns S.Store conn.old conn.new result
+        (λ db r. IsArchiveSchema db.schema → AreTypedSecond db) }
     ensures found { Learns S.Store conn.old conn.new result
         (λ db r. (a : Archive) → FindsSecond db a → IsKeyed a →
         TellsContents r a) }
@@ -101,6 +103,8 @@ fn read_second<S: Alter>(alloc: Global, conn: &mut Connection<S>) -> Result<Cont
 /// Reads version 1: the rows that its plan has in version 2, and what a store keeps beside the connection.
 fn read_first<S: Alter>(alloc: Global, conn: &mut Connection<S>) -> Result<Contents, Fault>
     ensures sound { Learns S.Store conn.old conn.new result (λ db r. IsSoundFirst db) }
+    ensures typed { Learns S.Store conn.old conn.new result
+        (λ db r. HasCommonTables db.schema → AreTypedFirst db) }
     ensures found { Learns S.Store conn.old conn.new result
         (λ db r. (a : Archive) → FindsFirst db a → IsKeyed a →
         TellsContents r a) }
@@ -129,11 +133,13 @@ pub fn settle_second<S: Alter>(alloc: Global, conn: &mut Connection<S>) -> Resul
     requires { conn.old.in_transaction ≡ false }
     ensures idle { conn.new.in_transaction ≡ false }
     ensures sound { Learns S.Store conn.old conn.new result (λ db f. IsSoundSecond db) }
+    ensures typed { Learns S.Store conn.old conn.new result
+        (λ db f. IsArchiveSchema db.schema → AreTypedSecond db) }
     ensures found { Relates S.Store conn.old conn.new result
         (λ old new f. (a : Archive) → FindsSecond old a → IsKeyed a →
         IsOverview f a × StoresArchive new a) }
     ensures none { Rejects S.Store conn.old conn.new result (FindsNone FindsSecond) }
-    ensures err { FailsStillOn S.Store conn.old conn.new IsArchiveSchema result }
+    ensures err { FailsStill S.Store conn.old conn.new result }
     ensures crash { LeavesFound S.Store conn.old conn.new FindsSecond IsKeyed }
 {
     let contents = read_second(alloc, conn)?;
@@ -149,11 +155,13 @@ pub fn settle_first<S: Alter>(alloc: Global, conn: &mut Connection<S>) -> Result
     requires { conn.old.in_transaction ≡ false }
     ensures idle { conn.new.in_transaction ≡ false }
     ensures sound { Learns S.Store conn.old conn.new result (λ db f. IsSoundFirst db) }
+    ensures typed { Learns S.Store conn.old conn.new result
+        (λ db f. HasCommonTables db.schema → AreTypedFirst db) }
     ensures found { Relates S.Store conn.old conn.new result
         (λ old new f. (a : Archive) → FindsFirst old a → IsKeyed a →
         IsOverview f a × StoresArchive new a) }
     ensures none { Rejects S.Store conn.old conn.new result (FindsNone FindsFirst) }
-    ensures err { FailsStillOn S.Store conn.old conn.new HasCommonTables result }
+    ensures err { FailsStill S.Store conn.old conn.new result }
     ensures crash { LeavesFound S.Store conn.old conn.new FindsFirst IsKeyed }
 {
     let contents = read_first(alloc, conn)?;

@@ -7,6 +7,7 @@ ghost use Rattle.record_tables.specs.Tables.{HasCommonTables};
 ghost use Rattle.record_tables.specs.Steps.{ReadsAlone, Learns, Rejects};
 ghost use Rattle.record_tables.specs.CodeRows.{pair_of};
 ghost use Rattle.record_archive.specs.Archive.{Archive};
+ghost use Rattle.record_reads.specs.RawRows.{AreTypedClasses};
 ghost use Rattle.record_adoption.specs.Adoption.{FindsFirst, IsKeyed, TellsTexts, ShowsTexts, Sees, first_pairs, ForFirst};
 
 use crate::plan_rows::is_setting;
@@ -66,6 +67,8 @@ pub(crate) fn text_rows<S: Alter>(
         (λ db r. ForFirst db (λ ps cs. ShowsTexts r ps cs)) }
     ensures none { Rejects S.Store conn.old conn.new result
         (λ db. (a : Archive) → FindsFirst db a → IsKeyed a → ⊥) }
+    ensures typed { Learns S.Store conn.old conn.new result
+        (λ db r. HasCommonTables db.schema → AreTypedClasses db) }
     ensures same { ReadsAlone S.Store conn.old conn.new result
         (HasCommonTables (state S.Store conn.old).now.schema) }
     ensures sees { Sees S.Store HasCommonTables conn.old conn.new }

@@ -4,3 +4,7 @@ pub mod ReadLemmas
 pub mod LookupLemmas
 pub mod DueRecords
 pub mod StoredDueLemmas
+pub mod Quiet
+pub mod RawLemmas
+pub mod PageReads
+pub mod PlacedHolds

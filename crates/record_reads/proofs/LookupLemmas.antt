@@ -1,6 +1,6 @@
 -- What the looks by keys answer of the tables.
 use Rattle.std.proofs.Common.{◌≡◌, ◌≤◌, ◌==◌, ℕ, ℤ, pos, List, [], ◌∷◌, map, filter, find, length, Bool, true, false, cond, not, ◌||◌, Option, Some, None, option_map, codes, refl, sym, ap, subst, ◌∙◌, arith, int_eq, IsTrue, slice_get}
-use Rattle.std.specs.List.{list_any, list_all}
+use Rattle.std.specs.List.{AllByRecursion, list_any, list_all}
 use Rattle.std.proofs.lemmas.Int.{ints}
 use Rattle.std.proofs.lemmas.List.{length-map}
 use Rattle.std.proofs.lemmas.List.Sorted.{length_permutation}
@@ -18,15 +18,17 @@ use Rattle.sqlite.specs.Listing.{understood}
 use Rattle.sqlite.proofs.Callers.{reads_as, IsPlain, never_commits}
 use Rattle.sqlite_sql.specs.Program.{overlay}
 use Rattle.sqlite_sql.specs.declared.ops.CompareOp.TheVariants.{Eq}
+use Rattle.sqlite_keyed.proofs.ListLemmas.{all-filter}
 use Rattle.sqlite_keyed.proofs.RuleLemmas.{at_most_one}
 use Rattle.sqlite_typed.proofs.TestLemmas.{at_texts, at_ints, then_term, last_term}
 use Rattle.record_tables.specs.Tables.{Foreign, IsArchiveSchema, archive_beside}
 use Rattle.record_archive.specs.Archive.{Message, Record}
 use Rattle.record_tables.specs.Rows.{Tables, Stores, AreKeyed, message_key, message_row, record_key, record_row, Hold, hold_key, hold_row}
 use Rattle.record_tables.specs.Changes.{is_hold}
-use Rattle.record_tables.specs.Reads.{record_values}
-use Rattle.record_reads.specs.Lookups.{record_with, body_with, has_hold_of, TellsRecord}
+use Rattle.record_tables.specs.Reads.{record_values, ReadsRecord, FitsRecord}
+use Rattle.record_reads.specs.Lookups.{record_with, body_with, has_hold_of}
 use Rattle.record_reads.proofs.Queries.{Asks}
+use Rattle.record_reads.proofs.TypedLemmas.{one_record, can_record}
 use Rattle.record_tables.proofs.Texts.{on_table, alone, key_test, hold_test}
 use Rattle.record_tables.proofs.AnswerLemmas.{row_alone, rows_permuted}
 
@@ -124,25 +126,12 @@ shows_hold old new rows name n t s keyed h =
 
 -- ---- what is read of them
 
-one_record : (y q : Record) → TellsRecord (record_values y) q → q ≡ y
-one_record y q h =
-    let number : q.number ≡ y.number = let e = h.number in cc in
-    let message : q.message ≡ y.message = let e = h.message in cc in
-    let path : q.path ≡ y.path = let e = h.path in cc in
-    let day : q.day ≡ y.day = let e = h.day in cc in
-    let destroyed : q.destroyed ≡ y.destroyed = flag y.destroyed h.destroyed in
-    λ i. record { number = number i; message = message i; path = path i; day = day i; destroyed = destroyed i }
-  where
-    flag : (b : Bool) → (n : ℤ) × (Int (Rattle.record_tables.specs.Rows.as_flag b) ≡ Int n) × (q.destroyed ≡ not (int_eq n (pos 0))) → q.destroyed ≡ b
-    flag true h = let e : pos 1 ≡ h.0 = let f = h.1 in cc in h.2 ∙ ap (λ k. not (int_eq k (pos 0))) (sym e)
-    flag false h = let e : pos 0 ≡ h.0 = let f = h.1 in cc in h.2 ∙ ap (λ k. not (int_eq k (pos 0))) (sym e)
-
-pub record_is : (n : ℕ) (t : Tables) (rows : List Row) (row : Row) (q : Record) → rows ≡ map record_values (records_asked n t) → Some row ≡ slice_get rows 0 → TellsRecord row q → Some q ≡ record_with n t
+pub record_is : (n : ℕ) (t : Tables) (rows : List Row) (row : Row) (q : Record) → rows ≡ map record_values (records_asked n t) → Some row ≡ slice_get rows 0 → ReadsRecord row q → Some q ≡ record_with n t
 record_is n t rows row q is first tells = go (records_asked n t) (first ∙ ap (λ l. slice_get l 0) is) ∙ sym (find-filter (λ (r : Record). int_eq (pos r.number) (pos n)) (λ (r : Record). r.number == n) t.records (λ r. same_test r.number n))
   where
     go : (ys : List Record) → Some row ≡ slice_get (map record_values ys) 0 → Some q ≡ slice_get ys 0
     go [] e = absurd cc
-    go (y ∷ ys) e = let same : row ≡ record_values y = cc in ap (λ z. Some z) (one_record y q (subst (λ z. TellsRecord z q) same tells))
+    go (y ∷ ys) e = let same : row ≡ record_values y = cc in ap (λ z. Some z) (one_record y q (subst (λ z. ReadsRecord z q) same tells))
 
 pub record_none : (n : ℕ) (t : Tables) (rows : List Row) → rows ≡ map record_values (records_asked n t) → None ≡ slice_get rows 0 → None ≡ record_with n t
 record_none n t rows is first = go (records_asked n t) (first ∙ ap (λ l. slice_get l 0) is) ∙ sym (find-filter (λ (r : Record). int_eq (pos r.number) (pos n)) (λ (r : Record). r.number == n) t.records (λ r. same_test r.number n))
@@ -164,6 +153,21 @@ body_none n t rows is first = go (messages_asked n t) (first ∙ ap (λ l. slice
     go : (ys : List Message) → None ≡ slice_get (map shown_body ys) 0 → None ≡ option_map (λ (m : Message). m.body) (slice_get ys 0)
     go [] e = refl
     go (y ∷ ys) e = absurd cc
+
+-- the row of a record whose numbers fit can be read, and that of a message
+pub record_readable : (n : ℕ) (t : Tables) (rows : List Row) (row : Row) → rows ≡ map record_values (records_asked n t) → Some row ≡ slice_get rows 0 → AllByRecursion FitsRecord t.records → (r : Record) × (FitsRecord r × ReadsRecord row r)
+record_readable n t rows row is first fits = go (records_asked n t) (all-filter FitsRecord _ t.records fits) (first ∙ ap (λ l. slice_get l 0) is)
+  where
+    go : (ys : List Record) → AllByRecursion FitsRecord ys → Some row ≡ slice_get (map record_values ys) 0 → (r : Record) × (FitsRecord r × ReadsRecord row r)
+    go [] all e = absurd cc
+    go (y ∷ ys) all e = let same : row ≡ record_values y = cc in subst (λ z. (r : Record) × (FitsRecord r × ReadsRecord z r)) (sym same) (can_record y all.0)
+
+pub body_readable : (n : ℕ) (t : Tables) (rows : List Row) (row : Row) → rows ≡ map shown_body (messages_asked n t) → Some row ≡ slice_get rows 0 → (b : List ℕ) × (column row 0 ≡ Blob b)
+body_readable n t rows row is first = go (messages_asked n t) (first ∙ ap (λ l. slice_get l 0) is)
+  where
+    go : (ys : List Message) → Some row ≡ slice_get (map shown_body ys) 0 → (b : List ℕ) × (column row 0 ≡ Blob b)
+    go [] e = absurd cc
+    go (y ∷ ys) e = let same : row ≡ shown_body y = cc in (y.body, ap (λ z. column z 0) same)
 
 -- ---- the connection after a look
 

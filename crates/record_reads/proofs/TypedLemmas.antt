@@ -43,6 +43,13 @@ never_none r e h is =
     let same : p.0 ≡ NoArchive = let a = p.1 in cc in
     not_none e (sym p.2 ∙ same)
 
+-- a refusal is passed on unchanged
+pub handed_on : {T : Type 0} (r : Result T Fault) (f : Fault) → IsErrAnd r (λ e. e ≡ f) → r ≡ Err NoArchive → f ≡ NoArchive
+handed_on r f h is =
+    let p = err_from_is_err_and r h in
+    let same : p.0 ≡ NoArchive = let a = p.1 in cc in
+    sym p.2 ∙ same
+
 -- ---- lists
 
 zip_push : {A B : Type 0} (P : A → B → Type 0) (xs : List A) (ys : List B) (x : A) (y : B) → AllZip P xs ys → P x y → AllZip P (xs ++ x ∷ []) (ys ++ y ∷ [])

@@ -1,3 +1,6 @@
 pub mod Lookups
+pub mod Quiet
+pub mod RawRows
 pub mod DueRecords
 pub mod StoredDues
+pub mod Pages

@@ -1,9 +1,6 @@
 -- Rows that are looked up by their keys, and the connection after a look.
-use Rattle.std.specs.Prelude.{◌≡◌, ◌==◌, ℕ, ℤ, pos, Bool, false, not, List, Option, option_map, find, IsTrue}
-use Rattle.std.specs.Ordering.{int_eq}
+use Rattle.std.specs.Prelude.{◌≡◌, ◌==◌, ℕ, Bool, false, List, Option, option_map, find, IsTrue, Result, Err}
 use Rattle.std.specs.List.{list_any}
-use Rattle.sqlite.specs.declared.types.Value.TheVariants.{Int, Text as Words}
-use Rattle.sqlite.specs.Order.{Row, column}
 use Rattle.sqlite.specs.Store.{Ghosts}
 use Rattle.sqlite.specs.State.{HasCleanDisk, Survives}
 use Rattle.sqlite.specs.Held.{Held, state}
@@ -11,6 +8,8 @@ use Rattle.record_tables.specs.Tables.{IsArchiveSchema}
 use Rattle.record_archive.specs.Archive.{Message, Record}
 use Rattle.record_tables.specs.Rows.{Tables}
 use Rattle.record_tables.specs.Changes.{is_hold}
+use Rattle.record_tables.specs.declared.fault.Fault.{Fault}
+use Rattle.record_tables.specs.declared.fault.Fault.TheVariants.{NoArchive}
 
 abbrev pub record_with : ℕ → Tables → Option Record
 record_with n t = find (λ (r : Record). r.number == n) t.records
@@ -31,10 +30,6 @@ pub record Looks {S : Type 0} (g : Ghosts S) (old new : Held S) : Type 0 where
       ((state g new).now ≡ (state g old).now)
   pub survives : Survives (state g old) (state g new) (λ _. IsArchiveSchema (state g old).now.schema → ⊥)
 
--- the columns of the row are read as the record's
-pub record TellsRecord (row : Row) (r : Record) : Type 0 where
-  pub number : column row 0 ≡ Int (pos r.number)
-  pub message : column row 1 ≡ Int (pos r.message)
-  pub path : column row 2 ≡ Words r.path
-  pub day : column row 3 ≡ Int (pos r.day)
-  pub destroyed : (n : ℤ) × (column row 4 ≡ Int n) × (r.destroyed ≡ not (int_eq n (pos 0)))
+-- where it finds no archive, the connection was open
+abbrev pub WasOpenOnNoArchive : {S T : Type 0} → Ghosts S → (old new : Held S) → Result T Fault → Type 0
+WasOpenOnNoArchive g old new result = HasCleanDisk (state g new) → result ≡ Err NoArchive → IsTrue (state g old).is_open

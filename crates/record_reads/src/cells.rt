@@ -2,7 +2,7 @@
 
 ghost use Rattle.std.specs.Prelude.{◌≡◌, ◌≢◌, ◌↔◌, ◌<◌, ◌^◌, ℕ, List, Bool, pos, IsTrue, IfOk, IfErr};
 ghost use Rattle.sqlite.specs.Order.{column};
-ghost use Rattle.sqlite.specs.declared.types.Value.TheVariants.{Null, Int, Text as Words};
+ghost use Rattle.sqlite.specs.declared.types.Value.TheVariants.{Null, Int, Text as Words, Blob as Octets};
 ghost use Rattle.record_tables.specs.Rows.{as_flag};
 
 use record_tables::fault::Fault;
@@ -46,6 +46,18 @@ pub(crate) fn text_at(alloc: Global, row: &Row, at: usize) -> Result<Vec<u8>, Fa
 {
     match row.get_ref(at) {
         Ok(ValueRef::Text(octets)) => Ok(Vec::from_slice(alloc, octets)?),
+        _ => Err(Fault::NoArchive),
+    }
+}
+
+/// The octets in a column, exactly where the column holds some.
+pub(crate) fn octets_at(alloc: Global, row: &Row, at: usize) -> Result<Vec<u8>, Fault>
+    ensures octets { IfOk result (λ t. column row.now at ≡ Octets t.items) }
+    ensures none { IfErr result (λ f. f ≢ Fault.NoMemory → (f ≡ Fault.NoArchive) ×
+        ((t : List ℕ) → column row.now at ≡ Octets t → ⊥)) }
+{
+    match row.get_ref(at) {
+        Ok(ValueRef::Blob(octets)) => Ok(Vec::from_slice(alloc, octets)?),
         _ => Err(Fault::NoArchive),
     }
 }

@@ -5,6 +5,7 @@ ghost use Rattle.sqlite.specs.Held.{state};
 ghost use Rattle.record_tables.specs.Tables.{IsArchiveSchema};
 ghost use Rattle.record_tables.specs.Rows.{Tables, Stores, AreKeyed};
 ghost use Rattle.record_reads.specs.DueRecords.{DueRecord, ReadsDueRecord, FitsDueRecord, due_records_by, due_record_of, FitsDueRecordsBy};
+ghost use Rattle.record_reads.specs.Lookups.{WasOpenOnNoArchive};
 ghost use Rattle.record_tables.specs.Steps.{CommitsNothingOf, IsStill, Falls, IsIdle, ReadsAlone, Learns, Rejects, WasOpenOnOk};
 
 use crate::cells::{number_at, text_at};
@@ -43,6 +44,7 @@ pub fn due_records_by<S: Alter>(
         map due_record_of all.items ≡ due_records_by day t) }
     ensures none { Rejects S.Store conn.old conn.new result
         (λ db. (t : Tables) → Stores db t → AreKeyed t → FitsDueRecordsBy day t → ⊥) }
+    ensures seen { WasOpenOnNoArchive S.Store conn.old conn.new result }
     ensures same { ReadsAlone S.Store conn.old conn.new result
         (IsArchiveSchema (state S.Store conn.old).now.schema) }
     ensures still { IsStill S.Store conn.old conn.new

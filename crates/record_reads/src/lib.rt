@@ -4,6 +4,8 @@
 mod cells;
 pub mod due_records;
 pub mod lookup;
+pub mod pages;
+pub mod placed_holds;
 mod query;
 pub mod read;
 pub mod stored_dues;

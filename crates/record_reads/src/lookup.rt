@@ -1,6 +1,10 @@
-//! Rows that are looked up by their keys. A refusal is the error of `sqlite`. Outside a transaction nothing changes.
+//! Rows that are looked up by their keys. Outside a transaction nothing changes.
+//!
+//! A column of another kind, or a number of 2^32 or more, is refused as no archive. The other refusals are no memory
+//! and the errors of `sqlite`.
 
-ghost use Rattle.std.specs.Prelude.{◌≡◌, option_map, IfOk, OnOk, IsTrue};
+ghost use Rattle.std.specs.Prelude.{◌≡◌, option_map, OnOk, IsTrue};
+ghost use Rattle.std.specs.List.{AllByRecursion};
 ghost use Rattle.sqlite.specs.State.{HasCleanDisk};
 ghost use Rattle.sqlite.specs.Held.{state};
 ghost use Rattle.sqlite.specs.Values.{bound};
@@ -8,13 +12,18 @@ ghost use Rattle.sqlite.specs.Listing.{understood};
 ghost use Rattle.sqlite.proofs.Callers.{IsPlain};
 ghost use Rattle.record_tables.specs.Tables.{Foreign, archive_beside};
 ghost use Rattle.record_tables.specs.Rows.{Tables, Stores, AreKeyed};
-ghost use Rattle.record_reads.specs.Lookups.{Looks, record_with, body_with, has_hold_of, TellsRecord};
+ghost use Rattle.record_tables.specs.Reads.{FitsRecord};
+ghost use Rattle.record_reads.specs.Lookups.{Looks, WasOpenOnNoArchive, record_with, body_with, has_hold_of};
 ghost use Rattle.record_tables.specs.CodeRows.{record_of};
-ghost use Rattle.record_tables.specs.Steps.{Learns, ShowsOnOk};
+ghost use Rattle.record_tables.specs.Steps.{Learns, Rejects, ShowsOnOk};
 
+use crate::cells::octets_at;
+use crate::typed::FromRow;
+use record_tables::fault::Fault;
 use record_tables::rows::RecordRow;
 use sqlite::types::{ToSql, ValueRef};
 use sqlite::{Alter, Connection, Error, Row};
+use std::alloc::Global;
 
 fn look<S: Alter>(
     conn: &mut Connection<S>,
@@ -32,31 +41,19 @@ fn look<S: Alter>(
     Ok(rows)
 }
 
-fn record_in(row: &Row) -> Result<RecordRow, Error>
-    ensures { IfOk result (λ r. TellsRecord row.now (record_of r)) }
-{
-    let number = row.get::<u32>(0)?;
-    let message = row.get::<u32>(1)?;
-    let path = row.get::<String>(2)?;
-    let day = row.get::<u32>(3)?;
-    let destroyed = row.get::<bool>(4)?;
-    Ok(RecordRow {
-        number,
-        message,
-        path: path.into_bytes(),
-        day,
-        destroyed,
-    })
-}
-
 /// The record with a number, live or destroyed; `None` where there is none.
 pub fn record_by_number<S: Alter>(
+    alloc: Global,
     conn: &mut Connection<S>,
     number: u32,
-) -> Result<Option<RecordRow>, Error>
+) -> Result<Option<RecordRow>, Fault>
     ensures record { Learns S.Store conn.old conn.new result
         (λ db r. (t : Tables) → Stores db t → AreKeyed t →
         option_map record_of r ≡ record_with number t) }
+    ensures none { Rejects S.Store conn.old conn.new result
+        (λ db. (t : Tables) → Stores db t → AreKeyed t →
+        AllByRecursion FitsRecord t.records → ⊥) }
+    ensures seen { WasOpenOnNoArchive S.Store conn.old conn.new result }
     ensures open { HasCleanDisk (state S.Store conn.new) → OnOk result
         (IsTrue (state S.Store conn.old).is_open × IsTrue (state S.Store conn.new).is_open) }
     ensures looks { Looks S.Store conn.old conn.new }
@@ -67,19 +64,26 @@ pub fn record_by_number<S: Alter>(
         &[number.to_sql()],
     )?;
     match rows.first() {
-        Some(row) => Ok(Some(record_in(row)?)),
+        Some(row) => {
+            let record = RecordRow::from_row(alloc, row)?;
+            Ok(Some(record))
+        }
         None => Ok(None),
     }
 }
 
 /// The octets of the message with a number; `None` where there is none.
 pub fn message_body<S: Alter>(
+    alloc: Global,
     conn: &mut Connection<S>,
     number: u32,
-) -> Result<Option<Vec<u8>>, Error>
+) -> Result<Option<Vec<u8>>, Fault>
     ensures body { Learns S.Store conn.old conn.new result
         (λ db b. (t : Tables) → Stores db t → AreKeyed t →
         option_map (λ v. v.items) b ≡ body_with number t) }
+    ensures none { Rejects S.Store conn.old conn.new result
+        (λ db. (t : Tables) → Stores db t → AreKeyed t → ⊥) }
+    ensures seen { WasOpenOnNoArchive S.Store conn.old conn.new result }
     ensures open { HasCleanDisk (state S.Store conn.new) → OnOk result
         (IsTrue (state S.Store conn.old).is_open × IsTrue (state S.Store conn.new).is_open) }
     ensures looks { Looks S.Store conn.old conn.new }
@@ -90,12 +94,15 @@ pub fn message_body<S: Alter>(
         &[number.to_sql()],
     )?;
     match rows.first() {
-        Some(row) => Ok(Some(row.get::<Vec<u8>>(0)?)),
+        Some(row) => {
+            let body = octets_at(alloc, row, 0)?;
+            Ok(Some(body))
+        }
         None => Ok(None),
     }
 }
 
-/// Whether there is a hold of that name on the record with a number.
+/// Whether there is a hold of that name on the record with a number. Refused with the error of `sqlite` alone.
 pub fn has_hold<S: Alter>(conn: &mut Connection<S>, name: &[u8], number: u32) -> Result<bool, Error>
     ensures there { Learns S.Store conn.old conn.new result
         (λ db b. (t : Tables) → Stores db t → AreKeyed t →

@@ -3,6 +3,7 @@
 ghost use Rattle.sqlite.specs.Held.{state};
 ghost use Rattle.sqlite.specs.Values.{bound};
 ghost use Rattle.sqlite.specs.Listing.{understood};
+ghost use Rattle.sqlite.specs.Given.{Returns};
 ghost use Rattle.sqlite.proofs.Callers.{IsPlain};
 ghost use Rattle.record_tables.specs.Steps.{CommitsNothingOf, IsStill, Falls, IsIdle, ReadsAlone, ShowsOnOk, WasOpenOnOk};
 
@@ -10,6 +11,7 @@ use sqlite::types::ValueRef;
 use sqlite::{Alter, Connection, Error, Row};
 
 /// The rows that a query answers. One that is plain under the tables, as every query of this crate is, changes nothing.
+/// Outside a transaction one that returns no row of a change leaves the rows, whatever the tables are.
 pub(crate) fn rows_of<S: Alter>(
     conn: &mut Connection<S>,
     text: &str,
@@ -20,6 +22,8 @@ pub(crate) fn rows_of<S: Alter>(
         (IsPlain (understood (state S.Store conn.old).now.schema text.now)) }
     ensures still { IsStill S.Store conn.old conn.new
         (IsPlain (understood (state S.Store conn.old).now.schema text.now)) }
+    ensures quiet { IsStill S.Store conn.old conn.new
+        (¬ Returns (understood (state S.Store conn.old).now.schema text.now)) }
     ensures was_open { WasOpenOnOk S.Store conn.old conn.new result }
     ensures falls { Falls S.Store conn.old conn.new }
     ensures idle { IsIdle S.Store conn.old conn.new }

@@ -9,8 +9,11 @@ ghost use Rattle.sqlite.specs.Held.{state};
 ghost use Rattle.record_tables.specs.Tables.{HasCommonTables, IsArchiveSchema};
 ghost use Rattle.record_tables.specs.Rows.{Tables, Stores, StoresCommon, AreKeyed};
 ghost use Rattle.record_tables.specs.Reads.{FitsRecord, FitsNumber, FitsHold, FitsRule, AreHolds, ArePairs, AreClasses, AreRules, numbers_of, ForRows};
+ghost use Rattle.record_reads.specs.Lookups.{WasOpenOnNoArchive};
+ghost use Rattle.record_reads.specs.Quiet.{IsQuiet};
+ghost use Rattle.record_reads.specs.RawRows.{AreTypedRecords, AreTypedMessages, AreTypedHolds, AreTypedClasses, AreTypedSchedules};
 ghost use Rattle.record_tables.specs.CodeRows.{record_of, hold_entry_of, pair_of, class_entry_of, rule_of};
-ghost use Rattle.record_tables.specs.Steps.{CommitsNothingOf, IsStill, Falls, IsIdle, ReadsAlone, Learns, Rejects, WasOpenOnOk};
+ghost use Rattle.record_tables.specs.Steps.{CommitsNothingOf, Falls, IsIdle, ReadsAlone, Learns, Rejects, WasOpenOnOk};
 
 use crate::query::rows_of;
 use crate::typed::rows_in;
@@ -27,10 +30,12 @@ pub fn records<S: Alter>(alloc: Global, conn: &mut Connection<S>) -> Result<Vec<
     ensures none { Rejects S.Store conn.old conn.new result
         (λ db. (t : Tables) → StoresCommon db t → AreKeyed t →
         AllByRecursion FitsRecord t.records → ⊥) }
+    ensures seen { WasOpenOnNoArchive S.Store conn.old conn.new result }
+    ensures typed { Learns S.Store conn.old conn.new result
+        (λ db all. HasCommonTables db.schema → AreTypedRecords db) }
     ensures same { ReadsAlone S.Store conn.old conn.new result
         (HasCommonTables (state S.Store conn.old).now.schema) }
-    ensures still { IsStill S.Store conn.old conn.new
-        (HasCommonTables (state S.Store conn.old).now.schema) }
+    ensures quiet { IsQuiet S.Store conn.old conn.new }
     ensures was_open { WasOpenOnOk S.Store conn.old conn.new result }
     ensures falls { Falls S.Store conn.old conn.new }
     ensures idle { IsIdle S.Store conn.old conn.new }
@@ -53,10 +58,11 @@ pub fn message_numbers<S: Alter>(alloc: Global, conn: &mut Connection<S>) -> Res
     ensures none { Rejects S.Store conn.old conn.new result
         (λ db. (t : Tables) → StoresCommon db t → AreKeyed t →
         AllByRecursion FitsNumber (numbers_of t) → ⊥) }
+    ensures typed { Learns S.Store conn.old conn.new result
+        (λ db all. HasCommonTables db.schema → AreTypedMessages db) }
     ensures same { ReadsAlone S.Store conn.old conn.new result
         (HasCommonTables (state S.Store conn.old).now.schema) }
-    ensures still { IsStill S.Store conn.old conn.new
-        (HasCommonTables (state S.Store conn.old).now.schema) }
+    ensures quiet { IsQuiet S.Store conn.old conn.new }
     ensures was_open { WasOpenOnOk S.Store conn.old conn.new result }
     ensures falls { Falls S.Store conn.old conn.new }
     ensures idle { IsIdle S.Store conn.old conn.new }
@@ -73,10 +79,11 @@ pub fn holds<S: Alter>(alloc: Global, conn: &mut Connection<S>) -> Result<Vec<Ho
         (λ db all. ForRows StoresCommon AreHolds db (λ hs. map hold_entry_of all.items ≡ hs)) }
     ensures none { Rejects S.Store conn.old conn.new result
         (λ db. ForRows StoresCommon AreHolds db (λ hs. AllByRecursion FitsHold hs → ⊥)) }
+    ensures typed { Learns S.Store conn.old conn.new result
+        (λ db all. HasCommonTables db.schema → AreTypedHolds db) }
     ensures same { ReadsAlone S.Store conn.old conn.new result
         (HasCommonTables (state S.Store conn.old).now.schema) }
-    ensures still { IsStill S.Store conn.old conn.new
-        (HasCommonTables (state S.Store conn.old).now.schema) }
+    ensures quiet { IsQuiet S.Store conn.old conn.new }
     ensures was_open { WasOpenOnOk S.Store conn.old conn.new result }
     ensures falls { Falls S.Store conn.old conn.new }
     ensures idle { IsIdle S.Store conn.old conn.new }
@@ -99,8 +106,7 @@ pub fn settings<S: Alter>(alloc: Global, conn: &mut Connection<S>) -> Result<Vec
         (λ db. ForRows StoresCommon ArePairs db (λ ps. ⊥)) }
     ensures same { ReadsAlone S.Store conn.old conn.new result
         (HasCommonTables (state S.Store conn.old).now.schema) }
-    ensures still { IsStill S.Store conn.old conn.new
-        (HasCommonTables (state S.Store conn.old).now.schema) }
+    ensures quiet { IsQuiet S.Store conn.old conn.new }
     ensures was_open { WasOpenOnOk S.Store conn.old conn.new result }
     ensures falls { Falls S.Store conn.old conn.new }
     ensures idle { IsIdle S.Store conn.old conn.new }
@@ -117,10 +123,11 @@ pub fn classes<S: Alter>(alloc: Global, conn: &mut Connection<S>) -> Result<Vec<
         (λ db all. ForRows StoresCommon AreClasses db (λ cs. map class_entry_of all.items ≡ cs)) }
     ensures none { Rejects S.Store conn.old conn.new result
         (λ db. ForRows StoresCommon AreClasses db (λ cs. ⊥)) }
+    ensures typed { Learns S.Store conn.old conn.new result
+        (λ db all. HasCommonTables db.schema → AreTypedClasses db) }
     ensures same { ReadsAlone S.Store conn.old conn.new result
         (HasCommonTables (state S.Store conn.old).now.schema) }
-    ensures still { IsStill S.Store conn.old conn.new
-        (HasCommonTables (state S.Store conn.old).now.schema) }
+    ensures quiet { IsQuiet S.Store conn.old conn.new }
     ensures was_open { WasOpenOnOk S.Store conn.old conn.new result }
     ensures falls { Falls S.Store conn.old conn.new }
     ensures idle { IsIdle S.Store conn.old conn.new }
@@ -144,10 +151,11 @@ pub fn schedules<S: Alter>(
         (λ db all. ForRows Stores AreRules db (λ rs. map rule_of all.items ≡ rs)) }
     ensures none { Rejects S.Store conn.old conn.new result
         (λ db. ForRows Stores AreRules db (λ rs. AllByRecursion FitsRule rs → ⊥)) }
+    ensures typed { Learns S.Store conn.old conn.new result
+        (λ db all. IsArchiveSchema db.schema → AreTypedSchedules db) }
     ensures same { ReadsAlone S.Store conn.old conn.new result
         (IsArchiveSchema (state S.Store conn.old).now.schema) }
-    ensures still { IsStill S.Store conn.old conn.new
-        (IsArchiveSchema (state S.Store conn.old).now.schema) }
+    ensures quiet { IsQuiet S.Store conn.old conn.new }
     ensures was_open { WasOpenOnOk S.Store conn.old conn.new result }
     ensures falls { Falls S.Store conn.old conn.new }
     ensures idle { IsIdle S.Store conn.old conn.new }

@@ -8,8 +8,9 @@ ghost use Rattle.sqlite.specs.Order.{column};
 ghost use Rattle.record_tables.specs.Tables.{IsArchiveSchema};
 ghost use Rattle.record_tables.specs.Rows.{Tables, Stores, AreKeyed};
 ghost use Rattle.record_reads.specs.StoredDues.{is_number, shows_due};
+ghost use Rattle.record_reads.specs.Quiet.{IsQuiet};
 ghost use Rattle.record_tables.specs.CodeRows.{due_of};
-ghost use Rattle.record_tables.specs.Steps.{CommitsNothingOf, IsStill, Falls, IsIdle, ReadsAlone, Learns, WasOpenOnOk};
+ghost use Rattle.record_tables.specs.Steps.{CommitsNothingOf, Falls, IsIdle, ReadsAlone, Learns, WasOpenOnOk};
 
 use crate::query::rows_of;
 use record_tables::rows::DueRow;
@@ -56,8 +57,7 @@ pub fn are_dues<S: Alter>(conn: &mut Connection<S>, dues: &[DueRow]) -> Result<b
         Decides b (t.dues ≡ map due_of dues.now)) }
     ensures same { ReadsAlone S.Store conn.old conn.new result
         (IsArchiveSchema (state S.Store conn.old).now.schema) }
-    ensures still { IsStill S.Store conn.old conn.new
-        (IsArchiveSchema (state S.Store conn.old).now.schema) }
+    ensures quiet { IsQuiet S.Store conn.old conn.new }
     ensures was_open { WasOpenOnOk S.Store conn.old conn.new result }
     ensures falls { Falls S.Store conn.old conn.new }
     ensures idle { IsIdle S.Store conn.old conn.new }

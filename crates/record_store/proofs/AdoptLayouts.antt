@@ -9,9 +9,9 @@ use Rattle.record_tables.specs.Rows.{Tables}
 use Rattle.record_tables.specs.Changes.{ClassEntry, Rule}
 use Rattle.record_tables.specs.Reads.{Pair}
 use Rattle.record_archive.specs.Archive.{Archive, IsArchive}
-use Rattle.record_adoption.specs.Adoption.{Finds, FindsRows, FindsSecond, FindsFirst, FindsNothing, HasNoArchive, HasRows, IsKeyed, IsLaidSchema, ReadsSecond, ReadsFirst}
+use Rattle.record_adoption.specs.Adoption.{Finds, FindsRows, FindsSecond, FindsFirst, FindsNothing, HasNoArchive, HasRows, HasTypedRows, AreTypedSecond, AreTypedFirst, IsKeyed, ReadsSecond, ReadsFirst}
 use Rattle.record_adoption.specs.Keeping.{StoresArchive}
-use Rattle.record_adoption.proofs.AdoptReads.{archive_common, first_common}
+use Rattle.record_adoption.proofs.AdoptReads.{first_common}
 
 -- the layout of each schema that a store creates
 pub record Lays (schema : Schema) (l : Layout) : Type 0 where
@@ -68,12 +68,6 @@ second_none db l lays is none = ((λ e. let k : l ≡ Empty = lays.empty e in cc
 pub first_none : (db : Database) (l : Layout) → Lays db.schema l → IsFirst l → ((a : Archive) → FindsFirst db a → IsArchive a → ⊥) → HasNoArchive db
 first_none db l lays is none = ((λ e. first_not_empty l is (lays.empty e)), λ a rows archive. none a (first_rows db a l lays is rows) archive)
 
-pub first_laid : (schema : Schema) (l : Layout) → Lays schema l → IsFirst l → IsLaidSchema schema → HasCommonTables schema
-first_laid schema l lays is (inl e) = absurd (first_not_empty l is (lays.empty e))
-first_laid schema l lays is (inr (inl e)) = first_common schema (inl e)
-first_laid schema l lays is (inr (inr (inl e))) = first_common schema (inr e)
-first_laid schema l lays is (inr (inr (inr h))) = archive_common schema h
-
 -- ---- rows of any kind
 
 pub no_reads : (db : Database) (l : Layout) → Lays db.schema l → l ≡ Empty → HasRows db → ⊥
@@ -87,6 +81,20 @@ second_reads db l lays is (inr h) = absurd (first_not_second l (first_apart db.s
 pub first_reads : (db : Database) (l : Layout) → Lays db.schema l → IsFirst l → HasRows db → (t : Tables) × (ps : List Pair) × (cs : List ClassEntry) × ReadsFirst db t ps cs
 first_reads db l lays is (inl h) = absurd (first_not_second l is (lays.second h.4.stored.schema))
 first_reads db l lays is (inr h) = h
+
+-- ---- rows whose numbers and flags may be any integers
+
+pub typed_empty : (db : Database) (l : Layout) → Lays db.schema l → l ≡ Empty → HasTypedRows db
+typed_empty db l lays is = record {
+  second = λ has. absurd (let k : l ≡ Second = lays.second has in cc);
+  first = λ has. absurd (first_not_empty l (first_apart db.schema l lays has) is);
+}
+
+pub typed_second : (db : Database) (l : Layout) → Lays db.schema l → l ≡ Second → (IsArchiveSchema db.schema → AreTypedSecond db) → HasTypedRows db
+typed_second db l lays is typed = record { second = typed; first = λ has. absurd (first_not_second l (first_apart db.schema l lays has) is) }
+
+pub typed_first : (db : Database) (l : Layout) → Lays db.schema l → IsFirst l → (HasCommonTables db.schema → AreTypedFirst db) → HasTypedRows db
+typed_first db l lays is typed = record { second = λ has. absurd (first_not_second l is (lays.second has)); first = λ has. typed (first_common db.schema has) }
 
 -- ---- the rows that a store leaves
 

@@ -1,25 +1,28 @@
 -- The due list is that of the stored due days, in their order.
-use Rattle.std.proofs.Common.{◌≡◌, ◌<◌, ◌≤◌, ◌+◌, ◌==◌, ℕ, zero, suc, pos, Bool, true, false, not, ◌&&◌, ◌||◌, cond, List, [], ◌∷◌, ◌++◌, length, map, filter, flat_map, Option, Some, None, is_some, option_map, unwrap_or, refl, sym, ap, ap₂, append_assoc, ◌∙◌, arith, Ordering, Less, Equal, Greater, is_gt, is_eq, int_cmp, int_eq, int_le, nat_le, nat_cmp, true≢false}
+use Rattle.std.proofs.Common.{◌≡◌, ◌<◌, ◌≤◌, ◌+◌, ◌^◌, ◌==◌, ℕ, zero, suc, pos, Bool, true, false, not, ◌&&◌, ◌||◌, cond, List, [], ◌∷◌, ◌++◌, length, map, filter, flat_map, Option, Some, None, is_some, option_map, unwrap_or, refl, sym, ap, ap₂, subst, append_assoc, ◌∙◌, arith, Ordering, Less, Equal, Greater, is_gt, is_eq, int_cmp, int_eq, int_le, nat_le, nat_cmp, true≢false}
 use Rattle.std.proofs.lemmas.List.{map-append}
 use Rattle.record_adoption.specs.Counts.{tally}
 use Rattle.std.specs.List.{AllByRecursion, list_any}
 use Rattle.std.specs.Cmp.{IsTotalOrder}
 use Rattle.std.specs.Ordering.{ordering_then, ordering_reverse}
 use Rattle.std.proofs.lemmas.Cmp.{int_cmp_total, on_total, then_total}
+use Rattle.std.proofs.lemmas.List.Elements.{recursion_from_All}
 use Rattle.std.proofs.lemmas.Int.{ints}
 use Rattle.sqlite_trees.specs.Tree.{IsAscending}
 use Rattle.sqlite_keyed.specs.Lists.{sort_by, insert_sorted}
 use Rattle.sqlite_keyed.proofs.KeyedLemmas.{Less-from_lt}
 use Rattle.sqlite_typed.proofs.AnswerLemmas.{no_tie, no_tie_after}
-use Rattle.sqlite_keyed.proofs.ListLemmas.{all_both, all_weaker, all-filter, ascending-filter, ascending_weaker, filter-map, filter_none, filter_same, flat_map-map, map-map}
+use Rattle.sqlite_keyed.proofs.ListLemmas.{all_both, all_weaker, all_map, all-filter, all-map, all-flat_map, ascending-filter, ascending_weaker, filter-map, filter_none, filter_same, flat_map-map, map-map}
 use Rattle.sqlite_keyed.proofs.SortLemmas.{sort_by-map}
-use Rattle.record_archive.specs.Archive.{Record, Line, Archive, Hold, IsArchive, line_of, due_of, is_due, is_by, is_live, is_held, line_cmp, due_list}
+use Rattle.sqlite.specs.Effect.{Database}
+use Rattle.record_archive.specs.Archive.{Record, Line, Archive, Hold, IsArchive, IsRecord, line_of, due_of, is_due, is_by, is_live, is_held, line_cmp, due_list}
 use Rattle.record_tables.specs.Rows.{Due}
 use Rattle.record_tables.specs.Reads as reads
-use Rattle.record_reads.specs.DueRecords.{DueRecord, due_record, is_of, with_records}
+use Rattle.record_reads.specs.DueRecords.{DueRecord, FitsDueRecord, FitsDueRecordsBy, due_record, is_of, with_records}
 use Rattle.record_adoption.proofs.Sorting.{all-sort, Rises, IsUntied, rises-sort, filter-sort_by}
-use Rattle.record_store.specs.Dues.{due_line, due_records}
-use Rattle.record_adoption.specs.Keeping.{has_due, due_row, due_rows, hold_count}
+use Rattle.record_store.specs.Dues.{IsDatable, due_line, due_records}
+use Rattle.record_adoption.specs.Keeping.{StoresArchive, has_due, due_row, due_rows, hold_count}
+use Rattle.record_store.proofs.DueDays.{due_small}
 
 filter-twice : {X : Type 0} (p q : X → Bool) (xs : List X) → filter p (filter q xs) ≡ filter (λ x. q x && p x) xs
 filter-twice p q [] = refl
@@ -29,7 +32,7 @@ filter-twice p q (x ∷ xs) = go (q x) (filter-twice p q xs)
     go true more = ap (λ l. cond (p x) (x ∷ l) l) more
     go false more = more
 
-map_same_on : {X Y : Type 0} (f g : X → Y) (xs : List X) → AllByRecursion (λ x. f x ≡ g x) xs → map f xs ≡ map g xs
+pub map_same_on : {X Y : Type 0} (f g : X → Y) (xs : List X) → AllByRecursion (λ x. f x ≡ g x) xs → map f xs ≡ map g xs
 map_same_on f g [] h = refl
 map_same_on f g (x ∷ xs) h = ap₂ ◌∷◌ h.0 (map_same_on f g xs h.1)
 
@@ -140,6 +143,35 @@ due_list_is a is day =
     ∙ map_same_on _ (line_of a) (sort_by c Z) lines
     ∙ ap (λ k. map (line_of a) (sort_by k Z)) order
     ∙ sym (sort_by-map line_cmp (line_of a) Z)
+
+-- ---- due days that can be told
+
+-- the number of the record fits in 32 bits, and the due day is not after 9999-12-31
+abbrev IsSmall : Due → Type 0
+IsSmall d = (d.number < 2 ^ 32) × (d.day ≤ 2932896)
+
+dues_small : (a : Archive) → IsArchive a → AllByRecursion IsSmall (due_rows a)
+dues_small a is =
+    all_map IsSmall (due_row a) (filter (has_due a) a.records)
+    (all-filter (λ (r : Record). IsSmall (due_row a r)) (has_due a) a.records
+    (all_weaker (IsRecord a) (λ (r : Record). IsSmall (due_row a r)) (λ r h. (h.number.1, due_small a.plan r.path r.day is.plan h.day)) a.records (recursion_from_All (IsRecord a) a.records is.records)))
+
+module _ (P : DueRecord → Type 0) (from : (d : Due) (r : Record) → IsSmall d → P (due_record d r)) where
+  all_joined : (rs : List Record) (day : ℕ) (ds : List Due) → AllByRecursion IsSmall ds → AllByRecursion P (with_records rs (sort_by reads.due_cmp (filter (reads.is_by day) ds)))
+  all_joined rs day ds small =
+      all-flat_map P _ (sort_by reads.due_cmp (filter (reads.is_by day) ds))
+      (all-sort reads.due_cmp due_cmp_total (λ (d : Due). AllByRecursion P (map (due_record d) (filter (is_of d) rs))) _
+      (all_weaker IsSmall (λ (d : Due). AllByRecursion P (map (due_record d) (filter (is_of d) rs))) (λ d h. all-map P (due_record d) (λ r. from d r h) (filter (is_of d) rs)) _ (all-filter IsSmall (reads.is_by day) ds small)))
+
+-- the due records of an archive's tables can be read
+pub due_records_fit : (a : Archive) (db : Database) (s : StoresArchive db a) (day : ℕ) → IsArchive a → FitsDueRecordsBy day s.tables
+due_records_fit a db s day is =
+    subst (λ ds. AllByRecursion FitsDueRecord (with_records s.tables.records (sort_by reads.due_cmp (filter (reads.is_by day) ds)))) (sym s.dues)
+    (all_joined FitsDueRecord (λ d r h. record { number = h.0; day = omega (arith, h.1) }) s.tables.records day (due_rows a) (dues_small a is))
+
+-- and each has a date
+pub due_records_datable : (a : Archive) (day : ℕ) → IsArchive a → AllByRecursion IsDatable (due_records a day)
+due_records_datable a day is = all_joined IsDatable (λ d r h. h.1) a.records day (due_rows a) (dues_small a is)
 
 -- ---- counts of holds
 

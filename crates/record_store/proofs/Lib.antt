@@ -5,7 +5,9 @@ pub mod HoldLemmas
 pub mod CaptureLemmas
 pub mod CaptureStands
 pub mod MessageLemmas
+pub mod DueDays
 pub mod DueLemmas
+pub mod Causes
 pub mod AllowedLemmas
 pub mod DestroyLemmas
 pub mod ReviseLemmas
@@ -14,3 +16,7 @@ pub mod AdoptSettled
 pub mod AdoptLayouts
 pub mod ChangeRows
 pub mod RecordsLemmas
+pub mod EntryLemmas
+pub mod EntryLoops
+pub mod EntryReads
+pub mod EntryRows

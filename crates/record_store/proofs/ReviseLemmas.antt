@@ -13,6 +13,7 @@ use Rattle.class_plan.specs.Calendar.{due_on}
 use Rattle.class_plan.specs.Plans as plans
 use Rattle.class_plan.specs.Plans.{Listing, IsPlan, keeps, has}
 use Rattle.record_reads.specs.Lookups.{Looks}
+use Rattle.record_reads.specs.Quiet.{IsQuiet}
 use Rattle.record_tables.specs.Tables.{HasCommonTables, IsArchiveSchema, schedules_and_dues_beside}
 use Rattle.record_archive.specs.Archive.{Record, Archive, IsArchive, revise}
 use Rattle.record_tables.specs.Rows.{Tables, Due, Stores, StoresCommon}
@@ -90,13 +91,11 @@ common_of db t s = record { schema = common_schema db.schema s.schema; messages 
 
 -- a read of the common tables is a look at an archive's
 pub looks_common : {S : Type 0} (g : Ghosts S) (old new : Held S) → (old.in_transaction ≡ false → new.in_transaction ≡ false) → (HasCleanDisk (state g new) → HasCleanDisk (state g old))
-    → (old.in_transaction ≡ false → (IsTrue (state g old).is_open → HasCommonTables (state g old).now.schema) → HasCleanDisk (state g new) → IsTrue (state g new).is_open
-    → IsTrue (state g old).is_open × ((state g new).now ≡ (state g old).now))
-    → Survives (state g old) (state g new) (λ _. HasCommonTables (state g old).now.schema → ⊥) → Looks g old new
-looks_common g old new idle falls still survives = record {
+    → IsQuiet g old new → Survives (state g old) (state g new) (λ _. HasCommonTables (state g old).now.schema → ⊥) → Looks g old new
+looks_common g old new idle falls quiet survives = record {
   idle = idle;
   falls = falls;
-  still = λ was are. still was (λ is_open. common_schema (state g old).now.schema (are is_open));
+  still = λ was _. quiet was;
   survives = survives_weaker (state g old) (state g new) _ _ (λ clean db none is. none (common_schema (state g old).now.schema is)) survives;
 }
 

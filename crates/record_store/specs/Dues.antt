@@ -1,5 +1,5 @@
 -- The records that are due, and their lines.
-use Rattle.std.specs.Prelude.{ℕ, ◌==◌, Bool, List, filter, Some, pos}
+use Rattle.std.specs.Prelude.{ℕ, ◌≤◌, ◌==◌, Bool, List, filter, Some, pos}
 use Rattle.sqlite_keyed.specs.Lists.{sort_by}
 use Rattle.record_tables.specs.Reads.{due_cmp, is_by}
 use Rattle.record_reads.specs.DueRecords.{DueRecord, with_records}
@@ -15,6 +15,10 @@ due_records a day = with_records a.records (sort_by due_cmp (filter (is_by day) 
 -- no hold keeps the record, by these counts
 abbrev pub is_unheld : Counts → DueRecord → Bool
 is_unheld held d = count_at held d.number == 0
+
+-- the due day is not after 9999-12-31
+abbrev pub IsDatable : DueRecord → Type 0
+IsDatable d = d.day ≤ 2932896
 
 -- the line of a record that is due
 abbrev pub due_line : DueRecord → Line

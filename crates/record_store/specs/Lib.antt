@@ -4,3 +4,4 @@ pub mod Captures
 pub mod Dues
 pub mod Destruction
 pub mod Revisions
+pub mod Entries

@@ -1,5 +1,5 @@
 -- Which archive a store represents, and what its calls promise.
-use Rattle.std.specs.Prelude.{◌≡◌, ◌-◌, ℕ, false, None, Result, Ok, Err, OnOk, IsTrue}
+use Rattle.std.specs.Prelude.{◌≡◌, ◌-◌, ℕ, false, None, Result, Ok, Err, OnOk, IfErr, IsTrue}
 use Rattle.sqlite.specs.Store.{Ghosts}
 use Rattle.sqlite.specs.Effect.{Database}
 use Rattle.sqlite.specs.State.{HasCleanDisk, Survives}
@@ -11,7 +11,7 @@ use Rattle.record_archive.specs.declared.fault.ArchiveRefusal.{ArchiveRefusal}
 use Rattle.record_archive.specs.declared.fault.ArchiveRefusal.TheVariants.{NoRecord}
 use Rattle.record_adoption.specs.Counts.{count_at}
 use Rattle.record_adoption.specs.Keeping.{StoresArchive, live_count, hold_count}
-use Rattle.record_store.specs.Faults.{StoreFault}
+use Rattle.record_store.specs.Faults.{StoreFault, is_own}
 use Rattle.record_store.specs.declared.store.Store.{Store}
 
 -- While the disk is clean and the connection open, the rows are those of the archive. Beside the connection the store
@@ -55,6 +55,11 @@ Tells g old new (Ok x) Answers Refuses = (a : Archive) → StandsFor g old a →
     (HasCleanDisk (state g new.conn) → Answers a x)
 Tells g old new (Err f) Answers Refuses = (a : Archive) → StandsFor g old a → StandsFor g new a ×
     (HasCleanDisk (state g new.conn) → WhereRefused (Refuses a) f)
+
+-- While the disk is clean, a call on a store that represents an archive is refused by the command, by sqlite or for no
+-- memory, and never by the store itself.
+abbrev pub IsNeverOwn : {S X : Type 0} → Ghosts S → (old new : Store S) → Result X StoreFault → Type 0
+IsNeverOwn g old new result = (a : Archive) → StandsFor g old a → HasCleanDisk (state g new.conn) → IfErr result (λ f. is_own f ≡ false)
 
 -- what a crash in a call on an open connection may leave: what a crash might have left before it, or the command's
 -- archive

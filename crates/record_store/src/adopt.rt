@@ -10,8 +10,9 @@ ghost use Rattle.record_archive.specs.declared.fault.ArchiveRefusal.TheVariants.
 ghost use Rattle.record_archive.specs.Archive.{Archive, IsArchive, empty_archive};
 ghost use Rattle.record_archive.specs.Faults.{is_trouble};
 ghost use Rattle.record_adoption.specs.Keeping.{StoresArchive};
+ghost use Rattle.record_store.specs.Faults.{is_own};
 ghost use Rattle.record_store.specs.Stores.{StandsFor, TakesOver};
-ghost use Rattle.record_adoption.specs.Adoption.{Finds, FindsRows, FindsSecond, FindsFirst, HasNoArchive, HasArchive, HasRows, IsKeyed, IsLaidSchema, LeavesArchive, IsSoundSecond, IsSoundFirst, FindsNone, LeavesFound};
+ghost use Rattle.record_adoption.specs.Adoption.{Finds, FindsRows, FindsSecond, FindsFirst, HasNoArchive, HasArchive, HasRows, IsKeyed, LeavesArchive, IsSoundSecond, IsSoundFirst, FindsNone, LeavesFound, AreTypedSecond, AreTypedFirst, HasTypedRows};
 
 use crate::fault::{StoreFault, fault_of_read};
 use crate::store::Store;
@@ -53,12 +54,15 @@ impl<S: Alter> Store<S> {
         requires { conn.in_transaction ≡ false }
         ensures sound { IfOk result
             (λ s. HasCleanDisk (state S.Store s.conn) → IsSoundSecond (state S.Store conn).now) }
+        ensures typed { IfOk result (λ s. HasCleanDisk (state S.Store s.conn)
+            → IsArchiveSchema (state S.Store conn).now.schema
+            → AreTypedSecond (state S.Store conn).now) }
         ensures found { IfOk result (λ s. TakesOver S.Store conn s FindsSecond IsKeyed) }
         ensures no_archive { IfErr result (λ e. e.0 ≡ Refused NoArchive →
             HasCleanDisk (state S.Store e.1) → FindsNone FindsSecond (state S.Store conn).now) }
         ensures trouble { IfErr result (λ e. is_trouble e.0 ≡ false → e.0 ≡ Refused NoArchive) }
-        ensures unchanged { IfErr result
-            (λ e. IsArchiveSchema (state S.Store conn).now.schema → IsUntouched S.Store conn e.1) }
+        ensures cause { IfErr result (λ e. is_own e.0 ≡ false) }
+        ensures unchanged { IfErr result (λ e. IsUntouched S.Store conn e.1) }
         ensures crash { IfOk result (λ s. LeavesFound S.Store conn s.conn FindsSecond IsKeyed) }
         ensures crash_refused { IfErr result
             (λ e. LeavesFound S.Store conn e.1 FindsSecond IsKeyed) }
@@ -80,12 +84,15 @@ impl<S: Alter> Store<S> {
         requires { conn.in_transaction ≡ false }
         ensures sound { IfOk result
             (λ s. HasCleanDisk (state S.Store s.conn) → IsSoundFirst (state S.Store conn).now) }
+        ensures typed { IfOk result (λ s. HasCleanDisk (state S.Store s.conn)
+            → HasCommonTables (state S.Store conn).now.schema
+            → AreTypedFirst (state S.Store conn).now) }
         ensures found { IfOk result (λ s. TakesOver S.Store conn s FindsFirst IsKeyed) }
         ensures no_archive { IfErr result (λ e. e.0 ≡ Refused NoArchive →
             HasCleanDisk (state S.Store e.1) → FindsNone FindsFirst (state S.Store conn).now) }
         ensures trouble { IfErr result (λ e. is_trouble e.0 ≡ false → e.0 ≡ Refused NoArchive) }
-        ensures unchanged { IfErr result
-            (λ e. HasCommonTables (state S.Store conn).now.schema → IsUntouched S.Store conn e.1) }
+        ensures cause { IfErr result (λ e. is_own e.0 ≡ false) }
+        ensures unchanged { IfErr result (λ e. IsUntouched S.Store conn e.1) }
         ensures crash { IfOk result (λ s. LeavesFound S.Store conn s.conn FindsFirst IsKeyed) }
         ensures crash_refused { IfErr result
             (λ e. LeavesFound S.Store conn e.1 FindsFirst IsKeyed) }
@@ -105,7 +112,7 @@ impl<S: Alter> Store<S> {
     /// version 2 in one transaction. Tables of other names are ignored.
     ///
     /// Refused with 88 where the tables or their rows are not an archive's, with 89 (`sqlite`) or with 99 (no
-    /// memory). A refusal returns the connection and leaves the database as it was.
+    /// memory). A refusal returns the connection and leaves the database as it was, whatever tables it has.
     ///
     /// Time and memory grow with the rows of the tables; of messages only the numbers are read.
     pub fn adopt(
@@ -119,11 +126,13 @@ impl<S: Alter> Store<S> {
         ensures reopened { IfOk result (λ s. TakesOver S.Store conn s StoresArchive IsArchive) }
         ensures sound { IfOk result (λ s. HasCleanDisk (state S.Store s.conn)
             → HasRows (state S.Store conn).now → HasArchive (state S.Store conn).now) }
+        ensures typed { IfOk result (λ s. HasCleanDisk (state S.Store s.conn)
+            → HasTypedRows (state S.Store conn).now) }
         ensures no_archive { IfErr result (λ e. e.0 ≡ Refused NoArchive
             → HasCleanDisk (state S.Store e.1) → HasNoArchive (state S.Store conn).now) }
         ensures trouble { IfErr result (λ e. is_trouble e.0 ≡ false → e.0 ≡ Refused NoArchive) }
-        ensures unchanged { IfErr result
-            (λ e. IsLaidSchema (state S.Store conn).now.schema → IsUntouched S.Store conn e.1) }
+        ensures cause { IfErr result (λ e. is_own e.0 ≡ false) }
+        ensures unchanged { IfErr result (λ e. IsUntouched S.Store conn e.1) }
         ensures crash { IfOk result
             (λ s. LeavesArchive S.Store conn s.conn (Finds (state S.Store conn).now)) }
         ensures crash_refused { IfErr result

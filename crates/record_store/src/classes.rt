@@ -1,6 +1,6 @@
 //! Classes that are added to the plan.
 
-ghost use Rattle.std.specs.Prelude.{◌≡◌, Ok, Err, IfErr, OnOk, OnErr};
+ghost use Rattle.std.specs.Prelude.{◌≡◌, false, Ok, Err, IfErr, OnOk, OnErr};
 ghost use Rattle.std.specs.List.{All};
 ghost use Rattle.class_plan.specs.Changes.{addition};
 ghost use Rattle.class_plan.specs.Plans.{IsPlan};
@@ -9,7 +9,8 @@ ghost use Rattle.record_archive.specs.Archive.{Archive};
 ghost use Rattle.record_store.specs.Revisions.{IsClassAdded, HasSameDue};
 ghost use Rattle.record_archive.specs.Faults.{WhereRefused, is_trouble};
 ghost use Rattle.record_archive.specs.Calls.{Quietly};
-ghost use Rattle.record_store.specs.Stores.{StandsFor, Obeys, Leaves, Falls};
+ghost use Rattle.record_store.specs.Faults.{is_own};
+ghost use Rattle.record_store.specs.Stores.{StandsFor, Obeys, Leaves, Falls, IsNeverOwn};
 
 use crate::fault::{BUSY, StoreFault, fault_of};
 use crate::store::Store;
@@ -41,6 +42,7 @@ fn plan_class(plan: &mut Plan, path: &[u8]) -> Result<(), StoreFault>
     ensures ok { OnOk result (addition plan.old path.now ≡ Ok plan.new) }
     ensures err { IfErr result (WhereRefused (λ r. (a : Archive) →
         archive.plan_answer a (addition plan.old path.now) ≡ Err r)) }
+    ensures cause { IfErr result (λ f. is_own f ≡ false) }
     ensures unchanged { OnErr result (plan.new ≡ plan.old) }
     ensures plans { IsPlan plan.old × IsPlan plan.new }
 {
@@ -69,6 +71,7 @@ impl<S: Alter> Store<S> {
             ((a : Archive) → StandsFor S.Store self.old a →
             All (HasSameDue self.old.plan self.new.plan) a.records) }
         ensures falls { Falls S.Store self.old self.new }
+        ensures cause { IsNeverOwn S.Store self.old self.new result }
         ensures crash { Leaves S.Store self.old self.new (λ a. archive.add_class a path.now) }
     {
         if !self.conn.is_autocommit() {

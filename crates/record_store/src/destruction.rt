@@ -11,7 +11,7 @@ ghost use Rattle.record_adoption.specs.Counts.{count_at};
 ghost use Rattle.record_store.specs.Destruction.{IsFree, IsDestruction, against_destruction, without_body, IsDestroyable};
 ghost use Rattle.record_archive.specs.Faults.{WhereRefused, is_trouble};
 ghost use Rattle.record_archive.specs.Calls.{Quietly};
-ghost use Rattle.record_store.specs.Stores.{StandsFor, ObeysRows, Tells, Leaves, LeavesAll, LeavesAllowed, Falls, ChangesWhere, IsOpenOnOk};
+ghost use Rattle.record_store.specs.Stores.{StandsFor, ObeysRows, Tells, Leaves, LeavesAll, LeavesAllowed, Falls, ChangesWhere, IsOpenOnOk, IsNeverOwn};
 
 use crate::dues::number_from_1970;
 use crate::fault::{BUSY, LOST, StoreFault, fault_of};
@@ -109,6 +109,7 @@ impl<S: Alter> Store<S> {
             (λ a f. archive.destroy_by a number day (archive.record_at a number) ≡ Err f) }
         ensures falls { Falls S.Store self.old self.new }
         ensures open { IsOpenOnOk S.Store self.new result }
+        ensures cause { IsNeverOwn S.Store self.old self.new result }
         ensures crash { LeavesAll S.Store self.old self.new }
     {
         let record = self.record_at(number)?;
@@ -145,6 +146,7 @@ impl<S: Alter> Store<S> {
             ((a : Archive) → StandsFor S.Store self.old a → StandsFor S.Store self.new a) }
         ensures trouble { IfErr result (λ f. is_trouble f ≡ true) }
         ensures falls { Falls S.Store self.old self.new }
+        ensures cause { IsNeverOwn S.Store self.old self.new result }
         ensures crash { LeavesAllowed S.Store self.old self.new
             (λ a. IsFree a number (record_of row.now))
             (λ a. archive.without a (record_of row.now)) }
@@ -178,6 +180,7 @@ impl<S: Alter> Store<S> {
         ensures obeys { ObeysRows S.Store self.old self.new result
             (λ a. archive.destroy_on a number (epoch_day day)) Quietly }
         ensures falls { Falls S.Store self.old self.new }
+        ensures cause { IsNeverOwn S.Store self.old self.new result }
         ensures crash { Leaves S.Store self.old self.new
             (λ a. archive.destroy_on a number (epoch_day day)) }
     {

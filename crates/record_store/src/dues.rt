@@ -1,21 +1,22 @@
 //! Due lists.
 
-ghost use Rattle.std.specs.Prelude.{◌≡◌, map, IfOk, IfErr, filter, true};
+ghost use Rattle.std.specs.Prelude.{◌≡◌, ◌≤◌, map, IfOk, IfErr, filter, true, false};
+ghost use Rattle.std.specs.List.{AllByRecursion};
 ghost use Rattle.jiff.specs.Words.{epoch_day};
 ghost use Rattle.record_reads.specs.DueRecords.{due_record_of};
 ghost use Rattle.record_archive.specs.Archive.{due_list_on, from_1970};
-ghost use Rattle.record_store.specs.Dues.{due_records, due_line, is_unheld};
+ghost use Rattle.record_store.specs.Dues.{due_records, due_line, is_unheld, IsDatable};
 ghost use Rattle.record_archive.specs.Lines.{line_view};
 ghost use Rattle.record_archive.specs.Faults.{is_trouble};
-ghost use Rattle.record_store.specs.Stores.{Tells, LeavesAll, Falls};
+ghost use Rattle.record_store.specs.Faults.{is_own};
+ghost use Rattle.record_store.specs.Stores.{Tells, LeavesAll, Falls, IsNeverOwn};
 
-use crate::fault::{LOST, StoreFault};
+use crate::fault::{LOST, StoreFault, lost_or};
 use crate::store::Store;
 use class_plan::{Date, date_of, day_number};
 use record_adoption::number_of;
 use record_archive::Line;
 use record_reads::due_records::due_records_by;
-use record_tables::fault::Fault;
 use record_tables::rows::DueRecordRow;
 use sqlite::Alter;
 
@@ -33,6 +34,7 @@ pub(crate) fn number_from_1970(day: Date) -> Option<u32>
 fn line_of(due: DueRecordRow) -> Result<Line, StoreFault>
     ensures line { IfOk result (λ l. line_view l ≡ due_line (due_record_of due)) }
     ensures trouble { IfErr result (λ f. is_trouble f ≡ true) }
+    ensures lost { IfErr result (λ f. IsDatable (due_record_of due) → is_own f ≡ false) }
 {
     let Some(date) = date_of(i64::from(due.day)) else {
         return Err(LOST);
@@ -50,13 +52,12 @@ impl<S: Alter> Store<S> {
         ensures tells { Tells S.Store self.old self.new result
             (λ a rows. map due_record_of rows.items ≡ due_records a day) (λ a f. ⊥) }
         ensures falls { Falls S.Store self.old self.new }
+        ensures cause { IsNeverOwn S.Store self.old self.new result }
         ensures crash { LeavesAll S.Store self.old self.new }
     {
         match due_records_by(self.alloc, &mut self.conn, day) {
             Ok(dues) => Ok(dues),
-            Err(Fault::NoMemory) => Err(StoreFault::NoMemory),
-            Err(Fault::Sqlite(error)) => Err(StoreFault::Database(error)),
-            Err(Fault::NoArchive) => Err(LOST),
+            Err(fault) => Err(lost_or(fault)),
         }
     }
 
@@ -65,6 +66,8 @@ impl<S: Alter> Store<S> {
         ensures lines { IfOk result (λ lines. map line_view lines.items ≡
             map due_line (filter (is_unheld self.now.held) (map due_record_of due.items))) }
         ensures trouble { IfErr result (λ f. is_trouble f ≡ true) }
+        ensures lost { IfErr result
+            (λ f. AllByRecursion IsDatable (map due_record_of due.items) → is_own f ≡ false) }
     {
         let mut lines = Vec::new(self.alloc);
         for record in due {
@@ -82,6 +85,7 @@ impl<S: Alter> Store<S> {
         ensures tells { Tells S.Store self.old self.new result
             (λ a lines. map line_view lines.items ≡ due_list_on a (epoch_day day)) (λ a f. ⊥) }
         ensures falls { Falls S.Store self.old self.new }
+        ensures cause { IsNeverOwn S.Store self.old self.new result }
         ensures crash { LeavesAll S.Store self.old self.new }
     {
         let Some(day) = number_from_1970(day) else {

@@ -5,7 +5,7 @@ ghost use Rattle.record_archive.specs.Archive as archive;
 ghost use Rattle.record_archive.specs.Archive.{Archive};
 ghost use Rattle.record_archive.specs.Faults.{is_trouble};
 ghost use Rattle.record_archive.specs.Calls.{Quietly};
-ghost use Rattle.record_store.specs.Stores.{StandsFor, ObeysRows, Leaves, LeavesAll, LeavesMade, Falls, ChangesByCommand, TellsOutcome, IsOpenOnOk};
+ghost use Rattle.record_store.specs.Stores.{StandsFor, ObeysRows, Leaves, LeavesAll, LeavesMade, Falls, ChangesByCommand, TellsOutcome, IsOpenOnOk, IsNeverOwn};
 
 use crate::changes::{Holding, Release};
 use crate::fault::{BUSY, StoreFault, fault_of};
@@ -21,6 +21,7 @@ impl<S: Alter> Store<S> {
             (λ a. archive.hold a name.now number) (λ a. archive.with_hold a name.now number) }
         ensures falls { Falls S.Store self.old self.new }
         ensures open { IsOpenOnOk S.Store self.new result }
+        ensures cause { IsNeverOwn S.Store self.old self.new result }
         ensures crash { LeavesAll S.Store self.old self.new }
     {
         let record = self.record_at(number)?;
@@ -41,6 +42,7 @@ impl<S: Alter> Store<S> {
             ((a : Archive) → StandsFor S.Store self.old a → StandsFor S.Store self.new a) }
         ensures trouble { IfErr result (λ f. is_trouble f ≡ true) }
         ensures falls { Falls S.Store self.old self.new }
+        ensures cause { IsNeverOwn S.Store self.old self.new result }
         ensures crash { LeavesMade S.Store self.old self.new (λ a. archive.hold a name.now number)
             (λ a. archive.with_hold a name.now number) }
     {
@@ -67,6 +69,7 @@ impl<S: Alter> Store<S> {
         ensures obeys { ObeysRows S.Store self.old self.new result
             (λ a. archive.hold a name.now number) Quietly }
         ensures falls { Falls S.Store self.old self.new }
+        ensures cause { IsNeverOwn S.Store self.old self.new result }
         ensures crash { Leaves S.Store self.old self.new (λ a. archive.hold a name.now number) }
     {
         self.judge_hold(name, number)?;
@@ -80,6 +83,7 @@ impl<S: Alter> Store<S> {
             (λ a. archive.release a name.now number) (λ a. archive.without_hold a name.now number) }
         ensures falls { Falls S.Store self.old self.new }
         ensures open { IsOpenOnOk S.Store self.new result }
+        ensures cause { IsNeverOwn S.Store self.old self.new result }
         ensures crash { LeavesAll S.Store self.old self.new }
     {
         let _record = self.record_at(number)?;
@@ -98,6 +102,7 @@ impl<S: Alter> Store<S> {
             ((a : Archive) → StandsFor S.Store self.old a → StandsFor S.Store self.new a) }
         ensures trouble { IfErr result (λ f. is_trouble f ≡ true) }
         ensures falls { Falls S.Store self.old self.new }
+        ensures cause { IsNeverOwn S.Store self.old self.new result }
         ensures crash { LeavesMade S.Store self.old self.new
             (λ a. archive.release a name.now number) (λ a. archive.without_hold a name.now number) }
     {
@@ -121,6 +126,7 @@ impl<S: Alter> Store<S> {
         ensures obeys { ObeysRows S.Store self.old self.new result
             (λ a. archive.release a name.now number) Quietly }
         ensures falls { Falls S.Store self.old self.new }
+        ensures cause { IsNeverOwn S.Store self.old self.new result }
         ensures crash { Leaves S.Store self.old self.new (λ a. archive.release a name.now number) }
     {
         self.judge_release(name, number)?;

@@ -7,6 +7,7 @@ mod changes;
 mod classes;
 mod destruction;
 mod dues;
+mod entries;
 mod fault;
 mod holds;
 mod messages;
@@ -14,7 +15,8 @@ mod records;
 mod revisions;
 mod store;
 
-pub use fault::StoreFault;
+pub use entries::Entry;
+pub use fault::{Cause, StoreFault};
 pub use record_adoption::Counts;
 pub use record_archive::{ArchiveRefusal, Line, are_classes};
 pub use store::Store;

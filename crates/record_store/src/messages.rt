@@ -5,9 +5,9 @@ ghost use Rattle.sqlite.specs.State.{HasCleanDisk};
 ghost use Rattle.sqlite.specs.Held.{state};
 ghost use Rattle.record_archive.specs.Archive as archive;
 ghost use Rattle.record_archive.specs.Archive.{Archive};
-ghost use Rattle.record_store.specs.Stores.{StandsFor, Tells, LeavesAll, Falls};
+ghost use Rattle.record_store.specs.Stores.{StandsFor, Tells, LeavesAll, Falls, IsNeverOwn};
 
-use crate::fault::{LOST, StoreFault, fault_of};
+use crate::fault::{LOST, StoreFault, lost_or};
 use crate::store::Store;
 use record_archive::ArchiveRefusal;
 use record_reads::lookup::message_body;
@@ -18,11 +18,12 @@ impl<S: Alter> Store<S> {
         ensures tells { Tells S.Store self.old self.new result (λ a b. option_map (λ v. v.items) b ≡
             archive.body_of a.messages message) (λ a f. ⊥) }
         ensures falls { Falls S.Store self.old self.new }
+        ensures cause { IsNeverOwn S.Store self.old self.new result }
         ensures crash { LeavesAll S.Store self.old self.new }
     {
-        match message_body(&mut self.conn, message) {
+        match message_body(self.alloc, &mut self.conn, message) {
             Ok(body) => Ok(body),
-            Err(error) => Err(fault_of(error)),
+            Err(fault) => Err(lost_or(fault)),
         }
     }
 
@@ -33,6 +34,7 @@ impl<S: Alter> Store<S> {
         ensures tells { Tells S.Store self.old self.new result (λ a body. archive.message a number ≡
             Ok (Some body.items)) (λ a f. archive.message a number ≡ Err f) }
         ensures falls { Falls S.Store self.old self.new }
+        ensures cause { IsNeverOwn S.Store self.old self.new result }
         ensures crash { LeavesAll S.Store self.old self.new }
     {
         let record = self.record_at(number)?;

@@ -4,13 +4,14 @@ ghost use Rattle.sqlite.specs.State.{HasCleanDisk};
 ghost use Rattle.sqlite.specs.Held.{state};
 ghost use Rattle.record_store.specs.Stores.{StandsFor};
 
+use crate::fault::{Cause, StoreFault};
 use crate::store::Store;
 use class_plan::{Date, Plan};
-use record_archive::{ArchiveFault, Line, Records};
-use sqlite::{Alter, Error};
+use record_archive::{Line, Records};
+use sqlite::Alter;
 
 impl<S: Alter> Records for Store<S> {
-    type Cause = Error;
+    type Cause = Cause;
 
     ghost clean = { λ s. HasCleanDisk (state S.Store s.conn) };
 
@@ -22,11 +23,11 @@ impl<S: Alter> Records for Store<S> {
         self.plan()
     }
 
-    fn add_class(&mut self, path: &[u8]) -> Result<(), ArchiveFault<Error>> {
+    fn add_class(&mut self, path: &[u8]) -> Result<(), StoreFault> {
         self.add_class(path)
     }
 
-    fn revise(&mut self, plan: Plan) -> Result<(), ArchiveFault<Error>> {
+    fn revise(&mut self, plan: Plan) -> Result<(), StoreFault> {
         self.revise(plan)
     }
 
@@ -35,23 +36,23 @@ impl<S: Alter> Records for Store<S> {
         body: &[u8],
         day: Date,
         paths: &[Vec<u8>],
-    ) -> Result<Vec<Line>, ArchiveFault<Error>> {
+    ) -> Result<Vec<Line>, StoreFault> {
         self.capture(body, day, paths)
     }
 
-    fn hold(&mut self, name: &[u8], number: u32) -> Result<(), ArchiveFault<Error>> {
+    fn hold(&mut self, name: &[u8], number: u32) -> Result<(), StoreFault> {
         self.hold(name, number)
     }
 
-    fn release(&mut self, name: &[u8], number: u32) -> Result<(), ArchiveFault<Error>> {
+    fn release(&mut self, name: &[u8], number: u32) -> Result<(), StoreFault> {
         self.release(name, number)
     }
 
-    fn due(&mut self, day: Date) -> Result<Vec<Line>, ArchiveFault<Error>> {
+    fn due(&mut self, day: Date) -> Result<Vec<Line>, StoreFault> {
         self.due(day)
     }
 
-    fn destroy(&mut self, number: u32, day: Date) -> Result<(), ArchiveFault<Error>> {
+    fn destroy(&mut self, number: u32, day: Date) -> Result<(), StoreFault> {
         self.destroy(number, day)
     }
 

@@ -10,37 +10,28 @@ ghost use Rattle.record_adoption.specs.Keeping.{dues_in};
 ghost use Rattle.record_store.specs.Revisions.{IsRevision, with_plan, RefusesDrop};
 ghost use Rattle.record_archive.specs.Faults.{WhereRefused, is_trouble};
 ghost use Rattle.record_archive.specs.Calls.{Quietly};
-ghost use Rattle.record_store.specs.Stores.{StandsFor, ObeysRows, Tells, Leaves, LeavesAll, LeavesAllowed, Falls, ChangesWhere, IsOpenOnOk};
+ghost use Rattle.record_adoption.specs.Faults.{AreInOrder};
+ghost use Rattle.record_store.specs.Faults.{is_own};
+ghost use Rattle.record_store.specs.Stores.{StandsFor, ObeysRows, Tells, Leaves, LeavesAll, LeavesAllowed, Falls, ChangesWhere, IsOpenOnOk, IsNeverOwn};
 
-use crate::fault::{BUSY, LOST, StoreFault, fault_of};
+use crate::fault::{BUSY, StoreFault, fault_of, lost_or};
 use crate::store::Store;
 use class_plan::{Plan, PlanFault};
 use record_adoption::due_rows_by;
 use record_archive::ArchiveRefusal;
 use record_reads::read::records;
 use record_rows::{classes_of, rules_of};
-use record_tables::fault::Fault;
 use record_tables::renew::replace_plan;
 use record_tables::rows::{DueRow, RecordRow};
 use sqlite::Alter;
 
-/// The refusal for a failed read of an archive's tables; a row that is not an archive's counts as lost.
-fn read_fault(fault: Fault) -> StoreFault
-    ensures { is_trouble result ≡ true }
-{
-    match fault {
-        Fault::NoMemory => StoreFault::NoMemory,
-        Fault::Sqlite(error) => StoreFault::Database(error),
-        Fault::NoArchive => LOST,
-    }
-}
-
 impl<S: Alter> Store<S> {
     /// The new plan; refused with 57 where it drops a path of the present one.
     fn judge_revision(&self, plan: Plan) -> Result<Plan, StoreFault>
-        ensures { MatchResult result
+        ensures judged { MatchResult result
             (λ p. (keeps self.now.plan plan ≡ true) × (p ≡ plan))
             (WhereRefused (RefusesDrop self.now.plan plan)) }
+        ensures cause { IfErr result (λ f. is_own f ≡ false) }
     {
         let mut kept = self.plan.copy()?;
         match kept.revise(plan) {
@@ -56,11 +47,12 @@ impl<S: Alter> Store<S> {
         ensures falls { Falls S.Store self.old self.new }
         ensures open { (a : Archive) → StandsFor S.Store self.old a →
             IsOpenOnOk S.Store self.new result }
+        ensures cause { IsNeverOwn S.Store self.old self.new result }
         ensures crash { LeavesAll S.Store self.old self.new }
     {
         match records(self.alloc, &mut self.conn) {
             Ok(all) => Ok(all),
-            Err(fault) => Err(read_fault(fault)),
+            Err(fault) => Err(lost_or(fault)),
         }
     }
 
@@ -70,10 +62,12 @@ impl<S: Alter> Store<S> {
             (λ v. map due_of v.items ≡ dues_in plan.now (map record_of rows.now)) }
         ensures ascending { IfOk result (λ v. AreAscending (map due_of v.items)) }
         ensures trouble { IfErr result (λ f. is_trouble f ≡ true) }
+        ensures lost { IfErr result
+            (λ f. AreInOrder (map record_of rows.now) → is_own f ≡ false) }
     {
         match due_rows_by(self.alloc, plan, rows) {
             Ok(dues) => Ok(dues),
-            Err(error) => Err(fault_of(error)),
+            Err(fault) => Err(lost_or(fault)),
         }
     }
 
@@ -86,6 +80,7 @@ impl<S: Alter> Store<S> {
             ((a : Archive) → StandsFor S.Store self.old a → StandsFor S.Store self.new a) }
         ensures trouble { IfErr result (λ f. is_trouble f ≡ true) }
         ensures falls { Falls S.Store self.old self.new }
+        ensures cause { IsNeverOwn S.Store self.old self.new result }
         ensures crash { LeavesAllowed S.Store self.old self.new
             (λ a. IsRevision a plan (map due_of dues.now)) (λ a. with_plan a plan) }
     {
@@ -111,6 +106,7 @@ impl<S: Alter> Store<S> {
         ensures obeys { ObeysRows S.Store self.old self.new result
             (λ a. archive.revise a plan) Quietly }
         ensures falls { Falls S.Store self.old self.new }
+        ensures cause { IsNeverOwn S.Store self.old self.new result }
         ensures crash { Leaves S.Store self.old self.new (λ a. archive.revise a plan) }
     {
         let kept = self.judge_revision(plan)?;

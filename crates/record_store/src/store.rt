@@ -9,10 +9,11 @@ ghost use Rattle.record_archive.specs.Archive as archive;
 ghost use Rattle.record_archive.specs.Archive.{Archive, empty_archive};
 ghost use Rattle.record_adoption.specs.Adoption.{FindsNothing, LeavesArchive};
 ghost use Rattle.record_archive.specs.Faults.{is_trouble};
-ghost use Rattle.record_store.specs.Stores.{StandsFor, Tells, LeavesAll, Falls, IsOpenOnOk, LacksRecord};
+ghost use Rattle.record_store.specs.Faults.{is_own};
+ghost use Rattle.record_store.specs.Stores.{StandsFor, Tells, LeavesAll, Falls, IsOpenOnOk, IsNeverOwn, LacksRecord};
 ghost use Rattle.record_tables.specs.Steps.{IsUntouched};
 
-use crate::fault::{StoreFault, fault_of};
+use crate::fault::{StoreFault, fault_of, lost_or};
 use class_plan::Plan;
 use record_adoption::Counts;
 use record_archive::ArchiveRefusal;
@@ -46,6 +47,7 @@ impl<S: Alter> Store<S> {
         ensures ok { IfOk result (λ s. HasCleanDisk (state S.Store s.conn) →
             (state S.Store conn).now.schema ≡ no_schema → StandsFor S.Store s empty_archive) }
         ensures trouble { IfErr result (λ e. is_trouble e.0 ≡ true) }
+        ensures cause { IfErr result (λ e. is_own e.0 ≡ false) }
         ensures unchanged { IfErr result (λ e. IsUntouched S.Store conn e.1) }
         ensures crash { IfOk result
             (λ s. LeavesArchive S.Store conn s.conn (FindsNothing (state S.Store conn).now)) }
@@ -82,12 +84,13 @@ impl<S: Alter> Store<S> {
             (λ a r. archive.record_at a number ≡ Some (record_of r)) (LacksRecord number) }
         ensures falls { Falls S.Store self.old self.new }
         ensures open { IsOpenOnOk S.Store self.new result }
+        ensures cause { IsNeverOwn S.Store self.old self.new result }
         ensures crash { LeavesAll S.Store self.old self.new }
     {
-        match record_by_number(&mut self.conn, number) {
+        match record_by_number(self.alloc, &mut self.conn, number) {
             Ok(Some(record)) => Ok(record),
             Ok(None) => Err(StoreFault::Refused(ArchiveRefusal::NoRecord)),
-            Err(error) => Err(fault_of(error)),
+            Err(fault) => Err(lost_or(fault)),
         }
     }
 
@@ -97,6 +100,7 @@ impl<S: Alter> Store<S> {
             archive.is_held_by a name.now number) (λ a f. ⊥) }
         ensures falls { Falls S.Store self.old self.new }
         ensures open { IsOpenOnOk S.Store self.new result }
+        ensures cause { IsNeverOwn S.Store self.old self.new result }
         ensures crash { LeavesAll S.Store self.old self.new }
     {
         match has_hold(&mut self.conn, name, number) {

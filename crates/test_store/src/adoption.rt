@@ -9,7 +9,7 @@ use std::process::Abort;
 use std::test::Fail;
 
 /// A database in memory after a text.
-type Database = Connection<MemStore>;
+pub(crate) type Database = Connection<MemStore>;
 
 /// Due days for version 1, with a row that is no record's.
 const DUES: &str =
@@ -57,14 +57,20 @@ const BROKEN_SECOND: [&str; 6] = [
 const ONE_YEAR: &str =
     "root = \"permanent\"\n[[class]]\npath = \"tax\"\nschedule = \"1 years destroy\"\n";
 
-/// Tables of other names: one before the tables of version 1, and one after them that refers to it.
-const OTHERS: [&str; 2] = ["CREATE TABLE a (b)", "CREATE TABLE c (d REFERENCES a)"];
-
-/// The table of schedules of version 2, which may stand before the others, and what then follows these.
-const SECOND: [&str; 2] = [
-    "CREATE TABLE schedule (path TEXT NOT NULL PRIMARY KEY, count INTEGER NOT NULL, unit INTEGER NOT NULL, action INTEGER NOT NULL, year_end INTEGER NOT NULL) STRICT",
-    "CREATE TABLE due_day (record INTEGER PRIMARY KEY, day INTEGER NOT NULL) STRICT; CREATE INDEX due_by_day ON due_day (day, record); INSERT INTO meta VALUES ('version', '2'); INSERT INTO class VALUES ('tax', 1, NULL), ('unfiled', 1, NULL); INSERT INTO schedule VALUES ('', 0, 0, 0, 0)",
+/// Tables of other names, each with a row: one with two keys, one with an index that refers to it, and one with a view.
+const OTHERS: [&str; 3] = [
+    "CREATE TABLE a (b INTEGER PRIMARY KEY, c UNIQUE); INSERT INTO a VALUES (1, 'x')",
+    "CREATE TABLE d (e REFERENCES a); CREATE INDEX f ON d (e); INSERT INTO d VALUES (1)",
+    "CREATE TABLE g (h TEXT NOT NULL PRIMARY KEY) STRICT; CREATE VIEW i AS SELECT h FROM g; INSERT INTO g VALUES ('y')",
 ];
+
+/// The table of schedules of version 2.
+const SCHEDULES: &str =
+    "CREATE TABLE schedule (path TEXT NOT NULL PRIMARY KEY, count INTEGER NOT NULL, unit INTEGER NOT NULL, action INTEGER NOT NULL, year_end INTEGER NOT NULL) STRICT";
+
+/// The due days of version 2, and the rows of an archive without records.
+const SECOND_ROWS: &str =
+    "CREATE TABLE due_day (record INTEGER PRIMARY KEY, day INTEGER NOT NULL) STRICT; CREATE INDEX due_by_day ON due_day (day, record); INSERT INTO meta VALUES ('version', '2'); INSERT INTO class VALUES ('tax', 1, NULL), ('unfiled', 1, NULL); INSERT INTO schedule VALUES ('', 0, 0, 0, 0)";
 
 /// Creates version 1's tables, without due days.
 fn lay_first(conn: &mut Database) -> Result<(), Error> {
@@ -93,14 +99,14 @@ fn around(alloc: Global, before: &str, after: &str) -> Result<Database, Fail> {
 }
 
 /// A database with the tables and rows of version 1, after a text.
-fn first(alloc: Global, text: &str) -> Result<Database, Fail> {
+pub(crate) fn first(alloc: Global, text: &str) -> Result<Database, Fail> {
     let mut conn = around(alloc, "", "")?;
     fill_first(&mut conn)?;
     conn.execute_batch(text)?;
     Ok(conn)
 }
 
-fn adopted(alloc: Global, conn: Database) -> Result<Store<MemStore>, Fail> {
+pub(crate) fn adopted(alloc: Global, conn: Database) -> Result<Store<MemStore>, Fail> {
     if !conn.is_autocommit() {
         return Err(Fail::from("a transaction goes on"));
     }
@@ -233,21 +239,91 @@ fn version_1(rt: HostRuntime) -> Result<(), Fail> {
     for text in ["", DUES] {
         is_moved(&rt, alloc, first(alloc, text)?)?;
     }
-    let [before, between] = OTHERS;
+    let [before, between, after] = OTHERS;
     let mut conn = around(alloc, before, between)?;
     fill_first(&mut conn)?;
     conn.execute_batch(DUES)?;
+    conn.execute_batch(after)?;
     is_moved(&rt, alloc, conn)
+}
+
+/// A database of version 2 without records, with these texts before, between and after its tables.
+fn second(alloc: Global, others: [&str; 3]) -> Result<Database, Fail> {
+    let [before, between, after] = others;
+    let mut conn = around(alloc, before, between)?;
+    conn.execute_batch(SCHEDULES)?;
+    conn.execute_batch(SECOND_ROWS)?;
+    conn.execute_batch(after)?;
+    Ok(conn)
+}
+
+/// Changes the plan of an archive without records: `tax` is destroyed after a year, and `later` is added.
+fn plan_both(rt: &impl Abort, alloc: Global, store: &mut Store<MemStore>) -> Result<(), Fail> {
+    let Ok(plan) = Plan::from_toml(alloc, ONE_YEAR.as_bytes()) else {
+        return Err(Fail::from("no plan"));
+    };
+    assert!(rt; matches!(&store.revise(plan), Ok(())));
+    assert!(rt; matches!(&store.add_class(b"later"), Ok(())));
+    Ok(())
+}
+
+/// Holds the third record, destroys the first, and checks what is due before and after.
+fn hold_and_destroy(
+    rt: &impl Abort,
+    alloc: Global,
+    store: &mut Store<MemStore>,
+) -> Result<(), Fail> {
+    assert!(rt; matches!(&store.hold(b"case", 3), Ok(())));
+    assert_eq!(rt; due(alloc, store, 20_041)?.as_str(), "1 due 20041; ");
+    assert!(rt;
+        matches!(
+            &destroyed(store, 3, 20_041)?,
+            Err(StoreFault::Refused(ArchiveRefusal::Held))
+        )
+    );
+    assert!(rt; matches!(&store.release(b"case", 3), Ok(())));
+    assert_eq!(rt;
+        due(alloc, store, 20_041)?.as_str(),
+        "1 due 20041; 3 due 20041; "
+    );
+    assert!(rt; matches!(&destroyed(store, 1, 20_041)?, Ok(())));
+    Ok(())
+}
+
+/// Plays each call of a store over an archive without records, and adopts what it leaves.
+fn each_call(rt: &impl Abort, alloc: Global, conn: Database) -> Result<(), Fail> {
+    let mut store = adopted(alloc, conn)?;
+    plan_both(rt, alloc, &mut store)?;
+    let one = captured(alloc, &mut store, b"one", true)?;
+    assert_eq!(rt; shown(alloc, one)?.as_str(), "1 due 20041; 2 never; ");
+    let two = captured(alloc, &mut store, b"two", true)?;
+    assert_eq!(rt; shown(alloc, two)?.as_str(), "3 due 20041; 4 never; ");
+    hold_and_destroy(rt, alloc, &mut store)?;
+    let mut again = adopted(alloc, store.into_connection())?;
+    assert_eq!(rt; due(alloc, &mut again, 60_000)?.as_str(), "3 due 20041; ");
+    assert!(rt; matches!(&again.message(2), Ok(body) if body.as_slice() == b"one".as_slice()));
+    assert!(rt; matches!(&again.message(4), Ok(body) if body.as_slice() == b"two".as_slice()));
+    Ok(())
 }
 
 #[test]
 fn version_2(rt: HostRuntime) -> Result<(), Fail> {
     let alloc = rt.alloc();
-    let [before, after] = SECOND;
-    let mut store = adopted(alloc, around(alloc, before, after)?)?;
-    let lines = captured(alloc, &mut store, b"first", true)?;
-    assert_eq!(rt; shown(alloc, lines)?.as_str(), "1 never; 2 never; ");
-    Ok(())
+    let [one, two, three] = OTHERS;
+    for others in [
+        ["", "", ""],
+        [one, "", ""],
+        ["", one, ""],
+        ["", "", one],
+        [one, two, three],
+    ] {
+        each_call(&rt, alloc, second(alloc, others)?)?;
+    }
+    let mut conn = Connection::open_in_memory(alloc)?;
+    conn.execute_batch(SCHEDULES)?;
+    lay_first(&mut conn)?;
+    conn.execute_batch(SECOND_ROWS)?;
+    each_call(&rt, alloc, conn)
 }
 
 #[test]
@@ -261,6 +337,11 @@ fn no_archive(rt: HostRuntime) -> Result<(), Fail> {
         let mut conn = store.into_connection();
         conn.execute_batch(text)?;
         assert!(rt; is_refused(alloc, conn)?, "at {text}");
+    }
+    for text in BROKEN_SECOND {
+        let mut conn = second(alloc, OTHERS)?;
+        conn.execute_batch(text)?;
+        assert!(rt; is_refused(alloc, conn)?, "beside others at {text}");
     }
     let mut conn = Connection::open_in_memory(alloc)?;
     conn.execute_batch("CREATE TABLE record (x)")?;

@@ -1,6 +1,8 @@
-use Rattle.std.proofs.Common.{◌≡◌, ◌∙◌, sym, ap, map, true≢false}
+use Rattle.std.proofs.Common.{◌≡◌, ◌∙◌, sym, ap, subst, map, true≢false, Err}
 use Rattle.record_tables.specs.CodeRows.{record_of, hold_entry_of}
-use Rattle.record_reads.proofs.TypedLemmas.{never_none}
+use Rattle.record_adoption.specs.Faults.{AreInOrder}
+use Rattle.record_adoption.proofs.PlanDays.{archive_in_order}
+use Rattle.record_adoption.proofs.AdoptSettled.{handed_on}
 use Rattle.record_rows.specs.SoundRows.{AreRows}
 use Rattle.record_archive.specs.Archive.{Archive}
 use Rattle.record_adoption.proofs.AdoptRows.{is_overview, judged_at, rows_told}
@@ -25,4 +27,7 @@ returns-clause-sound c =
     judged_at c.args.plan c.args.rows.now c.as_slice-records.result.now c.as_slice-messages.result.now c.as_slice-holds.result.now c.next_after.result c.as_slice-records.ensures.value c.as_slice-messages.ensures.value c.as_slice-holds.ensures.value rows c.next_after.ensures.next c.next_after.ensures.small
 
 pub returns-in_err-dues-clause-none : goal.returns-in_err-dues-clause-none
-returns-in_err-dues-clause-none c is = absurd (never_none c.from_residual-in_err-dues.result c.in_err-dues.field-0.0 c.from_residual-in_err-dues.ensures.1 is)
+returns-in_err-dues-clause-none c is = λ (a : Archive) same tells archive.
+    let rows = ap (map record_of) c.as_slice-records.ensures.value ∙ tells.records in
+    let none = handed_on c.from_residual-in_err-dues.result c.in_err-dues.field-0.0 c.from_residual-in_err-dues.ensures.1 is in
+    c.in_err-dues.ensures.none (ap Err none) (subst AreInOrder (sym rows) (archive_in_order a archive))

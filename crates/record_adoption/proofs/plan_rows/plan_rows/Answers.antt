@@ -1,4 +1,4 @@
-use Rattle.std.proofs.Common.{◌≡◌, ◌∙◌, sym, ap, map, Err, IsTrue}
+use Rattle.std.proofs.Common.{◌≡◌, ◌∙◌, sym, ap, map, Err, IsTrue, subst}
 use Rattle.sqlite.specs.State.{HasCleanDisk, IsUnchanged}
 use Rattle.sqlite.specs.Held.{state}
 use Rattle.record_tables.specs.Tables.{HasCommonTables, IsArchiveSchema}
@@ -8,20 +8,22 @@ use Rattle.record_rows.specs.Rules.{rules_of, classes_of}
 use Rattle.record_adoption.proofs.AdoptReads.{sees_as, sees_then, kept_then, second_after, reads_after, stores_common, archive_common, second_stores}
 use Rattle.record_adoption.proofs.AdoptPlan.{version_paired, rules_listed, classes_listed, rules_fit}
 use Rattle.record_adoption.proofs.AdoptSettled.{handed_on}
+use Rattle.sqlite.specs.Effect.{Database}
+use Rattle.record_reads.specs.RawRows.{AreTypedClasses, AreTypedSchedules}
 use Rattle.record_adoption.proofs.plan_rows.plan_rows.Goals as goal
 
 pub returns-in_err-settings-clause-sees : goal.returns-in_err-settings-clause-sees
 returns-in_err-settings-clause-sees g c =
     let old = c.args.conn.now in
     let mid = c.settings.new.conn in
-    let one : Sees g.S.Store HasCommonTables old mid = record { idle = c.settings.ensures.idle; falls = c.settings.ensures.falls; still = c.settings.ensures.still; survives = c.settings.ensures.survives } in
+    let one : Sees g.S.Store HasCommonTables old mid = record { idle = c.settings.ensures.idle; falls = c.settings.ensures.falls; quiet = c.settings.ensures.quiet; survives = c.settings.ensures.survives } in
     sees_as g.S.Store HasCommonTables IsArchiveSchema old mid archive_common one
 
 pub returns-then-not-is_second-clause-sees : goal.returns-then-not-is_second-clause-sees
 returns-then-not-is_second-clause-sees g c =
     let old = c.args.conn.now in
     let mid = c.settings.new.conn in
-    let one : Sees g.S.Store HasCommonTables old mid = record { idle = c.settings.ensures.idle; falls = c.settings.ensures.falls; still = c.settings.ensures.still; survives = c.settings.ensures.survives } in
+    let one : Sees g.S.Store HasCommonTables old mid = record { idle = c.settings.ensures.idle; falls = c.settings.ensures.falls; quiet = c.settings.ensures.quiet; survives = c.settings.ensures.survives } in
     sees_as g.S.Store HasCommonTables IsArchiveSchema old mid archive_common one
 
 pub returns-in_err-rules-clause-sees : goal.returns-in_err-rules-clause-sees
@@ -29,8 +31,8 @@ returns-in_err-rules-clause-sees g c =
     let old = c.args.conn.now in
     let mid = c.settings.new.conn in
     let last = c.schedules.new.conn in
-    let one : Sees g.S.Store HasCommonTables old mid = record { idle = c.settings.ensures.idle; falls = c.settings.ensures.falls; still = c.settings.ensures.still; survives = c.settings.ensures.survives } in
-    let two : Sees g.S.Store IsArchiveSchema mid last = record { idle = c.schedules.ensures.idle; falls = c.schedules.ensures.falls; still = c.schedules.ensures.still; survives = c.schedules.ensures.survives } in
+    let one : Sees g.S.Store HasCommonTables old mid = record { idle = c.settings.ensures.idle; falls = c.settings.ensures.falls; quiet = c.settings.ensures.quiet; survives = c.settings.ensures.survives } in
+    let two : Sees g.S.Store IsArchiveSchema mid last = record { idle = c.schedules.ensures.idle; falls = c.schedules.ensures.falls; quiet = c.schedules.ensures.quiet; survives = c.schedules.ensures.survives } in
     let same1 : HasCleanDisk (state g.S.Store mid) → IsArchiveSchema (state g.S.Store old).now.schema → IsUnchanged (state g.S.Store old) (state g.S.Store mid) = λ clean has. c.in_ok-settings.ensures.same clean (archive_common (state g.S.Store old).now.schema has) in
     sees_then g.S.Store IsArchiveSchema old mid last (sees_as g.S.Store HasCommonTables IsArchiveSchema old mid archive_common one) same1 two
 
@@ -40,9 +42,9 @@ returns-in_err-classes-clause-sees g c =
     let mid = c.settings.new.conn in
     let last = c.schedules.new.conn in
     let new = c.classes.new.conn in
-    let one : Sees g.S.Store HasCommonTables old mid = record { idle = c.settings.ensures.idle; falls = c.settings.ensures.falls; still = c.settings.ensures.still; survives = c.settings.ensures.survives } in
-    let two : Sees g.S.Store IsArchiveSchema mid last = record { idle = c.schedules.ensures.idle; falls = c.schedules.ensures.falls; still = c.schedules.ensures.still; survives = c.schedules.ensures.survives } in
-    let three : Sees g.S.Store HasCommonTables last new = record { idle = c.classes.ensures.idle; falls = c.classes.ensures.falls; still = c.classes.ensures.still; survives = c.classes.ensures.survives } in
+    let one : Sees g.S.Store HasCommonTables old mid = record { idle = c.settings.ensures.idle; falls = c.settings.ensures.falls; quiet = c.settings.ensures.quiet; survives = c.settings.ensures.survives } in
+    let two : Sees g.S.Store IsArchiveSchema mid last = record { idle = c.schedules.ensures.idle; falls = c.schedules.ensures.falls; quiet = c.schedules.ensures.quiet; survives = c.schedules.ensures.survives } in
+    let three : Sees g.S.Store HasCommonTables last new = record { idle = c.classes.ensures.idle; falls = c.classes.ensures.falls; quiet = c.classes.ensures.quiet; survives = c.classes.ensures.survives } in
     let same1 : HasCleanDisk (state g.S.Store mid) → IsArchiveSchema (state g.S.Store old).now.schema → IsUnchanged (state g.S.Store old) (state g.S.Store mid) = λ clean has. c.in_ok-settings.ensures.same clean (archive_common (state g.S.Store old).now.schema has) in
     sees_then g.S.Store IsArchiveSchema old last new (sees_then g.S.Store IsArchiveSchema old mid last (sees_as g.S.Store HasCommonTables IsArchiveSchema old mid archive_common one) same1 two)
     (kept_then g.S.Store IsArchiveSchema old mid last same1 c.schedules.ensures.falls c.in_ok-rules.ensures.same) (sees_as g.S.Store HasCommonTables IsArchiveSchema last new archive_common three)
@@ -53,9 +55,9 @@ returns-clause-sees g c =
     let mid = c.settings.new.conn in
     let last = c.schedules.new.conn in
     let new = c.classes.new.conn in
-    let one : Sees g.S.Store HasCommonTables old mid = record { idle = c.settings.ensures.idle; falls = c.settings.ensures.falls; still = c.settings.ensures.still; survives = c.settings.ensures.survives } in
-    let two : Sees g.S.Store IsArchiveSchema mid last = record { idle = c.schedules.ensures.idle; falls = c.schedules.ensures.falls; still = c.schedules.ensures.still; survives = c.schedules.ensures.survives } in
-    let three : Sees g.S.Store HasCommonTables last new = record { idle = c.classes.ensures.idle; falls = c.classes.ensures.falls; still = c.classes.ensures.still; survives = c.classes.ensures.survives } in
+    let one : Sees g.S.Store HasCommonTables old mid = record { idle = c.settings.ensures.idle; falls = c.settings.ensures.falls; quiet = c.settings.ensures.quiet; survives = c.settings.ensures.survives } in
+    let two : Sees g.S.Store IsArchiveSchema mid last = record { idle = c.schedules.ensures.idle; falls = c.schedules.ensures.falls; quiet = c.schedules.ensures.quiet; survives = c.schedules.ensures.survives } in
+    let three : Sees g.S.Store HasCommonTables last new = record { idle = c.classes.ensures.idle; falls = c.classes.ensures.falls; quiet = c.classes.ensures.quiet; survives = c.classes.ensures.survives } in
     let same1 : HasCleanDisk (state g.S.Store mid) → IsArchiveSchema (state g.S.Store old).now.schema → IsUnchanged (state g.S.Store old) (state g.S.Store mid) = λ clean has. c.in_ok-settings.ensures.same clean (archive_common (state g.S.Store old).now.schema has) in
     sees_then g.S.Store IsArchiveSchema old last new (sees_then g.S.Store IsArchiveSchema old mid last (sees_as g.S.Store HasCommonTables IsArchiveSchema old mid archive_common one) same1 two)
     (kept_then g.S.Store IsArchiveSchema old mid last same1 c.schedules.ensures.falls c.in_ok-rules.ensures.same) (sees_as g.S.Store HasCommonTables IsArchiveSchema last new archive_common three)
@@ -130,3 +132,14 @@ returns-clause-sound g c clean = λ t ps rs cs d.
       rules = c.in_ok-rules.ensures.all clean2 t rs k.schedules k.stored k.keyed;
       classes = c.in_ok-classes.ensures.all clean t cs l.classes (stores_common last.now t l.stored) l.keyed;
     }
+
+pub returns-clause-typed : goal.returns-clause-typed
+returns-clause-typed g c clean = λ has.
+    let old = state g.S.Store c.args.conn.now in
+    let last = state g.S.Store c.schedules.new.conn in
+    let clean2 : HasCleanDisk last = c.classes.ensures.falls clean in
+    let one = (c.in_ok-settings.ensures.same (c.schedules.ensures.falls clean2) (archive_common old.now.schema has)).0.now_is in
+    let has1 = subst (λ (d : Database). IsArchiveSchema d.schema) (sym one) has in
+    let two = (c.in_ok-rules.ensures.same clean2 has1).0.now_is in
+    let has2 = subst (λ (d : Database). IsArchiveSchema d.schema) (sym two) has1 in
+    (subst AreTypedClasses (two ∙ one) (c.in_ok-classes.ensures.typed clean (archive_common last.now.schema has2)), subst AreTypedSchedules one (c.in_ok-rules.ensures.typed clean2 has1))

@@ -1,4 +1,4 @@
-use Rattle.std.proofs.Common.{ap, subst, Err, inr}
+use Rattle.std.proofs.Common.{ap, subst, Err, inr, sym}
 use Rattle.sqlite.specs.State.{HasCleanDisk}
 use Rattle.sqlite.specs.Held.{state}
 use Rattle.record_tables.specs.Tables.{HasCommonTables}
@@ -7,6 +7,8 @@ use Rattle.record_adoption.specs.Adoption.{FindsFirst, IsKeyed, TellsPlan}
 use Rattle.record_adoption.proofs.AdoptReads.{sees_then, kept_then, common_after, first_common, first_found, archive_of, first_told}
 use Rattle.record_adoption.proofs.AdoptRows.{judged_archive}
 use Rattle.record_adoption.proofs.AdoptSettled.{handed_on, keyed_of}
+use Rattle.sqlite.specs.Effect.{Database}
+use Rattle.record_adoption.specs.Adoption.{AreTypedRows}
 use Rattle.record_adoption.proofs.settle.read_first.Goals as goal
 
 pub returns-in_err-rows-clause-sees : goal.returns-in_err-rows-clause-sees
@@ -83,3 +85,12 @@ returns-clause-sound g c clean = λ t ps cs d.
     let k = common_after old mid a (first_found old.now a finds) (c.in_ok-texts.ensures.same clean1 (first_common old.now.schema d.stored.schema)) in
     let keyed : IsKeyed a = record { plan = c.in_ok-plan.ensures.sound.0; once = d.holds } in
     record { archive = a; rows = inr finds; is = judged_archive a c.in_ok-rows.rows keyed (c.in_ok-rows.ensures.tells clean a k d.holds) c.in_ok-overview.ensures.sound }
+
+pub returns-clause-typed : goal.returns-clause-typed
+returns-clause-typed g c clean = λ has.
+    let clean1 : HasCleanDisk (state g.S.Store c.text_rows.new.conn) = c.archive_rows.ensures.sees.falls clean in
+    let one = (c.in_ok-texts.ensures.same clean1 has).0.now_is in
+    record {
+      rows = subst AreTypedRows one (c.in_ok-rows.ensures.typed clean (subst (λ (d : Database). HasCommonTables d.schema) (sym one) has));
+      classes = c.in_ok-texts.ensures.typed clean1 has;
+    }

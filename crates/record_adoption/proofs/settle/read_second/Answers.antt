@@ -1,4 +1,4 @@
-use Rattle.std.proofs.Common.{ap, Err, inl}
+use Rattle.std.proofs.Common.{ap, Err, inl, sym, subst}
 use Rattle.sqlite.specs.State.{HasCleanDisk}
 use Rattle.sqlite.specs.Held.{state}
 use Rattle.record_tables.specs.Tables.{HasCommonTables, IsArchiveSchema}
@@ -7,6 +7,8 @@ use Rattle.record_adoption.specs.Adoption.{FindsSecond, IsKeyed}
 use Rattle.record_adoption.proofs.AdoptReads.{sees_as, sees_then, kept_then, common_after, archive_common, second_common, archive_of, second_told}
 use Rattle.record_adoption.proofs.AdoptRows.{judged_archive}
 use Rattle.record_adoption.proofs.AdoptSettled.{handed_on, keyed_of}
+use Rattle.sqlite.specs.Effect.{Database}
+use Rattle.record_adoption.specs.Adoption.{AreTypedRows}
 use Rattle.record_adoption.proofs.settle.read_second.Goals as goal
 
 pub returns-in_err-rows-clause-sees : goal.returns-in_err-rows-clause-sees
@@ -80,3 +82,12 @@ returns-clause-sound g c clean = λ t ps rs cs d.
     let k = common_after old mid a (second_common old.now a finds) (c.in_ok-plan_rows.ensures.same clean1 d.stored.schema) in
     let keyed : IsKeyed a = record { plan = c.in_ok-plan.ensures.sound.0; once = d.holds } in
     record { archive = a; rows = inl finds; is = judged_archive a c.in_ok-rows.rows keyed (c.in_ok-rows.ensures.tells clean a k d.holds) c.in_ok-overview.ensures.sound }
+
+pub returns-clause-typed : goal.returns-clause-typed
+returns-clause-typed g c clean = λ has.
+    let mid = state g.S.Store c.plan_rows.new.conn in
+    let clean1 : HasCleanDisk mid = c.archive_rows.ensures.sees.falls clean in
+    let one = (c.in_ok-plan_rows.ensures.same clean1 has).0.now_is in
+    let plan = c.in_ok-plan_rows.ensures.typed clean1 has in
+    let common = archive_common mid.now.schema (subst (λ (d : Database). IsArchiveSchema d.schema) (sym one) has) in
+    record { rows = subst AreTypedRows one (c.in_ok-rows.ensures.typed clean common); classes = plan.0; schedules = plan.1 }

@@ -30,14 +30,13 @@ pub returns-in_err-move_over-clause-none : goal.returns-in_err-move_over-clause-
 returns-in_err-move_over-clause-none g c clean is = absurd (never_none c.from_residual-in_err-move_over.result c.in_err-move_over.field-0.0 c.from_residual-in_err-move_over.ensures.1 is)
 
 pub returns-in_err-contents-clause-err : goal.returns-in_err-contents-clause-err
-returns-in_err-contents-clause-err g c has clean is_open = Rattle.record_reads.proofs.TypedLemmas.on_err c.from_residual.result _ (c.read_first.ensures.sees.still c.requires has clean is_open)
+returns-in_err-contents-clause-err g c clean is_open = Rattle.record_reads.proofs.TypedLemmas.on_err c.from_residual.result _ (c.read_first.ensures.sees.quiet c.requires clean is_open)
 
 pub returns-in_err-move_over-clause-err : goal.returns-in_err-move_over-clause-err
-returns-in_err-move_over-clause-err g c has clean is_open =
-    let mid = state g.S.Store c.read_first.new.conn in
-    let clean1 : HasCleanDisk mid = c.move_over.ensures.falls clean in
+returns-in_err-move_over-clause-err g c clean is_open =
+    let clean1 : HasCleanDisk (state g.S.Store c.read_first.new.conn) = c.move_over.ensures.falls clean in
     let last = c.in_err-move_over.ensures.err clean is_open in
-    let first = c.read_first.ensures.sees.still c.requires has clean1 last.0 in
+    let first = c.read_first.ensures.sees.quiet c.requires clean1 last.0 in
     Rattle.record_reads.proofs.TypedLemmas.on_err c.from_residual-in_err-move_over.result _ (first.0, last.1 ∙ first.1)
 
 pub returns-in_err-contents-clause-crash : goal.returns-in_err-contents-clause-crash
@@ -68,3 +67,6 @@ returns-in_err-move_over-clause-crash g c =
 
 pub returns-clause-sound : goal.returns-clause-sound
 returns-clause-sound g c clean = λ t ps cs d. c.in_ok-contents.ensures.sound (c.move_over.ensures.falls clean) t ps cs d
+
+pub returns-clause-typed : goal.returns-clause-typed
+returns-clause-typed g c clean = λ has. c.in_ok-contents.ensures.typed (c.move_over.ensures.falls clean) has

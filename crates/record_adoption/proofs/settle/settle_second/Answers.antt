@@ -30,16 +30,13 @@ pub returns-in_err-settle_dues-clause-none : goal.returns-in_err-settle_dues-cla
 returns-in_err-settle_dues-clause-none g c clean is = absurd (never_none c.from_residual-in_err-settle_dues.result c.in_err-settle_dues.field-0.0 c.from_residual-in_err-settle_dues.ensures.1 is)
 
 pub returns-in_err-contents-clause-err : goal.returns-in_err-contents-clause-err
-returns-in_err-contents-clause-err g c has clean is_open = Rattle.record_reads.proofs.TypedLemmas.on_err c.from_residual.result _ (c.read_second.ensures.sees.still c.requires has clean is_open)
+returns-in_err-contents-clause-err g c clean is_open = Rattle.record_reads.proofs.TypedLemmas.on_err c.from_residual.result _ (c.read_second.ensures.sees.quiet c.requires clean is_open)
 
 pub returns-in_err-settle_dues-clause-err : goal.returns-in_err-settle_dues-clause-err
-returns-in_err-settle_dues-clause-err g c has clean is_open =
-    let mid = state g.S.Store c.read_second.new.conn in
-    let clean1 : HasCleanDisk mid = c.settle_dues.ensures.falls clean in
-    let opened : IsTrue mid.is_open → IsArchiveSchema mid.now.schema =
-    λ mid_open. let it = c.read_second.ensures.sees.still c.requires has clean1 mid_open in subst (λ (d : Database). IsArchiveSchema d.schema) (sym it.1) (has it.0) in
-    let last = c.in_err-settle_dues.ensures.err opened clean is_open in
-    let first = c.read_second.ensures.sees.still c.requires has clean1 last.0 in
+returns-in_err-settle_dues-clause-err g c clean is_open =
+    let clean1 : HasCleanDisk (state g.S.Store c.read_second.new.conn) = c.settle_dues.ensures.falls clean in
+    let last = c.in_err-settle_dues.ensures.err clean is_open in
+    let first = c.read_second.ensures.sees.quiet c.requires clean1 last.0 in
     Rattle.record_reads.proofs.TypedLemmas.on_err c.from_residual-in_err-settle_dues.result _ (first.0, last.1 ∙ first.1)
 
 pub returns-in_err-contents-clause-crash : goal.returns-in_err-contents-clause-crash
@@ -70,3 +67,6 @@ returns-in_err-settle_dues-clause-crash g c =
 
 pub returns-clause-sound : goal.returns-clause-sound
 returns-clause-sound g c clean = λ t ps rs cs d. c.in_ok-contents.ensures.sound (c.settle_dues.ensures.falls clean) t ps rs cs d
+
+pub returns-clause-typed : goal.returns-clause-typed
+returns-clause-typed g c clean = λ has. c.in_ok-contents.ensures.typed (c.settle_dues.ensures.falls clean) has

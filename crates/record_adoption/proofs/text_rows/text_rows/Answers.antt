@@ -1,4 +1,4 @@
-use Rattle.std.proofs.Common.{◌∙◌, sym, ap, map, Err}
+use Rattle.std.proofs.Common.{◌∙◌, sym, ap, map, Err, subst}
 use Rattle.sqlite.specs.State.{HasCleanDisk}
 use Rattle.sqlite.specs.Held.{state}
 use Rattle.record_tables.specs.Tables.{HasCommonTables}
@@ -9,6 +9,8 @@ use Rattle.record_rows.specs.Texts.{text_row}
 use Rattle.record_adoption.proofs.AdoptReads.{sees_then, kept_then, first_after, reads_first_after, stores_first_common, first_stores, first_common}
 use Rattle.record_adoption.proofs.AdoptPlan.{first_paired, texts_listed}
 use Rattle.record_adoption.proofs.AdoptSettled.{handed_on, same_text}
+use Rattle.sqlite.specs.Effect.{Database}
+use Rattle.record_reads.specs.RawRows.{AreTypedClasses}
 use Rattle.record_adoption.proofs.text_rows.text_rows.Goals as goal
 
 pub returns-in_err-classes-clause-sees : goal.returns-in_err-classes-clause-sees
@@ -16,8 +18,8 @@ returns-in_err-classes-clause-sees g c =
     let old = c.args.conn.now in
     let mid = c.settings.new.conn in
     let new = c.classes.new.conn in
-    let one : Sees g.S.Store HasCommonTables old mid = record { idle = c.settings.ensures.idle; falls = c.settings.ensures.falls; still = c.settings.ensures.still; survives = c.settings.ensures.survives } in
-    let two : Sees g.S.Store HasCommonTables mid new = record { idle = c.classes.ensures.idle; falls = c.classes.ensures.falls; still = c.classes.ensures.still; survives = c.classes.ensures.survives } in
+    let one : Sees g.S.Store HasCommonTables old mid = record { idle = c.settings.ensures.idle; falls = c.settings.ensures.falls; quiet = c.settings.ensures.quiet; survives = c.settings.ensures.survives } in
+    let two : Sees g.S.Store HasCommonTables mid new = record { idle = c.classes.ensures.idle; falls = c.classes.ensures.falls; quiet = c.classes.ensures.quiet; survives = c.classes.ensures.survives } in
     sees_then g.S.Store HasCommonTables old mid new one c.in_ok-settings.ensures.same two
 
 pub returns-clause-sees : goal.returns-clause-sees
@@ -25,8 +27,8 @@ returns-clause-sees g c =
     let old = c.args.conn.now in
     let mid = c.settings.new.conn in
     let new = c.classes.new.conn in
-    let one : Sees g.S.Store HasCommonTables old mid = record { idle = c.settings.ensures.idle; falls = c.settings.ensures.falls; still = c.settings.ensures.still; survives = c.settings.ensures.survives } in
-    let two : Sees g.S.Store HasCommonTables mid new = record { idle = c.classes.ensures.idle; falls = c.classes.ensures.falls; still = c.classes.ensures.still; survives = c.classes.ensures.survives } in
+    let one : Sees g.S.Store HasCommonTables old mid = record { idle = c.settings.ensures.idle; falls = c.settings.ensures.falls; quiet = c.settings.ensures.quiet; survives = c.settings.ensures.survives } in
+    let two : Sees g.S.Store HasCommonTables mid new = record { idle = c.classes.ensures.idle; falls = c.classes.ensures.falls; quiet = c.classes.ensures.quiet; survives = c.classes.ensures.survives } in
     sees_then g.S.Store HasCommonTables old mid new one c.in_ok-settings.ensures.same two
 
 pub returns-clause-same : goal.returns-clause-same
@@ -75,3 +77,8 @@ returns-clause-sound g c clean = λ t ps cs d.
       settings = sym (c.in_ok-settings.ensures.all clean1 t ps d.settings (stores_first_common old.now t d.stored) d.keyed) ∙ ap (map Rattle.record_tables.specs.CodeRows.pair_of) (sym c.as_slice.ensures.value) ∙ c.in_ok-root.ensures.root;
       classes = c.in_ok-classes.ensures.all clean t cs k.classes (stores_first_common mid.now t k.stored) k.keyed;
     }
+
+pub returns-clause-typed : goal.returns-clause-typed
+returns-clause-typed g c clean = λ has.
+    let one = (c.in_ok-settings.ensures.same (c.classes.ensures.falls clean) has).0.now_is in
+    subst AreTypedClasses one (c.in_ok-classes.ensures.typed clean (subst (λ (d : Database). HasCommonTables d.schema) (sym one) has))

@@ -9,6 +9,8 @@ use Rattle.record_tables.specs.CodeRows.{rule_of}
 use Rattle.record_reads.proofs.Queries.{select_schedules, select_schedules_is}
 use Rattle.record_reads.proofs.ReadLemmas.{reads_nothing, shows_schedules}
 use Rattle.record_reads.proofs.TypedLemmas.{on_ok, if_ok, if_err_is, never_none, back, readable, one_rule, can_rule}
+use Rattle.record_reads.proofs.Quiet.{quiet_schedules}
+use Rattle.record_reads.proofs.RawLemmas.{typed_schedules}
 use Rattle.record_reads.proofs.read.schedules.Goals as goal
 
 plain : (schema : _) → IsArchiveSchema schema → IsPlain (understood schema select_schedules)
@@ -32,14 +34,20 @@ returns-in_err-rows-clause-none g c clean is = absurd (never_none c.from_residua
 pub returns-clause-same : goal.returns-clause-same
 returns-clause-same g c clean has = on_ok c.rows_in.result _ (c.in_ok-rows.ensures.same clean (plain (state g.S.Store c.args.conn.now).now.schema has))
 
-pub returns-clause-still : goal.returns-clause-still
-returns-clause-still g c idle has = c.rows_of.ensures.still idle (λ is_open. plain (state g.S.Store c.args.conn.now).now.schema (has is_open))
+pub returns-clause-quiet : goal.returns-clause-quiet
+returns-clause-quiet g c idle = c.rows_of.ensures.quiet idle (λ is_open. quiet_schedules (state g.S.Store c.args.conn.now).now.schema)
 
 pub returns-clause-survives : goal.returns-clause-survives
 returns-clause-survives g c = reads_nothing (state g.S.Store c.args.conn.now) (state g.S.Store c.rows_of.new.conn) _ _ (plain (state g.S.Store c.args.conn.now).now.schema) c.rows_of.ensures.survives
 
-pub returns-in_err-rows-clause-still : goal.returns-in_err-rows-clause-still
-returns-in_err-rows-clause-still g c idle has = c.rows_of.ensures.still idle (λ is_open. plain (state g.S.Store c.args.conn.now).now.schema (has is_open))
+pub returns-in_err-rows-clause-quiet : goal.returns-in_err-rows-clause-quiet
+returns-in_err-rows-clause-quiet g c idle = c.rows_of.ensures.quiet idle (λ is_open. quiet_schedules (state g.S.Store c.args.conn.now).now.schema)
 
 pub returns-in_err-rows-clause-survives : goal.returns-in_err-rows-clause-survives
 returns-in_err-rows-clause-survives g c = reads_nothing (state g.S.Store c.args.conn.now) (state g.S.Store c.rows_of.new.conn) _ _ (plain (state g.S.Store c.args.conn.now).now.schema) c.rows_of.ensures.survives
+
+pub returns-clause-typed : goal.returns-clause-typed
+returns-clause-typed g c clean =
+    if_ok c.rows_in.result _ _
+    (λ all h has. typed_schedules rule_of (state g.S.Store c.args.conn.now) (state g.S.Store c.rows_of.new.conn) c.in_ok-rows.rows.items all.items has (c.in_ok-rows.ensures.shown clean) (rw c.as_slice.ensures.value at h))
+    c.rows_in.ensures.all

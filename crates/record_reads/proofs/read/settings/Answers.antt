@@ -9,6 +9,7 @@ use Rattle.record_tables.specs.CodeRows.{pair_of}
 use Rattle.record_reads.proofs.Queries.{select_settings, select_settings_is}
 use Rattle.record_reads.proofs.ReadLemmas.{reads_nothing, shows_settings}
 use Rattle.record_reads.proofs.TypedLemmas.{on_ok, if_ok, if_err_is, never_none, back, readable_all, one_setting, can_setting}
+use Rattle.record_reads.proofs.Quiet.{quiet_settings}
 use Rattle.record_reads.proofs.read.settings.Goals as goal
 
 plain : (schema : _) → HasCommonTables schema → IsPlain (understood schema select_settings)
@@ -32,14 +33,14 @@ returns-in_err-rows-clause-none g c clean is = absurd (never_none c.from_residua
 pub returns-clause-same : goal.returns-clause-same
 returns-clause-same g c clean has = on_ok c.rows_in.result _ (c.in_ok-rows.ensures.same clean (plain (state g.S.Store c.args.conn.now).now.schema has))
 
-pub returns-clause-still : goal.returns-clause-still
-returns-clause-still g c idle has = c.rows_of.ensures.still idle (λ is_open. plain (state g.S.Store c.args.conn.now).now.schema (has is_open))
+pub returns-clause-quiet : goal.returns-clause-quiet
+returns-clause-quiet g c idle = c.rows_of.ensures.quiet idle (λ is_open. quiet_settings (state g.S.Store c.args.conn.now).now.schema)
 
 pub returns-clause-survives : goal.returns-clause-survives
 returns-clause-survives g c = reads_nothing (state g.S.Store c.args.conn.now) (state g.S.Store c.rows_of.new.conn) _ _ (plain (state g.S.Store c.args.conn.now).now.schema) c.rows_of.ensures.survives
 
-pub returns-in_err-rows-clause-still : goal.returns-in_err-rows-clause-still
-returns-in_err-rows-clause-still g c idle has = c.rows_of.ensures.still idle (λ is_open. plain (state g.S.Store c.args.conn.now).now.schema (has is_open))
+pub returns-in_err-rows-clause-quiet : goal.returns-in_err-rows-clause-quiet
+returns-in_err-rows-clause-quiet g c idle = c.rows_of.ensures.quiet idle (λ is_open. quiet_settings (state g.S.Store c.args.conn.now).now.schema)
 
 pub returns-in_err-rows-clause-survives : goal.returns-in_err-rows-clause-survives
 returns-in_err-rows-clause-survives g c = reads_nothing (state g.S.Store c.args.conn.now) (state g.S.Store c.rows_of.new.conn) _ _ (plain (state g.S.Store c.args.conn.now).now.schema) c.rows_of.ensures.survives

@@ -10,6 +10,7 @@ use Rattle.record_reads.specs.StoredDues.{shows_due}
 use Rattle.record_tables.specs.CodeRows.{due_of}
 use Rattle.record_reads.proofs.ReadLemmas.{reads_nothing}
 use Rattle.record_reads.proofs.StoredDueLemmas.{select_stored, select_stored_is, shows_stored, dues-told}
+use Rattle.record_reads.proofs.Quiet.{quiet_stored}
 use Rattle.record_reads.proofs.stored_dues.are_dues.Goals as goal
 
 plain : (schema : _) → IsArchiveSchema schema → IsPlain (understood schema select_stored)
@@ -25,14 +26,14 @@ returns-clause-are g c clean t s keyed =
 pub returns-clause-same : goal.returns-clause-same
 returns-clause-same g c clean has = c.in_ok-rows.ensures.same clean (plain (state g.S.Store c.args.conn.now).now.schema has)
 
-pub returns-clause-still : goal.returns-clause-still
-returns-clause-still g c idle has = c.rows_of.ensures.still idle (λ is_open. plain (state g.S.Store c.args.conn.now).now.schema (has is_open))
+pub returns-clause-quiet : goal.returns-clause-quiet
+returns-clause-quiet g c idle = c.rows_of.ensures.quiet idle (λ is_open. quiet_stored (state g.S.Store c.args.conn.now).now.schema)
 
 pub returns-clause-survives : goal.returns-clause-survives
 returns-clause-survives g c = reads_nothing (state g.S.Store c.args.conn.now) (state g.S.Store c.rows_of.new.conn) _ _ (plain (state g.S.Store c.args.conn.now).now.schema) c.rows_of.ensures.survives
 
-pub returns-in_err-rows-clause-still : goal.returns-in_err-rows-clause-still
-returns-in_err-rows-clause-still g c idle has = c.rows_of.ensures.still idle (λ is_open. plain (state g.S.Store c.args.conn.now).now.schema (has is_open))
+pub returns-in_err-rows-clause-quiet : goal.returns-in_err-rows-clause-quiet
+returns-in_err-rows-clause-quiet g c idle = c.rows_of.ensures.quiet idle (λ is_open. quiet_stored (state g.S.Store c.args.conn.now).now.schema)
 
 pub returns-in_err-rows-clause-survives : goal.returns-in_err-rows-clause-survives
 returns-in_err-rows-clause-survives g c = reads_nothing (state g.S.Store c.args.conn.now) (state g.S.Store c.rows_of.new.conn) _ _ (plain (state g.S.Store c.args.conn.now).now.schema) c.rows_of.ensures.survives

@@ -12,6 +12,7 @@ use Rattle.record_store.specs.Stores.{Becomes}
 use Rattle.record_archive.specs.declared.fault.ArchiveRefusal.{ArchiveRefusal}
 use Rattle.record_store.proofs.CommandLemmas.{is_trouble-fault_of, obeys_refused, stands_planned, stands_turned, stands_refused, leaves_turned}
 use Rattle.record_store.proofs.ClassLemmas.{is_added, added_archive, keeps_added, same_dues, leaves_added}
+use Rattle.record_store.proofs.Causes.{never_busy}
 use Rattle.record_store.proofs.store.Store.add_class.Goals as goal
 
 pub remove-requires : goal.remove-requires
@@ -73,3 +74,6 @@ returns-in_err-plan_class-clause-obeys g c =
       stands_planned g.S.Store c.args.self.now c.plan_class.new.plan a refused.unchanged s,
       λ r is. ap (λ p. plan_answer a (addition p path)) (sym s.plan) ∙ refused.err r is a,
     ))
+
+pub returns-then-not-is_autocommit-clause-cause : goal.returns-then-not-is_autocommit-clause-cause
+returns-then-not-is_autocommit-clause-cause g c = λ (a : Archive) s clean. absurd (never_busy _ _ s.idle c.is_autocommit.ensures.value c.if-not-is_autocommit.true)

@@ -3,7 +3,7 @@ use Rattle.std.proofs.lemmas.Result.{IfOk-weaker, IfErr-weaker}
 use Rattle.sqlite.specs.Held.{state}
 use Rattle.record_archive.specs.Archive.{Archive}
 use Rattle.record_adoption.specs.Adoption.{Finds, FindsSecond, FindsFirst, FindsNothing, IsKeyed}
-use Rattle.record_store.proofs.AdoptLayouts.{lays_at, rows_left, no_reads, second_reads, first_reads, no_rows, second_rows, first_rows, finds_nothing, finds_second, finds_first, first_none, first_laid}
+use Rattle.record_store.proofs.AdoptLayouts.{lays_at, rows_left, no_reads, second_reads, first_reads, no_rows, second_rows, first_rows, finds_nothing, finds_second, finds_first, first_none, typed_empty, typed_second, typed_first}
 use Rattle.record_adoption.proofs.AdoptSettled.{keyed_of, leaves_weaker}
 use Rattle.record_store.proofs.store.Store.adopt.Goals as goal
 
@@ -77,13 +77,6 @@ returns-in-First-clause-no_archive g c =
     let lays = lays_at c.schema.result.now db.schema l c.schema.ensures.value c.layout_of.ensures.empty c.layout_of.ensures.first c.layout_of.ensures.first_with_dues c.layout_of.ensures.second in
     IfErr-weaker c.adopt_first.result _ _ (λ e h is clean. first_none db l lays c.in-First.is (h is clean)) c.adopt_first.ensures.no_archive
 
-pub returns-in-First-clause-unchanged : goal.returns-in-First-clause-unchanged
-returns-in-First-clause-unchanged g c =
-    let db = (state g.S.Store c.args.conn).now in
-    let l = c.layout_of.result in
-    let lays = lays_at c.schema.result.now db.schema l c.schema.ensures.value c.layout_of.ensures.empty c.layout_of.ensures.first c.layout_of.ensures.first_with_dues c.layout_of.ensures.second in
-    IfErr-weaker c.adopt_first.result _ _ (λ e h laid. h (first_laid db.schema l lays c.in-First.is laid)) c.adopt_first.ensures.unchanged
-
 pub returns-in-Empty-clause-sound : goal.returns-in-Empty-clause-sound
 returns-in-Empty-clause-sound g c =
     let db = (state g.S.Store c.args.conn).now in
@@ -125,3 +118,24 @@ returns-in-First-clause-reopened g c =
     let l = c.layout_of.result in
     let lays = lays_at c.schema.result.now db.schema l c.schema.ensures.value c.layout_of.ensures.empty c.layout_of.ensures.first c.layout_of.ensures.first_with_dues c.layout_of.ensures.second in
     IfOk-weaker c.adopt_first.result _ _ (λ s h clean (a : Archive) left archive. h clean a (first_rows db a l lays c.in-First.is (rows_left db a left)) (keyed_of a archive)) c.adopt_first.ensures.found
+
+pub returns-in-Empty-clause-typed : goal.returns-in-Empty-clause-typed
+returns-in-Empty-clause-typed g c =
+    let db = (state g.S.Store c.args.conn).now in
+    let l = c.layout_of.result in
+    let lays = lays_at c.schema.result.now db.schema l c.schema.ensures.value c.layout_of.ensures.empty c.layout_of.ensures.first c.layout_of.ensures.first_with_dues c.layout_of.ensures.second in
+    IfOk-weaker c.create.result _ _ (λ s h clean. typed_empty db l lays c.in-Empty.is) c.create.ensures.ok
+
+pub returns-in-Second-clause-typed : goal.returns-in-Second-clause-typed
+returns-in-Second-clause-typed g c =
+    let db = (state g.S.Store c.args.conn).now in
+    let l = c.layout_of.result in
+    let lays = lays_at c.schema.result.now db.schema l c.schema.ensures.value c.layout_of.ensures.empty c.layout_of.ensures.first c.layout_of.ensures.first_with_dues c.layout_of.ensures.second in
+    IfOk-weaker c.adopt_second.result _ _ (λ s h clean. typed_second db l lays c.in-Second.is (h clean)) c.adopt_second.ensures.typed
+
+pub returns-in-First-clause-typed : goal.returns-in-First-clause-typed
+returns-in-First-clause-typed g c =
+    let db = (state g.S.Store c.args.conn).now in
+    let l = c.layout_of.result in
+    let lays = lays_at c.schema.result.now db.schema l c.schema.ensures.value c.layout_of.ensures.empty c.layout_of.ensures.first c.layout_of.ensures.first_with_dues c.layout_of.ensures.second in
+    IfOk-weaker c.adopt_first.result _ _ (λ s h clean. typed_first db l lays c.in-First.is (h clean)) c.adopt_first.ensures.typed

@@ -7,6 +7,7 @@ use Rattle.record_archive.specs.Archive as archive
 use Rattle.record_archive.specs.Archive.{Archive}
 use Rattle.record_store.proofs.CommandLemmas.{stands_turned, leaves_turned}
 use Rattle.record_store.proofs.HoldLemmas.{released_is_archive, stores_released, count_released, is_there}
+use Rattle.record_store.proofs.Causes.{never_busy}
 use Rattle.record_store.proofs.store.Store.end_hold.Goals as goal
 
 pub returns-in-Ok-clause-ok : goal.returns-in-Ok-clause-ok
@@ -28,3 +29,6 @@ returns-in-Err-clause-crash g c = λ (a : Archive) s.
     let name = c.args.name.now in
     let n = c.args.number in
     leaves_turned g.S.Store c.args.self.now c.transact.new.conn a (archive.without_hold a name n) (archive.release a name n ≡ Ok (archive.without_hold a name n)) Always (tables.without_hold name n) s (λ was db kept legal turns. stores_released name n a was db kept turns) c.transact.ensures.crash
+
+pub returns-then-not-is_autocommit-clause-cause : goal.returns-then-not-is_autocommit-clause-cause
+returns-then-not-is_autocommit-clause-cause g c = λ (a : Archive) s clean. absurd (never_busy _ _ s.idle c.is_autocommit.ensures.value c.if-not-is_autocommit.true)

@@ -3,6 +3,7 @@ use Rattle.record_tables.specs.CodeRows.{record_of}
 use Rattle.record_archive.specs.Archive.{Archive, destroy_by, record_at}
 use Rattle.record_archive.specs.declared.fault.ArchiveRefusal.TheVariants.{Held}
 use Rattle.record_store.specs.Destruction.{against_destruction}
+use Rattle.record_store.proofs.Causes.{not_own-trouble, record_is_sound}
 use Rattle.record_store.proofs.DueLemmas.{held_if, free_if}
 use Rattle.record_store.proofs.DestroyLemmas.{refused_held, refused_by_plan, may_go}
 use Rattle.record_store.proofs.store.Store.judge_destruction.Goals as goal
@@ -41,3 +42,8 @@ returns-in-Ok-clause-tells g c = λ (a : Archive) s.
         may_go a n c.args.day r (t.1 clean) c.if-record.false free (subst (λ p. against_destruction p c.args.day r ≡ None) t.0.plan c.in-Ok.ensures.ok),
       ),
     )
+
+pub returns-in-Err-clause-cause : goal.returns-in-Err-clause-cause
+returns-in-Err-clause-cause g c = λ (a : Archive) s clean.
+    let sound = record_is_sound a c.args.number (record_of c.in_ok-record.record) s.archive ((c.in_ok-record.ensures.tells a s).1 clean) in
+    not_own-trouble c.in-Err.fault (λ told. let late = c.in-Err.ensures.lost told in omega (arith, late, sound.day))

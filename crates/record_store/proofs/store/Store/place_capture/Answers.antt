@@ -6,6 +6,7 @@ use Rattle.std.proofs.lemmas.List.{length-map}
 use Rattle.record_tables.specs.CodeRows.{due_of}
 use Rattle.record_archive.specs.Archive.{Archive}
 use Rattle.record_store.proofs.CaptureStands.{Given, stands_captured, leaves_captured}
+use Rattle.record_store.proofs.Causes.{never_busy}
 use Rattle.record_store.proofs.store.Store.place_capture.Goals as goal
 
 pub returns-in-Ok-transact-clause-ok : goal.returns-in-Ok-transact-clause-ok
@@ -33,3 +34,6 @@ returns-in-Err-clause-crash g c = λ (a : Archive) s.
     let long = length-map c.args.paths.now (λ p. p.items) in
     let given : Given c.args.self.now c.args.day c.args.first ps ds = record { some = omega (arith, c.requires.some, long); room = omega (arith, c.requires.room, long); first = c.requires.first; classes = c.requires.classes; day = c.requires.day; dues = c.requires.dues } in
     leaves_captured g.S.Store c.args.self.now c.transact.new.conn a s c.args.body.now c.args.day c.args.first ps ds given c.transact.ensures.crash
+
+pub returns-then-not-is_autocommit-clause-cause : goal.returns-then-not-is_autocommit-clause-cause
+returns-then-not-is_autocommit-clause-cause g c = λ (a : Archive) s clean. absurd (never_busy _ _ s.idle c.is_autocommit.ensures.value c.if-not-is_autocommit.true)

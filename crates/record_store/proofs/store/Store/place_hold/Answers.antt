@@ -8,6 +8,7 @@ use Rattle.record_archive.specs.Archive.{Archive}
 use Rattle.record_adoption.specs.Counts.{only_at}
 use Rattle.record_store.proofs.CommandLemmas.{stands_turned, leaves_turned}
 use Rattle.record_store.proofs.HoldLemmas.{held_is_archive, stores_held, count_held}
+use Rattle.record_store.proofs.Causes.{never_busy}
 use Rattle.record_store.proofs.store.Store.place_hold.Goals as goal
 
 pub returns-in-Ok-transact-clause-ok : goal.returns-in-Ok-transact-clause-ok
@@ -29,3 +30,6 @@ returns-in-Err-clause-crash g c = λ (a : Archive) s.
     let name = c.args.name.now in
     let n = c.args.number in
     leaves_turned g.S.Store c.args.self.now c.transact.new.conn a (archive.with_hold a name n) (archive.hold a name n ≡ Ok (archive.with_hold a name n)) Always (tables.with_hold name n) s (λ was db kept legal turns. stores_held name n a was db kept turns) c.transact.ensures.crash
+
+pub returns-then-not-is_autocommit-clause-cause : goal.returns-then-not-is_autocommit-clause-cause
+returns-then-not-is_autocommit-clause-cause g c = λ (a : Archive) s clean. absurd (never_busy _ _ s.idle c.is_autocommit.ensures.value c.if-not-is_autocommit.true)

@@ -10,6 +10,7 @@ use Rattle.record_archive.specs.Archive.{Archive}
 use Rattle.record_store.specs.Revisions.{IsRevision, with_plan}
 use Rattle.record_store.proofs.CommandLemmas.{stands_turned, leaves_turned}
 use Rattle.record_store.proofs.ReviseLemmas.{revised_is_archive, stores_revised}
+use Rattle.record_store.proofs.Causes.{never_busy}
 use Rattle.record_store.proofs.store.Store.place_plan.Goals as goal
 
 pub returns-in-Ok-clause-ok : goal.returns-in-Ok-clause-ok
@@ -46,3 +47,6 @@ returns-in-Err-clause-crash g c = λ (a : Archive) s.
     let same_classes : cs ≡ rows.classes_of p = ap (map class_entry_of) c.as_slice-2.ensures.value ∙ c.in_ok-classes.ensures in
     leaves_turned g.S.Store c.args.self.now c.replace_plan.new.conn a (with_plan a p) (IsRevision a p ds) Always (tables.with_plan rs cs ds) s
     (λ was db kept is turns. stores_revised a p rs cs ds same_rules same_classes is.dues was db kept turns) c.replace_plan.ensures.crash
+
+pub returns-then-not-is_autocommit-clause-cause : goal.returns-then-not-is_autocommit-clause-cause
+returns-then-not-is_autocommit-clause-cause g c = λ (a : Archive) s clean. absurd (never_busy _ _ s.idle c.is_autocommit.ensures.value c.if-not-is_autocommit.true)

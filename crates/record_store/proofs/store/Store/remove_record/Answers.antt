@@ -8,6 +8,7 @@ use Rattle.record_archive.specs.Archive.{Archive}
 use Rattle.record_store.specs.Destruction.{IsFree, with_destruction}
 use Rattle.record_store.proofs.CommandLemmas.{stands_turned, leaves_turned}
 use Rattle.record_store.proofs.DestroyLemmas.{keeps_destroyed, destroyed_archive, count_destroyed, next_destroyed, free_itself}
+use Rattle.record_store.proofs.Causes.{never_busy}
 use Rattle.record_store.proofs.store.Store.remove_record.Goals as goal
 
 pub returns-in-Ok-clause-ok : goal.returns-in-Ok-clause-ok
@@ -35,3 +36,6 @@ returns-in-Err-clause-crash g c = λ (a : Archive) s.
     let last = c.last_body-last.result in
     leaves_turned g.S.Store c.args.self.now c.transact.new.conn a (archive.without a r) (IsFree a n r) Always (with_destruction n last) s
     (λ was db kept free turns. keeps_destroyed g.S.Store c.args.self.now a s n r last free c.last_body-last.ensures was db kept turns) c.transact.ensures.crash
+
+pub returns-then-not-is_autocommit-clause-cause : goal.returns-then-not-is_autocommit-clause-cause
+returns-then-not-is_autocommit-clause-cause g c = λ (a : Archive) s clean. absurd (never_busy _ _ s.idle c.is_autocommit.ensures.value c.if-not-is_autocommit.true)

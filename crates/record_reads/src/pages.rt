@@ -1,0 +1,84 @@
+//! The records of a page, and the holds on them.
+//!
+//! A column of another kind, or a number of 2^32 or more, is refused as no archive. The other refusals are no memory
+//! and the errors of `sqlite`.
+
+ghost use Rattle.std.specs.Prelude.{◌≡◌, map, take, filter};
+ghost use Rattle.std.specs.List.{AllByRecursion};
+ghost use Rattle.sqlite.specs.Held.{state};
+ghost use Rattle.record_tables.specs.Tables.{IsArchiveSchema};
+ghost use Rattle.record_tables.specs.Rows.{Tables, Stores, AreKeyed};
+ghost use Rattle.record_tables.specs.Reads.{FitsRecord, AreHolds, ForRows};
+ghost use Rattle.record_tables.specs.CodeRows.{record_of, hold_entry_of};
+ghost use Rattle.record_reads.specs.Pages.{records_from, is_between};
+ghost use Rattle.record_tables.specs.Steps.{CommitsNothingOf, IsStill, Falls, IsIdle, ReadsAlone, Learns, Rejects, WasOpenOnOk};
+
+use crate::query::rows_of;
+use crate::typed::rows_in;
+use record_tables::fault::Fault;
+use record_tables::rows::{HoldRow, RecordRow};
+use sqlite::types::ToSql;
+use sqlite::{Alter, Connection};
+use std::alloc::Global;
+
+/// The records from a number on, in the order of their numbers, at most `most` of them. Only these rows are looked at.
+pub fn records_from<S: Alter>(
+    alloc: Global,
+    conn: &mut Connection<S>,
+    from: u32,
+    most: u32,
+) -> Result<Vec<RecordRow>, Fault>
+    ensures all { Learns S.Store conn.old conn.new result
+        (λ db all. (t : Tables) → Stores db t → AreKeyed t →
+        map record_of all.items ≡ take most (records_from from t)) }
+    ensures none { Rejects S.Store conn.old conn.new result
+        (λ db. (t : Tables) → Stores db t → AreKeyed t →
+        AllByRecursion FitsRecord (take most (records_from from t)) → ⊥) }
+    ensures same { ReadsAlone S.Store conn.old conn.new result
+        (IsArchiveSchema (state S.Store conn.old).now.schema) }
+    ensures still { IsStill S.Store conn.old conn.new
+        (IsArchiveSchema (state S.Store conn.old).now.schema) }
+    ensures was_open { WasOpenOnOk S.Store conn.old conn.new result }
+    ensures falls { Falls S.Store conn.old conn.new }
+    ensures idle { IsIdle S.Store conn.old conn.new }
+    ensures survives { CommitsNothingOf S.Store conn.old conn.new
+        (IsArchiveSchema (state S.Store conn.old).now.schema) }
+{
+    let rows = rows_of(
+        conn,
+        "SELECT number, message, path, day, destroyed FROM record WHERE number >= ?1 ORDER BY number LIMIT ?2",
+        &[from.to_sql(), most.to_sql()],
+    )?;
+    rows_in(alloc, rows.as_slice())
+}
+
+/// The holds on the records from one number to another, both included, by record and then in byte order of their
+/// names. All holds are looked at.
+pub fn holds_between<S: Alter>(
+    alloc: Global,
+    conn: &mut Connection<S>,
+    first: u32,
+    last: u32,
+) -> Result<Vec<HoldRow>, Fault>
+    ensures all { Learns S.Store conn.old conn.new result
+        (λ db all. ForRows Stores AreHolds db
+        (λ hs. map hold_entry_of all.items ≡ filter (is_between first last) hs)) }
+    ensures none { Rejects S.Store conn.old conn.new result
+        (λ db. ForRows Stores AreHolds db (λ hs. ⊥)) }
+    ensures same { ReadsAlone S.Store conn.old conn.new result
+        (IsArchiveSchema (state S.Store conn.old).now.schema) }
+    ensures still { IsStill S.Store conn.old conn.new
+        (IsArchiveSchema (state S.Store conn.old).now.schema) }
+    ensures was_open { WasOpenOnOk S.Store conn.old conn.new result }
+    ensures falls { Falls S.Store conn.old conn.new }
+    ensures idle { IsIdle S.Store conn.old conn.new }
+    ensures survives { CommitsNothingOf S.Store conn.old conn.new
+        (IsArchiveSchema (state S.Store conn.old).now.schema) }
+{
+    let rows = rows_of(
+        conn,
+        "SELECT name, record FROM hold WHERE record >= ?1 AND record <= ?2 ORDER BY record, name",
+        &[first.to_sql(), last.to_sql()],
+    )?;
+    rows_in(alloc, rows.as_slice())
+}

@@ -1,0 +1,45 @@
+//! The holds in the order in which they were placed.
+//!
+//! A column of another kind, or a number of 2^32 or more, is refused as no archive. The other refusals are no memory
+//! and the errors of `sqlite`.
+
+ghost use Rattle.std.specs.Prelude.{◌≡◌, map};
+ghost use Rattle.std.specs.List.{AllByRecursion};
+ghost use Rattle.sqlite.specs.Held.{state};
+ghost use Rattle.record_tables.specs.Tables.{IsArchiveSchema};
+ghost use Rattle.record_tables.specs.Rows.{Tables, Stores, AreKeyed};
+ghost use Rattle.record_tables.specs.Reads.{hold_entry, FitsHold};
+ghost use Rattle.record_tables.specs.CodeRows.{hold_entry_of};
+ghost use Rattle.record_tables.specs.Steps.{CommitsNothingOf, IsStill, Falls, IsIdle, ReadsAlone, Learns, Rejects, WasOpenOnOk};
+
+use crate::query::rows_of;
+use crate::typed::rows_in;
+use record_tables::fault::Fault;
+use record_tables::rows::HoldRow;
+use sqlite::{Alter, Connection};
+use std::alloc::Global;
+
+/// All holds, in the order of their rowids, in which they were placed.
+pub fn placed_holds<S: Alter>(
+    alloc: Global,
+    conn: &mut Connection<S>,
+) -> Result<Vec<HoldRow>, Fault>
+    ensures all { Learns S.Store conn.old conn.new result
+        (λ db all. (t : Tables) → Stores db t → AreKeyed t →
+        map hold_entry_of all.items ≡ map hold_entry t.holds) }
+    ensures none { Rejects S.Store conn.old conn.new result
+        (λ db. (t : Tables) → Stores db t → AreKeyed t →
+        AllByRecursion FitsHold (map hold_entry t.holds) → ⊥) }
+    ensures same { ReadsAlone S.Store conn.old conn.new result
+        (IsArchiveSchema (state S.Store conn.old).now.schema) }
+    ensures still { IsStill S.Store conn.old conn.new
+        (IsArchiveSchema (state S.Store conn.old).now.schema) }
+    ensures was_open { WasOpenOnOk S.Store conn.old conn.new result }
+    ensures falls { Falls S.Store conn.old conn.new }
+    ensures idle { IsIdle S.Store conn.old conn.new }
+    ensures survives { CommitsNothingOf S.Store conn.old conn.new
+        (IsArchiveSchema (state S.Store conn.old).now.schema) }
+{
+    let rows = rows_of(conn, "SELECT name, record FROM hold ORDER BY rowid", &[])?;
+    rows_in(alloc, rows.as_slice())
+}

@@ -1,0 +1,37 @@
+use Rattle.std.proofs.Common.{◌≡◌, ◌∙◌, map, take, refl, sym, ap, ap₂}
+use Rattle.std.proofs.lemmas.List.{take-map}
+use Rattle.record_archive.specs.Archive.{Archive}
+use Rattle.record_tables.specs.CodeRows.{record_of, hold_entry_of}
+use Rattle.record_store.specs.Entries.{entry_of, entries_from, records_from, listed_beside, IsPage}
+use Rattle.record_store.proofs.CommandLemmas.{leaves_then}
+use Rattle.record_store.proofs.EntryLemmas.{page_is, limited_is}
+use Rattle.record_store.proofs.store.Store.entries.Goals as goal
+
+pub returns-clause-tells : goal.returns-clause-tells
+returns-clause-tells g c = λ (a : Archive) s.
+    let one = c.in_ok-rows.ensures.tells a s in
+    let two = c.in_ok-holds.ensures.tells a one.0 in (
+      two.0,
+      λ clean.
+          let rows = map record_of c.as_slice.result.now in
+          let same : map record_of c.in_ok-rows.rows.items ≡ rows = ap (map record_of) (sym c.as_slice.ensures.value) in
+          let holds = map hold_entry_of c.in_ok-holds.holds.items in
+          let are = sym same ∙ one.1 (c.holds_on.ensures.falls clean) in
+          let page : IsPage a c.args.from rows = record { most = _; is = are } in
+          c.in_ok-entries.ensures.entries ∙ ap (listed_beside _ _) same
+          ∙ ap₂ (λ p l. listed_beside p l rows) two.0.plan (ap (map hold_entry_of) c.as_slice-2.ensures.value)
+          ∙ page_is a s.archive c.args.from rows page holds (two.1 clean page)
+          ∙ ap (map (entry_of a))
+          (are ∙ ap (λ n. take n (records_from a c.args.from)) c.limit_of.ensures ∙ limited_is a s.archive c.args.from c.args.most)
+          ∙ sym (take-map (entry_of a) c.args.most (records_from a c.args.from)),
+    )
+
+pub returns-clause-crash : goal.returns-clause-crash
+returns-clause-crash g c = λ (a : Archive) s.
+    leaves_then g.S.Store c.args.self.now c.rows_from.new.self c.holds_on.new.self
+    (λ (b : Archive) t. (c.in_ok-rows.ensures.tells b t).0) c.rows_from.ensures.crash (c.in_ok-rows.ensures.open a s) c.holds_on.ensures.crash a s
+
+pub returns-in_err-holds-clause-crash : goal.returns-in_err-holds-clause-crash
+returns-in_err-holds-clause-crash g c = λ (a : Archive) s.
+    leaves_then g.S.Store c.args.self.now c.rows_from.new.self c.holds_on.new.self
+    (λ (b : Archive) t. (c.in_ok-rows.ensures.tells b t).0) c.rows_from.ensures.crash (c.in_ok-rows.ensures.open a s) c.holds_on.ensures.crash a s

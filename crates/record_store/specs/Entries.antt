@@ -1,0 +1,83 @@
+-- Records as they are listed.
+use Rattle.std.specs.Prelude.{◌≡◌, ℕ, ◌==◌, nat_le, nat_lt, ℤ, pos, Bool, if◌then◌else◌, List, [], ◌∷◌, map, filter, take, drop, length, Option, None, option_map}
+use Rattle.std.specs.List.{list_any}
+use Rattle.std.specs.Ordering.{nat_cmp}
+use Rattle.std.specs.Cmp.Lexicographic.{slice_cmp}
+use Rattle.jiff.specs.Words.{epoch_day}
+use Rattle.class_plan.specs.Plans.{Listing}
+use Rattle.class_plan.specs.Calendar.{due_on}
+use Rattle.record_archive.specs.Lists.{sort_by}
+use Rattle.record_archive.specs.Archive.{Record, Archive, Hold, has_number, path_list}
+use Rattle.record_tables.specs.Reads.{HoldEntry}
+use Rattle.record_tables.specs.declared.rows.RecordRow.{RecordRow}
+use Rattle.record_adoption.specs.Adoption.{sorted_holds}
+use Rattle.record_adoption.specs.Counts.{count_at}
+use Rattle.record_adoption.specs.declared.counts.Counts.{Counts}
+use Rattle.record_store.specs.declared.entries.Entry as code
+
+-- a record with all that is kept of it but the message's octets: the day of its capture and its due day are counted
+-- from 1970-01-01, and the names of its holds are in byte order
+pub record Entry : Type 0 where
+  pub number : ℕ
+  pub path : List ℕ
+  pub day : ℤ
+  pub due : Option ℤ
+  pub message : ℕ
+  pub destroyed : Bool
+  pub holds : List (List ℕ)
+
+-- the due day by a plan, which a destroyed record no longer has
+abbrev pub due_if_live : Listing → Record → Option ℕ
+due_if_live p r = if r.destroyed then None else due_on p r.path r.day
+
+-- a record by a plan, with the names of its holds
+abbrev pub listed : Listing → Record → List (List ℕ) → Entry
+listed p r names = record { number = r.number; path = r.path; day = pos r.day; due = option_map pos (due_if_live p r); message = r.message; destroyed = r.destroyed; holds = names }
+
+-- the names of the holds on the record of a number, in byte order
+abbrev pub hold_names : Archive → ℕ → List (List ℕ)
+hold_names a n = sort_by (slice_cmp nat_cmp) (map (λ (h : Hold). h.name) (filter (λ (h : Hold). h.number == n) a.holds))
+
+abbrev pub entry_of : Archive → Record → Entry
+entry_of a r = listed a.plan r (hold_names a r.number)
+
+-- the records whose numbers are not below one, in their order
+abbrev pub records_from : Archive → ℕ → List Record
+records_from a n = filter (λ (r : Record). nat_le n r.number) a.records
+
+-- THE LIST OF RECORDS from a number on, in the order of their numbers
+abbrev pub entries_from : Archive → ℕ → List Entry
+entries_from a n = map (entry_of a) (records_from a n)
+
+-- an entry of the code as a plain one
+abbrev pub entry_view : code.Entry → Entry
+entry_view e = record { number = e.number; path = e.path.items; day = epoch_day e.day; due = option_map epoch_day e.due; message = e.message; destroyed = e.destroyed; holds = path_list e.holds.items }
+
+-- ---- the records of a page beside their holds
+
+-- the records are the first of those from a number on
+pub record IsPage (a : Archive) (from : ℕ) (rs : List Record) : Type 0 where
+  pub most : ℕ
+  pub is : rs ≡ take most (records_from a from)
+
+-- one of the records has the hold
+abbrev pub is_on_any : List Record → HoldEntry → Bool
+is_on_any rs h = list_any (has_number h.number) rs
+
+-- the holds are those on these records, by record and then by name
+abbrev pub AreHoldsOf : Archive → List Record → List HoldEntry → Type 0
+AreHoldsOf a rs hs = hs ≡ filter (is_on_any rs) (sorted_holds a)
+
+-- a hold is counted for the record
+abbrev pub is_counted : Counts → RecordRow → Bool
+is_counted held r = nat_lt 0 (count_at held r.number)
+
+-- the names of those holds at the front that are on the record of a number
+abbrev pub names_at_front : ℕ → List HoldEntry → List (List ℕ)
+names_at_front n [] = []
+names_at_front n (h ∷ hs) = if h.number == n then h.name ∷ names_at_front n hs else []
+
+-- each record with the names of those holds that come next and are on it
+abbrev pub listed_beside : Listing → List HoldEntry → List Record → List Entry
+listed_beside p hs [] = []
+listed_beside p hs (r ∷ rs) = listed p r (names_at_front r.number hs) ∷ listed_beside p (drop (length (names_at_front r.number hs)) hs) rs
