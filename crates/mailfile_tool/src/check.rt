@@ -2,47 +2,142 @@
 
 use crate::Verdict;
 use crate::failure::Failure;
-use crate::files::{read_file, write_line};
-use crate::findings::{Finding, first_finding};
+use crate::files::{read_file, read_input, write_line};
+use crate::plans::plan_of;
+use crate::warnings::{Surroundings, warn};
 use clap::ArgMatches;
+use script_findings::{Finding, Report, Subject, judge};
 use std::alloc::{AllocError, Global};
 use tool_texts::{Payload, place_of, refusal_text};
 
 /// A file of up to this number of times the limit of a script is still read, and refused by its number.
 const LONGER: u64 = 64;
 
+/// The greatest number of octets of a word that are shown.
+const MAX_SHOWN: usize = 60;
+
+/// The name of standard input on the command line.
+const STANDARD_INPUT: &str = "-";
+
 /// The text of a refusal's number, as it is written after a file's name; `refused` where the number has no text.
 pub fn text_of(number: u8) -> &'static str {
     refusal_text(number).unwrap_or("refused")
 }
 
-/// The line that reports a refused script: its path, line, column, number and text.
-fn line_of(alloc: Global, path: &str, text: &[u8], finding: Finding) -> Result<String, AllocError> {
-    let place = place_of(text, finding.at);
+/// What is wrong with a word, by the number of the refusal.
+fn fault_of_word(number: u8) -> &'static str {
+    match number {
+        30 => "unknown capability",
+        32 => "unknown command",
+        33 => "unknown test",
+        36 => "this tag stands twice, or beside another of its kind:",
+        38 => "unknown comparator",
+        _ => "this tag may not stand here:",
+    }
+}
+
+/// The octets of a word as they are shown: without quotation marks, and at most sixty.
+fn shown_word(text: &[u8], start: usize, end: usize) -> &[u8] {
+    let end = end.min(text.len());
+    let word = &text[start.min(end)..end];
+    let word = word.strip_prefix(b"\"").unwrap_or(word);
+    let word = word.strip_suffix(b"\"").unwrap_or(word);
+    &word[..word.len().min(MAX_SHOWN)]
+}
+
+/// What a finding says.
+fn words_of(alloc: Global, text: &[u8], finding: Finding) -> Result<String, AllocError> {
+    let general = text_of(finding.number);
+    match finding.subject {
+        Subject::Whole => String::from_str(alloc, general),
+        Subject::Semicolon(_) => String::from_str(alloc, "a ; is missing here"),
+        Subject::Capability(name) => format!(in alloc;
+            "\"{name}\" is not required; name it in a require at the script's beginning"
+        ),
+        Subject::Word(start, end, meant) => {
+            let fault = fault_of_word(finding.number);
+            let word = shown_word(text, start, end).escape_ascii();
+            match (meant, general.split_once("; ")) {
+                (Some(name), _) => format!(in alloc; "{fault} \"{word}\"; is it {name}?"),
+                (None, Some((_, advice))) => format!(in alloc; "{fault} \"{word}\"; {advice}"),
+                (None, None) => format!(in alloc; "{fault} \"{word}\""),
+            }
+        }
+    }
+}
+
+/// Where a finding is shown, an offset in octets.
+fn place_shown(finding: Finding) -> usize {
+    match finding.subject {
+        Subject::Word(start, _, _) => start,
+        Subject::Semicolon(at) => at,
+        Subject::Whole | Subject::Capability(_) => finding.at,
+    }
+}
+
+/// Writes the line that reports a finding: its path, line, column, number and text.
+fn write_finding(
+    rt: &HostRuntime,
+    path: &str,
+    text: &[u8],
+    finding: Finding,
+) -> Result<(), Failure> {
+    let place = place_of(text, place_shown(finding));
     let (line, column, number) = (place.line, place.column, finding.number);
-    let words = text_of(number);
-    format!(in alloc; "{path}:{line}:{column}: {number}: {words}")
+    let words = words_of(rt.alloc(), text, finding)?;
+    write_line(
+        rt,
+        format!(in rt.alloc(); "{path}:{line}:{column}: {number}: {words}")?,
+    )
+}
+
+/// Writes all findings of a report, a line each, the verdict first.
+fn write_report(rt: &HostRuntime, path: &str, text: &[u8], report: &Report) -> Result<(), Failure> {
+    write_finding(rt, path, text, report.verdict)?;
+    for finding in report.others.iter() {
+        write_finding(rt, path, text, *finding)?;
+    }
+    Ok(())
+}
+
+/// The octets of a script's file, or of standard input.
+fn read_script_text(rt: &HostRuntime, path: &str) -> Result<Vec<u8>, Failure> {
+    let limit = Payload::Script.limit().saturating_mul(LONGER);
+    if path == STANDARD_INPUT {
+        read_input(rt, limit)
+    } else {
+        read_file(rt, path, limit)
+    }
 }
 
 /// The text of a script's file; none where the script is refused, which is reported on standard output.
 pub fn read_good_script(rt: &HostRuntime, path: &str) -> Result<Option<Vec<u8>>, Failure> {
-    let text = read_file(rt, path, Payload::Script.limit().saturating_mul(LONGER))?;
-    match first_finding(rt.alloc(), &text)? {
-        Some(finding) => {
-            write_line(rt, line_of(rt.alloc(), path, &text, finding)?)?;
+    let text = read_script_text(rt, path)?;
+    match judge(rt.alloc(), &text)? {
+        Some(report) => {
+            write_report(rt, path, &text, &report)?;
             Ok(None)
         }
         None => Ok(Some(text)),
     }
 }
 
-/// Judges the scripts that the command line names, one after the other. The verdict is `Refused` where one of them is
-/// refused.
+/// Judges the scripts that the command line names, one after the other. The verdict is `Refused` where one of them, or
+/// the plan, is refused. A warning changes no verdict.
 pub fn check_scripts(rt: &HostRuntime, asked: &ArgMatches<'_>) -> Result<Verdict, Failure> {
+    let Some(plan) = plan_of(rt, asked)? else {
+        return Ok(Verdict::Refused);
+    };
+    let around = Surroundings {
+        plan: asked.get_str("plan").map(|_| &plan),
+        personal: asked.get_str("personal"),
+        global: asked.get_str("global"),
+    };
     let mut verdict = Verdict::Good;
     for path in asked.get_strs("scripts").unwrap_or(&[]) {
-        if read_good_script(rt, *path)?.is_none() {
-            verdict = Verdict::Refused;
+        match read_good_script(rt, *path)? {
+            Some(text) => warn(rt, *path, &text, &around)?,
+            None => verdict = Verdict::Refused,
         }
     }
     Ok(verdict)

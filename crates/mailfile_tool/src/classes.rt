@@ -5,6 +5,7 @@ use crate::files::write_line;
 use class_plan::{Plan, day_of, schedule_text};
 use filing_image::{Image, Operation};
 use filing_trace::Trace;
+use run_report::{named, quoted};
 use sieve_meaning::Outcome;
 use std::alloc::{AllocError, Global};
 use std::str;
@@ -26,8 +27,8 @@ fn filing_command(
         return Ok(None);
     }
     let copy = if how == 0 { "" } else { ":copy " };
-    let shown = path.escape_ascii();
-    Ok(Some(format!(in alloc; "fileinto {copy}\"{shown}\"")?))
+    let shown = quoted(alloc, path)?;
+    Ok(Some(format!(in alloc; "fileinto {copy}{shown}")?))
 }
 
 /// The first step that filed the message in a class, by its number from 1, and its command.
@@ -110,7 +111,7 @@ pub fn show_classes(
     for path in run.outcome.classes.as_slice() {
         let reason = reason(alloc, image, run, path.as_slice())?;
         let schedule = told_schedule(alloc, plan, moment, path.as_slice())?;
-        let shown = path.as_slice().escape_ascii();
+        let shown = named(alloc, path.as_slice())?;
         write_line(rt, format!(in alloc; "{shown} by {reason}; {schedule}")?)?;
     }
     Ok(())

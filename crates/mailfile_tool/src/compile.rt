@@ -1,12 +1,12 @@
 //! `compile`: the image of a script.
 
 use crate::Verdict;
-use crate::check::{read_good_script, text_of};
+use crate::check::text_of;
 use crate::failure::Failure;
 use crate::files::{write_file, write_line};
-use crate::libraries::{add_folder, script_name};
+use crate::libraries::{library_of, read_folders, read_script, script_name};
 use clap::ArgMatches;
-use filing_gen::{GenFault, Library, compile};
+use filing_gen::{GenFault, compile};
 use filing_image::encode;
 use filing_verify::Verified;
 use sieve_check::{Checked, check};
@@ -15,7 +15,7 @@ use sieve_text::{TextFault, parse};
 use std::alloc::Global;
 
 /// The checked script of a text; none where it is not good.
-fn checked(alloc: Global, text: &[u8]) -> Result<Option<Checked>, Failure> {
+pub fn checked(alloc: Global, text: &[u8]) -> Result<Option<Checked>, Failure> {
     match parse(alloc, text) {
         Ok(script) => Ok(check(script).ok()),
         Err(TextFault::NoMemory) => Err(Failure::NoMemory),
@@ -23,49 +23,32 @@ fn checked(alloc: Global, text: &[u8]) -> Result<Option<Checked>, Failure> {
     }
 }
 
-/// The checked script of a file; none where it is refused, which is reported on standard output.
-pub fn read_script(rt: &HostRuntime, path: &str) -> Result<Option<Checked>, Failure> {
-    match read_good_script(rt, path)? {
-        Some(text) => checked(rt.alloc(), &text),
-        None => Ok(None),
-    }
-}
-
-/// The scripts of the folders that the command line names; none where one is refused, which is reported.
-fn library_of(rt: &HostRuntime, asked: &ArgMatches<'_>) -> Result<Option<Library>, Failure> {
-    let mut library = Library::new(rt.alloc());
-    if let Some(folder) = asked.get_str("personal") {
-        if !add_folder(rt, folder, Location::Personal, &mut library)? {
-            return Ok(None);
-        }
-    }
-    if let Some(folder) = asked.get_str("global") {
-        if !add_folder(rt, folder, Location::Global, &mut library)? {
-            return Ok(None);
-        }
-    }
-    Ok(Some(library))
+/// Reports that a script is too heavy (5).
+pub fn tell_too_heavy(rt: &HostRuntime, path: &str) -> Result<(), Failure> {
+    let words = text_of(5);
+    write_line(rt, format!(in rt.alloc(); "{path}: 5: {words}")?)
 }
 
 /// The image of a script with what it includes; none where something is refused, which is reported. Where there is a
 /// folder of personal scripts, the script is one of them, known by the name of its file.
-pub fn image_of(rt: &HostRuntime, asked: &ArgMatches<'_>) -> Result<Option<Verified>, Failure> {
-    let alloc = rt.alloc();
+fn image_of(rt: &HostRuntime, asked: &ArgMatches<'_>) -> Result<Option<Verified>, Failure> {
     let path = asked.get_str("script").unwrap_or("");
-    let Some(script) = read_script(rt, path)? else {
+    let Some(script) = read_script(rt, path, Location::Personal)? else {
         return Ok(None);
     };
-    let Some(library) = library_of(rt, asked)? else {
+    let Some(others) = read_folders(rt, asked)? else {
+        return Ok(None);
+    };
+    let Some(library) = library_of(rt, others.as_slice())? else {
         return Ok(None);
     };
     let name = script_name(path);
     let known_as = asked.get_str("personal").map(|_| name.as_bytes());
-    match compile(alloc, &script, known_as, &library) {
+    match compile(rt.alloc(), &script.script, known_as, &library) {
         Ok(program) => Ok(Some(program)),
         Err(GenFault::NoMemory) => Err(Failure::NoMemory),
         Err(GenFault::TooLarge) => {
-            let words = text_of(5);
-            write_line(rt, format!(in alloc; "{path}: 5: {words}")?)?;
+            tell_too_heavy(rt, path)?;
             Ok(None)
         }
     }

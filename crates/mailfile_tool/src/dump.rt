@@ -4,10 +4,10 @@ use crate::Verdict;
 use crate::check::text_of;
 use crate::failure::Failure;
 use crate::files::{read_file, write, write_line};
-use crate::halving::Search;
 use clap::ArgMatches;
 use filing_image::{Image, Operation, Version, decode};
-use filing_verify::{VerifyFault, verify};
+use filing_verify::{Verified, VerifyFault, verify};
+use script_findings::Search;
 use std::alloc::{AllocError, Global};
 use tool_texts::Payload;
 
@@ -146,6 +146,26 @@ fn place_of_fault(
         search.told(count, is_refused);
     }
     Ok(search.found().checked_sub(1))
+}
+
+/// The image of a file, which may run; none where it is refused, which is reported.
+pub fn read_image(rt: &HostRuntime, path: &str) -> Result<Option<Verified>, Failure> {
+    let octets = read_file(rt, path, Payload::Image.limit())?;
+    let image = match decode(rt.alloc(), &octets) {
+        Ok(image) => image,
+        Err(fault) => {
+            let _ = refuse(rt, fault.number())?;
+            return Ok(None);
+        }
+    };
+    match verify(rt.alloc(), image) {
+        Ok(program) => Ok(Some(program)),
+        Err((VerifyFault::NoMemory, _)) => Err(Failure::NoMemory),
+        Err((fault, _)) => {
+            let _ = refuse(rt, fault.number())?;
+            Ok(None)
+        }
+    }
 }
 
 /// Shows an image, and whether it may run.

@@ -3,8 +3,8 @@
 use crate::Verdict;
 use crate::failure::Failure;
 use crate::files::{read_file, read_line, write, write_line};
-use crate::findings::first_finding;
 use clap::ArgMatches;
+use script_findings::judge;
 use std::alloc::{AllocError, Global};
 use std::io::BufReader;
 use std::str;
@@ -91,8 +91,8 @@ fn place_of_refusal(
     if told.is_some() || !matches!(number, 30..=41) {
         return Ok(told);
     }
-    match first_finding(alloc, &script.octets)? {
-        Some(finding) if finding.number == number => Ok(Some(finding.at)),
+    match judge(alloc, &script.octets)? {
+        Some(report) if report.verdict.number == number => Ok(Some(report.verdict.at)),
         _ => Ok(None),
     }
 }
@@ -141,6 +141,25 @@ fn tell_numbers(rt: &HostRuntime) -> Result<(), Failure> {
     Ok(())
 }
 
+/// Writes the texts of the number that a word spells.
+fn tell_number(rt: &HostRuntime, word: &str) -> Result<(), Failure> {
+    let alloc = rt.alloc();
+    let number: Option<u8> = word.parse().ok();
+    let refusal = number.and_then(|number| refusal_text(number));
+    let fault = number.and_then(|number| fault_text(number));
+    if let Some(text) = refusal {
+        write_line(rt, format!(in alloc; "refused {word}: {text}")?)?;
+    }
+    if let Some(text) = fault {
+        write_line(rt, format!(in alloc; "fault {word}: {text}")?)?;
+    }
+    if refusal.is_none() && fault.is_none() {
+        let words = format!(in alloc; "no refusal and no fault has the number {word}")?;
+        return Err(Failure::Message(words));
+    }
+    Ok(())
+}
+
 /// Reads replies from standard input to its end, and writes each with its text.
 fn explain_replies(rt: &HostRuntime, script: Option<&Script<'_>>) -> Result<(), Failure> {
     let alloc = rt.alloc();
@@ -157,10 +176,14 @@ fn explain_replies(rt: &HostRuntime, script: Option<&Script<'_>>) -> Result<(), 
     Ok(())
 }
 
-/// Writes the texts of all numbers, or the replies that it reads with the texts of their numbers.
+/// Writes the texts of all numbers or of one, or the replies that it reads with the texts of their numbers.
 pub fn explain(rt: &HostRuntime, asked: &ArgMatches<'_>) -> Result<Verdict, Failure> {
     if asked.get_flag("numbers") {
         tell_numbers(rt)?;
+        return Ok(Verdict::Good);
+    }
+    if let Some(word) = asked.get_str("number") {
+        tell_number(rt, word)?;
         return Ok(Verdict::Good);
     }
     match asked.get_str("script") {

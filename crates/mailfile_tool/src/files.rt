@@ -45,6 +45,28 @@ pub fn read_file(rt: &HostRuntime, path: &str, limit: u64) -> Result<Vec<u8>, Fa
     Ok(octets)
 }
 
+/// The octets of standard input, which must be at most `limit`.
+pub fn read_input(rt: &HostRuntime, limit: u64) -> Result<Vec<u8>, Failure> {
+    let alloc = rt.alloc();
+    let mut octets = Vec::new(alloc);
+    if let Err(error) = rt
+        .stdin()
+        .take(limit.saturating_add(1))
+        .read_to_end(&mut octets)
+    {
+        return Err(Failure::at(alloc, "standard input", &error));
+    }
+    if octets.len() as u64 > limit {
+        return Err(Failure::at(alloc, "standard input", &FileFault::TooLong(limit)));
+    }
+    Ok(octets)
+}
+
+/// Whether there is a file at a path.
+pub fn is_there(rt: &HostRuntime, path: &str) -> bool {
+    fs::metadata(rt, path).is_ok()
+}
+
 /// Writes octets to standard output.
 pub fn write(rt: &HostRuntime, octets: &[u8]) -> Result<(), Failure> {
     match rt.stdout().write_all(octets) {

@@ -64,8 +64,13 @@ fn fault_text(alloc: Global, line: &[u8], fault: LineFault) -> Result<String, Al
         LineFault::UnknownCommand => format!(in alloc; "there is no command \"{shown}\" (70)"),
         LineFault::WordCount(wanted) => {
             let count = words.count();
+            let hint = if count > wanted && line.contains(&b'@') {
+                "; a path after @ has no space"
+            } else {
+                ""
+            };
             format!(in alloc;
-                "the number of words after {shown} must be {wanted}, and not {count} (71)"
+                "the number of words after {shown} must be {wanted}, and not {count} (71){hint}"
             )
         }
         LineFault::WrongWord(place) => {

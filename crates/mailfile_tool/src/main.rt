@@ -10,11 +10,12 @@ mod dump;
 mod explain;
 mod failure;
 mod files;
-mod findings;
 mod frame;
-mod halving;
 mod libraries;
+mod plans;
+mod questions;
 mod steps;
+mod warnings;
 mod why;
 
 use clap::{ArgMatches, Error};

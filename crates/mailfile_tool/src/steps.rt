@@ -7,21 +7,8 @@ use filing_image::{Image, Operation};
 use filing_machine::Top;
 use filing_trace::{Step, Trace};
 use mail_head::read_head;
+use run_report::{named, quoted};
 use std::alloc::{AllocError, Global};
-use std::str;
-
-/// Octets in quotation marks: a text without control characters as it is, anything else with escapes.
-pub fn quoted(alloc: Global, octets: &[u8]) -> Result<String, AllocError> {
-    match str::from_utf8(octets) {
-        Ok(text) if !octets.iter().any(|octet| octet.is_ascii_control()) => {
-            format!(in alloc; "\"{text}\"")
-        }
-        _ => {
-            let escaped = octets.escape_ascii();
-            format!(in alloc; "\"{escaped}\"")
-        }
-    }
-}
 
 /// The value of a field in quotation marks.
 fn quoted_value<C: Case>(alloc: Global, case: &C, field: usize) -> Result<String, AllocError> {
@@ -38,7 +25,7 @@ pub fn show_fields<C: Case>(rt: &HostRuntime, message: &[u8], case: &C) -> Resul
     write_line(rt, format!(in alloc; "message of {size} octets")?)?;
     for (index, field) in read_head(alloc, message)?.fields().iter().enumerate() {
         let number = index.saturating_add(1);
-        let name = field.name().escape_ascii();
+        let name = named(alloc, field.name())?;
         let value = quoted_value(alloc, case, index)?;
         write_line(rt, format!(in alloc; "field {number} {name} {value}")?)?;
     }

@@ -2,3 +2,4 @@ pub mod TruthLemmas
 pub mod RunLemmas
 pub mod IncludeLemmas
 pub mod OutcomeLemmas
+pub mod ActLemmas

@@ -9,6 +9,7 @@ ghost use Rattle.plain_evaluator.specs.declared.filing.Filing.{Filing};
 
 use crate::entry::Entry;
 use crate::filing::{Ending, Filing};
+use crate::observer::{Inclusion, Observer};
 use crate::scope::Scope;
 use sieve_meaning::{Include, RunFault, ScriptName};
 use std::alloc::{AllocError, Global};
@@ -42,26 +43,30 @@ fn missing(is_optional: bool) -> Ending
 /// Runs an include (RFC 6609, section 3.2), judged in this order. Under `:once` it does nothing where its script was
 /// entered before. A missing script is a fault, or nothing under `:optional`; an active one is a fault. Any other is
 /// entered.
-pub fn run_include<'a, L: Entry>(
+pub fn run_include<'a, L: Entry, O: Observer>(
     alloc: Global,
     scope: &Scope<'_, '_, 'a>,
     include: &Include<'a>,
     filing: &mut Filing<'a>,
+    observer: &mut O,
 ) -> Result<Ending, AllocError>
     ensures { IfOk result (λ e. ending_at e filing.new ≡
         includes_at L.depth scope.now (include_view include.now) (filing_of filing.old)) }
 {
     if is_passed(include, filing.entered.as_slice()) {
+        observer.include(include, Inclusion::EnteredBefore);
         return Ok(Ending::GoesOn);
     }
     let Some(script) = scope
         .shelves
         .get(include.script.location, include.script.name)
     else {
+        observer.include(include, Inclusion::Missing);
         return Ok(missing(include.is_optional));
     };
     if is_among(scope.chain, &include.script) {
+        observer.include(include, Inclusion::Active);
         return Ok(Ending::Faults(RunFault::RecursiveInclude));
     }
-    L::enter(alloc, scope, include, script.script(), filing)
+    L::enter(alloc, scope, include, script.script(), filing, observer)
 }

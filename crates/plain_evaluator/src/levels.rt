@@ -8,6 +8,7 @@ ghost use Rattle.plain_evaluator.specs.declared.filing.Filing.{Filing};
 use crate::commands::run;
 use crate::entry::Entry;
 use crate::filing::{Ending, Filing};
+use crate::observer::{Inclusion, Observer};
 use crate::scope::Scope;
 use sieve_meaning::{Above, Deepest, Include, RunFault, ScriptName};
 use sieve_syntax::Script;
@@ -15,13 +16,15 @@ use std::alloc::{AllocError, Global};
 
 /// No further script may be active: to enter one is a fault.
 impl Entry for Deepest {
-    fn enter<'a>(
+    fn enter<'a, O: Observer>(
         _alloc: Global,
         _scope: &Scope<'_, '_, 'a>,
-        _include: &Include<'a>,
+        include: &Include<'a>,
         _script: &'a Script,
         _filing: &mut Filing<'a>,
+        observer: &mut O,
     ) -> Result<Ending, AllocError> {
+        observer.include(include, Inclusion::TooDeep);
         Ok(Ending::Faults(RunFault::NestingTooDeep))
     }
 }
@@ -52,13 +55,15 @@ fn ended(ending: Ending) -> Ending
 
 /// One more script may be active than at the level below: it is run at that level.
 impl<L: Entry> Entry for Above<L> {
-    fn enter<'a>(
+    fn enter<'a, O: Observer>(
         alloc: Global,
         scope: &Scope<'_, '_, 'a>,
         include: &Include<'a>,
         script: &'a Script,
         filing: &mut Filing<'a>,
+        observer: &mut O,
     ) -> Result<Ending, AllocError> {
+        observer.include(include, Inclusion::Enters);
         let chain = chain_with(alloc, include.script, scope.chain)?;
         filing.entered.insert(0, include.script)?;
         let inner = Scope {
@@ -66,7 +71,8 @@ impl<L: Entry> Entry for Above<L> {
             shelves: scope.shelves,
             chain: chain.as_slice(),
         };
-        let ending = run::<L>(alloc, &inner, &script.commands, filing)?;
+        let ending = run::<L, O>(alloc, &inner, &script.commands, filing, observer)?;
+        observer.leave_script();
         Ok(ended(ending))
     }
 }

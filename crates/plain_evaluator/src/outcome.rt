@@ -12,6 +12,7 @@ ghost use Rattle.script_library.specs.Libraries.{program_in};
 use crate::case::BorrowedCase;
 use crate::commands::run;
 use crate::filing::{Ending, Filing};
+use crate::observer::Observer;
 use crate::scope::Scope;
 use class_paths::Paths;
 use script_library::Shelves;
@@ -52,13 +53,15 @@ fn main_names<'a>(
 
 /// What a main script captures a message in: the outcome of what the script means in the message's case. The script may
 /// be known by a personal name, and may include the scripts of two shelves. Its weight is not looked at: a script that
-/// is too heavy for an image is run like any other. The only error is out of memory.
-pub fn evaluate<'a>(
+/// is too heavy for an image is run like any other. The observer is told what the run comes to. The only error is out
+/// of memory.
+pub fn evaluate_observed<'a, O: Observer>(
     alloc: Global,
     main: &'a Script,
     known_as: Option<&'a [u8]>,
     shelves: Shelves<'a>,
     case: &BorrowedCase<'_, Paths>,
+    observer: &mut O,
 ) -> Result<Outcome, AllocError>
     ensures { IfOk result (λ o. o ≡ outcome_of (meaning (facts_of case.now)
         (library_on shelves.entry) (option_copied known_as.entry) (program_in main.now))) }
@@ -76,7 +79,22 @@ pub fn evaluate<'a>(
         cancelled: false,
         entered,
     };
-    let ending = run::<Levels>(alloc, &scope, &main.commands, &mut filing)?;
+    let ending = run::<Levels, O>(alloc, &scope, &main.commands, &mut filing, observer)?;
     let outcome = captured(alloc, ending, &filing)?;
     Ok(outcome)
+}
+
+/// What a main script captures a message in, as `evaluate_observed` gives it, with nobody to observe the run.
+pub fn evaluate<'a>(
+    alloc: Global,
+    main: &'a Script,
+    known_as: Option<&'a [u8]>,
+    shelves: Shelves<'a>,
+    case: &BorrowedCase<'_, Paths>,
+) -> Result<Outcome, AllocError>
+    ensures { IfOk result (λ o. o ≡ outcome_of (meaning (facts_of case.now)
+        (library_on shelves.entry) (option_copied known_as.entry) (program_in main.now))) }
+{
+    let mut nobody = ();
+    evaluate_observed(alloc, main, known_as, shelves, case, &mut nobody)
 }

@@ -10,14 +10,15 @@ ghost use Rattle.sieve_meaning.specs.Truth.{truth, all_true, some_true};
 ghost use Rattle.plain_evaluator.specs.Case.{field_of, facts_of, has_some_name, has_some_match};
 
 use crate::case::{BorrowedCase, BorrowedField};
+use crate::observer::Observer;
 use class_paths::Paths;
 use sieve_match::key_matches;
 use sieve_meaning::reading::{comparator, has_tag, match_type, next_string_list, number};
 use sieve_meaning::{Comparator, MatchType, TestWord, is_same_word, test_word};
-use sieve_syntax::{Argument, StringList, Test, Tests, Text};
+use sieve_syntax::{Argument, StringList, StringText, Test, Tests};
 
 /// Whether a field has one of some names.
-fn is_any_name(field: &BorrowedField<'_>, names: &[Text]) -> bool
+fn is_any_name(field: &BorrowedField<'_>, names: &[StringText]) -> bool
     ensures { result ≡ has_some_name names.now field.now }
 {
     names
@@ -28,7 +29,7 @@ fn is_any_name(field: &BorrowedField<'_>, names: &[Text]) -> bool
 /// Whether a field's value matches one of some keys.
 fn is_any_match(
     field: &BorrowedField<'_>,
-    keys: &[Text],
+    keys: &[StringText],
     how: MatchType,
     comparator: Comparator,
 ) -> bool
@@ -38,14 +39,14 @@ fn is_any_match(
 }
 
 /// Whether a field has one of the listed names.
-fn has_listed_name(field: &BorrowedField<'_>, names: &StringList) -> bool
+pub fn has_listed_name(field: &BorrowedField<'_>, names: &StringList) -> bool
     ensures { result ≡ has_some_name (strings_of names.now) field.now }
 {
     is_same_word(field.name, names.first().as_slice()) || is_any_name(field, names.others())
 }
 
 /// Whether a field's value matches one of the listed keys.
-fn has_listed_key(
+pub fn has_listed_key(
     field: &BorrowedField<'_>,
     keys: &StringList,
     how: MatchType,
@@ -104,7 +105,7 @@ fn has_field(fields: &[BorrowedField<'_>], name: &[u8]) -> bool
 }
 
 /// Whether a field is there for each name.
-fn has_each_field(fields: &[BorrowedField<'_>], names: &[Text]) -> bool
+fn has_each_field(fields: &[BorrowedField<'_>], names: &[StringText]) -> bool
     ensures { result
         ≡ list_all (λ name. list_any (λ f. is_named name (field_of f)) fields.now) names.now }
 {
@@ -144,47 +145,66 @@ fn is_size_true(case: &BorrowedCase<'_, Paths>, arguments: &[Argument]) -> bool
 
 /// Whether a test is true in a case. A test of an unknown name is false.
 #[cycle(truth)]
-pub fn is_true(case: &BorrowedCase<'_, Paths>, test: &Test) -> bool
+fn answer_of<O: Observer>(case: &BorrowedCase<'_, Paths>, test: &Test, observer: &mut O) -> bool
     ensures { result ≡ truth (facts_of case.now) (test_in (test_of test.now)) }
 {
     let arguments = test.arguments.as_slice();
     match test_word(test.name.as_slice()) {
         TestWord::True => true,
         TestWord::False | TestWord::Other => false,
-        TestWord::Not => !is_only_true(case, &test.tests),
-        TestWord::AllOf => are_all_true(case, &test.tests),
-        TestWord::AnyOf => is_some_true(case, &test.tests),
+        TestWord::Not => !is_only_true(case, &test.tests, observer),
+        TestWord::AllOf => are_all_true(case, &test.tests, observer),
+        TestWord::AnyOf => is_some_true(case, &test.tests, observer),
         TestWord::Exists => is_exists_true(case, arguments),
         TestWord::Size => is_size_true(case, arguments),
         TestWord::Header => is_header_true(case, arguments),
     }
 }
 
+/// Whether a test is true in a case. The observer is told the test, its answer, and what was evaluated for it.
+#[cycle(truth)]
+fn is_true<O: Observer>(case: &BorrowedCase<'_, Paths>, test: &Test, observer: &mut O) -> bool
+    ensures { result ≡ truth (facts_of case.now) (test_in (test_of test.now)) }
+{
+    observer.enter_test(test);
+    let answer = answer_of(case, test, observer);
+    observer.leave_test(case, test, answer);
+    answer
+}
+
 /// Whether the first test is true. False where there is none.
 #[cycle(truth)]
-pub fn is_only_true(case: &BorrowedCase<'_, Paths>, tests: &Tests) -> bool
+pub fn is_only_true<O: Observer>(
+    case: &BorrowedCase<'_, Paths>,
+    tests: &Tests,
+    observer: &mut O,
+) -> bool
     ensures { result ≡ truth (facts_of case.now) (only_in (inner_of tests.now)) }
 {
     match tests {
         Tests::None => false,
-        Tests::One(test) => is_true(case, test),
-        Tests::Listed(list) => is_true(case, &list.first),
+        Tests::One(test) => is_true(case, test, observer),
+        Tests::Listed(list) => is_true(case, &list.first, observer),
     }
 }
 
 #[cycle(truth)]
-fn are_all_true(case: &BorrowedCase<'_, Paths>, tests: &Tests) -> bool
+fn are_all_true<O: Observer>(
+    case: &BorrowedCase<'_, Paths>,
+    tests: &Tests,
+    observer: &mut O,
+) -> bool
     ensures { result ≡ all_true (facts_of case.now) (tests_in (inner_of tests.now)) }
 {
     match tests {
         Tests::None => true,
-        Tests::One(test) => is_true(case, test),
+        Tests::One(test) => is_true(case, test, observer),
         Tests::Listed(list) => {
-            if !is_true(case, &list.first) {
+            if !is_true(case, &list.first, observer) {
                 return false;
             }
             for test in list.others.as_slice() {
-                if !is_true(case, test) {
+                if !is_true(case, test, observer) {
                     return false;
                 }
             }
@@ -194,18 +214,22 @@ fn are_all_true(case: &BorrowedCase<'_, Paths>, tests: &Tests) -> bool
 }
 
 #[cycle(truth)]
-fn is_some_true(case: &BorrowedCase<'_, Paths>, tests: &Tests) -> bool
+fn is_some_true<O: Observer>(
+    case: &BorrowedCase<'_, Paths>,
+    tests: &Tests,
+    observer: &mut O,
+) -> bool
     ensures { result ≡ some_true (facts_of case.now) (tests_in (inner_of tests.now)) }
 {
     match tests {
         Tests::None => false,
-        Tests::One(test) => is_true(case, test),
+        Tests::One(test) => is_true(case, test, observer),
         Tests::Listed(list) => {
-            if is_true(case, &list.first) {
+            if is_true(case, &list.first, observer) {
                 return true;
             }
             for test in list.others.as_slice() {
-                if is_true(case, test) {
+                if is_true(case, test, observer) {
                     return true;
                 }
             }

@@ -1,15 +1,17 @@
-//! Texts for the users of Mailfile: one for each number of a refusal or fault, places in a text by line and column, and
-//! commands as a person types them.
+//! Texts for the users of Mailfile: one for each number of a refusal or fault, places in a text by line and column, octets
+//! in quotation marks, and commands as a person types them.
 #![tactic(auto)]
 
 mod forms;
 mod framing;
 mod numbers;
 mod places;
+mod quotes;
 mod words;
 
 pub use forms::{LineFault, Payload, Slot, line_fault, slots};
 pub use framing::{Framed, LinePart, framed_line, parts};
 pub use numbers::{fault_text, refusal_text};
 pub use places::{Place, line_at, place_of};
+pub use quotes::quoted;
 pub use words::is_name;

@@ -31,7 +31,7 @@ pub run_command-returns-in_ok-ending-in-Plain : goal.run_command-returns-in_ok-e
 run_command-returns-in_ok-ending-in-Plain g t c =
     rw (command_of-fields c.args.command.now)
     (plain_leads (facts_of c.args.scope.now.case.now) (includes_at g.L.Level.depth c.args.scope.now) c.command_word-word.result c.args.is_open _ _ _ _ (filing_of c.args.filing.now) (ending_at c.in_ok-ending-in-Plain.ending c.run_plain.new.filing)
-    (ap (λ n. command_word n) (sym c.as_slice.ensures) ∙ sym c.command_word-word.ensures) (sym c.part_in.ensures ∙ c.in-Plain.is) (subst (λ args. IsNoIf c.command_word-word.result → PlainlyEnds (facts_of c.args.scope.now.case.now) (includes_at g.L.Level.depth c.args.scope.now) c.command_word-word.result args (filing_of c.args.filing.now) (ending_at c.in_ok-ending-in-Plain.ending c.run_plain.new.filing)) c.as_slice-in-Plain.ensures c.in_ok-ending-in-Plain.ensures))
+    (ap (λ n. command_word n) (sym c.as_slice.ensures) ∙ sym c.command_word-word.ensures) (sym c.part_in.ensures ∙ c.in-Plain.is) (subst (λ args. IsNoIf c.command_word-word.result → PlainlyEnds (facts_of c.args.scope.now.case.now) (includes_at g.L.Level.depth c.args.scope.now) c.command_word-word.result args (filing_of c.args.filing.now) (ending_at c.in_ok-ending-in-Plain.ending c.run_plain.new.filing)) c.as_slice-arguments.ensures c.in_ok-ending-in-Plain.ensures))
 
 pub run-returns : goal.run-returns
 run-returns g t c = runs_from_end (facts_of c.args.scope.now.case.now) (includes_at g.L.Level.depth c.args.scope.now) c.loop-command.is_open c.deref-command-items.result.now c.loop-command.command-index (filing_of c.loop-command.filing) _ c.loop-command-test.false c.loop-command.invariant

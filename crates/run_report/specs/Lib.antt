@@ -1,0 +1,3 @@
+pub mod Quoting
+pub mod Comparisons
+pub mod Nodes

@@ -1,0 +1,61 @@
+//! A report on a run: why a message is filed where it is.
+
+use crate::book::Book;
+use crate::fields::push_fields;
+use crate::narrator::Narration;
+use crate::quoting::named;
+use crate::verdict::push_verdict;
+use crate::way::{push_line, push_way};
+use class_paths::Paths;
+use class_plan::Plan;
+use plain_evaluator::BorrowedCase;
+use sieve_meaning::Outcome;
+use std::alloc::{AllocError, Global};
+
+/// A file that a run was about, by the SHA-256 of its octets in hexadecimal digits.
+#[derive(Drop)]
+pub struct Digest {
+    pub sha256: String,
+    pub path: String,
+}
+
+/// A run and what it was about.
+#[derive(Clone, Copy, Drop)]
+pub struct Report<'r, 'a, 'm> {
+    pub book: &'r Book<'a>,
+    pub case: &'r BorrowedCase<'m, Paths>,
+    pub plan: &'r Plan,
+    pub narration: &'r Narration,
+    pub outcome: &'r Outcome,
+    pub message: &'r [u8],
+    /// The moment of the capture, in seconds since 1970-01-01.
+    pub moment: u64,
+    pub digests: &'r [Digest],
+}
+
+/// Adds the digests, in the form that `sha256sum` writes and checks.
+fn push_digests(alloc: Global, text: &mut String, digests: &[Digest]) -> Result<(), AllocError> {
+    for digest in digests {
+        let sha256 = digest.sha256.as_str();
+        let path = named(alloc, digest.path.as_bytes())?;
+        push_line(text, 0, format!(in alloc; "{sha256}  {path}")?.as_str())?;
+    }
+    Ok(())
+}
+
+/// The report in lines: the verdict, the message as it was read, the way of the run by the source, and the digests. The
+/// way is left out where no run was told. The only error is out of memory.
+pub fn report_text(alloc: Global, report: &Report<'_, '_, '_>) -> Result<String, AllocError> {
+    let mut text = String::new(alloc);
+    push_verdict(alloc, &mut text, report)?;
+    push_line(&mut text, 0, "")?;
+    push_fields(alloc, &mut text, report)?;
+    if !report.narration.rows.is_empty() {
+        push_line(&mut text, 0, "")?;
+        push_way(alloc, &mut text, report)?;
+    }
+    push_line(&mut text, 0, "")?;
+    push_digests(alloc, &mut text, report.digests)?;
+    push_line(&mut text, 0, "")?;
+    Ok(text)
+}

@@ -1,0 +1,5 @@
+require ["fileinto", "copy"];
+fileinto :copy "finance";
+fileinto "finance";
+discard;
+keep;

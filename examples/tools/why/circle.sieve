@@ -1,0 +1,5 @@
+require "include";
+if allof (true, anyof (false, true), false) {
+    discard;
+}
+include :global "round";

@@ -1,0 +1,6 @@
+require "include";
+include :global "one";
+include :global "one";
+include :global "one";
+include :global "one";
+include :global "one";

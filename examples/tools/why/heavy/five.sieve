@@ -1,0 +1,6 @@
+require "include";
+include :global "six";
+include :global "six";
+include :global "six";
+include :global "six";
+include :global "six";

@@ -1,0 +1,6 @@
+require "include";
+include :global "five";
+include :global "five";
+include :global "five";
+include :global "five";
+include :global "five";

@@ -1,0 +1,6 @@
+require "include";
+include :global "two";
+include :global "two";
+include :global "two";
+include :global "two";
+include :global "two";

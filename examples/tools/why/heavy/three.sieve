@@ -1,0 +1,6 @@
+require "include";
+include :global "four";
+include :global "four";
+include :global "four";
+include :global "four";
+include :global "four";

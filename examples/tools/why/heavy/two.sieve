@@ -1,0 +1,6 @@
+require "include";
+include :global "three";
+include :global "three";
+include :global "three";
+include :global "three";
+include :global "three";

@@ -1,0 +1,6 @@
+require "include";
+include :global "rules";
+if not false {
+    stop;
+}
+keep;

@@ -1,0 +1,6 @@
+require ["include", "fileinto", "copy"];
+if true {
+    fileinto :copy "finance";
+    return;
+}
+discard;
