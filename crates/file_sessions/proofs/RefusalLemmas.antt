@@ -16,7 +16,7 @@ use Rattle.sqlite.specs.Tree.{Trees}
 use Rattle.sqlite.specs.declared.error.Error.{Error}
 use Rattle.sqlite.specs.declared.file.Leftover.{Leftover}
 use Rattle.record_archive.specs.Archive.{Archive}
-use Rattle.file_sessions.specs.Files.{FindsAt, system_file}
+use Rattle.store_files.specs.Files.{FindsAt, system_file}
 use Rattle.file_sessions.specs.Refusals.{HasCause, IsRefusedBySystem, StopsOpening}
 use Rattle.file_sessions.specs.declared.session.NoSession.TheVariants.{Unopened}
 

@@ -1,4 +1,2 @@
-pub mod Closing
-pub mod Files
 pub mod Sessions
 pub mod Refusals

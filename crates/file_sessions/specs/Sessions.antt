@@ -7,7 +7,7 @@ use Rattle.filing_session.specs.Done.{HasDone, Hears, Says}
 use Rattle.filing_session.specs.Session.{Session, IsServed, IsAnswered, IsCut, session_in}
 use Rattle.filing_session.specs.declared.session.ServeFault.{ServeFault}
 use Rattle.filing_session.specs.declared.session.ServeFault.TheVariants.{Read, Write}
-use Rattle.file_sessions.specs.Files.{KeepsFiles}
+use Rattle.store_files.specs.Files.{KeepsFiles}
 use Rattle.file_sessions.specs.declared.session.EndedSession.{EndedSession}
 
 -- These octets were written by a session that ended in this way, and this is the state after it. Where it ended well,

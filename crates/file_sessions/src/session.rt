@@ -13,11 +13,10 @@ ghost use Rattle.filing_commands.specs.Standing.{Standing};
 ghost use Rattle.filing_session.specs.Session.{session_in};
 ghost use Rattle.record_store.specs.Stores as stores;
 ghost use Rattle.filing_desk.specs.Standing.{StandsFor};
-ghost use Rattle.file_sessions.specs.Files.{FindsAt, KeepsAt, KeepsFiles, system_file};
+ghost use Rattle.store_files.specs.Files.{FindsAt, KeepsAt, KeepsFiles, system_file};
 ghost use Rattle.file_sessions.specs.Refusals.{HasCause};
 ghost use Rattle.file_sessions.specs.Sessions.{IsDone, IsTold, LeadsTo};
 
-use crate::closing::{Closing, close, leave};
 use crate::opening::open_desk;
 use filing_desk::Desk;
 use filing_session::{ServeFault, Sink, Source, serve, sessions_refine_states};
@@ -25,6 +24,7 @@ use record_store::{Store, StoreFault};
 use sqlite::{Connection, Error, FileFrom, FileStore, Files, Leftover, Start};
 use sqlite_disk::Disk;
 use std::alloc::Global;
+use store_files::{Closing, close, leave};
 
 /// A session over files that has ended.
 #[derive(Drop)]

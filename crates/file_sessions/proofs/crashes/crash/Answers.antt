@@ -4,7 +4,7 @@ use Rattle.sqlite.specs.Held.{Held}
 use Rattle.sqlite.specs.Files.{file_state}
 use Rattle.sqlite_store.specs.declared.store.FileStore.{FileStore}
 use Rattle.record_store.specs.declared.store.Store.{Store}
-use Rattle.file_sessions.proofs.ArchiveLemmas.{is_idle, keeps_now}
+use Rattle.store_files.proofs.ArchiveLemmas.{is_idle, keeps_now}
 use Rattle.file_sessions.proofs.crashes.crash.Goals as goal
 
 pub returns-clause-clean : goal.returns-clause-clean

@@ -4,9 +4,9 @@ use Rattle.sqlite.specs.Held.{Held}
 use Rattle.sqlite.specs.Files.{file_state}
 use Rattle.sqlite_store.specs.declared.store.FileStore.{FileStore}
 use Rattle.record_store.specs.declared.store.Store.{Store}
-use Rattle.file_sessions.specs.Closing.{HoldsNow}
-use Rattle.file_sessions.specs.Files.{KeepsAt}
-use Rattle.file_sessions.proofs.ArchiveLemmas.{holds_alike, is_idle, keeps_now}
+use Rattle.store_files.specs.Closing.{HoldsNow}
+use Rattle.store_files.specs.Files.{KeepsAt}
+use Rattle.store_files.proofs.ArchiveLemmas.{holds_alike, is_idle, keeps_now}
 use Rattle.file_sessions.proofs.session.close_desk.Goals as goal
 
 pub returns-clause-clean : goal.returns-clause-clean

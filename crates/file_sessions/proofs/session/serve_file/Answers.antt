@@ -1,6 +1,6 @@
 use Rattle.std.proofs.Common.{refl}
 use Rattle.sqlite.specs.WalFiles.{image_at}
-use Rattle.file_sessions.proofs.OpeningLemmas.{finds_opened}
+use Rattle.store_files.proofs.OpeningLemmas.{finds_opened}
 use Rattle.file_sessions.proofs.RefusalLemmas.{has_cause}
 use Rattle.file_sessions.proofs.session.serve_file.Goals as goal
 

@@ -1,0 +1,37 @@
+-- Calls of a desk, one after the other.
+use Rattle.std.proofs.Common.{◌≡◌, ℕ, List, [], ◌∷◌, ◌++◌, Result, Ok, Err, IsErr, IsErrAnd, refl, ap, subst}
+use Rattle.std.proofs.lemmas.Bool.{false≢true}
+use Rattle.filing_commands.specs.Answers.{Answer}
+use Rattle.filing_commands.specs.Calls.{Calls, Leads}
+use Rattle.filing_commands.specs.Standing.{Command, Standing, Step}
+use Rattle.filing_commands.specs.declared.fault.DeskFault.{DeskFault}
+use Rattle.mail_delivery.specs.Deliveries.{Call, Goes, Follows}
+
+-- a refusal that is passed on
+pub passed_on : {T : Type 0} (r : Result T DeskFault) (f : DeskFault) → IsErr r → IsErrAnd r (λ e. e ≡ f) → r ≡ Err f
+passed_on (Err e) f is same = ap Err same
+passed_on (Ok t) f is same = absurd (false≢true is)
+
+goes_on : (xs ys : List Call) (s mid new : Standing) → Goes s xs mid → Goes mid ys new → Goes s (xs ++ ys) new
+goes_on [] ys s mid new here there = let From : Standing → Type 0 = λ z. Goes z ys new in subst From here there
+goes_on (c ∷ xs) ys s mid new (next, step, rest) there = (next, step, goes_on xs ys next mid new rest there)
+
+module _ {D : Type 0} (clean : D → Type 0) (stands : D → Standing → Type 0) where
+  pub one_call : (old new : D) (c : Command) (a : Answer) → Calls clean stands old c a new
+      → Follows clean stands old (record { command = c; answer = a } ∷ []) new
+  one_call old new c a call = record {
+    was_clean = call.was_clean;
+    leads = λ h s there.
+        let l = call.leads (λ _. h) s there in
+        record { to = l.to; is_one = (l.to, l.is_one, refl); there = l.there };
+  }
+
+  pub calls_on : (old mid new : D) (xs ys : List Call) → Follows clean stands old xs mid → Follows clean stands mid ys new
+      → Follows clean stands old (xs ++ ys) new
+  calls_on old mid new xs ys first second = record {
+    was_clean = λ h. first.was_clean (second.was_clean h);
+    leads = λ h s there.
+        let l = first.leads (second.was_clean h) s there in
+        let k = second.leads h l.to l.there in
+        record { to = k.to; is_one = goes_on xs ys s l.to k.to l.is_one k.is_one; there = k.there };
+  }

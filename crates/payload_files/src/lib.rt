@@ -1,0 +1,34 @@
+//! Payloads that are read from files and streams.
+#![tactic(auto)]
+
+ghost use Rattle.std.specs.Prelude.{◌<◌, ◌^◌, IfOk, IfSome};
+ghost use Rattle.filing_commands.specs.Payloads.{IsOf};
+
+use filing_commands::Payload;
+use std::alloc::Global;
+use std::fs;
+use std::io::{self, Error, ErrorKind, Read};
+
+/// What a reader has left, as a payload: its octets, or that they are more than `limit`. At most one octet past the limit
+/// is read. The error is that of the reader, or `OutOfMemory`.
+pub fn read_payload<R: Read + Drop>(alloc: Global, reader: R, limit: usize) -> io::Result<Payload>
+    requires { limit < 2 ^ 32 }
+    ensures { IfOk result (λ p. IfSome (R.remaining reader) (IsOf limit p)) }
+{
+    let mut octets = Vec::new(alloc);
+    reader.take(limit as u64 + 1).read_to_end(&mut octets)?;
+    if octets.len() > limit {
+        return Ok(Payload::TooLong);
+    }
+    Ok(Payload::Whole(octets))
+}
+
+/// The octets of a regular file as a payload. A pipe, a folder and the like are not opened, which could wait for ever.
+pub fn payload_of_file(rt: &HostRuntime, path: &str, limit: usize) -> io::Result<Payload>
+    requires { limit < 2 ^ 32 }
+{
+    if !fs::metadata(rt, path)?.is_file() {
+        return Err(Error::new(ErrorKind::Unsupported, "not a regular file"));
+    }
+    read_payload(rt.alloc(), fs::open(rt, path)?, limit)
+}

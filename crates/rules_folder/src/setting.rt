@@ -1,0 +1,74 @@
+//! Scripts of a folder as the rules of a registry.
+
+use crate::fault::RulesFault;
+use crate::reading::{Rules, Script};
+use filing_commands::{DeskFault, Payload, Registry};
+use script_findings::judge;
+use std::alloc::{AllocError, Global};
+use tool_texts::{Place, place_of};
+
+/// The place in a script at which a refusal shows, if it has one.
+fn place_in(alloc: Global, script: &Script) -> Result<Option<Place>, AllocError> {
+    let Payload::Whole(text) = &script.text else {
+        return Ok(None);
+    };
+    match judge(alloc, text.as_slice())? {
+        Some(report) => Ok(Some(place_of(text.as_slice(), report.verdict.at))),
+        None => Ok(None),
+    }
+}
+
+/// The fault of a script that a registry refuses.
+fn refused(alloc: Global, script: &Script, fault: DeskFault) -> RulesFault {
+    if let DeskFault::NoMemory = fault {
+        return RulesFault::NoMemory;
+    }
+    match place_in(alloc, script) {
+        Ok(place) => {
+            RulesFault::refused(alloc, script.path.as_str(), place, fault.refusal().number)
+        }
+        Err(AllocError) => RulesFault::NoMemory,
+    }
+}
+
+/// Sets the global scripts.
+fn set_globals<D: Registry>(alloc: Global, desk: &mut D, rules: &Rules) -> Result<(), RulesFault> {
+    for script in &rules.globals {
+        if let Err(fault) = desk.set_global(script.name.as_bytes(), &script.text) {
+            return Err(refused(alloc, script, fault));
+        }
+    }
+    Ok(())
+}
+
+/// Sets the officer's own scripts.
+fn set_scripts<D: Registry>(alloc: Global, desk: &mut D, rules: &Rules) -> Result<(), RulesFault> {
+    for script in &rules.scripts {
+        let name = script.name.as_bytes();
+        if let Err(fault) = desk.set_script(rules.officer.as_bytes(), name, &script.text) {
+            return Err(refused(alloc, script, fault));
+        }
+    }
+    Ok(())
+}
+
+/// Sets the scripts of rules in a registry, and `main` as the officer's program. At the first script that is refused it
+/// stops, and the officer has no program of these.
+pub fn set_rules<D: Registry>(
+    alloc: Global,
+    desk: &mut D,
+    rules: &Rules,
+) -> Result<(), RulesFault> {
+    set_globals(alloc, desk, rules)?;
+    set_scripts(alloc, desk, rules)?;
+    match desk.activate(rules.officer.as_bytes(), b"main") {
+        Ok(()) => Ok(()),
+        Err(DeskFault::NoMemory) => Err(RulesFault::NoMemory),
+        Err(fault) => Err(RulesFault::refused(
+            alloc,
+            rules.officer.as_str(),
+            None,
+            fault.refusal().number,
+        )),
+    }
+}

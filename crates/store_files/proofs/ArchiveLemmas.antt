@@ -1,0 +1,39 @@
+-- What the files keep of the archive that a store over them represents.
+use Rattle.std.proofs.Common.{◌≡◌, [], false, IsTrue, sym, subst}
+use Rattle.sqlite_disk.specs.declared.Disk.{Ghosts}
+use Rattle.sqlite_store.specs.declared.store.FileStore.{FileStore}
+use Rattle.sqlite.specs.Recovery.{Image}
+use Rattle.sqlite.specs.State.{HasCleanDisk}
+use Rattle.sqlite.specs.Held.{Held}
+use Rattle.sqlite.specs.Files.{over_files, file_state}
+use Rattle.record_archive.specs.Archive.{Archive}
+use Rattle.record_adoption.specs.Keeping.{StoresArchive}
+use Rattle.record_store.specs.Stores.{StandsFor}
+use Rattle.record_store.specs.declared.store.Store.{Store}
+use Rattle.store_files.specs.Closing.{HoldsBy, HoldsNow}
+use Rattle.store_files.specs.Files.{KeepsAt}
+use Rattle.store_files.specs.declared.closing.Closing.{Closing}
+use Rattle.store_files.specs.declared.closing.Closing.TheVariants.{Copied, Logged, Shut}
+
+module _ {D : Type 0} {g : Ghosts D} (store : Store (FileStore D g)) (conn : Held (FileStore D g)) (same : conn ≡ store.conn) (a : Archive)
+    (stands : StandsFor over_files store a) where
+  pub is_idle : conn.in_transaction ≡ false
+  is_idle = let Idle : Held (FileStore D g) → Type 0 = λ h. h.in_transaction ≡ false in subst Idle (sym same) stands.idle
+
+  pub keeps_now : HasCleanDisk (file_state conn) → (image : Image) → HoldsNow (file_state conn) image → KeepsAt a image
+  keeps_now clean image now =
+      let Rows : Held (FileStore D g) → Type 0 = λ h. HasCleanDisk (file_state h) → IsTrue (file_state h).is_open
+      → StoresArchive (file_state h).now a in
+      record {
+        db = (file_state conn).now;
+        sound = now.sound;
+        held = now.held;
+        has = (subst Rows (sym same) stands.rows clean now.was_open, stands.archive);
+      }
+
+-- what holds of an image holds where it is claimed
+pub holds_alike : (closing : Closing) (P Q : Image → Type 0) → ((image : Image) → P image → Q image) → (image : Image)
+    → HoldsBy closing P image → HoldsBy closing Q image
+holds_alike Copied P Q each image h = (each image h.0, each _ h.1)
+holds_alike Logged P Q each image h = each image h
+holds_alike Shut P Q each image h = tt

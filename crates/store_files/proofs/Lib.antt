@@ -1,0 +1,4 @@
+pub mod ClosingLemmas
+pub mod ArchiveLemmas
+pub mod BlankLemmas
+pub mod OpeningLemmas

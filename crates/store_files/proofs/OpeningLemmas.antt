@@ -1,0 +1,71 @@
+-- What an open finds, by the archive that the files held.
+use Rattle.std.proofs.Common.{◌≡◌, ◌≤◌, ℕ, false, true, List, sym, ap, subst, ◌∙◌, inl, inr, arith}
+use Rattle.std.proofs.Math.Logic.{∥∥₁_elim}
+use Rattle.sqlite_disk.specs.declared.Disk.{Ghosts}
+use Rattle.sqlite_store.specs.declared.store.FileStore.{FileStore}
+use Rattle.sqlite_store.specs.declared.catalog.Wanted.{Wanted}
+use Rattle.sqlite_store.specs.Listing.{IsOurs}
+use Rattle.sqlite_pages.specs.PageMap.{PageMap}
+use Rattle.sqlite_pool.specs.Stored.{Adopts}
+use Rattle.sqlite_catalog.specs.Listing.{IsSound}
+use Rattle.sqlite_catalog.proofs.ReadLemmas.{reads, read_once}
+use Rattle.sqlite_trees.specs.Objects.{catalog_tree}
+use Rattle.sqlite_trees.specs.Props.{Trees-set}
+use Rattle.sqlite.specs.Recovery.{Image}
+use Rattle.sqlite.specs.Schema.{Schema}
+use Rattle.sqlite.specs.Tree.{Trees}
+use Rattle.sqlite.specs.Effect.{Database}
+use Rattle.sqlite.specs.Held.{Held}
+use Rattle.sqlite.specs.Files.{file_state, IsOpened, IsNothing}
+use Rattle.sqlite.specs.Start.{FindsIn}
+use Rattle.sqlite.proofs.ListingLemmas.{empty_is_sound}
+use Rattle.record_archive.specs.Archive.{Archive}
+use Rattle.record_adoption.specs.Adoption.{Finds}
+use Rattle.store_files.specs.Files.{FindsAt, KeepsAt}
+use Rattle.store_files.proofs.BlankLemmas.{not_blank}
+
+-- trees are those of one schema
+sound_once : (s t : Schema) (db : Trees) → IsSound s db → IsSound t db → s ≡ t
+sound_once s t db p q =
+    let r = reads (db catalog_tree) s p.lists in
+    read_once _ s t r.tables r.indexes r.views (reads (db catalog_tree) t q.lists)
+
+same_database : (x y : Database) → IsSound x.schema x.trees → IsSound y.schema y.trees → x.trees ≡ y.trees → x ≡ y
+same_database x y p q trees =
+    let schemas = sound_once x.schema y.schema y.trees (subst (IsSound x.schema) trees p) q in
+    λ i. record { schema = schemas i; trees = trees i }
+
+holds_something : (image : Image) (size : ℕ) (pages : PageMap) (wanted : List Wanted) → Adopts size image pages → IsOurs size true wanted pages
+    → IsNothing image → ⊥
+holds_something image size pages wanted found ours (inl plain) = not_blank size image pages found ours.file.sound _ (omega arith) plain
+holds_something image size pages wanted found ours (inr summed) = not_blank size image pages found ours.file.sound _ (omega arith) summed
+
+pub finds_opened : {D : Type 0} {g : Ghosts D} (conn : Held (FileStore D g)) (image : Image) (a : Archive) → IsOpened conn
+    → FindsIn image (file_state conn) → FindsAt image a → Finds (file_state conn).now a
+finds_opened conn image a opened found (inl held) =
+    let live = opened.1 opened.0.is_open in
+    let trees = ∥∥₁_elim held.held (Trees-set _ _) (found.holds held.db.trees) in
+    let same = same_database (file_state conn).committed held.db live.1 held.sound trees in
+    let Has : Database → Type 0 = λ db. Finds db a in
+    subst Has (sym (opened.0.clean ∙ same)) held.has
+finds_opened conn image a opened found (inr none) =
+    let live = opened.1 opened.0.is_open in
+    elim found.reads [
+      | inl read ↦ absurd (∥∥₁_elim read.4 (λ x y. absurd x) (λ ours. holds_something image read.0 read.1 read.2 read.3 ours none.0))
+      | inr empty ↦
+          let plain = sound_once _ _ _ live.1 (empty_is_sound _ empty.1.1) in
+          inr (ap (λ (db : Database). db.schema) opened.0.clean ∙ plain, none.1)
+    ]
+
+pub finds_kept : (image : Image) (a : Archive) → KeepsAt a image → FindsAt image a
+finds_kept image a keeps =
+    let stored = keeps.has.0 in
+    inl (record {
+      db = keeps.db;
+      sound = keeps.sound;
+      held = keeps.held;
+      has = inl (
+        inl (record { tables = stored.tables; stored = stored.stored; keyed = stored.keyed; keeps = stored.keeps }),
+        record { plan = keeps.has.1.plan; once = keeps.has.1.once },
+      );
+    })

@@ -1,0 +1,77 @@
+//! The end of a connection over two files, a database and its log.
+
+ghost use Rattle.std.specs.Prelude.{◌≡◌, ◌≢◌, false, IsTrue};
+ghost use Rattle.sqlite.specs.State.{HasCleanDisk};
+ghost use Rattle.sqlite.specs.WalReads.{AreClean};
+ghost use Rattle.sqlite.specs.WalFiles.{outcomes};
+ghost use Rattle.sqlite.specs.Recovery.{Image};
+ghost use Rattle.sqlite.specs.Files.{file_state};
+ghost use Rattle.sqlite_store.specs.FileStore.{view, log_frames, HasSpilled};
+ghost use Rattle.sqlite_store.specs.Calls.{IsQuietCall};
+ghost use Rattle.sqlite_trees.specs.View.{IsClean};
+ghost use Rattle.store_files.specs.Closing.{HoldsBy, HoldsNow};
+
+use sqlite::{Connection, FileStore, Files};
+use sqlite_disk::Disk;
+use sqlite_trees::store::Store;
+
+/// Which of the two files holds the last commit.
+#[derive(Clone, Copy, Drop)]
+pub enum Closing {
+    /// The database file alone: what the log had was copied into it.
+    Copied,
+    /// The two files together. The log could not be copied, and the next opening finds what it has.
+    Logged,
+    /// A fault of the disk has shut the store, so that it could neither read nor write. What had been committed before
+    /// the fault is what the next opening finds.
+    Shut,
+}
+
+/// Copies what the log has into the database file.
+fn copy_log<D: Disk>(store: &mut FileStore<D>) -> Closing
+    ensures quiet { IsQuietCall store.old store.new }
+    ensures open { IsClean (view store.new) → result ≢ Closing.Shut
+        → IsTrue (view store.new).is_open }
+    ensures same { IsTrue (view store.new).is_open → view store.new ≡ view store.old }
+    ensures moved { result ≡ Closing.Copied → (HasSpilled store.old → ⊥)
+        → log_frames store.new ≡ 0 }
+{
+    match store.checkpoint() {
+        Ok(()) => Closing::Copied,
+        Err(_) => {
+            if store.is_broken() {
+                Closing::Shut
+            } else {
+                Closing::Logged
+            }
+        }
+    }
+}
+
+/// Ends a connection: what the log has is copied into the database file, and the files are given back.
+pub fn close<D: Disk + Drop>(conn: Connection<FileStore<D>>) -> (Files<D>, Closing)
+    ensures clean { AreClean D.Disk result.0.log result.0.db → HasCleanDisk (file_state conn) }
+    ensures holds { AreClean D.Disk result.0.log result.0.db → conn.in_transaction ≡ false
+        → (image : Image) → outcomes D.Disk result.0.log result.0.db image
+        → HoldsBy result.1 (HoldsNow (file_state conn)) image }
+{
+    let _settled = conn.is_autocommit();
+    let _live = conn.schema();
+    let mut store = conn.into_store();
+    // Once more, since only this rollback says that the log has no frame of a transaction that was not committed.
+    store.rollback();
+    let closing = copy_log(&mut store);
+    (store.close(), closing)
+}
+
+/// Ends a connection with no read and no write, and gives the files back as they are.
+pub fn leave<D: Disk + Drop>(conn: Connection<FileStore<D>>) -> Files<D>
+    ensures clean { AreClean D.Disk result.log result.db → HasCleanDisk (file_state conn) }
+    ensures holds { AreClean D.Disk result.log result.db → conn.in_transaction ≡ false
+        → IsTrue (file_state conn).is_open → (image : Image)
+        → outcomes D.Disk result.log result.db image → HoldsNow (file_state conn) image }
+{
+    let _settled = conn.is_autocommit();
+    let _live = conn.schema();
+    conn.into_store().close()
+}

@@ -1,0 +1,106 @@
+//! A store over files.
+
+ghost use Rattle.std.specs.Prelude.{◌≡◌, false, IfOk, IfErr};
+ghost use Rattle.sqlite.specs.State.{HasCleanDisk};
+ghost use Rattle.sqlite.specs.Held.{state};
+ghost use Rattle.sqlite.specs.WalReads.{AreClean};
+ghost use Rattle.sqlite.specs.WalFiles.{image_at};
+ghost use Rattle.sqlite.specs.Files.{file_state, over_files};
+ghost use Rattle.record_tables.specs.Tables.{no_schema};
+ghost use Rattle.record_archive.specs.Archive.{Archive, empty_archive};
+ghost use Rattle.record_adoption.specs.Adoption.{Finds};
+ghost use Rattle.record_store.specs.Stores.{StandsFor};
+ghost use Rattle.store_files.specs.Files.{FindsAt, KeepsFiles};
+
+use crate::closing::{Closing, close, leave};
+use crate::fault::NoStore;
+use crate::places::has_log;
+use class_plan::Plan;
+use record_store::Store;
+use record_tables::layout::{Layout, layout_of};
+use sqlite::{Alter, Connection, FileFrom, FileStore, Files, Start};
+use sqlite_disk::Disk;
+use std::alloc::Global;
+
+/// The store over a database that has an archive's tables. It represents the archive that is found there.
+///
+/// Refused where the database has none of these tables, where they or their rows are not an archive's, where the
+/// database refuses, or for lack of memory. The connection is then handed back.
+pub fn adopt_found<S: Alter>(
+    alloc: Global,
+    conn: Connection<S>,
+) -> Result<Store<S>, (NoStore, Connection<S>)>
+    requires { conn.in_transaction ≡ false }
+    ensures stands { IfOk result (λ s. HasCleanDisk (state S.Store s.conn) → (a : Archive)
+        → Finds (state S.Store conn).now a → StandsFor S.Store s a) }
+    ensures clean { IfOk result (λ s. HasCleanDisk (state S.Store s.conn)
+        → HasCleanDisk (state S.Store conn)) }
+{
+    match layout_of(conn.schema()) {
+        Layout::Empty => return Err((NoStore::NoTables, conn)),
+        Layout::Other => return Err((NoStore::OtherTables, conn)),
+        Layout::First | Layout::FirstWithDues | Layout::Second => {}
+    }
+    match Store::adopt(alloc, conn) {
+        Ok(adopted) => Ok(adopted),
+        Err((fault, conn)) => Err((NoStore::from(fault), conn)),
+    }
+}
+
+/// The store in the file at a path. While the disk returns what was written to it, the store represents the archive that
+/// the files held. What they held is what `S` says; no code knows it, so this holds whatever it is.
+pub fn open_store<S: Start>(
+    rt: &HostRuntime,
+    path: &str,
+    start: S,
+) -> Result<Store<FileStore<FileFrom<S>>>, NoStore>
+    ensures { IfOk result (λ s. HasCleanDisk (file_state s.conn) → (a : Archive)
+        → FindsAt (image_at S.Start) a → StandsFor over_files s a) }
+{
+    let conn = match Connection::open_from(rt, path, true, start) {
+        Ok(conn) => conn,
+        Err((error, _)) => return Err(NoStore::of_opening(error, has_log(rt, path))),
+    };
+    match adopt_found(rt.alloc(), conn) {
+        Ok(store) => Ok(store),
+        Err((fault, conn)) => {
+            let _files = leave(conn);
+            Err(fault)
+        }
+    }
+}
+
+/// A new archive with a plan, in a database that has none of its tables.
+///
+/// Refused where the database refuses, or for lack of memory. The connection is then handed back, perhaps with the tables
+/// of an archive of another plan.
+pub fn lay_archive<S: Alter>(
+    alloc: Global,
+    conn: Connection<S>,
+    plan: Plan,
+) -> Result<Store<S>, (NoStore, Connection<S>)>
+    requires { conn.in_transaction ≡ false }
+    ensures { IfOk result (λ s. HasCleanDisk (state S.Store s.conn)
+        → (state S.Store conn).now.schema ≡ no_schema
+        → StandsFor S.Store s (record empty_archive { plan = plan })) }
+{
+    let mut store = match Store::create(alloc, conn) {
+        Ok(store) => store,
+        Err((fault, conn)) => return Err((NoStore::from(fault), conn)),
+    };
+    match store.revise(plan) {
+        Ok(()) => Ok(store),
+        Err(fault) => Err((NoStore::from(fault), store.into_connection())),
+    }
+}
+
+/// Ends a store, and gives its files back. They keep the archive that the store represents: the database file alone where
+/// its log could be copied, and otherwise the two files together.
+pub fn close_store<D: Disk + Drop>(store: Store<FileStore<D>>) -> (Files<D>, Closing)
+    ensures clean { AreClean D.Disk result.0.log result.0.db
+        → HasCleanDisk (file_state store.conn) }
+    ensures keeps { AreClean D.Disk result.0.log result.0.db → (a : Archive)
+        → StandsFor over_files store a → KeepsFiles D.Disk result.1 result.0 a }
+{
+    close(store.into_connection())
+}

@@ -1,0 +1,55 @@
+//! Certificates of destruction, sums and moments.
+
+ghost use Rattle.std.specs.Prelude.{◌≡◌, IfOk, string_bytes};
+ghost use Rattle.sha2.specs.Sha256.{sha256};
+ghost use Rattle.hex.specs.Hex.{encode_lower};
+
+use crate::records::{due_text, shown};
+use class_plan::{Date, day_of};
+use sha2::{Digest, Sha256};
+use std::alloc::{AllocError, Global};
+
+/// A record that was destroyed, and the message that it had.
+#[derive(Clone, Copy)]
+pub struct Certificate<'a> {
+    pub number: u32,
+    pub path: &'a [u8],
+    pub due: Option<Date>,
+    /// How many octets its message had.
+    pub octets: usize,
+    /// The SHA-256 of its message, in hexadecimal digits.
+    pub sum: &'a str,
+    /// When it was destroyed, in seconds since 1970-01-01T00:00:00Z.
+    pub moment: u64,
+}
+
+/// The SHA-256 of octets, in hexadecimal digits.
+pub fn sum_of(alloc: Global, octets: &[u8]) -> Result<String, AllocError>
+    ensures { IfOk result (λ s. string_bytes s ≡ encode_lower (sha256 octets.now)) }
+{
+    let mut hasher = Sha256::new();
+    hasher.update(octets);
+    let sum = hasher.finalize();
+    hex::encode(alloc, sum.as_slice())
+}
+
+/// A moment in UTC, as `2023-11-14T22:13:20Z`; in seconds where it is after 2199.
+pub fn moment_text(alloc: Global, moment: u64) -> Result<String, AllocError> {
+    let Some(day) = day_of(moment) else {
+        return format!(in alloc; "{moment}");
+    };
+    let seconds = moment % 86_400;
+    let (hour, minute, second) = (seconds / 3_600, seconds / 60 % 60, seconds % 60);
+    format!(in alloc; "{day}T{hour:02}:{minute:02}:{second:02}Z")
+}
+
+/// The line of a record that was destroyed.
+pub fn certificate_line(alloc: Global, it: &Certificate<'_>) -> Result<String, AllocError> {
+    let (number, octets, sum) = (it.number, it.octets, it.sum);
+    let path = shown(alloc, it.path)?;
+    let due = due_text(alloc, it.due)?;
+    let moment = moment_text(alloc, it.moment)?;
+    format!(in alloc;
+        "destroyed record {number} class {path} due {due} octets {octets} sha256 {sum} at {moment}\n"
+    )
+}

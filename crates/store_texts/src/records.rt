@@ -1,0 +1,115 @@
+//! Records as lines and as JSON.
+
+use class_plan::Date;
+use record_archive::Line;
+use serde_json::{Value, json};
+use std::alloc::{AllocError, Global};
+use std::str;
+
+/// A record as it is listed.
+#[derive(Clone, Copy)]
+pub struct Row<'a> {
+    pub number: u32,
+    pub path: &'a [u8],
+    /// The day of its capture.
+    pub day: Date,
+    /// The day on which it falls due; none where its schedule is permanent, and where it is destroyed.
+    pub due: Option<Date>,
+    /// The names of its holds.
+    pub holds: &'a [Vec<u8>],
+    pub destroyed: bool,
+}
+
+/// A due date, or `never`.
+pub(crate) fn due_text(alloc: Global, due: Option<Date>) -> Result<String, AllocError> {
+    match due {
+        Some(date) => format!(in alloc; "{date}"),
+        None => String::from_str(alloc, "never"),
+    }
+}
+
+/// The due date of a listed record, or `never`; nothing where it is destroyed.
+pub(crate) fn listed_due(alloc: Global, row: &Row<'_>) -> Result<String, AllocError> {
+    if row.destroyed {
+        return Ok(String::new(alloc));
+    }
+    due_text(alloc, row.due)
+}
+
+/// Octets as text: a text without control characters as it is, anything else with escapes.
+pub(crate) fn shown(alloc: Global, octets: &[u8]) -> Result<String, AllocError> {
+    match str::from_utf8(octets) {
+        Ok(text) if !octets.iter().any(|octet| octet.is_ascii_control()) => {
+            String::from_str(alloc, text)
+        }
+        _ => {
+            let escaped = octets.escape_ascii();
+            format!(in alloc; "{escaped}")
+        }
+    }
+}
+
+/// The line of a record of a capture, as a session answers it: `record 1 class finance due 2030-11-14`.
+pub fn captured_line(alloc: Global, line: &Line) -> Result<String, AllocError> {
+    let number = line.number;
+    let path = shown(alloc, line.path.as_slice())?;
+    let due = due_text(alloc, line.due)?;
+    format!(in alloc; "record {number} class {path} due {due}\n")
+}
+
+/// The line of a listed record: `record 1 class finance day 2023-11-14 due 2030-11-14`, then ` hold NAME` for each hold. One
+/// that is destroyed has ` destroyed` in place of its due date.
+pub fn listed_line(alloc: Global, row: &Row<'_>) -> Result<String, AllocError> {
+    let (number, day) = (row.number, row.day);
+    let path = shown(alloc, row.path)?;
+    let mut line = format!(in alloc; "record {number} class {path} day {day}")?;
+    if row.destroyed {
+        line.push_str(" destroyed")?;
+    } else {
+        let due = due_text(alloc, row.due)?;
+        line.push_str(" due ")?;
+        line.push_str(due.as_str())?;
+    }
+    for name in row.holds {
+        let name = shown(alloc, name.as_slice())?;
+        line.push_str(" hold ")?;
+        line.push_str(name.as_str())?;
+    }
+    line.push('\n')?;
+    Ok(line)
+}
+
+/// A due date as JSON: a text, or null.
+fn json_due(alloc: Global, due: Option<Date>) -> Result<Value, AllocError> {
+    match due {
+        Some(date) => Ok(Value::String(format!(in alloc; "{date}")?)),
+        None => Ok(Value::Null),
+    }
+}
+
+/// The names of holds as JSON.
+fn json_holds(alloc: Global, holds: &[Vec<u8>]) -> Result<Value, AllocError> {
+    let mut names = Vec::new(alloc);
+    for name in holds {
+        names.push(Value::String(shown(alloc, name.as_slice())?))?;
+    }
+    Ok(Value::Array(names))
+}
+
+/// A record as a JSON object.
+pub fn json_object(alloc: Global, row: &Row<'_>) -> Result<String, AllocError> {
+    let path = shown(alloc, row.path)?;
+    let date = row.day;
+    let day = format!(in alloc; "{date}")?;
+    let due = json_due(alloc, row.due)?;
+    let holds = json_holds(alloc, row.holds)?;
+    let object = json!(in alloc; {
+        "number": row.number,
+        "class": path,
+        "day": day,
+        "due": due,
+        "holds": holds,
+        "destroyed": row.destroyed
+    })?;
+    object.to_string(alloc)
+}

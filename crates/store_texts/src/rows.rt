@@ -1,0 +1,103 @@
+//! Records as rows of CSV (RFC 4180).
+
+use crate::records::{Row, listed_due, shown};
+use csv::WriterBuilder;
+use std::alloc::{AllocError, Global};
+
+/// The header of a list.
+pub const LIST_HEADER: &str = "number,class,day,due,holds,destroyed\n";
+
+/// The header of a manifest.
+pub const MANIFEST_HEADER: &str = "number,class,day,due,holds,file,octets,sha256\n";
+
+/// The message of a record, as an export keeps it.
+#[derive(Clone, Copy)]
+pub struct Kept<'a> {
+    /// The name of its file.
+    pub file: &'a str,
+    /// How many octets it has.
+    pub octets: usize,
+    /// Its SHA-256, in hexadecimal digits.
+    pub sum: &'a str,
+}
+
+/// A row of CSV, with its line end.
+pub fn csv_row(alloc: Global, fields: &[&[u8]]) -> Result<Vec<u8>, AllocError> {
+    let mut writer = WriterBuilder::new().from_writer(Vec::new(alloc));
+    match writer.write_fields(fields) {
+        Ok(()) => {}
+        Err(_) => return Err(AllocError),
+    }
+    match writer.into_inner() {
+        Ok(row) => Ok(row),
+        Err(_) => Err(AllocError),
+    }
+}
+
+/// The names of holds, with spaces between them.
+fn hold_names(alloc: Global, holds: &[Vec<u8>]) -> Result<String, AllocError> {
+    let mut names = String::new(alloc);
+    for name in holds {
+        if !names.is_empty() {
+            names.push(' ')?;
+        }
+        let name = shown(alloc, name.as_slice())?;
+        names.push_str(name.as_str())?;
+    }
+    Ok(names)
+}
+
+/// The row of a listed record.
+pub fn listed_row(alloc: Global, row: &Row<'_>) -> Result<Vec<u8>, AllocError> {
+    let (number, day) = (row.number, row.day);
+    let number = format!(in alloc; "{number}")?;
+    let day = format!(in alloc; "{day}")?;
+    let due = listed_due(alloc, row)?;
+    let holds = hold_names(alloc, row.holds)?;
+    let destroyed = if row.destroyed { "yes" } else { "no" };
+    csv_row(
+        alloc,
+        &[
+            number.as_bytes(),
+            row.path,
+            day.as_bytes(),
+            due.as_bytes(),
+            holds.as_bytes(),
+            destroyed.as_bytes(),
+        ],
+    )
+}
+
+/// The row of a record in a manifest. Without a message, which a destroyed record has no more, the last three fields are
+/// empty.
+pub fn manifest_row(
+    alloc: Global,
+    row: &Row<'_>,
+    kept: Option<Kept<'_>>,
+) -> Result<Vec<u8>, AllocError> {
+    let (number, day) = (row.number, row.day);
+    let number = format!(in alloc; "{number}")?;
+    let day = format!(in alloc; "{day}")?;
+    let due = listed_due(alloc, row)?;
+    let holds = hold_names(alloc, row.holds)?;
+    let (file, octets, sum) = match kept {
+        Some(kept) => {
+            let octets = kept.octets;
+            (kept.file, format!(in alloc; "{octets}")?, kept.sum)
+        }
+        None => ("", String::new(alloc), ""),
+    };
+    csv_row(
+        alloc,
+        &[
+            number.as_bytes(),
+            row.path,
+            day.as_bytes(),
+            due.as_bytes(),
+            holds.as_bytes(),
+            file.as_bytes(),
+            octets.as_bytes(),
+            sum.as_bytes(),
+        ],
+    )
+}
