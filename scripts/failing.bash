@@ -372,13 +372,14 @@ readonly SWEEPS='1 memory 1 1500
 # One in this many allocations is refused over memory. Over files, where a run takes longer, it is one in ten times this many.
 step=7
 
-# Writes a case for each allocation of a sweep.
+# Writes a case for each allocation of a sweep, in the folders of the lanes by turns.
 write_cases() {
-    local session=$1 place=$2 request every=$step
+    local session=$1 place=$2 request every=$step lane=0
     [[ $place == memory ]] || every=$((10 * step))
     commands_of "${CUT[session]}" > "$work/lines"
     for ((request = $4; request >= $3; request -= every)); do
-        { echo "$place $((REFUSED - request))" && cat -- "$work/lines"; } > "$work/cases/$session-$place-$(printf '%05d' "$request")"
+        { echo "$place $((REFUSED - request))" && cat -- "$work/lines"; } > "$work/cases.$lane/$session-$place-$(printf '%05d' "$request")"
+        lane=$(((lane + 1) % lanes))
     done
 }
 
@@ -390,9 +391,10 @@ judge_sweep() {
         index($0, "case=" sweep) == 1 {
             split(text, word, " ")
             times = word[3]
-            if ($2 == "run=ended" && $3 == "status=0" && text ~ /^played, with [0-9]+ attempts again\n(allocations: [a-z0-9 ]*\n)?$/) { good++; again += times > 0; last = times }
-            else if ($2 == "run=ended" && $3 == "status=1") { own++; last = 0 }
+            if ($2 == "run=ended" && $3 == "status=0" && text ~ /^played, with [0-9]+ attempts again\n(allocations: [a-z0-9 ]*\n)?$/) { good++; again += times > 0 }
+            else if ($2 == "run=ended" && $3 == "status=1") { own++; times = 0 }
             else { bad++; print "failed: " $0; printf "%s", text }
+            if ($1 > greatest) { greatest = $1; last = times }
         }
         { text = text $0 "\n" }
         END {
@@ -401,17 +403,31 @@ judge_sweep() {
         }' "$work/said"
 }
 
-# Refuses allocations of some sessions.
+# Plays the cases of a lane.
+play_cases() {
+    (cd -- "$work/tree/crates/growth" && exec rt try --steps 1000 --fail-alloc "$REFUSED" --cases "$work/cases.$1") > "$work/said.$1" 2>&1
+}
+
+# Refuses allocations of some sessions, in as many lanes as processors and memory allow, each of which builds the program.
 memory() {
-    local session place first last
+    local session place first last lane lanes
     [[ -n $(kit) ]] || give_up "there is no command rt of a Rattle kit"
-    if ! { mkdir -- "$work/cases" "$work/tree" && lay_beside growth "$work/tree"; }; then
+    lanes=$(provers) || exit
+    if ! { mkdir -- "$work/tree" && lay_beside growth "$work/tree"; }; then
         give_up "there is no place for a copy of the tree"
     fi
+    for ((lane = 0; lane < lanes; lane++)); do
+        mkdir -- "$work/cases.$lane" || give_up "there is no place for the cases"
+    done
     while read -r session place first last; do
         write_cases "$session" "$place" "$first" "$last"
     done <<< "$SWEEPS"
-    (cd -- "$work/tree/crates/growth" && exec rt try --steps 1000 --fail-alloc "$REFUSED" --cases "$work/cases") > "$work/said" 2>&1
+    for ((lane = 0; lane < lanes; lane++)); do
+        play_cases "$lane" &
+    done
+    wait
+    cat -- "$work"/said.* > "$work/said"
+    grep -q '^case=' "$work/said" || tail -n 20 -- "$work/said"
     while read -r session place first last; do
         count "session $session over $place" judge_sweep "$session" "$place"
     done <<< "$SWEEPS"

@@ -385,7 +385,7 @@ scripts() {
     count "an unknown word for ./prove" gives_up 2 "^usage:" prove --nothing
     count "an unknown word for ./install" gives_up 2 "^usage:" install --nothing
     if command -v shellcheck > "$work/said"; then
-        count "shellcheck" shellcheck -x mailfile* test prove install bench hostile failing .ci/run scripts/*.bash
+        count "shellcheck" shellcheck -x mailfile* test prove install bench hostile failing .ci/run scripts/*.bash sessions/*.bash sessions/*/*.bash
     fi
     group scripts
 }

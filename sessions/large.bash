@@ -12,28 +12,10 @@ if (($# != 1)) || [[ ! -d $1 ]]; then
     exit 2
 fi
 here=$(dirname -- "$(readlink -f -- "${BASH_SOURCE[0]}")")
+# shellcheck source=scripts/octets.bash
+. "$here/../scripts/octets.bash"
 folder=$1
 readonly SCRIPT=262144 MESSAGE=8388608 IMAGE=16777216 PLAN=1048576
-
-# A text so many times.
-times() {
-    if ((${#2} == 1)); then
-        printf '%*s' "$1" '' | tr ' ' "${2/\\/\\\\}"
-    else
-        # What `yes` says when its reader goes away is of no interest.
-        yes "$2" 2> /dev/null | head -n "$1" | tr -d '\n'
-    fi || true
-}
-
-# A line so many times.
-lines() {
-    yes "$2" 2> /dev/null | head -n "$1" || true
-}
-
-# Lines from texts.
-answers() {
-    printf '%s\n' "$@"
-}
 
 # Writes standard input as a session, and the arguments as its answers.
 session() {
